@@ -1,0 +1,33 @@
+-- What a reader answers against what its definition says: one fault of a place, the first of a list of places, and how a
+-- result agrees with it.
+use Rattle.std.specs.Prelude.{◌≡◌, ℕ, Bool, if◌then◌else◌, List, [], ◌∷◌, Option, Some, None, Result, Ok, Err}
+use Rattle.abi_base.specs.declared.fault.FaultKind.{FaultKind}
+use Rattle.abi_base.specs.declared.fault.Fault.{Fault}
+use Rattle.abi_base.specs.declared.fault.Refusal.{Refusal}
+use Rattle.abi_base.specs.declared.fault.Refusal.TheVariants as refusal
+
+-- the fault of a kind at a place, where its condition holds
+abbrev pub fault_if : Bool → FaultKind → ℕ → Option Fault
+fault_if holds kind at = if holds then Some (record { kind = kind; at = at }) else None
+
+-- the first fault of a list of places
+abbrev pub first : List (Option Fault) → Option Fault
+first [] = None
+first (None ∷ others) = first others
+first (Some fault ∷ others) = Some fault
+
+-- A refusal is the fault that the definition says, or want of memory.
+abbrev pub Refuses : Refusal → Option Fault → Type 0
+Refuses (refusal.Fault answered) fault = fault ≡ Some answered
+Refuses refusal.NoMemory fault = Unit {0}
+
+-- Ok comes exactly where there is no fault, and a fault exactly where it is this one, but for want of memory.
+abbrev pub Judges : {T : Type 0} → Result T Refusal → Option Fault → Type 0
+Judges (Ok x) fault = fault ≡ None
+Judges (Err e) fault = Refuses e fault
+
+-- The same of a call that takes no memory: Ok comes exactly where there is no fault, and a fault exactly where it is
+-- this one.
+abbrev pub Decides : {T : Type 0} → Result T Fault → Option Fault → Type 0
+Decides (Ok x) fault = fault ≡ None
+Decides (Err answered) fault = fault ≡ Some answered

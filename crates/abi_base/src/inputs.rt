@@ -1,0 +1,100 @@
+// Named inputs, each read from its start to its end.
+ghost use Rattle.std.specs.Prelude.{◌≡◌, ◌≤◌, ◌<◌, List, ℕ, length, Option, Some, OnOk, OnErr, IfOk, IfSome, IsErrOf};
+ghost use Rattle.std.specs.Io.{ReadsAtMost};
+ghost use Rattle.std.specs.Io.KnownBytes.{ReadConsumes};
+ghost use Rattle.abi_base.specs.Causes.{Rose, NeverFall, SameNames, OnTold, count_after};
+
+use crate::{Failed, Take};
+use std::alloc::{AllocError, Global};
+
+/// Named inputs. `start` makes one of them the current input, and `read` gives its bytes, piece by piece.
+pub trait Inputs {
+    /// How often reading under each name has failed. A count stands still at the end of `u64`.
+    ghost faults: { Self → List ℕ → ℕ };
+
+    /// The bytes of each name, where they are told. A real file tells nothing.
+    ghost told: { Self → List ℕ → Option (List ℕ) };
+
+    /// Whether the current input, the one started last, answers to a name.
+    ghost answers_to: { Self → List ℕ → Type 0 };
+
+    /// What is left of the current input, where it is told.
+    ghost left: { Self → Option (List ℕ) };
+
+    /// How many bytes the current input has given since it was started. The count stands still at the end of `u64`.
+    ghost given: { Self → ℕ };
+
+    /// Makes the input of that name the current one, at its start. After `Failed` the current input is as before.
+    fn start(&mut self, name: &str) -> Result<(), Failed>
+        ensures told { (other : List ℕ) → told self.new other ≡ told self.old other }
+        ensures later { NeverFall (faults self.old) (faults self.new) }
+
+        ensures current { OnOk result (answers_to self.new name.now) }
+        ensures left { OnOk result (OnTold (told self.old name.now) (left self.new)) }
+        ensures given { OnOk result (given self.new ≡ 0) }
+
+        ensures cause { OnErr result (Rose (faults self.old name.now) (faults self.new name.now)) }
+        ensures kept { OnErr result (left self.new ≡ left self.old) }
+        ensures kept_given { OnErr result (given self.new ≡ given self.old) }
+        ensures kept_names { OnErr result (SameNames (answers_to self.old) (answers_to self.new)) };
+
+    /// Gives the next bytes of the current input at the front of `into`, and how many they are: none only at its end,
+    /// or where `into` has no room. After `Failed` what is left is as before.
+    fn read(&mut self, into: &mut [u8]) -> Result<usize, Failed>
+        ensures told { (other : List ℕ) → told self.new other ≡ told self.old other }
+        ensures later { NeverFall (faults self.old) (faults self.new) }
+        ensures names { SameNames (answers_to self.old) (answers_to self.new) }
+
+        ensures bound { ReadsAtMost result into.new }
+        ensures bytes { ReadConsumes (left self.old) (left self.new) result into.new }
+        ensures given { IfOk result (λ count. given self.new ≡ count_after (given self.old) count) }
+
+        ensures cause { OnErr result ((name : List ℕ) → answers_to self.old name → Rose (faults self.old name) (faults self.new name)) }
+        ensures kept { OnErr result (left self.new ≡ left self.old) }
+        ensures kept_given { OnErr result (given self.new ≡ given self.old) };
+}
+
+// How many bytes are asked for in one call of `read`.
+const PIECE: usize = 65536;
+
+// Room for one piece. Its contract leaves the number out, since a proof would write out each byte.
+fn piece_of(alloc: Global) -> Result<Vec<u8>, AllocError>
+    ensures { IfOk result (λ piece. 0 < length piece.items) }
+{
+    vec![in alloc; 0u8; PIECE]
+}
+
+/// All bytes of the input of that name, read to its end. `TooLong` comes exactly where reading gave more than `limit`
+/// bytes, and `Failed` only where the input's count of faults rose.
+pub fn read_whole<I: Inputs>(
+    alloc: Global,
+    inputs: &mut I,
+    name: &str,
+    limit: usize,
+) -> Result<Vec<u8>, Take>
+    ensures told { (other : List ℕ) → I.told inputs.new other ≡ I.told inputs.old other }
+    ensures later { NeverFall (I.faults inputs.old) (I.faults inputs.new) }
+
+    // The bytes are those that are told, and all that were given.
+    ensures whole { IfOk result (λ bytes. IfSome (I.told inputs.old name.now) (λ all. bytes.items ≡ all)) }
+    ensures given { IfOk result (λ bytes. I.given inputs.new ≡ length bytes.items) }
+    ensures within { IfOk result (λ bytes. length bytes.items ≤ limit) }
+
+    // More bytes than the limit were given, and are told where any are.
+    ensures too_long { IsErrOf result Take.TooLong → limit < I.given inputs.new }
+    ensures told_too_long { IsErrOf result Take.TooLong → IfSome (I.told inputs.old name.now) (λ all. limit < length all) }
+
+    ensures failed { IsErrOf result Take.Failed → Rose (I.faults inputs.old name.now) (I.faults inputs.new name.now) }
+{
+    let mut piece = piece_of(alloc)?;
+    inputs.start(name)?;
+    let mut bytes = Vec::new(alloc);
+    while bytes.len() <= limit {
+        let count = inputs.read(&mut piece)?;
+        if count == 0 {
+            return Ok(bytes);
+        }
+        bytes.extend_from_slice(&piece[..count])?;
+    }
+    Err(Take::TooLong)
+}

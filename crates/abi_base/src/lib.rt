@@ -1,0 +1,24 @@
+//! What every crate of the checker shares: what it reads from and writes to, faults and refusals, numbers and texts
+//! in bytes, and lists that contracts see as lists.
+#![tactic(auto)]
+
+mod fault;
+mod inputs;
+mod list;
+mod memory;
+mod numbers;
+mod outside;
+mod sink;
+mod take;
+
+pub use fault::{Failed, Fault, FaultKind, NoMemory, Refusal, WriteFailed};
+pub use inputs::{Inputs, read_whole};
+pub use list::List;
+pub use memory::{MemInputs, MemSink};
+pub use numbers::{text_at, u16_at, u16_in, u32_at, u32_in, u64_at, u64_in};
+pub use outside::{FileInputs, StdSink};
+pub use sink::{Sink, write_all};
+pub use take::Take;
+
+#[cfg(test)]
+mod tests;

@@ -1,0 +1,172 @@
+// Inputs and a sink in memory, some of whose calls fail.
+ghost use Rattle.std.specs.Prelude.{◌≡◌, ◌+◌, ◌≤◌, ◌<◌, [], length, drop, Some, None, if◌then◌else◌, option_and_then, MatchOption, IfOk, is_some, vec_capacity, vec_len, string_bytes};
+ghost use Rattle.abi_base.specs.Files.{file_of, IsFileAt, rest_at, name_at, CopiesFront};
+
+use crate::{Failed, Inputs, NoMemory, Sink};
+use std::alloc::Global;
+
+/// Named files. `failing` lists the calls, counted from 1 over all methods, that are to fail.
+#[derive(Drop)]
+pub struct MemInputs {
+    files: Vec<(String, Vec<u8>)>,
+    failing: Vec<u64>,
+    calls: u64,
+    failed: u64,
+    missing: u64,
+    current: Option<usize>,
+    at: usize,
+}
+
+impl MemInputs {
+    pub fn new(files: Vec<(String, Vec<u8>)>, failing: Vec<u64>) -> MemInputs {
+        MemInputs {
+            files,
+            failing,
+            calls: 0,
+            failed: 0,
+            missing: 0,
+            current: None,
+            at: 0,
+        }
+    }
+}
+
+// Whether a call is to fail: it counts the call.
+fn is_failing(failing: &[u64], calls: &mut u64) -> bool {
+    *calls = calls.saturating_add(1);
+    failing.contains(calls)
+}
+
+// The place of the first file of a name.
+fn place_of(files: &[(String, Vec<u8>)], name: &str) -> Option<usize>
+    ensures { MatchOption result (file_of files.now name.now ≡ None) (IsFileAt files.now name.now) }
+{
+    for (place, file) in files.iter().enumerate() {
+        if file.0.as_str() == name {
+            return Some(place);
+        }
+    }
+    None
+}
+
+impl Inputs for MemInputs {
+    ghost faults = { λ m name. if is_some (file_of m.files.items name) then m.failed else m.failed + m.missing };
+
+    ghost told = { λ m name. file_of m.files.items name };
+
+    ghost answers_to = { λ m name. option_and_then (name_at m.files.items) m.current ≡ Some name };
+
+    ghost left = { λ m. Some (rest_at m.files.items m.current m.at) };
+
+    ghost given = { λ m. m.at };
+
+    fn start(&mut self, name: &str) -> Result<(), Failed> {
+        if is_failing(&self.failing, &mut self.calls) {
+            self.failed = self.failed.saturating_add(1);
+            return Err(Failed);
+        }
+        match place_of(&self.files, name) {
+            Some(place) => {
+                self.current = Some(place);
+                self.at = 0;
+                Ok(())
+            }
+            None => {
+                self.missing = self.missing.saturating_add(1);
+                Err(Failed)
+            }
+        }
+    }
+
+    fn read(&mut self, into: &mut [u8]) -> Result<usize, Failed> {
+        if is_failing(&self.failing, &mut self.calls) {
+            self.failed = self.failed.saturating_add(1);
+            return Err(Failed);
+        }
+        let count = copy_rest(&self.files, self.current, self.at, into);
+        self.at = self.at.saturating_add(count);
+        Ok(count)
+    }
+}
+
+// Copies what is left of a file, as far as there is room.
+fn copy_rest(
+    files: &[(String, Vec<u8>)],
+    current: Option<usize>,
+    at: usize,
+    into: &mut [u8],
+) -> usize
+    ensures { CopiesFront (rest_at files.now current at) into.old into.new result }
+{
+    match current {
+        None => 0,
+        Some(place) => match files.get(place) {
+            None => 0,
+            Some(file) => copy_front(&file.1, at, into),
+        },
+    }
+}
+
+fn copy_front(bytes: &[u8], at: usize, into: &mut [u8]) -> usize
+    ensures { CopiesFront (drop at bytes.now) into.old into.new result }
+{
+    if at >= bytes.len() {
+        return 0;
+    }
+    let count = (bytes.len() - at).min(into.len());
+    into[..count].copy_from_slice(&bytes[at..at + count]);
+    count
+}
+
+const ROOM: usize = 1_048_576;
+
+/// Holds what it takes, in room that it is given once.
+#[derive(Drop)]
+pub struct MemSink {
+    bytes: Vec<u8>,
+    take: usize,
+    failing: Vec<u64>,
+    calls: u64,
+    failed: u64,
+    ghost takes_some: { 0 < take },
+}
+
+impl MemSink {
+    /// A sink that takes at most `take` bytes in one call.
+    pub fn new(alloc: Global, take: usize, failing: Vec<u64>) -> Result<MemSink, NoMemory>
+        requires { 0 < take }
+    {
+        Ok(MemSink {
+            bytes: Vec::with_capacity(alloc, ROOM)?,
+            take,
+            failing,
+            calls: 0,
+            failed: 0,
+        })
+    }
+
+    /// What it holds.
+    pub fn held(&self) -> &[u8]
+        ensures { result.now ≡ self.now.bytes.items }
+    {
+        &self.bytes
+    }
+}
+
+impl Sink for MemSink {
+    ghost held = { λ s. Some s.bytes.items };
+
+    ghost faults = { λ s. s.failed };
+
+    fn write(&mut self, bytes: &[u8]) -> Result<usize, Failed> {
+        let fails = is_failing(&self.failing, &mut self.calls);
+        let room = self.bytes.capacity() - self.bytes.len();
+        let count = bytes.len().min(self.take).min(room);
+        if fails || (count == 0 && !bytes.is_empty()) {
+            self.failed = self.failed.saturating_add(1);
+            return Err(Failed);
+        }
+        self.bytes.extend_from_slice(&bytes[..count]).unwrap();
+        Ok(count)
+    }
+}

@@ -1,0 +1,34 @@
+// Why an input is not taken whole.
+ghost use Rattle.std.specs.Prelude.{◌≡◌};
+ghost use Rattle.abi_base.specs.declared.take.Take.TheVariants.{Failed as InputFailed, NoMemory as OutOfMemory};
+
+use crate::Failed;
+use std::alloc::AllocError;
+use thiserror::Error;
+
+/// Why an input is not read whole: its reading failed, it is longer than the limit, or memory ran out.
+#[derive(Clone, Copy, Debug, PartialEq, Eq, Error)]
+pub enum Take {
+    #[error("the input failed")]
+    Failed,
+    #[error("the input is longer than the limit")]
+    TooLong,
+    #[error("out of memory")]
+    NoMemory,
+}
+
+impl From<Failed> for Take {
+    ghost from_gives = { λ _ e. e ≡ InputFailed };
+
+    fn from(_: Failed) -> Self {
+        Take::Failed
+    }
+}
+
+impl From<AllocError> for Take {
+    ghost from_gives = { λ _ e. e ≡ OutOfMemory };
+
+    fn from(_: AllocError) -> Self {
+        Take::NoMemory
+    }
+}
