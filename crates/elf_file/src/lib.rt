@@ -1,13 +1,15 @@
-// A library with one function.
+//! An ELF-64 x86-64 shared object: its section table, what its sections hold, and the first fault of its header and its
+//! sections (System V gABI, "ELF Header", "Sections", "String Table").
 #![tactic(auto)]
 
-ghost use Rattle.std.specs.Prelude.{◌≡◌};
-ghost use Rattle.elf_file.specs.Echo.{echo_of};
+mod constants;
+mod file;
+mod header;
+mod places;
+mod records;
 
-// The `ensures` clause is the contract: what `echo` returns is `echo_of` of its argument, a definition
-// in `specs/Echo.antt`, which a caller's clause can cite too.
-pub fn echo(x: usize) -> usize
-    ensures { result ≡ echo_of x }
-{
-    x
-}
+pub use constants::{
+    SHT_DYNAMIC, SHT_DYNSYM, SHT_GNU_VERDEF, SHT_GNU_VERNEED, SHT_GNU_VERSYM, SHT_STRTAB,
+};
+pub use file::{ElfFile, read_elf};
+pub use records::{Section, SectionHeader, SectionTable};
