@@ -1,13 +1,15 @@
-// A library with one function.
+//! The dynamic symbols of a shared object and its soname (System V gABI, "Symbol Table", "Dynamic Section").
 #![tactic(auto)]
 
-ghost use Rattle.std.specs.Prelude.{◌≡◌};
-ghost use Rattle.elf_syms.specs.Echo.{echo_of};
+mod constants;
+mod dynamic;
+mod symbol;
+mod table;
 
-// The `ensures` clause is the contract: what `echo` returns is `echo_of` of its argument, a definition
-// in `specs/Echo.antt`, which a caller's clause can cite too.
-pub fn echo(x: usize) -> usize
-    ensures { result ≡ echo_of x }
-{
-    x
-}
+pub use constants::{
+    STB_GLOBAL, STB_GNU_UNIQUE, STB_LOCAL, STB_WEAK, STT_COMMON, STT_FUNC, STT_GNU_IFUNC,
+    STT_NOTYPE, STT_OBJECT, STT_TLS, STV_DEFAULT, STV_PROTECTED,
+};
+pub use dynamic::soname;
+pub use symbol::Symbol;
+pub use table::symbols;

@@ -1,0 +1,14 @@
+use Rattle.std.proofs.Common.{◌∙◌, sym}
+use Rattle.elf_syms.specs.Symbols.{symbol_name_fault}
+use Rattle.abi_base.proofs.OutcomeLemmas.{first_from-here}
+use Rattle.elf_syms.proofs.Reading.{read_more}
+use Rattle.elf_syms.proofs.table.symbols_in.Goals as goal
+
+pub returns-in-Err-clause-judged : goal.returns-in-Err-clause-judged
+returns-in-Err-clause-judged c =
+    sym c.loop-number.invariant.judged ∙ first_from-here (symbol_name_fault c.args.table.now c.args.strings.now) c.loop-number.number _ c.in-Err.fault c.loop-number-test.true c.in-Err.ensures.judged
+
+pub loop-number-preserved : goal.loop-number-preserved
+loop-number-preserved c =
+    read_more c.args.table.now c.args.strings.now c.loop-number.number _ c.loop-number.symbols.items c.push.new.self.items c.in-Ok.symbol c.loop-number.invariant c.loop-number-test.true
+    c.in-Ok.ensures.judged c.in-Ok.ensures.read c.in_ok-push-in-Ok.ensures.items

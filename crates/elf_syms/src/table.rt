@@ -1,0 +1,95 @@
+// The dynamic symbol table.
+ghost use Rattle.std.specs.Prelude.{◌≡◌, ◌<◌, ◌≤◌, ◌+◌, ◌*◌, ◌/◌, ◌%◌, false, length, map, IfOk, IfSome, IfNone, is_none};
+ghost use Rattle.std.specs.Option.{option_copied};
+ghost use Rattle.abi_base.specs.Outcome.{Judges, Decides, first};
+ghost use Rattle.elf_file.specs.Elf.{strings_of};
+ghost use Rattle.elf_file.specs.File.{viewed};
+ghost use Rattle.elf_syms.specs.Plain.{plain_symbol, plain_symbols};
+ghost use Rattle.elf_syms.specs.Symbols.{symbol_in as the_symbol_in, symbols_in as the_symbols_in, name_in, symbol_name_fault, symbol_numbers, symbol_fault, symbols_of, is_symbol_table_bad};
+
+use crate::constants::{SYM_SIZE, ST_INFO, ST_NAME, ST_OTHER, ST_SHNDX, ST_SIZE, ST_VALUE};
+use crate::symbol::Symbol;
+use abi_base::{Fault, FaultKind, INPUT_LIMIT, Refusal, text_at, u16_in, u32_in, u64_in};
+use elf_file::{ElfFile, SHT_DYNSYM, Section};
+use std::alloc::Global;
+
+// The symbol of a number, or the fault that its name has.
+#[tactic(auto, unfolding(crate::specs::Symbols::symbol_in, crate::specs::Symbols::name_in, crate::specs::Symbols::symbol_name_fault))]
+fn symbol_in<'a>(table: &[u8], strings: &'a [u8], number: u32) -> Result<Symbol<'a>, Fault>
+    requires { SYM_SIZE * (number + 1) ≤ length table.now }
+    ensures judged { Decides result (symbol_name_fault table.now strings.now number) }
+    ensures read { IfOk result (λ s. plain_symbol s ≡ the_symbol_in table.now strings.now number) }
+{
+    let at = SYM_SIZE * number as usize;
+    let info = table[at + ST_INFO];
+    match text_at(strings, u64::from(u32_in(table, at + ST_NAME))) {
+        Some(name) => Ok(Symbol {
+            number,
+            name,
+            binding: info / 16,
+            kind: info % 16,
+            visibility: table[at + ST_OTHER] % 4,
+            section: u16_in(table, at + ST_SHNDX),
+            value: u64_in(table, at + ST_VALUE),
+            size: u64_in(table, at + ST_SIZE),
+        }),
+        None => Err(Fault {
+            kind: FaultKind::SymbolTable,
+            at: u64::from(number),
+        }),
+    }
+}
+
+// All symbols of a table, or the first fault of their names.
+fn symbols_in<'a>(
+    alloc: Global,
+    table: &[u8],
+    strings: &'a [u8],
+) -> Result<Vec<Symbol<'a>>, Refusal>
+    requires { length table.now ≤ INPUT_LIMIT }
+    ensures judged { Judges result (first (map (symbol_name_fault table.now strings.now) (symbol_numbers table.now))) }
+    ensures read { IfOk result (λ symbols. plain_symbols symbols.items ≡ the_symbols_in table.now strings.now) }
+{
+    let count = (table.len() / SYM_SIZE) as u32;
+    let mut symbols = Vec::with_capacity(alloc, count as usize)?;
+    for number in 0..count {
+        match symbol_in(table, strings, number) {
+            Ok(symbol) => symbols.push(symbol)?,
+            Err(fault) => return Err(Refusal::Fault(fault)),
+        }
+    }
+    Ok(symbols)
+}
+
+// The string table of a table of symbols, where neither is malformed.
+fn strings_for<'a>(file: &ElfFile<'a>, section: Section<'a>) -> Option<&'a [u8]>
+    ensures bad { is_none result ≡ is_symbol_table_bad file.now (viewed section.entry) }
+    ensures strings { IfSome result (λ s. strings_of file.now section.entry.link ≡ Some s.now) }
+{
+    if section.entsize != SYM_SIZE as u64 || section.bytes.len() % SYM_SIZE != 0 {
+        return None;
+    }
+    file.strings(section.link)
+}
+
+/// All dynamic symbols of a file, in order, the reserved one too: the symbol at place i has the number i. The fault is
+/// the first one of `NoDynamicSymbols` and `SymbolTable`.
+#[tactic(auto, unfolding(crate::specs::Symbols::symbol_fault, crate::specs::Symbols::symbols_of))]
+pub fn symbols<'a>(alloc: Global, file: &ElfFile<'a>) -> Result<Vec<Symbol<'a>>, Refusal>
+    ensures judged { Judges result (symbol_fault file.now) }
+    ensures read { IfOk result (λ symbols. plain_symbols symbols.items ≡ symbols_of file.now) }
+{
+    match file.section_of_kind(SHT_DYNSYM) {
+        None => Err(Refusal::Fault(Fault {
+            kind: FaultKind::NoDynamicSymbols,
+            at: 0,
+        })),
+        Some(section) => match strings_for(file, section) {
+            None => Err(Refusal::Fault(Fault {
+                kind: FaultKind::SymbolTable,
+                at: 0,
+            })),
+            Some(strings) => symbols_in(alloc, section.bytes, strings),
+        },
+    }
+}
