@@ -1,13 +1,14 @@
-// A library with one function.
+//! The top call of the checker: the words of a command line in, a status and a text out.
 #![tactic(auto)]
 
-ghost use Rattle.std.specs.Prelude.{◌≡◌};
-ghost use Rattle.abi_top.specs.Echo.{echo_of};
+mod check;
+mod judge;
+mod library;
+mod reading;
+mod status;
+mod text;
+mod top;
+mod words;
 
-// The `ensures` clause is the contract: what `echo` returns is `echo_of` of its argument, a definition
-// in `specs/Echo.antt`, which a caller's clause can cite too.
-pub fn echo(x: usize) -> usize
-    ensures { result ≡ echo_of x }
-{
-    x
-}
+pub use status::{Input, Status};
+pub use top::run;

@@ -1,0 +1,77 @@
+-- What a run may answer: a row for each status.
+use Rattle.std.specs.Prelude.{◌≡◌, ◌⊎◌, ◌<◌, ℕ, List, [], ◌∷◌, length, map, Option, Some, None, IfSome}
+use Rattle.std.specs.Borrow.{Bor}
+use Rattle.abi_base.specs.Causes.{Rose}
+use Rattle.abi_base.specs.declared.TheConstants.{INPUT_LIMIT}
+use Rattle.abi_base.specs.declared.fault.Fault.{Fault}
+use Rattle.abi_base.specs.declared.fault.FaultKind.TheVariants.{TooLong}
+use Rattle.abi_top.specs.declared.judge.Verdict.{Verdict}
+use Rattle.abi_top.specs.declared.judge.Verdict.TheVariants as verdict
+use Rattle.abi_top.specs.declared.status.Input.{Input}
+use Rattle.abi_top.specs.declared.status.Status.{Status}
+use Rattle.abi_top.specs.declared.status.Status.TheVariants.{Yes, No, Unreadable, ReadFault, NoMemory, WriteFault, Usage}
+use Rattle.abi_top.specs.Asked.{Asked, check, asked_by, wanted_by}
+use Rattle.abi_top.specs.Check.{CheckJudges}
+use Rattle.abi_top.specs.Faults.{FirstFault, AreReadable}
+use Rattle.abi_top.specs.Reading.{Gives, Reaches}
+use Rattle.abi_top.specs.Text.{usage_text, unreadable_text, read_fault_text}
+use Rattle.abi_top.specs.Words.{texts}
+
+-- A call, as far as its answer depends on it: its words, the bytes told of each name, the count of faults of each name
+-- before the call and after it, and how many bytes the input that was read last has given.
+pub record Call : Type 0 where
+  pub words : List (List ℕ)
+  pub told : List ℕ → Option (List ℕ)
+  pub before : List ℕ → ℕ
+  pub after : List ℕ → ℕ
+  pub given : ℕ
+
+-- the call of a run with these words that leaves inputs I as it does
+abbrev pub call_of : {I : Type 0} → (I → List ℕ → Option (List ℕ)) → (I → List ℕ → ℕ) → (I → ℕ) → List (Bor (List ℕ)) → I → I → Call
+call_of told faults given words old new = record { words = texts words; told = told old; before = faults old; after = faults new; given = given new }
+
+-- the verdict of each command on the bytes of its inputs, with its text
+abbrev pub Judges : Asked → List (List ℕ) → Verdict → List ℕ → Type 0
+Judges (check old_name new_name) (old ∷ new ∷ []) v text = CheckJudges old new v text
+Judges asked all v text = ⊥
+
+-- the inputs that are read, in order
+abbrev pub inputs_of : Asked → List Input
+inputs_of asked = map (λ (wanted : Input × List ℕ). wanted.0) (wanted_by asked)
+
+-- the words ask for something of which P holds
+abbrev pub Asks : Call → (Asked → Type 0) → Type 0
+Asks call P = (asked : Asked) × (asked_by call.words ≡ Some asked) × P asked
+
+-- an input's count of faults rose in the call, and no input before it is told to be too long
+abbrev pub FailsToRead : Call → Input → Asked → Type 0
+FailsToRead call which asked = (name : List ℕ) × Reaches call.told (wanted_by asked) which name × Rose (call.before name) (call.after name)
+
+-- an input gave more bytes than the limit, and is told to have more where it is told, and no input before it is
+abbrev pub IsTooLong : Call → Input → Asked → Type 0
+IsTooLong call which asked =
+    (name : List ℕ) × Reaches call.told (wanted_by asked) which name × (INPUT_LIMIT < call.given) × IfSome (call.told name) (λ t. INPUT_LIMIT < length t)
+
+-- the inputs gave bytes of which P holds
+abbrev pub OnBytes : Call → (List (List ℕ) → Type 0) → Asked → Type 0
+OnBytes call P asked = (all : List (List ℕ)) × Gives call.told (wanted_by asked) all × P all
+
+-- the inputs are readable, and the command gives this verdict on their bytes
+abbrev pub IsJudged : Call → Verdict → List ℕ → Type 0
+IsJudged call v text = Asks call (λ asked. OnBytes call (λ all. AreReadable (inputs_of asked) all × Judges asked all v text) asked)
+
+-- an input has this fault, by its length or by its bytes, and none before it has one; a length goes before all bytes
+abbrev pub IsFaulty : Call → Input → Fault → Asked → Type 0
+IsFaulty call which fault asked =
+    ((fault ≡ record { kind = TooLong; at = INPUT_LIMIT }) × IsTooLong call which asked)
+    ⊎ OnBytes call (λ all. FirstFault (inputs_of asked) all which fault) asked
+
+-- The text with which a status comes. `NoMemory` and `WriteFault` have none.
+abbrev pub Answers : Call → Status → List ℕ → Type 0
+Answers call Usage text = (asked_by call.words ≡ None) × (text ≡ usage_text)
+Answers call ReadFault text = (which : Input) × Asks call (FailsToRead call which) × (text ≡ read_fault_text which)
+Answers call Unreadable text = (which : Input) × (fault : Fault) × Asks call (IsFaulty call which fault) × (text ≡ unreadable_text which fault)
+Answers call Yes text = IsJudged call verdict.Yes text
+Answers call No text = IsJudged call verdict.No text
+Answers call NoMemory text = ⊥
+Answers call WriteFault text = ⊥

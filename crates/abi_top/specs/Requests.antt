@@ -1,0 +1,7 @@
+-- A request of the code, without where its words lie.
+use Rattle.abi_top.specs.Asked.{Asked, check}
+use Rattle.abi_top.specs.declared.words.Request.{Request}
+use Rattle.abi_top.specs.declared.words.Request.TheVariants.{Check}
+
+abbrev pub plain_request : Request → Asked
+plain_request (Check old new) = check old.now new.now

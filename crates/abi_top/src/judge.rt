@@ -1,0 +1,72 @@
+// What each command says of the bytes of its inputs.
+ghost use Rattle.std.specs.Prelude.{◌≡◌, ◌≤◌, ℕ, List, length, map, All, OnOk, IfOk, IfErr, string_bytes};
+ghost use Rattle.abi_top.specs.Answer.{Judges, inputs_of};
+ghost use Rattle.abi_top.specs.Asked.{wanted_by};
+ghost use Rattle.abi_top.specs.Faults.{AreReadable, StopsAt};
+ghost use Rattle.abi_top.specs.Reading.{items_of};
+ghost use Rattle.abi_top.specs.Requests.{plain_request};
+ghost use Rattle.abi_top.specs.Verdicts.{status_of};
+ghost use Rattle.abi_top.specs.declared.judge.Stop.TheVariants.{NoMemory as OutOfMemory};
+
+use crate::check::check;
+use crate::words::Request;
+use crate::{Input, Status};
+use abi_base::{Fault, INPUT_LIMIT};
+use std::alloc::{AllocError, Global};
+
+/// What a command says where all its inputs are readable.
+#[derive(Clone, Copy, Debug, PartialEq, Eq)]
+pub enum Verdict {
+    Yes,
+    No,
+}
+
+impl Verdict {
+    /// The status of the verdict.
+    pub fn status(self) -> Status
+        ensures { result ≡ status_of self }
+    {
+        match self {
+            Verdict::Yes => Status::Yes,
+            Verdict::No => Status::No,
+        }
+    }
+}
+
+/// A verdict and the text that goes with it.
+#[derive(Drop)]
+pub struct Judgement {
+    pub verdict: Verdict,
+    pub text: String,
+}
+
+/// Why a command gives no verdict.
+#[derive(Clone, Copy, Debug)]
+pub enum Stop {
+    NoMemory,
+    Fault(Input, Fault),
+}
+
+impl From<AllocError> for Stop {
+    ghost from_gives = { λ _ e. e ≡ OutOfMemory };
+
+    fn from(_: AllocError) -> Self {
+        Stop::NoMemory
+    }
+}
+
+/// The judgement of a request on the bytes of its inputs.
+pub fn judge(alloc: Global, request: &Request, all: &[Vec<u8>]) -> Result<Judgement, Stop>
+    requires each { length all.now ≡ length (wanted_by (plain_request request.now)) }
+    requires short { All (λ (bytes : List ℕ). length bytes ≤ INPUT_LIMIT) (map items_of all.now) }
+    ensures readable { OnOk result (AreReadable (inputs_of (plain_request request.now)) (map items_of all.now)) }
+    ensures judged { IfOk result (λ j. Judges (plain_request request.now) (map items_of all.now) j.verdict (string_bytes j.text)) }
+    ensures stops { IfErr result (StopsAt (inputs_of (plain_request request.now)) (map items_of all.now)) }
+{
+    match request {
+        Request::Check { .. } => match all {
+            [old, new] => check(alloc, old, new),
+            _ => unreachable!(),
+        },
+    }
+}
