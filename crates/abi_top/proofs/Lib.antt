@@ -1,2 +1,5 @@
 mod Endings
+mod Exporting
 mod InOrder
+mod Judging
+mod Naming
