@@ -50,19 +50,23 @@ pub const SECTION_HEADER_SIZE: usize = 64;
 pub const SYMBOL_SIZE: usize = 24;
 
 /// The bytes of an entry of the dynamic table.
-pub const DYNAMIC_SIZE: usize = 16;
+pub const DYNAMIC_ENTRY_SIZE: usize = 16;
 
 /// What the place of each section in an image is a multiple of.
 pub const ALIGNMENT: usize = 8;
 
-/// The first section number that 16 bits do not hold.
+/// The first number that is no section's in a field of 16 bits. Where there are more sections, the header of section 0
+/// has their number and the number of the names'.
 pub const SHN_LORESERVE: u32 = 0xff00;
 
-/// In place of a section number: it stands in the header of section 0.
+/// In place of a section number that does not fit.
 pub const SHN_XINDEX: u16 = 0xffff;
 
 /// A section with no contents, as section 0.
 pub const SHT_NULL: u32 = 0;
+
+/// Bytes whose meaning the program that reads them knows, as debug entries.
+pub const SHT_PROGBITS: u32 = 1;
 
 /// A string table.
 pub const SHT_STRTAB: u32 = 3;
@@ -72,9 +76,6 @@ pub const SHT_DYNAMIC: u32 = 6;
 
 /// The dynamic symbols.
 pub const SHT_DYNSYM: u32 = 11;
-
-/// The section number of an undefined symbol.
-pub const SHN_UNDEF: u16 = 0;
 
 /// The binding of a global symbol.
 pub const STB_GLOBAL: u8 = 1;

@@ -2,7 +2,7 @@
 ghost use Rattle.std.specs.Prelude.{◌≡◌, ◌+◌, ◌-◌, ◌*◌, ◌^◌, ◌≤◌, [], ◌∷◌, ◌++◌, length, min, vec_len, OnOk, OnErr, IfOk};
 
 use crate::constants::{
-    DT_NULL, DT_SONAME, DYNAMIC_SIZE, ELF_HEADER_SIZE, SECTION_HEADER_SIZE, SHT_DYNAMIC,
+    DT_NULL, DT_SONAME, DYNAMIC_ENTRY_SIZE, ELF_HEADER_SIZE, SECTION_HEADER_SIZE, SHT_DYNAMIC,
     SHT_DYNSYM, SHT_STRTAB, SYMBOL_SIZE,
 };
 use crate::layout::Layout;
@@ -58,11 +58,12 @@ impl Image {
         let alloc = *self.sections.allocator();
         let mut names = StringTable::new(alloc)?;
         let table = symbol_table(alloc, symbols, &mut names)?;
-        let mut symbols = ImageSection::new(alloc, ".dynsym", SHT_DYNSYM, table)?;
-        symbols.info = 1;
-        symbols.entry_size = SYMBOL_SIZE as u64;
+        let mut section = ImageSection::new(alloc, ".dynsym", SHT_DYNSYM, table)?;
+        // The first symbol that is not local.
+        section.info = 1;
+        section.entry_size = SYMBOL_SIZE as u64;
         let names = ImageSection::new(alloc, ".dynstr", SHT_STRTAB, names.into_bytes())?;
-        self.add_with_strings(symbols, names)
+        self.add_with_strings(section, names)
     }
 
     /// Puts the sections `.dynamic` and `.dynamic.str` last: a dynamic table that gives the soname, and its strings,
@@ -74,10 +75,10 @@ impl Image {
         let alloc = *self.sections.allocator();
         let mut names = StringTable::new(alloc)?;
         let table = soname_table(alloc, names.add(name)?)?;
-        let mut dynamic = ImageSection::new(alloc, ".dynamic", SHT_DYNAMIC, table)?;
-        dynamic.entry_size = DYNAMIC_SIZE as u64;
+        let mut section = ImageSection::new(alloc, ".dynamic", SHT_DYNAMIC, table)?;
+        section.entry_size = DYNAMIC_ENTRY_SIZE as u64;
         let names = ImageSection::new(alloc, ".dynamic.str", SHT_STRTAB, names.into_bytes())?;
-        self.add_with_strings(dynamic, names)
+        self.add_with_strings(section, names)
     }
 
     // Puts a section and then its string table last, to which it will link.
@@ -96,9 +97,9 @@ impl Image {
         self.sections.append(&mut both)
     }
 
-    /// The file: its header, the sections in order, `.shstrtab` as the last of them, and the section table. Each
-    /// section and the table stand at the next multiple of 8, with zeros between. The fields that a reader of
-    /// sections does not need, as those for segments, are 0.
+    /// The file as the gABI has it: its header, the sections in order, `.shstrtab` as the last of them, and the
+    /// section table. Each section and the table stand at the next multiple of 8, with zeros between. The fields that
+    /// a reader of sections does not need, as those for segments and the header's own size, are 0.
     pub fn bytes(&self, alloc: Global) -> Result<Vec<u8>, AllocError>
         ensures { IfOk result (λ file. ELF_HEADER_SIZE + SECTION_HEADER_SIZE * (length self.now + 2) ≤ vec_len file) }
     {
@@ -129,7 +130,7 @@ fn symbol_table(
 
 // The entries of a dynamic table that gives the soname, which stands at an offset of the table's strings.
 fn soname_table(alloc: Global, name_offset: u32) -> Result<Vec<u8>, AllocError>
-    ensures { IfOk result (λ table. vec_len table ≡ DYNAMIC_SIZE + DYNAMIC_SIZE) }
+    ensures { IfOk result (λ table. vec_len table ≡ DYNAMIC_ENTRY_SIZE + DYNAMIC_ENTRY_SIZE) }
 {
     let mut table = Vec::new(alloc);
     put_u64(&mut table, DT_SONAME)?;

@@ -84,7 +84,7 @@ impl Layout {
 }
 
 // The place in the file of what follows contents.
-fn after_header(contents: &Vec<u8>) -> u64 {
+fn after_header(contents: &[u8]) -> u64 {
     contents.len().saturating_add(ELF_HEADER_SIZE) as u64
 }
 

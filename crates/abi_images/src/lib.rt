@@ -15,3 +15,6 @@ pub use image::Image;
 pub use libraries::{library, library_with_soname, numbered_library};
 pub use section::ImageSection;
 pub use symbol::ImageSymbol;
+
+#[cfg(test)]
+mod tests;

@@ -6,8 +6,8 @@ use crate::image::Image;
 use crate::symbol::ImageSymbol;
 use std::alloc::{AllocError, Global};
 
-/// The image of a library that exports functions of these names, in order, and no more. Each has the next 16 bytes of
-/// addresses, from 4096 on.
+/// The image, as the gABI has it, of a library that exports functions of these names, in order, and no more. Each has
+/// the next 16 bytes of addresses, from 4096 on.
 pub fn library(alloc: Global, exports: &[&str]) -> Result<Vec<u8>, AllocError>
     ensures { IfOk result (λ file. ELF_HEADER_SIZE ≤ vec_len file) }
 {
@@ -16,7 +16,7 @@ pub fn library(alloc: Global, exports: &[&str]) -> Result<Vec<u8>, AllocError>
     image.bytes(alloc)
 }
 
-/// The image of `library`, with a soname.
+/// The image of `library`, and a dynamic table that gives the soname, as the gABI has it.
 pub fn library_with_soname(
     alloc: Global,
     soname: &str,
@@ -30,7 +30,7 @@ pub fn library_with_soname(
     image.bytes(alloc)
 }
 
-/// The image of a library that exports `count` functions named `f0`, `f1` and so on.
+/// The image of `library` for `count` functions named `f0`, `f1` and so on.
 pub fn numbered_library(alloc: Global, count: u32) -> Result<Vec<u8>, AllocError>
     ensures { IfOk result (λ file. ELF_HEADER_SIZE ≤ vec_len file) }
 {

@@ -25,7 +25,7 @@ pub struct ImageSection {
 }
 
 impl ImageSection {
-    /// A section of that name, type and contents, whose other fields are 0.
+    /// A section of that name, type (`SHT_..` of the gABI) and contents, whose other fields are 0.
     pub fn new(
         alloc: Global,
         name: &str,

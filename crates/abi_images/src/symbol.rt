@@ -29,7 +29,7 @@ impl<'a> ImageSymbol<'a> {
     /// The bytes of a function.
     pub const FUNCTION_SIZE: u64 = 16;
 
-    /// An exported function: global, of default visibility, defined in section 1.
+    /// An exported function, as the gABI has it: global, of default visibility, defined in section 1.
     pub fn function(name: &'a [u8]) -> Self
         ensures name { result.name.now ≡ name.now }
         ensures section { result.section ≡ 1 }
