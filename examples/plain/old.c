@@ -1,0 +1,4 @@
+int circle_area(int radius)
+{
+    return 3 * radius * radius;
+}
