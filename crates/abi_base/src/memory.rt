@@ -146,8 +146,8 @@ pub struct MemSink {
 }
 
 impl MemSink {
-    /// A sink that holds nothing, and takes at most `take` bytes in one call, of which there is at least one. `failing`
-    /// lists the calls of `write` that are to fail, counted from 1.
+    /// A sink that holds nothing and takes at most `take` bytes in one call, at least 1, or `NoMemory` where there is no
+    /// room. `failing` lists the calls of `write` that are to fail, counted from 1.
     pub fn new(alloc: Global, take: usize, failing: Vec<u64>) -> Result<MemSink, NoMemory>
         requires { 0 < take }
         ensures held { IfOk result (λ sink. ⟦<MemSink as Sink>⟧.held sink ≡ Some []) }
