@@ -1,5 +1,5 @@
 -- Counts of faults and of bytes, and what is told of inputs and sinks.
-use Rattle.std.specs.Prelude.{◌≡◌, ◌≤◌, ◌+◌, ◌-◌, ◌^◌, ◌↔◌, ℕ, min, List, length, take, Option, Some, Result, OnErr, IfSome, IfOk}
+use Rattle.std.specs.Prelude.{◌≡◌, ◌≤◌, ◌+◌, ◌-◌, ◌^◌, ◌↔◌, ℕ, min, List, length, take, Option, Some, Result, OnErr, IfSome}
 use Rattle.std.specs.Io.KnownBytes.{Appends}
 
 -- a count that rises by so much, and stands still at the end of its type

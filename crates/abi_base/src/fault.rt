@@ -133,7 +133,7 @@ pub enum FaultKind {
 }
 
 impl FaultKind {
-    /// The number of the kind.
+    /// The number of the kind, which no other kind has.
     pub fn number(self) -> u64
         ensures { result ≡ fault_number self }
     {
@@ -260,17 +260,21 @@ impl FaultKind {
     }
 }
 
-/// What is wrong, and where: a byte, a section, a symbol, an entry or a line, as the kind says.
+/// What is wrong with an input, and where.
 #[derive(Clone, Copy, Debug, PartialEq, Eq)]
 pub struct Fault {
+    /// What is wrong.
     pub kind: FaultKind,
+    /// Where it is: a byte from the start, or the number of a section, a symbol, an entry or a line.
     pub at: u64,
 }
 
 /// Why a reader gives nothing.
 #[derive(Clone, Copy, Debug, PartialEq, Eq)]
 pub enum Refusal {
+    /// The input has this fault.
     Fault(Fault),
+    /// Memory ran out, which says nothing of the input.
     NoMemory,
 }
 

@@ -65,7 +65,8 @@ fn piece_of(alloc: Global) -> Result<Vec<u8>, AllocError>
 }
 
 /// All bytes of the input of that name, read to its end. `TooLong` comes exactly where reading gave more than `limit`
-/// bytes, and `Failed` only where the input's count of faults rose.
+/// bytes, `Failed` only where the count of faults of that name rose, and `NoMemory` where memory ran out. The input
+/// stays the current one, so a later call starts it again.
 pub fn read_whole<I: Inputs>(
     alloc: Global,
     inputs: &mut I,

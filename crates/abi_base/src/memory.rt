@@ -1,11 +1,14 @@
 // Inputs and a sink in memory, some of whose calls fail.
-ghost use Rattle.std.specs.Prelude.{◌≡◌, ◌+◌, ◌≤◌, ◌<◌, [], length, drop, Some, None, if◌then◌else◌, option_and_then, MatchOption, IfOk, is_some, vec_capacity, vec_len, string_bytes};
+ghost use Rattle.std.specs.Prelude.{◌≡◌, ◌+◌, ◌≤◌, ◌<◌, ℕ, List, [], length, drop, Some, None, if◌then◌else◌, option_and_then, MatchOption, IfOk, is_some, vec_capacity, vec_len, string_bytes};
 ghost use Rattle.abi_base.specs.Files.{file_of, IsFileAt, rest_at, name_at, CopiesFront};
 
 use crate::{Failed, Inputs, NoMemory, Sink};
 use std::alloc::Global;
 
-/// Named files. `failing` lists the calls, counted from 1 over all methods, that are to fail.
+/// Named files in memory, some of whose calls fail. The first file of a name counts.
+///
+/// A listed call that fails raises the count of every name. A start on a name that is not held fails too, and raises
+/// the counts of the names that are not held alone. The current input answers to its own name alone.
 #[derive(Drop)]
 pub struct MemInputs {
     files: Vec<(String, Vec<u8>)>,
@@ -18,7 +21,16 @@ pub struct MemInputs {
 }
 
 impl MemInputs {
-    pub fn new(files: Vec<(String, Vec<u8>)>, failing: Vec<u64>) -> MemInputs {
+    /// These files, each a name and its bytes, with no current input yet. `failing` lists the calls that are to fail,
+    /// counted from 1 over `start` and `read` together.
+    pub fn new(files: Vec<(String, Vec<u8>)>, failing: Vec<u64>) -> MemInputs
+        ensures told { (name : List ℕ) → ⟦<MemInputs as Inputs>⟧.told result name ≡ file_of files.items name }
+        ensures faults { (name : List ℕ) → ⟦<MemInputs as Inputs>⟧.faults result name ≡ 0 }
+
+        // Nothing is left before a first start.
+        ensures left { ⟦<MemInputs as Inputs>⟧.left result ≡ Some [] }
+        ensures given { ⟦<MemInputs as Inputs>⟧.given result ≡ 0 }
+    {
         MemInputs {
             files,
             failing,
@@ -118,9 +130,11 @@ fn copy_front(bytes: &[u8], at: usize, into: &mut [u8]) -> usize
     count
 }
 
+// How many bytes a sink in memory has room for.
 const ROOM: usize = 1_048_576;
 
-/// Holds what it takes, in room that it is given once.
+/// A sink in memory, some of whose calls fail. It has room for 1,048,576 bytes, which it takes as it is made, and takes
+/// no memory after. Once the room is full, it fails at each piece that is not empty.
 #[derive(Drop)]
 pub struct MemSink {
     bytes: Vec<u8>,
@@ -132,9 +146,12 @@ pub struct MemSink {
 }
 
 impl MemSink {
-    /// A sink that takes at most `take` bytes in one call.
+    /// A sink that holds nothing and takes at most `take` bytes in one call, at least 1, or `NoMemory` where there is no
+    /// room. `failing` lists the calls of `write` that are to fail, counted from 1.
     pub fn new(alloc: Global, take: usize, failing: Vec<u64>) -> Result<MemSink, NoMemory>
         requires { 0 < take }
+        ensures held { IfOk result (λ sink. ⟦<MemSink as Sink>⟧.held sink ≡ Some []) }
+        ensures faults { IfOk result (λ sink. ⟦<MemSink as Sink>⟧.faults sink ≡ 0) }
     {
         Ok(MemSink {
             bytes: Vec::with_capacity(alloc, ROOM)?,
@@ -145,9 +162,9 @@ impl MemSink {
         })
     }
 
-    /// What it holds.
+    /// The bytes that it holds: all that it took, in order.
     pub fn held(&self) -> &[u8]
-        ensures { result.now ≡ self.now.bytes.items }
+        ensures { ⟦<MemSink as Sink>⟧.held self.now ≡ Some result.now }
     {
         &self.bytes
     }

@@ -5,7 +5,8 @@ ghost use Rattle.abi_base.specs.Numbers.{number, number_at, text_at as the_text_
 
 use byteorder::{ByteOrder, LittleEndian};
 
-/// The little-endian number of two bytes at a place, which lie inside.
+/// The number in the two bytes at a place, which lie inside. The lowest byte stands first (System V gABI, "Data
+/// Representation").
 pub fn u16_in(bytes: &[u8], at: usize) -> u16
     requires { at + 2 ≤ length bytes.now }
     ensures { result ≡ number 2 bytes.now at }
@@ -13,7 +14,8 @@ pub fn u16_in(bytes: &[u8], at: usize) -> u16
     LittleEndian::read_u16(&bytes[at..])
 }
 
-/// The little-endian number of two bytes at a place, or none exactly where they do not lie inside.
+/// The number in the two bytes at a place, with the lowest byte first (System V gABI, "Data Representation"). None
+/// exactly where the two bytes do not all lie inside.
 pub fn u16_at(bytes: &[u8], at: usize) -> Option<u16>
     ensures { result ≡ number_at 2 bytes.now at }
 {
@@ -24,7 +26,8 @@ pub fn u16_at(bytes: &[u8], at: usize) -> Option<u16>
     }
 }
 
-/// The little-endian number of four bytes at a place, which lie inside.
+/// The number in the four bytes at a place, which lie inside. The lowest byte stands first (System V gABI, "Data
+/// Representation").
 pub fn u32_in(bytes: &[u8], at: usize) -> u32
     requires { at + 4 ≤ length bytes.now }
     ensures { result ≡ number 4 bytes.now at }
@@ -32,7 +35,8 @@ pub fn u32_in(bytes: &[u8], at: usize) -> u32
     LittleEndian::read_u32(&bytes[at..])
 }
 
-/// The little-endian number of four bytes at a place, or none exactly where they do not lie inside.
+/// The number in the four bytes at a place, with the lowest byte first (System V gABI, "Data Representation"). None
+/// exactly where the four bytes do not all lie inside.
 pub fn u32_at(bytes: &[u8], at: usize) -> Option<u32>
     ensures { result ≡ number_at 4 bytes.now at }
 {
@@ -43,7 +47,8 @@ pub fn u32_at(bytes: &[u8], at: usize) -> Option<u32>
     }
 }
 
-/// The little-endian number of eight bytes at a place, which lie inside.
+/// The number in the eight bytes at a place, which lie inside. The lowest byte stands first (System V gABI, "Data
+/// Representation").
 pub fn u64_in(bytes: &[u8], at: usize) -> u64
     requires { at + 8 ≤ length bytes.now }
     ensures { result ≡ number 8 bytes.now at }
@@ -51,7 +56,8 @@ pub fn u64_in(bytes: &[u8], at: usize) -> u64
     LittleEndian::read_u64(&bytes[at..])
 }
 
-/// The little-endian number of eight bytes at a place, or none exactly where they do not lie inside.
+/// The number in the eight bytes at a place, with the lowest byte first (System V gABI, "Data Representation"). None
+/// exactly where the eight bytes do not all lie inside.
 pub fn u64_at(bytes: &[u8], at: usize) -> Option<u64>
     ensures { result ≡ number_at 8 bytes.now at }
 {
@@ -70,8 +76,8 @@ fn first_zero(rest: &[u8]) -> Option<usize>
     rest.iter().position(|b| *b == 0)
 }
 
-/// The text at a place of a string table: the bytes up to the first 0 byte, without it. None exactly where no 0 byte
-/// stands from the place on.
+/// The text at a place of a string table: the bytes from there up to the first 0 byte, without it (System V gABI,
+/// "String Table"). None exactly where no 0 byte stands from the place on, as at a place outside.
 #[tactic(auto, using(crate::proofs::ReadNumbers::slices), unfolding(crate::specs::Numbers::text_at))]
 pub fn text_at(table: &[u8], at: u64) -> Option<&[u8]>
     ensures found { option_copied result ≡ the_text_at table.now at }

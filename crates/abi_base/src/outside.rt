@@ -6,7 +6,8 @@ use std::fs;
 use std::io::Read;
 use std::rt::Files;
 
-/// Files by their paths.
+/// Files by their paths. One count of faults, which each call that fails raises, serves for every name, and the
+/// current input answers to every name, since one file may have several.
 #[derive(Drop)]
 pub struct FileInputs<'a, R: Files> {
     rt: &'a R,
@@ -16,7 +17,11 @@ pub struct FileInputs<'a, R: Files> {
 }
 
 impl<'a, R: Files> FileInputs<'a, R> {
-    pub fn new(rt: &'a R) -> Self {
+    /// The files that the runtime reaches, none of them started. A name is a path.
+    pub fn new(rt: &'a R) -> Self
+        ensures faults { (name : List ℕ) → ⟦<FileInputs<'a, R> as Inputs>⟧.faults result name ≡ 0 }
+        ensures given { ⟦<FileInputs<'a, R> as Inputs>⟧.given result ≡ 0 }
+    {
         FileInputs {
             rt,
             current: None,
@@ -67,7 +72,8 @@ impl<R: Files> Inputs for FileInputs<'_, R> {
     }
 }
 
-/// Standard output.
+/// Standard output, written without a buffer. Its count of faults rises with each call that fails, and with one that
+/// takes none of a piece that is not empty, which is answered as a failure.
 #[derive(Drop)]
 pub struct StdSink<'a, P: Print> {
     rt: &'a P,
@@ -75,7 +81,10 @@ pub struct StdSink<'a, P: Print> {
 }
 
 impl<'a, P: Print> StdSink<'a, P> {
-    pub fn new(rt: &'a P) -> Self {
+    /// The standard output of the runtime.
+    pub fn new(rt: &'a P) -> Self
+        ensures { ⟦<StdSink<'a, P> as Sink>⟧.faults result ≡ 0 }
+    {
         StdSink { rt, faults: 0 }
     }
 }

@@ -9,10 +9,13 @@ use thiserror::Error;
 /// Why an input is not read whole: its reading failed, it is longer than the limit, or memory ran out.
 #[derive(Clone, Copy, Debug, PartialEq, Eq, Error)]
 pub enum Take {
+    /// Its start or a read failed.
     #[error("the input failed")]
     Failed,
+    /// It gave more bytes than the limit.
     #[error("the input is longer than the limit")]
     TooLong,
+    /// Memory ran out.
     #[error("out of memory")]
     NoMemory,
 }

@@ -1,0 +1,156 @@
+// What no clause says: real files and standard output, worked values from outside, and calls that fail in mid-stream.
+use crate::{
+    FaultKind, FileInputs, List, MemInputs, MemSink, StdSink, Take, WriteFailed, read_whole,
+    text_at, u16_at, u32_at, u64_at, write_all,
+};
+use std::alloc::{AllocError, Global};
+use std::fs;
+use std::test::Fail;
+
+// More bytes than one call of `read` is asked for.
+const LONG: usize = 70_000;
+
+// The string table that the System V gABI, "String Table", shows.
+const TABLE: &[u8] = b"\0name.\0Variable\0able\0\0xx\0";
+
+fn long_bytes(alloc: Global) -> Result<Vec<u8>, AllocError> {
+    (0..LONG).map(|i| (i % 251) as u8).collect(alloc)
+}
+
+#[test]
+fn files_are_read_whole(rt: HostRuntime) -> Result<(), Fail> {
+    let alloc = rt.alloc();
+    let long = long_bytes(alloc)?;
+    fs::write(&rt, "long", long.as_slice())?;
+    let mut inputs = FileInputs::new(&rt);
+    let bytes = read_whole(alloc, &mut inputs, "long", LONG)?;
+    assert_eq!(rt; bytes.as_slice(), long.as_slice());
+    for (name, limit, refused) in [
+        ("long", LONG - 1, Take::TooLong),
+        ("missing", LONG, Take::Failed),
+        (".", LONG, Take::Failed),
+    ] {
+        let answer = read_whole(alloc, &mut inputs, name, limit);
+        assert_eq!(rt; answer.err(), Some(refused), "at {name}");
+    }
+    fs::remove_file(&rt, "long")?;
+    Ok(())
+}
+
+#[test]
+fn standard_output_takes_a_text(rt: HostRuntime) -> Result<(), Fail> {
+    write_all(&mut StdSink::new(&rt), b"written\n")?;
+    Ok(())
+}
+
+#[test]
+fn memory_gives_the_first_file_of_a_name(rt: HostRuntime) -> Result<(), Fail> {
+    let alloc = rt.alloc();
+    let first = (String::from_str(alloc, "a")?, b"abc".to_vec(alloc)?);
+    let other = (String::from_str(alloc, "b")?, b"".to_vec(alloc)?);
+    let second = (String::from_str(alloc, "a")?, b"xyz".to_vec(alloc)?);
+    let files = vec![in alloc; first, other, second]?;
+    let mut inputs = MemInputs::new(files, Vec::new(alloc));
+    assert_eq!(rt;
+        read_whole(alloc, &mut inputs, "b", 0)?.as_slice(),
+        b"".as_slice()
+    );
+    assert_eq!(rt;
+        read_whole(alloc, &mut inputs, "a", 3)?.as_slice(),
+        b"abc".as_slice()
+    );
+    assert_eq!(rt;
+        read_whole(alloc, &mut inputs, "a", 2).err(),
+        Some(Take::TooLong)
+    );
+    assert_eq!(rt;
+        read_whole(alloc, &mut inputs, "c", 9).err(),
+        Some(Take::Failed)
+    );
+    Ok(())
+}
+
+#[test]
+fn memory_fails_at_the_second_piece(rt: HostRuntime) -> Result<(), Fail> {
+    let alloc = rt.alloc();
+    let long = long_bytes(alloc)?;
+    let file = (String::from_str(alloc, "long")?, long.clone()?);
+    let mut inputs = MemInputs::new(vec![in alloc; file]?, vec![in alloc; 3]?);
+    let failed = read_whole(alloc, &mut inputs, "long", LONG);
+    assert_eq!(rt; failed.err(), Some(Take::Failed));
+    let bytes = read_whole(alloc, &mut inputs, "long", LONG)?;
+    assert_eq!(rt; bytes.as_slice(), long.as_slice());
+    Ok(())
+}
+
+#[test]
+fn a_sink_in_memory_fails_where_it_is_told_to(rt: HostRuntime) -> Result<(), Fail> {
+    let alloc = rt.alloc();
+    let mut sink = MemSink::new(alloc, 2, vec![in alloc; 2]?)?;
+    assert_eq!(rt; write_all(&mut sink, b"abc"), Err(WriteFailed));
+    assert_eq!(rt; sink.held(), b"ab".as_slice());
+    write_all(&mut sink, b"cde")?;
+    assert_eq!(rt; sink.held(), b"abcde".as_slice());
+    Ok(())
+}
+
+#[test]
+fn a_list_is_its_items(rt: HostRuntime) -> Result<(), Fail> {
+    let alloc = rt.alloc();
+    let mut list = List::new(alloc);
+    list.push(1u64)?;
+    list.push(2)?;
+    assert_eq!(rt; list.as_slice(), [1, 2].as_slice());
+    assert_eq!(rt; List::of(vec![in alloc; 3u8]?).as_slice(), [3].as_slice());
+    assert_eq!(rt; List::copy_of(alloc, b"ab")?.as_slice(), b"ab".as_slice());
+    Ok(())
+}
+
+#[test]
+fn the_lowest_byte_stands_first(rt: HostRuntime) {
+    let bytes = [8, 7, 6, 5, 4, 3, 2, 1, 0x34, 0x12];
+    assert_eq!(rt; u16_at(&bytes, 8), Some(0x1234));
+    assert_eq!(rt; u16_at(&bytes, 9), None);
+    assert_eq!(rt; u32_at(&bytes, 0), Some(0x0506_0708));
+    assert_eq!(rt; u32_at(&bytes, 6), Some(0x1234_0102));
+    assert_eq!(rt; u32_at(&bytes, 7), None);
+    assert_eq!(rt; u64_at(&bytes, 0), Some(0x0102_0304_0506_0708));
+    assert_eq!(rt; u64_at(&bytes, 3), None);
+    assert_eq!(rt; u64_at(&bytes, usize::MAX), None);
+}
+
+#[test]
+fn a_text_ends_before_the_first_zero(rt: HostRuntime) {
+    for (at, text) in [
+        (0, Some("")),
+        (1, Some("name.")),
+        (7, Some("Variable")),
+        (11, Some("able")),
+        (16, Some("able")),
+        (24, Some("")),
+        (25, None),
+        (26, None),
+        (u64::MAX, None),
+    ] {
+        assert_eq!(rt; text_at(TABLE, at), text.map(str::as_bytes), "at {at}");
+    }
+    assert_eq!(rt; text_at(b"cut", 1), None);
+}
+
+#[test]
+fn kinds_have_their_numbers_and_names(rt: HostRuntime) {
+    for (kind, number, name) in [
+        (FaultKind::ShortFile, 1, "ShortFile"),
+        (FaultKind::Compressed, 11, "Compressed"),
+        (FaultKind::NotBuilt, 19, "NotBuilt"),
+        (FaultKind::TooLong, 40, "TooLong"),
+        (FaultKind::TypeOffset, 43, "TypeOffset"),
+        (FaultKind::RuleLine, 51, "Line"),
+        (FaultKind::Brace, 58, "Brace"),
+        (FaultKind::CertLine, 60, "Line"),
+        (FaultKind::End, 62, "End"),
+    ] {
+        assert_eq!(rt; kind.number(), number, "at {name}");
+        assert_eq!(rt; kind.name(), name, "at {number}");
+    }
+}
