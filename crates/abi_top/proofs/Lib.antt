@@ -1,2 +1,3 @@
 mod Endings
 mod InOrder
+mod Statuses
