@@ -1,3 +1,3 @@
 mod Endings
 mod InOrder
-mod Statuses
+mod Single

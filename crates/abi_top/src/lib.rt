@@ -3,6 +3,7 @@
 
 mod check;
 mod judge;
+mod laws;
 mod library;
 mod reading;
 mod status;
@@ -10,5 +11,6 @@ mod text;
 mod top;
 mod words;
 
+pub use laws::one_answer;
 pub use status::{Input, Status};
 pub use top::run;
