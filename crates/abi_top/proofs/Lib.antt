@@ -1,3 +1,6 @@
 mod Endings
+mod Exporting
 mod InOrder
+mod Judging
+mod Naming
 mod Single

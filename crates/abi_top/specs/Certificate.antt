@@ -4,7 +4,7 @@ use Rattle.std.specs.List.{concat, flat_map}
 use Rattle.hex.specs.Hex.{encode_lower}
 use Rattle.sha2.specs.Sha256.{sha256}
 use Rattle.abi_top.specs.Library.{PlainExport, exports_of}
-use Rattle.abi_top.specs.Report.{bound_among}
+use Rattle.abi_top.specs.Names.{symbol_named}
 use Rattle.abi_top.specs.Text.{newline}
 
 -- the line of an input's SHA-256, in lower-case hexadecimal digits
@@ -15,16 +15,21 @@ digest_line input bytes = concat (input ∷ codes " " ∷ encode_lower (sha256 b
 abbrev pub bind_line : ℕ → ℕ → List ℕ
 bind_line old new = concat (codes "bind " ∷ decimal old ∷ codes " " ∷ decimal new ∷ newline ∷ [])
 
-abbrev pub bind_line_to : PlainExport → Option PlainExport → List ℕ
+-- the line of an old export, where it binds
+abbrev pub bind_line_to : PlainExport → Option ℕ → List ℕ
 bind_line_to e None = []
-bind_line_to e (Some bound) = bind_line e.symbol bound.symbol
+bind_line_to e (Some symbol) = bind_line e.symbol symbol
 
 -- a line for each old export that binds, in order
 abbrev pub bind_lines : List PlainExport → List PlainExport → List ℕ
-bind_lines old new = flat_map (λ e. bind_line_to e (bound_among new e)) old
+bind_lines old new = flat_map (λ e. bind_line_to e (symbol_named new e.name)) old
 
--- the certificate; the rule text is empty
-unfoldable pub certificate_of : List ℕ → List ℕ → List ℕ
-certificate_of old new =
+-- The certificate of two libraries with these bind lines. The rule text is empty.
+abbrev pub certificate_with : List ℕ → List ℕ → List ℕ → List ℕ
+certificate_with old new binds =
     concat (codes "yes 2" ∷ newline ∷ digest_line (codes "old") old ∷ digest_line (codes "new") new ∷ digest_line (codes "rules") []
-    ∷ bind_lines (exports_of old) (exports_of new) ∷ codes "end" ∷ newline ∷ [])
+    ∷ binds ∷ codes "end" ∷ newline ∷ [])
+
+-- the certificate of two libraries
+unfoldable pub certificate_of : List ℕ → List ℕ → List ℕ
+certificate_of old new = certificate_with old new (bind_lines (exports_of old) (exports_of new))

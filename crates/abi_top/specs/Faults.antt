@@ -27,3 +27,8 @@ AreReadable inputs all = Unit {0}
 abbrev pub StopsAt : List Input → List (List ℕ) → Stop → Type 0
 StopsAt inputs all NoMemory = Unit {0}
 StopsAt inputs all (Faulty which fault) = FirstFault inputs all which fault
+
+-- one input stops a judgement: at its first fault, or for want of memory
+abbrev pub IsStopFor : Input → Option Fault → Stop → Type 0
+IsStopFor input fault NoMemory = Unit {0}
+IsStopFor input fault (Faulty which answered) = (input ≡ which) × (fault ≡ Some answered)

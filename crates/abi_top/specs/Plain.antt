@@ -1,6 +1,6 @@
 -- An export of the code, without where its name lies in memory.
 use Rattle.std.specs.Prelude.{List, map}
-use Rattle.abi_top.specs.declared.library.Export.{Export}
+use Rattle.abi_top.specs.declared.export.Export.{Export}
 use Rattle.abi_top.specs.Library.{PlainExport}
 
 abbrev pub plain_export : Export → PlainExport

@@ -1,6 +1,6 @@
 -- The breaks between two libraries, and the text that reports them: a line for each, in order.
 use Rattle.std.specs.Prelude.{ℕ, Bool, true, false, is_none, if◌then◌else◌, List, [], ◌∷◌, ◌++◌, map, filter, find, Option, Some, None, codes}
-use Rattle.std.specs.List.{concat}
+use Rattle.std.specs.List.{concat, flat_map}
 use Rattle.std.specs.Str.{bytes_eq}
 use Rattle.elf_syms.specs.Dynamic.{soname_of}
 use Rattle.abi_top.specs.Library.{PlainExport, exports_of, is_named}
@@ -46,4 +46,4 @@ row (export_gone e) = concat (codes "X2 " ∷ shown e.name ∷ codes ": gone" �
 
 -- the line `no`, and a line for each break
 abbrev pub report_of : List Break → List ℕ
-report_of breaks = codes "no" ++ newline ++ concat (map row breaks)
+report_of breaks = codes "no" ++ newline ++ flat_map row breaks

@@ -1,5 +1,5 @@
 -- The printed form of a name, whose bytes need not be text.
-use Rattle.std.specs.Prelude.{ℕ, ◌==◌, nat_le, not, ◌&&◌, if◌then◌else◌, List, [], ◌∷◌, flat_map}
+use Rattle.std.specs.Prelude.{ℕ, Bool, ◌==◌, nat_le, not, ◌&&◌, if◌then◌else◌, List, [], ◌∷◌, flat_map}
 use Rattle.hex.specs.Hex.{encode_lower}
 
 -- a byte that is printed as itself: a visible ASCII character, but for the backslash

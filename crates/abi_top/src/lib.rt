@@ -1,11 +1,16 @@
 //! The top call of the checker: the words of a command line in, a status and a text out.
 #![tactic(auto)]
 
+mod certificate;
 mod check;
+mod export;
 mod judge;
 mod laws;
 mod library;
+mod names;
 mod reading;
+mod report;
+mod shown;
 mod status;
 mod text;
 mod top;

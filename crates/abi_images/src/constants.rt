@@ -1,0 +1,93 @@
+//! The numbers of the System V gABI that images are built with, under their standard names, and the sizes of its
+//! 64-bit records.
+
+/// The class of files with 64-bit records.
+pub const ELFCLASS64: u8 = 2;
+
+/// The byte order of files with little-endian numbers.
+pub const ELFDATA2LSB: u8 = 1;
+
+/// The type of a shared object file.
+pub const ET_DYN: u16 = 3;
+
+/// The machine AMD x86-64.
+pub const EM_X86_64: u16 = 62;
+
+/// The current version of the format.
+pub const EV_CURRENT: u8 = 1;
+
+/// The bytes of `E_IDENT`.
+pub const EI_NIDENT: usize = 16;
+
+/// What a file begins with, which says how it is to be read: the magic, the class, the byte order, the version and
+/// zeros.
+pub const E_IDENT: [u8; EI_NIDENT] = [
+    0x7f,
+    b'E',
+    b'L',
+    b'F',
+    ELFCLASS64,
+    ELFDATA2LSB,
+    EV_CURRENT,
+    0,
+    0,
+    0,
+    0,
+    0,
+    0,
+    0,
+    0,
+    0,
+];
+
+/// The bytes of the file's header.
+pub const ELF_HEADER_SIZE: usize = 64;
+
+/// The bytes of a section header.
+pub const SECTION_HEADER_SIZE: usize = 64;
+
+/// The bytes of a symbol.
+pub const SYMBOL_SIZE: usize = 24;
+
+/// The bytes of an entry of the dynamic table.
+pub const DYNAMIC_ENTRY_SIZE: usize = 16;
+
+/// What the place of each section in an image is a multiple of.
+pub const ALIGNMENT: usize = 8;
+
+/// The first number that is no section's in a field of 16 bits. Where there are more sections, the header of section 0
+/// has their number and the number of the names'.
+pub const SHN_LORESERVE: u32 = 0xff00;
+
+/// In place of a section number that does not fit.
+pub const SHN_XINDEX: u16 = 0xffff;
+
+/// A section with no contents, as section 0.
+pub const SHT_NULL: u32 = 0;
+
+/// Bytes whose meaning the program that reads them knows, as debug entries.
+pub const SHT_PROGBITS: u32 = 1;
+
+/// A string table.
+pub const SHT_STRTAB: u32 = 3;
+
+/// The dynamic table.
+pub const SHT_DYNAMIC: u32 = 6;
+
+/// The dynamic symbols.
+pub const SHT_DYNSYM: u32 = 11;
+
+/// The binding of a global symbol.
+pub const STB_GLOBAL: u8 = 1;
+
+/// The type of a function's symbol.
+pub const STT_FUNC: u8 = 2;
+
+/// The visibility that the binding gives.
+pub const STV_DEFAULT: u8 = 0;
+
+/// The tag that ends the dynamic table.
+pub const DT_NULL: u64 = 0;
+
+/// The tag of the soname, whose value is an offset into the table's strings.
+pub const DT_SONAME: u64 = 14;

@@ -1,0 +1,141 @@
+// Images.
+ghost use Rattle.std.specs.Prelude.{◌≡◌, ◌+◌, ◌-◌, ◌*◌, ◌^◌, ◌≤◌, [], ◌∷◌, ◌++◌, length, min, vec_len, OnOk, OnErr, IfOk};
+
+use crate::constants::{
+    DT_NULL, DT_SONAME, DYNAMIC_ENTRY_SIZE, ELF_HEADER_SIZE, SECTION_HEADER_SIZE, SHT_DYNAMIC,
+    SHT_DYNSYM, SHT_STRTAB, SYMBOL_SIZE,
+};
+use crate::layout::Layout;
+use crate::numbers::{put_u64, to_u32};
+use crate::section::ImageSection;
+use crate::strings::StringTable;
+use crate::symbol::{ImageSymbol, put_symbol};
+use std::alloc::{AllocError, Global};
+use std::marker::Model;
+
+/// An ELF-64 shared object for x86-64, as the gABI has it. Contracts see it as its sections from number 1 on, without
+/// the one of the sections' names, which `bytes` adds.
+#[derive(Drop)]
+pub struct Image {
+    sections: Vec<ImageSection>,
+}
+
+impl Model for Image {
+    ghost use Rattle.std.specs.Prelude.{List};
+    ghost use Rattle.abi_images.specs.declared.section.ImageSection.{ImageSection as Section};
+
+    ghost Value = { List Section };
+
+    ghost view = { λ image. image.sections.items };
+}
+
+impl Image {
+    /// The image with no section.
+    pub fn new(alloc: Global) -> Image
+        ensures { result ≡ [] }
+    {
+        Image {
+            sections: Vec::new(alloc),
+        }
+    }
+
+    /// Puts a section last, and gives its number, counted from 1 as the gABI has it.
+    pub fn add_section(&mut self, section: ImageSection) -> Result<u32, AllocError>
+        ensures added { OnOk result (self.new ≡ self.old ++ section ∷ []) }
+        ensures kept { OnErr result (self.new ≡ self.old) }
+        ensures number { IfOk result (λ number. number ≡ min (length self.new) (2 ^ 32 - 1)) }
+    {
+        self.sections.push(section)?;
+        Ok(to_u32(self.sections.len()))
+    }
+
+    /// Puts the sections `.dynsym` and `.dynstr` last: the reserved symbol 0 and then these, and their names, as the
+    /// gABI has them.
+    pub fn add_symbols(&mut self, symbols: &[ImageSymbol]) -> Result<(), AllocError>
+        ensures added { OnOk result (length self.new ≡ length self.old + 2) }
+        ensures kept { OnErr result (self.new ≡ self.old) }
+    {
+        let alloc = *self.sections.allocator();
+        let mut names = StringTable::new(alloc)?;
+        let table = symbol_table(alloc, symbols, &mut names)?;
+        let mut section = ImageSection::new(alloc, ".dynsym", SHT_DYNSYM, table)?;
+        // The first symbol that is not local.
+        section.info = 1;
+        section.entry_size = SYMBOL_SIZE as u64;
+        let names = ImageSection::new(alloc, ".dynstr", SHT_STRTAB, names.into_bytes())?;
+        self.add_with_strings(section, names)
+    }
+
+    /// Puts the sections `.dynamic` and `.dynamic.str` last: a dynamic table that gives the soname, and its strings,
+    /// as the gABI has them.
+    pub fn add_soname(&mut self, name: &[u8]) -> Result<(), AllocError>
+        ensures added { OnOk result (length self.new ≡ length self.old + 2) }
+        ensures kept { OnErr result (self.new ≡ self.old) }
+    {
+        let alloc = *self.sections.allocator();
+        let mut names = StringTable::new(alloc)?;
+        let table = soname_table(alloc, names.add(name)?)?;
+        let mut section = ImageSection::new(alloc, ".dynamic", SHT_DYNAMIC, table)?;
+        section.entry_size = DYNAMIC_ENTRY_SIZE as u64;
+        let names = ImageSection::new(alloc, ".dynamic.str", SHT_STRTAB, names.into_bytes())?;
+        self.add_with_strings(section, names)
+    }
+
+    // Puts a section and then its string table last, to which it will link.
+    fn add_with_strings(
+        &mut self,
+        mut section: ImageSection,
+        strings: ImageSection,
+    ) -> Result<(), AllocError>
+        ensures added { OnOk result (length self.new ≡ length self.old + 2) }
+        ensures kept { OnErr result (self.new ≡ self.old) }
+    {
+        section.link = to_u32(self.sections.len()).saturating_add(2);
+        let mut both = Vec::new(*self.sections.allocator());
+        both.push(section)?;
+        both.push(strings)?;
+        self.sections.append(&mut both)
+    }
+
+    /// The file as the gABI has it: its header, the sections in order, `.shstrtab` as the last of them, and the
+    /// section table. Each section and the table stand at the next multiple of 8, with zeros between. The fields that
+    /// a reader of sections does not need, as those for segments and the header's own size, are 0.
+    pub fn bytes(&self, alloc: Global) -> Result<Vec<u8>, AllocError>
+        ensures { IfOk result (λ file. ELF_HEADER_SIZE + SECTION_HEADER_SIZE * (length self.now + 2) ≤ vec_len file) }
+    {
+        // Section 0 and `.shstrtab` are the two others.
+        let section_count = to_u32(self.sections.len()).saturating_add(2);
+        let mut layout = Layout::new(alloc, section_count)?;
+        for section in &self.sections {
+            layout.add(section)?;
+        }
+        layout.add_names()?;
+        layout.into_file(alloc, section_count)
+    }
+}
+
+// The records of symbol 0 and of the symbols, whose names go to the string table.
+fn symbol_table(
+    alloc: Global,
+    symbols: &[ImageSymbol],
+    names: &mut StringTable,
+) -> Result<Vec<u8>, AllocError> {
+    let mut table = Vec::from_slice(alloc, &[0; SYMBOL_SIZE])?;
+    for symbol in symbols {
+        let name_offset = names.add(symbol.name)?;
+        put_symbol(&mut table, name_offset, symbol)?;
+    }
+    Ok(table)
+}
+
+// The entries of a dynamic table that gives the soname, which stands at an offset of the table's strings.
+fn soname_table(alloc: Global, name_offset: u32) -> Result<Vec<u8>, AllocError>
+    ensures { IfOk result (λ table. vec_len table ≡ DYNAMIC_ENTRY_SIZE + DYNAMIC_ENTRY_SIZE) }
+{
+    let mut table = Vec::new(alloc);
+    put_u64(&mut table, DT_SONAME)?;
+    put_u64(&mut table, name_offset as u64)?;
+    put_u64(&mut table, DT_NULL)?;
+    put_u64(&mut table, 0)?;
+    Ok(table)
+}
