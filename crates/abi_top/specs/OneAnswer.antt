@@ -1,5 +1,5 @@
 -- Over inputs that tell their bytes a call has one answer.
-use Rattle.std.specs.Prelude.{◌≡◌, ◌≢◌, ◌⊎◌, List, ℕ, Option, Some, None}
+use Rattle.std.specs.Prelude.{◌≡◌, ◌≢◌, ◌⊎◌, List, ℕ, Some, None}
 use Rattle.abi_top.specs.declared.status.Status.{Status}
 use Rattle.abi_top.specs.declared.status.Status.TheVariants.{ReadFault}
 use Rattle.abi_top.specs.Answer.{Call, Answers}
