@@ -11,14 +11,23 @@ pub const ELFMAG: [u8; 4] = *b"\x7fELF";
 
 // The places of the fields of a file header.
 pub const EI_CLASS: usize = 4;
+
 pub const EI_DATA: usize = 5;
+
 pub const EI_VERSION: usize = 6;
+
 pub const E_TYPE: usize = 16;
+
 pub const E_MACHINE: usize = 18;
+
 pub const E_VERSION: usize = 20;
+
 pub const E_SHOFF: usize = 40;
+
 pub const E_SHENTSIZE: usize = 58;
+
 pub const E_SHNUM: usize = 60;
+
 pub const E_SHSTRNDX: usize = 62;
 
 /// The class of 64-bit files.
@@ -41,12 +50,19 @@ pub const SHN_XINDEX: u16 = 0xffff;
 
 // The places of the fields of a section header.
 pub const SH_NAME: usize = 0;
+
 pub const SH_TYPE: usize = 4;
+
 pub const SH_FLAGS: usize = 8;
+
 pub const SH_OFFSET: usize = 24;
+
 pub const SH_SIZE: usize = 32;
+
 pub const SH_LINK: usize = 40;
+
 pub const SH_INFO: usize = 44;
+
 pub const SH_ENTSIZE: usize = 56;
 
 /// A section header that is not used.
