@@ -129,6 +129,7 @@ pub fn name_fault_in(bytes: &[u8], sections: SectionTable, names: &[u8]) -> Opti
 fn is_compressed(name: &[u8], flags: u64) -> bool
     ensures { result ≡ the_name_is_compressed name.now flags }
 {
+    // The flag is one bit: the lowest one of the quotient by its value.
     let has_flag = (flags / SHF_COMPRESSED) % 2 == 1;
     (name.starts_with(&DEBUG_PREFIX) && has_flag) || name.starts_with(&ZDEBUG_PREFIX)
 }

@@ -6,14 +6,19 @@ pub const SYM_SIZE: usize = 24;
 
 /// Where a symbol says where its name begins in the string table.
 pub const ST_NAME: usize = 0;
+
 /// Where a symbol says its binding, in the high half of a byte, and its type, in the low half.
 pub const ST_INFO: usize = 4;
+
 /// Where a symbol says its visibility, in the two lowest bits of a byte.
 pub const ST_OTHER: usize = 5;
+
 /// Where a symbol says the number of the section that it stands in.
 pub const ST_SHNDX: usize = 6;
+
 /// Where a symbol says its value.
 pub const ST_VALUE: usize = 8;
+
 /// Where a symbol says how many bytes it has.
 pub const ST_SIZE: usize = 16;
 
@@ -61,6 +66,7 @@ pub const DYN_SIZE: usize = 16;
 
 /// Where an entry of the dynamic table says its tag.
 pub const D_TAG: usize = 0;
+
 /// Where an entry of the dynamic table says its value.
 pub const D_VAL: usize = 8;
 

@@ -22,6 +22,8 @@ fn symbol_in<'a>(table: &[u8], strings: &'a [u8], number: u32) -> Result<Symbol<
     ensures read { IfOk result (λ s. plain_symbol s ≡ the_symbol_in table.now strings.now number) }
 {
     let at = SYM_SIZE * number as usize;
+    // A byte holds two numbers: ELF64_ST_BIND and ELF64_ST_TYPE take them apart, and ELF64_ST_VISIBILITY leaves the two
+    // lowest bits of the other byte.
     let info = table[at + ST_INFO];
     match text_at(strings, u64::from(u32_in(table, at + ST_NAME))) {
         Some(name) => Ok(Symbol {
