@@ -5,6 +5,7 @@
 mod constants;
 mod file;
 mod header;
+pub mod laws;
 mod places;
 mod records;
 
