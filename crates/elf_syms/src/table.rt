@@ -2,7 +2,7 @@
 ghost use Rattle.std.specs.Prelude.{◌≡◌, ◌<◌, ◌≤◌, ◌+◌, ◌*◌, ◌/◌, ◌%◌, ◌^◌, false, length, map, IfOk, IfSome, IfNone, is_none};
 ghost use Rattle.std.specs.List.{range_with_len};
 ghost use Rattle.std.specs.Option.{option_copied};
-ghost use Rattle.abi_base.specs.Outcome.{Judges, Decides, first};
+ghost use Rattle.abi_base.specs.Outcome.{Judges, Settles, first};
 ghost use Rattle.elf_file.specs.Elf.{strings_of};
 ghost use Rattle.elf_file.specs.File.{viewed};
 ghost use Rattle.elf_syms.specs.Plain.{plain_symbol, plain_symbols};
@@ -18,7 +18,7 @@ use std::alloc::Global;
 #[tactic(auto, unfolding(crate::specs::Symbols::symbol_in, crate::specs::Symbols::name_in, crate::specs::Symbols::symbol_name_fault))]
 fn symbol_in<'a>(table: &[u8], strings: &'a [u8], number: u32) -> Result<Symbol<'a>, Fault>
     requires { SYM_SIZE * (number + 1) ≤ length table.now }
-    ensures judged { Decides result (symbol_name_fault table.now strings.now number) }
+    ensures judged { Settles result (symbol_name_fault table.now strings.now number) }
     ensures read { IfOk result (λ s. plain_symbol s ≡ the_symbol_in table.now strings.now number) }
 {
     let at = SYM_SIZE * number as usize;
