@@ -1,0 +1,4 @@
+pub mod Exports
+pub mod Kinds
+pub mod Plain
+pub mod Shown

@@ -1,0 +1,23 @@
+-- An export of the code, without where its names lie in memory.
+use Rattle.std.specs.Prelude.{List, map}
+use Rattle.std.specs.Option.{option_copied}
+use Rattle.abi_types.specs.declared.export.Export.{Export}
+use Rattle.abi_types.specs.Exports.{PlainExport}
+
+abbrev pub plain_export : Export → PlainExport
+plain_export e = record {
+  symbol = e.symbol;
+  name = e.name.now;
+  version = option_copied e.version;
+  index = e.index;
+  hidden = e.hidden;
+  kind = e.kind;
+  absolute = e.absolute;
+  value = e.value;
+  size = e.size;
+  declared = e.declared.now;
+  entry = e.entry;
+}
+
+abbrev pub plain_exports : List Export → List PlainExport
+plain_exports exports = map plain_export exports

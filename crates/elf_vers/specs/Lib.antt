@@ -1,0 +1,4 @@
+pub mod Definitions
+pub mod Kept
+pub mod Plain
+pub mod Versions

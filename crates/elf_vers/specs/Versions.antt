@@ -1,0 +1,47 @@
+-- The version of a dynamic symbol, and the first fault of versions. The indexes stand in the first section of type GNU
+-- versym, one for each symbol: bit 15 says that the version is hidden, and the rest is the index of a definition, or
+-- VER_NDX_LOCAL or VER_NDX_GLOBAL. Without the section each symbol has the index VER_NDX_GLOBAL.
+use Rattle.std.specs.Prelude.{ℕ, ◌*◌, ◌/◌, ◌%◌, ◌==◌, nat_lt, nat_le, Bool, false, not, if◌then◌else◌, List, [], ◌∷◌, ◌++◌, length, Option, Some, None}
+use Rattle.std.specs.Option.{option_map, option_map_or}
+use Rattle.abi_base.specs.declared.fault.Fault.{Fault}
+use Rattle.abi_base.specs.declared.fault.FaultKind.TheVariants as kind
+use Rattle.abi_base.specs.Numbers.{number}
+use Rattle.abi_base.specs.Outcome.{fault_if, first}
+use Rattle.elf_file.specs.Elf.{section_of_kind}
+use Rattle.elf_file.specs.declared.constants.TheConstants.{SHT_GNU_VERSYM}
+use Rattle.elf_vers.specs.declared.constants.TheConstants.{VERSYM_SIZE, VERSYM_HIDDEN, VER_NDX_GLOBAL}
+use Rattle.elf_vers.specs.Definitions.{version_name, definition_faults}
+
+-- a version, without where its name lies in memory
+pub record PlainVersion : Type 0 where
+  pub name : Option (List ℕ)
+  pub index : ℕ
+  pub hidden : Bool
+
+-- the version index of a symbol, with its bit 15
+unfoldable pub version_index : List ℕ → ℕ → ℕ
+version_index f i = option_map_or (λ s. number 2 s.bytes (VERSYM_SIZE * i)) (section_of_kind f SHT_GNU_VERSYM) VER_NDX_GLOBAL
+
+-- the version with an index, where it is none or is defined
+abbrev pub version_with : List ℕ → ℕ → Bool → Option PlainVersion
+version_with f index hidden =
+    if nat_le index VER_NDX_GLOBAL
+    then Some (record { name = None; index = index; hidden = hidden })
+    else option_map (λ (name : List ℕ). record { name = Some name; index = index; hidden = hidden }) (version_name f index)
+
+-- the version of a symbol of a file of so many symbols
+unfoldable pub version_at : List ℕ → ℕ → ℕ → Option PlainVersion
+version_at f symbols i =
+    if nat_lt i symbols
+    then version_with f (version_index f i % VERSYM_HIDDEN) (version_index f i / VERSYM_HIDDEN == 1)
+    else None
+
+-- the table of indexes does not have one for each symbol; then the definitions
+abbrev pub version_faults : List ℕ → ℕ → List (Option Fault)
+version_faults f symbols =
+    fault_if (option_map_or (λ s. not (length s.bytes == VERSYM_SIZE * symbols)) (section_of_kind f SHT_GNU_VERSYM) false) kind.VersionTable 0
+    ∷ definition_faults f
+
+-- the first fault of the versions of a file of so many symbols
+unfoldable pub version_fault : List ℕ → ℕ → Option Fault
+version_fault f symbols = first (version_faults f symbols)

@@ -1,0 +1,12 @@
+//! The symbol versions of a shared object: the definitions of its versions, and the version of each of its dynamic
+//! symbols (GNU symbol versioning, as the Linux Standard Base, "Symbol Versioning", has it).
+#![tactic(auto)]
+
+mod constants;
+mod definitions;
+mod version;
+mod versions;
+
+pub use constants::{VER_NDX_GLOBAL, VER_NDX_LOCAL};
+pub use version::Version;
+pub use versions::{Versions, versions};
