@@ -1,4 +1,3 @@
 pub mod Definitions
-pub mod Kept
 pub mod Plain
 pub mod Versions

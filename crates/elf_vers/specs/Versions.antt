@@ -1,7 +1,8 @@
 -- The version of a dynamic symbol, and the first fault of versions. The indexes stand in the first section of type GNU
 -- versym, one for each symbol: bit 15 says that the version is hidden, and the rest is the index of a definition, or
 -- VER_NDX_LOCAL or VER_NDX_GLOBAL. Without the section each symbol has the index VER_NDX_GLOBAL.
-use Rattle.std.specs.Prelude.{ℕ, ◌*◌, ◌/◌, ◌%◌, ◌==◌, nat_lt, nat_le, Bool, false, not, if◌then◌else◌, List, [], ◌∷◌, ◌++◌, length, Option, Some, None}
+use Rattle.std.specs.Prelude.{ℕ, ◌*◌, ◌/◌, ◌%◌, ◌==◌, nat_lt, nat_le, Bool, false, not, if◌then◌else◌, List, [], ◌∷◌, length, map, slice_get, Option, Some, None, option_and_then}
+use Rattle.std.specs.List.{range_with_len}
 use Rattle.std.specs.Option.{option_map, option_map_or}
 use Rattle.abi_base.specs.declared.fault.Fault.{Fault}
 use Rattle.abi_base.specs.declared.fault.FaultKind.TheVariants as kind
@@ -35,6 +36,14 @@ version_at f symbols i =
     if nat_lt i symbols
     then version_with f (version_index f i % VERSYM_HIDDEN) (version_index f i / VERSYM_HIDDEN == 1)
     else None
+
+-- the versions of all symbols, by their numbers
+abbrev pub versions_of : List ℕ → ℕ → List (Option PlainVersion)
+versions_of f symbols = map (version_at f symbols) (range_with_len 0 symbols)
+
+-- the version at a number in such a list
+abbrev pub version_in : List (Option PlainVersion) → ℕ → Option PlainVersion
+version_in versions i = option_and_then (λ version. version) (slice_get versions i)
 
 -- the table of indexes does not have one for each symbol; then the definitions
 abbrev pub version_faults : List ℕ → ℕ → List (Option Fault)

@@ -3,7 +3,6 @@
 #![tactic(auto)]
 
 mod constants;
-mod definitions;
 mod version;
 mod versions;
 

@@ -1,13 +1,6 @@
-// A library with one function.
+//! The rules that a pair of an old and a new export, bound to each other, may break.
 #![tactic(auto)]
 
-ghost use Rattle.std.specs.Prelude.{◌≡◌};
-ghost use Rattle.pair_rules.specs.Echo.{echo_of};
+mod exports;
 
-// The `ensures` clause is the contract: what `echo` returns is `echo_of` of its argument, a definition
-// in `specs/Echo.antt`, which a caller's clause can cite too.
-pub fn echo(x: usize) -> usize
-    ensures { result ≡ echo_of x }
-{
-    x
-}
+pub use exports::export_breaks;
