@@ -1,14 +1,10 @@
-// The version of each dynamic symbol of a file.
-ghost use Rattle.std.specs.Prelude.{◌≡◌, ◌≤◌, IfOk, map};
+// The versions of the dynamic symbols of a file, as they are kept.
+ghost use Rattle.std.specs.Prelude.{◌≡◌, map};
 ghost use Rattle.std.specs.Option.{option_map};
-ghost use Rattle.abi_base.specs.Outcome.{Judges};
 ghost use Rattle.elf_vers.specs.Plain.{plain_version};
-ghost use Rattle.elf_vers.specs.Versions.{version_fault, versions_of, version_in};
+ghost use Rattle.elf_vers.specs.Versions.{version_in};
 
 use crate::version::Version;
-use abi_base::Refusal;
-use elf_file::ElfFile;
-use std::alloc::Global;
 use std::marker::Model;
 
 /// The versions of the dynamic symbols of a file. Contracts see the list of them, by the symbols' numbers: none at a
@@ -30,20 +26,14 @@ impl<'a> Model for Versions<'a> {
     ghost view = { λ versions. map (option_map plain_version) versions.all.items };
 }
 
-/// The versions of the dynamic symbols of a file, of which there are `symbols`. The fault is the first one of
-/// `VersionTable` and `VersionDefinition`.
-pub fn versions<'a>(
-    alloc: Global,
-    file: &ElfFile<'a>,
-    symbols: usize,
-) -> Result<Versions<'a>, Refusal>
-    ensures judged { Judges result (version_fault file.now symbols) }
-    ensures read { IfOk result (λ versions. versions ≡ versions_of file.now symbols) }
-{
-    Err(Refusal::NoMemory)
-}
-
 impl<'a> Versions<'a> {
+    /// These versions, by the numbers of the symbols.
+    pub(crate) fn of(all: Vec<Option<Version<'a>>>) -> Versions<'a>
+        ensures { result ≡ map (option_map plain_version) all.items }
+    {
+        Versions { all }
+    }
+
     /// The version of the symbol of a number. None exactly where there are not so many symbols, or the symbol's index is
     /// that of no definition and neither `VER_NDX_LOCAL` nor `VER_NDX_GLOBAL`. It takes no memory.
     pub fn version_of(&self, symbol: usize) -> Option<Version<'a>>
