@@ -5,7 +5,7 @@ ghost use Rattle.elf_vers.specs.Versions.{version_fault, versions_of};
 
 use crate::versions::Versions;
 use abi_base::Refusal;
-use elffile::ElfFile;
+use elf_file::ElfFile;
 use std::alloc::Global;
 
 /// The versions of the dynamic symbols of a file, of which there are `symbols`. The fault is the first one of
