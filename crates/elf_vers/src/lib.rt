@@ -3,11 +3,11 @@
 #![tactic(auto)]
 
 mod constants;
+mod kept;
 mod reading;
 mod version;
-mod versions;
 
 pub use constants::{VER_NDX_GLOBAL, VER_NDX_LOCAL};
 pub use reading::versions;
 pub use version::Version;
-pub use versions::Versions;
+pub use kept::Versions;

@@ -3,7 +3,7 @@ ghost use Rattle.std.specs.Prelude.{◌≡◌, IfOk};
 ghost use Rattle.abi_base.specs.Outcome.{Judges};
 ghost use Rattle.elf_vers.specs.Versions.{version_fault, versions_of};
 
-use crate::versions::Versions;
+use crate::kept::Versions;
 use abi_base::Refusal;
 use elf_file::ElfFile;
 use std::alloc::Global;
