@@ -29,7 +29,7 @@ impl<'a> Model for Versions<'a> {
 impl<'a> Versions<'a> {
     /// These versions, by the numbers of the symbols.
     pub(crate) fn of(all: Vec<Option<Version<'a>>>) -> Versions<'a>
-        ensures { result ≡ map (option_map plain_version) all.items }
+        ensures { result ≡ map (option_map plain_version) all.entry.items }
     {
         Versions { all }
     }
