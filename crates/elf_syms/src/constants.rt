@@ -61,6 +61,9 @@ pub const STV_PROTECTED: u8 = 3;
 /// The section of a symbol that is not defined.
 pub const SHN_UNDEF: u16 = 0;
 
+/// The section of a symbol whose value is no address of the file.
+pub const SHN_ABS: u16 = 0xfff1;
+
 /// The size of an entry of the dynamic table, `Elf64_Dyn`.
 pub const DYN_SIZE: usize = 16;
 

@@ -1,13 +1,10 @@
-// A library with one function.
+//! The exports of a library, with their versions, and which export of another library each of them binds to.
 #![tactic(auto)]
 
-ghost use Rattle.std.specs.Prelude.{◌≡◌};
-ghost use Rattle.vers_bind.specs.Echo.{echo_of};
+mod all;
+mod one;
+mod reading;
 
-// The `ensures` clause is the contract: what `echo` returns is `echo_of` of its argument, a definition
-// in `specs/Echo.antt`, which a caller's clause can cite too.
-pub fn echo(x: usize) -> usize
-    ensures { result ≡ echo_of x }
-{
-    x
-}
+pub use all::bind_all;
+pub use one::bind;
+pub use reading::exports;

