@@ -2,18 +2,17 @@
 use Rattle.std.proofs.Common.{◌≡◌, ℕ, suc, Bool, true, false, cond, List, [], ◌∷◌, ◌++◌, length, map, Option, Some, None, refl, sym, ◌∙◌, ap, subst, arith, append_assoc}
 use Rattle.std.specs.Prelude.{◌↔◌, filter, find, option_map, is_none, is_some, IsSome, ◌==◌, ◌&&◌, All, codes}
 use Rattle.std.specs.List.{flat_map, AllByRecursion}
-use Rattle.std.specs.Str.{bytes_eq}
 use Rattle.std.proofs.lemmas.Grind.{flat_map-append}
 use Rattle.std.proofs.lemmas.List.Elements.{All-from_recursion, recursion_from_All}
 use Rattle.std.proofs.lemmas.Bool.Decides.{Decides-eqb}
 use Rattle.std.proofs.lemmas.Slice.Eq.{bytes_eq-Decides}
 use Rattle.elf_syms.specs.Dynamic.{soname_of}
 use Rattle.abi_top.specs.declared.export.Export.{Export}
-use Rattle.abi_top.specs.Certificate.{bind_line_to, bind_lines, certificate_with, certificate_of}
+use Rattle.abi_top.specs.Certificate.{bind_lines, certificate_with, certificate_of}
 use Rattle.abi_top.specs.Check.{Compatible}
 use Rattle.abi_top.specs.Library.{PlainExport, exports_of, is_named}
 use Rattle.abi_top.specs.Named.{bind_line_in, gone_row, has_no_name_in, no_breaks, AreRead}
-use Rattle.abi_top.specs.Names.{Names, IsIndex, symbol_under, symbol_named}
+use Rattle.abi_top.specs.Names.{Names, IsIndex}
 use Rattle.abi_top.specs.Plain.{plain_export, plain_exports}
 use Rattle.abi_top.specs.Report.{Break, export_gone, bound_among, is_gone_from, soname_breaks, breaks_of, same_soname, report_of, row}
 use Rattle.abi_top.specs.Text.{newline}
@@ -163,9 +162,9 @@ unfolding breaks_of
 breaks_tell old new = (
   λ fits. rw (equal_sonames (soname_of old) (soname_of new) fits.sonames, none_gone (exports_of new) (exports_of old) fits.binds) refl,
   λ none.
-    let parts = nothing_joined (soname_breaks (soname_of old) (soname_of new)) (map export_gone (filter (is_gone_from (exports_of new)) (exports_of old))) none in
-    record {
-      sonames = sonames_equal (soname_of old) (soname_of new) (no_soname_break (soname_of old) (soname_of new) parts.0);
-      binds = bound_all (exports_of new) (exports_of old) (nothing_mapped export_gone (filter (is_gone_from (exports_of new)) (exports_of old)) parts.1);
-    },
+      let parts = nothing_joined (soname_breaks (soname_of old) (soname_of new)) (map export_gone (filter (is_gone_from (exports_of new)) (exports_of old))) none in
+      record {
+        sonames = sonames_equal (soname_of old) (soname_of new) (no_soname_break (soname_of old) (soname_of new) parts.0);
+        binds = bound_all (exports_of new) (exports_of old) (nothing_mapped export_gone (filter (is_gone_from (exports_of new)) (exports_of old)) parts.1);
+      },
 )
