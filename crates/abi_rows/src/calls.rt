@@ -65,11 +65,8 @@ fn symbols_and_the_soname_are_read(rt: HostRuntime) -> Result<(), Fail> {
     assert_eq!(rt; soname(&file)?, Some(b"libx.so.1".as_slice()));
     let all = symbols(alloc, &file)?;
     assert_eq!(rt; all.len(), 3);
-    for (symbol, number, name, is_exported) in [
-        (&all[0], 0, "", false),
-        (&all[1], 1, "f", true),
-        (&all[2], 2, "data", true),
-    ] {
+    let rows = [(0, "", false), (1, "f", true), (2, "data", true)];
+    for (symbol, (number, name, is_exported)) in all.iter().zip(rows) {
         assert_eq!(rt; symbol.number, number);
         assert_eq!(rt; symbol.name, name.as_bytes());
         assert_eq!(rt; symbol.is_exported(), is_exported);

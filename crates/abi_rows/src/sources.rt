@@ -21,30 +21,29 @@ fn a_failed_write_leaves_a_front(rt: HostRuntime) -> Result<(), Fail> {
 }
 
 // A whole run over two files makes six calls: for each file its start, the read that gives its bytes, and the read that
-// gives none.
+// gives none. No call has the number 0.
 #[test]
 fn a_failed_read_names_the_input(rt: HostRuntime) -> Result<(), Fail> {
     let alloc = rt.alloc();
     let old = library(alloc, &["f"])?;
     let new = library(alloc, &[])?;
-    let both: [(&str, &[u8]); 2] = [("old", &old), ("new", &new)];
+    let files: [(&str, &[u8]); 2] = [("old", &old), ("new", &new)];
     let (old_failed, new_failed) = ("read fault old\n", "read fault new\n");
-    let rows: [(&[(&str, &[u8])], &[u64], Status, &str); 11] = [
-        (&both[..1], &[], Status::ReadFault, new_failed),
-        (&both[1..], &[], Status::ReadFault, old_failed),
-        (&[], &[], Status::ReadFault, old_failed),
-        (&both, &[1], Status::ReadFault, old_failed),
-        (&both, &[2], Status::ReadFault, old_failed),
-        (&both, &[3], Status::ReadFault, old_failed),
-        (&both, &[4], Status::ReadFault, new_failed),
-        (&both, &[5], Status::ReadFault, new_failed),
-        (&both, &[6], Status::ReadFault, new_failed),
-        (&both, &[2, 4], Status::ReadFault, old_failed),
-        (&both, &[7], Status::No, "no\nX2 f: gone\n"),
-    ];
-    for (files, failing, status, text) in rows {
-        let mut inputs = inputs(alloc, files, failing)?;
-        runs(&rt, CHECK, &mut inputs, status, text)?;
+    for (old_name, new_name, failing, status, text) in [
+        ("old", "missing", 0, Status::ReadFault, new_failed),
+        ("missing", "new", 0, Status::ReadFault, old_failed),
+        ("missing", "missing", 0, Status::ReadFault, old_failed),
+        ("old", "new", 1, Status::ReadFault, old_failed),
+        ("old", "new", 2, Status::ReadFault, old_failed),
+        ("old", "new", 3, Status::ReadFault, old_failed),
+        ("old", "new", 4, Status::ReadFault, new_failed),
+        ("old", "new", 5, Status::ReadFault, new_failed),
+        ("old", "new", 6, Status::ReadFault, new_failed),
+        ("old", "new", 7, Status::No, "no\nX2 f: gone\n"),
+    ] {
+        let mut inputs = inputs(alloc, &files, &[failing])?;
+        let words = ["check", old_name, new_name];
+        runs(&rt, &words, &mut inputs, status, text)?;
     }
     let mut files = FileInputs::new(&rt);
     runs(
