@@ -28,6 +28,6 @@ Judges (Err e) fault = Refuses e fault
 
 -- The same of a call that takes no memory: Ok comes exactly where there is no fault, and a fault exactly where it is
 -- this one.
-abbrev pub Decides : {T : Type 0} → Result T Fault → Option Fault → Type 0
-Decides (Ok x) fault = fault ≡ None
-Decides (Err answered) fault = fault ≡ Some answered
+abbrev pub Settles : {T : Type 0} → Result T Fault → Option Fault → Type 0
+Settles (Ok x) fault = fault ≡ None
+Settles (Err answered) fault = fault ≡ Some answered

@@ -59,8 +59,8 @@ pub report_joined : (breaks : List Break) (gone : List Export) (all sonames : Li
 report_joined breaks gone all sonames is joined =
     joined ∙ append_assoc (codes "no" ++ newline) sonames (flat_map gone_row gone)
     ∙ ap (λ (l : List ℕ). (codes "no" ++ newline) ++ l)
-      (ap (λ (l : List ℕ). l ++ flat_map gone_row gone) is ∙ ap (λ (l : List ℕ). flat_map row breaks ++ l) (gone_rows_are gone)
-      ∙ sym (flat_map-append row breaks (map export_gone (plain_exports gone))))
+    (ap (λ (l : List ℕ). l ++ flat_map gone_row gone) is ∙ ap (λ (l : List ℕ). flat_map row breaks ++ l) (gone_rows_are gone)
+    ∙ sym (flat_map-append row breaks (map export_gone (plain_exports gone))))
 
 -- ---- the verdict
 

@@ -3,3 +3,4 @@ mod Exporting
 mod InOrder
 mod Judging
 mod Naming
+mod Single

@@ -49,6 +49,7 @@ twins_some (y ∷ ys) e x rest some =
     any_or : (b : Bool) → (b || true) ≡ true
     any_or true = refl
     any_or false = refl
+
     either : (b c : Bool) → ((b || true) || c) ≡ true
     either true c = refl
     either false c = refl
@@ -108,10 +109,10 @@ has_twin names exports i symbol inside index under =
     let before = take i (plain_exports exports) in
     let within : i < length (plain_exports exports) = omega (arith, length-map exports plain_export) in
     let rest : drop i (plain_exports exports) ≡ e ∷ drop (i + 1) (plain_exports exports) =
-        drop_more (plain_exports exports) i (plain_export none_export) within
-        ∙ ap (λ (x : PlainExport). x ∷ drop (i + 1) (plain_exports exports)) (get_or-map plain_export exports i none_export (plain_export none_export) inside) in
+    drop_more (plain_exports exports) i (plain_export none_export) within
+    ∙ ap (λ (x : PlainExport). x ∷ drop (i + 1) (plain_exports exports)) (get_or-map plain_export exports i none_export (plain_export none_export) inside) in
     let all : plain_exports exports ≡ before ++ e ∷ drop (i + 1) (plain_exports exports) =
-        sym (take-append-drop i (plain_exports exports)) ∙ ap (λ (l : List PlainExport). before ++ l) rest in
+    sym (take-append-drop i (plain_exports exports)) ∙ ap (λ (l : List PlainExport). before ++ l) rest in
     ap has_twins all ∙ found (find (is_named e.name) before) refl (sym (index.finds e.name) ∙ under)
   where
     found : (o : Option PlainExport) → find (is_named (export_at exports i).name) (take i (plain_exports exports)) ≡ o → option_map (λ (x : PlainExport). x.symbol) o ≡ Some symbol

@@ -1,5 +1,5 @@
 -- The faults of inputs, and which one comes first.
-use Rattle.std.specs.Prelude.{◌≡◌, ◌⊎◌, ℕ, List, [], ◌∷◌, Option, Some, None}
+use Rattle.std.specs.Prelude.{◌≡◌, ◌⊎◌, ℕ, List, ◌∷◌, Option, Some, None}
 use Rattle.abi_base.specs.declared.fault.Fault.{Fault}
 use Rattle.abi_top.specs.declared.status.Input.{Input}
 use Rattle.abi_top.specs.declared.status.Input.TheVariants.{Old, New}

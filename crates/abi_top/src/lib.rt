@@ -5,6 +5,7 @@ mod certificate;
 mod check;
 mod export;
 mod judge;
+mod laws;
 mod library;
 mod names;
 mod reading;
@@ -15,5 +16,6 @@ mod text;
 mod top;
 mod words;
 
+pub use laws::one_answer;
 pub use status::{Input, Status};
 pub use top::run;

@@ -13,9 +13,7 @@ ghost use Rattle.abi_top.specs.Plain.{plain_exports};
 use crate::export::Export;
 use crate::names::index_of;
 use abi_base::{Fault, FaultKind, INPUT_LIMIT, Refusal};
-use elf_file::{
-    DEBUG_PREFIX, ElfFile, SHT_GNU_VERDEF, SHT_GNU_VERNEED, SHT_GNU_VERSYM, read_elf,
-};
+use elf_file::{DEBUG_PREFIX, ElfFile, SHT_GNU_VERDEF, SHT_GNU_VERNEED, SHT_GNU_VERSYM, read_elf};
 use elf_syms::{Symbol, soname, symbols};
 use std::alloc::{AllocError, Global};
 use std::collections::HashMap;

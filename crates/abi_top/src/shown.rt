@@ -6,6 +6,7 @@ use std::alloc::{AllocError, Global};
 
 // The visible ASCII characters.
 const FIRST_VISIBLE: u8 = b'!';
+
 const LAST_VISIBLE: u8 = b'~';
 
 // Whether a byte is printed as itself.

@@ -3,7 +3,7 @@ ghost use Rattle.std.specs.Prelude.{◌≡◌, ◌≢◌, ◌⊎◌, List, ℕ, 
 ghost use Rattle.std.specs.Io.KnownBytes.{Appends};
 ghost use Rattle.abi_base.specs.Causes.{Rose, AppendsFront};
 ghost use Rattle.abi_base.specs.declared.fault.Fault.{Fault as AnyFault};
-ghost use Rattle.abi_top.specs.Answer.{Answers, Asks, FailsToRead, IsFaulty, call_of};
+ghost use Rattle.abi_top.specs.Answer.{Answers, Asks, Call, FailsToRead, IsFaulty, call_of};
 ghost use Rattle.abi_top.specs.Asked.{asked_by, check};
 ghost use Rattle.abi_top.specs.Certificate.{certificate_of};
 ghost use Rattle.abi_top.specs.Check.{Compatible};
@@ -26,8 +26,8 @@ use std::alloc::Global;
 /// name are read whole, in order; then the first one with a fault decides; then the command gives its verdict. All that
 /// is to be printed is built before the first write.
 ///
-/// In the clauses, `call_of ..` is this call: its words, the bytes told of each name, and the counts of faults of each
-/// name before the call and after it.
+/// In the clauses `call` is this call: its words, the bytes told of each name, the count of faults of each name before the
+/// call and after it, and how many bytes the input that was read last has given.
 pub fn run<I: Inputs, S: Sink>(
     alloc: Global,
     words: &[&str],
@@ -36,27 +36,31 @@ pub fn run<I: Inputs, S: Sink>(
 ) -> Status
     // Every status but want of memory and a write fault comes with its row of the table `Answers`, whose text was
     // appended whole.
-    ensures answered { result ≢ Status.NoMemory → result ≢ Status.WriteFault → (text : List ℕ)
-        × Answers (call_of I.told I.faults I.given words.now inputs.old inputs.new) result text
-        × Appends (S.held sink.old) (S.held sink.new) text }
+    ensures answered { let call : Call = call_of I.told I.faults I.given words.now inputs.old inputs.new in
+        result ≢ Status.NoMemory → result ≢ Status.WriteFault
+        → (text : List ℕ) × Answers call result text × Appends (S.held sink.old) (S.held sink.new) text }
 
     // Yes: both libraries are readable, the new one may replace the old one, and the certificate was printed.
-    ensures yes { result ≡ Status.Yes → OnLibraries (call_of I.told I.faults I.given words.now inputs.old inputs.new)
-        (λ old new. Compatible old new × Appends (S.held sink.old) (S.held sink.new) (certificate_of old new)) }
+    ensures yes { let call : Call = call_of I.told I.faults I.given words.now inputs.old inputs.new in
+        result ≡ Status.Yes
+        → OnLibraries call (λ old new. Compatible old new × Appends (S.held sink.old) (S.held sink.new) (certificate_of old new)) }
 
     // No: both libraries are readable, the new one may not replace the old one, and all breaks were printed.
-    ensures no { result ≡ Status.No → OnLibraries (call_of I.told I.faults I.given words.now inputs.old inputs.new)
-        (λ old new. (Compatible old new → ⊥) × Appends (S.held sink.old) (S.held sink.new) (report_of (breaks_of old new))) }
+    ensures no { let call : Call = call_of I.told I.faults I.given words.now inputs.old inputs.new in
+        result ≡ Status.No
+        → OnLibraries call (λ old new. (Compatible old new → ⊥) × Appends (S.held sink.old) (S.held sink.new) (report_of (breaks_of old new))) }
 
     // Unreadable: the text names the first fault of the first input that has one, too long before all others.
-    ensures unreadable { result ≡ Status.Unreadable → (which : AnyInput) × (fault : AnyFault)
-        × Asks (call_of I.told I.faults I.given words.now inputs.old inputs.new) (IsFaulty (call_of I.told I.faults I.given words.now inputs.old inputs.new) which fault)
+    ensures unreadable { let call : Call = call_of I.told I.faults I.given words.now inputs.old inputs.new in
+        result ≡ Status.Unreadable
+        → (which : AnyInput) × (fault : AnyFault) × Asks call (IsFaulty call which fault)
         × Appends (S.held sink.old) (S.held sink.new) (unreadable_text which fault) }
 
     // Read fault: the count of the name that the words give for that input rose in this call, and no input before it is
     // told to be too long.
-    ensures read_fault { result ≡ Status.ReadFault → (which : AnyInput)
-        × Asks (call_of I.told I.faults I.given words.now inputs.old inputs.new) (FailsToRead (call_of I.told I.faults I.given words.now inputs.old inputs.new) which)
+    ensures read_fault { let call : Call = call_of I.told I.faults I.given words.now inputs.old inputs.new in
+        result ≡ Status.ReadFault
+        → (which : AnyInput) × Asks call (FailsToRead call which)
         × Appends (S.held sink.old) (S.held sink.new) (read_fault_text which) }
 
     // Usage comes exactly where the words are wrong, but for want of memory and a write fault.
@@ -66,19 +70,19 @@ pub fn run<I: Inputs, S: Sink>(
 
     // A write failed in this call, behind a front of a text with which another status could have come.
     ensures write_fault { result ≡ Status.WriteFault → Rose (S.faults sink.old) (S.faults sink.new) }
-    ensures front { result ≡ Status.WriteFault → (status : AnyStatus) × (text : List ℕ)
-        × Answers (call_of I.told I.faults I.given words.now inputs.old inputs.new) status text
-        × AppendsFront (S.held sink.old) (S.held sink.new) text }
+    ensures front { let call : Call = call_of I.told I.faults I.given words.now inputs.old inputs.new in
+        result ≡ Status.WriteFault
+        → (status : AnyStatus) × (text : List ℕ) × Answers call status text × AppendsFront (S.held sink.old) (S.held sink.new) text }
 
     // Want of memory leaves the sink as before.
     ensures no_memory { result ≡ Status.NoMemory → sink.new ≡ sink.old }
 
     // Where the words are right, both inputs tell readable bytes and did not fail, and the sink did not fail, the answer
     // is the verdict, or want of memory.
-    ensures complete { (old_name new_name old new : List ℕ) → asked_by (texts words.now) ≡ Some (check old_name new_name)
-        → IsServed (call_of I.told I.faults I.given words.now inputs.old inputs.new) old_name old
-        → IsServed (call_of I.told I.faults I.given words.now inputs.old inputs.new) new_name new
-        → (Rose (S.faults sink.old) (S.faults sink.new) → ⊥) → result ≢ Status.NoMemory → IsVerdict old new result }
+    ensures complete { let call : Call = call_of I.told I.faults I.given words.now inputs.old inputs.new in
+        (old_name new_name old new : List ℕ) → asked_by (texts words.now) ≡ Some (check old_name new_name)
+        → IsServed call old_name old → IsServed call new_name new → (Rose (S.faults sink.old) (S.faults sink.new) → ⊥)
+        → result ≢ Status.NoMemory → IsVerdict old new result }
 {
     match answer_to(alloc, words, inputs) {
         Err(NoMemory) => Status::NoMemory,

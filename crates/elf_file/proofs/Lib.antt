@@ -1,1 +1,2 @@
 pub mod ElfLemmas
+mod Faultless

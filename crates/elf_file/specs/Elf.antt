@@ -156,7 +156,7 @@ elf_fault f = first (elf_faults f)
 
 -- the table lies in the file, and one of its sections holds the names
 pub record HasTable (f : List ℕ) : Type 0 where
-  pub inside : (table f).at + 64 * (table f).count ≤ length f
+  pub inside : (table f).at + SHDR_SIZE * (table f).count ≤ length f
   pub names : (table f).names < (table f).count
 
 -- each section that holds bytes lies in the file

@@ -1,9 +1,9 @@
 // A file without a fault, and look-ups of its sections.
-ghost use Rattle.std.specs.Prelude.{◌≡◌, ◌≢◌, ◌≤◌, IfOk, IfSome, false, length};
+ghost use Rattle.std.specs.Prelude.{◌≡◌, ◌≢◌, ◌≤◌, ◌<◌, IfOk, IfSome, IfNone, false, length};
 ghost use Rattle.std.specs.Option.{option_copied, option_map, option_map_or};
 ghost use Rattle.std.specs.Str.{bytes_eq};
 ghost use Rattle.abi_base.specs.Outcome.{Judges};
-ghost use Rattle.elf_file.specs.Elf.{elf_fault, section_named, section_of_kind as the_section_of_kind, section_with_prefix as the_section_with_prefix, strings_of, name_of_section, starts};
+ghost use Rattle.elf_file.specs.Elf.{table, elf_fault, section_named, section_of_kind as the_section_of_kind, section_with_prefix as the_section_with_prefix, strings_of, name_of_section, starts};
 ghost use Rattle.elf_file.specs.File.{viewed};
 
 use crate::constants::SHT_STRTAB;
@@ -33,8 +33,9 @@ impl<'a> Model for ElfFile<'a> {
     ghost invariant = { λ file. IsOpen file.bytes.now file.sections file.names.now };
 }
 
-/// Reads the header and the section table of a file. The fault is the first one of `ShortFile` to `Compressed`. It takes
-/// no memory.
+/// Reads the header and the section table of a file. The fault is the first one of `ShortFile` to `Compressed`, kind by
+/// kind: that of an earlier kind comes first, wherever it stands, and of one kind that of the least section. It takes no
+/// memory. The answer keeps the bytes, and its look-ups read them anew.
 #[tactic(auto, using(crate::proofs::ElfLemmas::elf_fault_is))]
 pub fn read_elf<'a>(bytes: &'a [u8]) -> Result<ElfFile<'a>, Refusal>
     requires { length bytes.now ≤ INPUT_LIMIT }
@@ -67,6 +68,7 @@ pub fn read_elf<'a>(bytes: &'a [u8]) -> Result<ElfFile<'a>, Refusal>
     })
 }
 
+// Whether a name was found and is this one.
 fn is_name(found: Option<&[u8]>, name: &[u8]) -> bool
     ensures { result ≡ option_map_or (λ n. bytes_eq n name.now) (option_copied found.entry) false }
 {
@@ -76,6 +78,7 @@ fn is_name(found: Option<&[u8]>, name: &[u8]) -> bool
     }
 }
 
+// Whether a name was found and begins with these bytes.
 fn begins(found: Option<&[u8]>, prefix: &[u8]) -> bool
     ensures { result ≡ option_map_or (λ n. starts n prefix.now) (option_copied found.entry) false }
 {
@@ -89,7 +92,8 @@ impl<'a> ElfFile<'a> {
     /// What the first section of a name holds, or none exactly where there is no such section.
     #[tactic(auto, using(abi_base::proofs::Places::find_more, abi_base::proofs::Places::find_here, abi_base::proofs::Places::find_none))]
     pub fn section(&self, name: &[u8]) -> Option<&'a [u8]>
-        ensures { option_copied result ≡ section_named self.now name.now }
+        ensures found { option_copied result ≡ section_named self.now name.now }
+        ensures small { IfSome result (λ bytes. length bytes.now ≤ INPUT_LIMIT) }
     {
         for number in 0..self.sections.count {
             if is_name(name_in(self.bytes, self.sections, self.names, number), name) {
@@ -103,10 +107,14 @@ impl<'a> ElfFile<'a> {
     /// section.
     #[tactic(auto, using(abi_base::proofs::Places::find_more, abi_base::proofs::Places::find_here, abi_base::proofs::Places::find_none))]
     pub fn section_with_prefix(&self, prefix: &[u8]) -> Option<u32>
-        ensures { result ≡ the_section_with_prefix self.now prefix.now }
+        ensures found { result ≡ the_section_with_prefix self.now prefix.now }
+        ensures inside { IfSome result (λ i. i < (table self.now).count) }
     {
         for number in 0..self.sections.count {
-            if begins(name_in(self.bytes, self.sections, self.names, number), prefix) {
+            if begins(
+                name_in(self.bytes, self.sections, self.names, number),
+                prefix,
+            ) {
                 return Some(number as u32);
             }
         }
@@ -118,6 +126,7 @@ impl<'a> ElfFile<'a> {
     #[tactic(auto, using(abi_base::proofs::Places::find_more, abi_base::proofs::Places::find_here, abi_base::proofs::Places::find_none))]
     pub fn section_of_kind(&self, kind: u32) -> Option<Section<'a>>
         ensures found { option_map viewed result ≡ the_section_of_kind self.now kind }
+        ensures inside { IfSome result (λ s. s.index < (table self.now).count) }
         ensures small { IfSome result (λ s. length s.bytes.now ≤ INPUT_LIMIT) }
     {
         for number in 0..self.sections.count {
@@ -137,7 +146,8 @@ impl<'a> ElfFile<'a> {
 
     /// What the section of a number holds, or none exactly where there is no such section or it is no string table.
     pub fn strings(&self, index: u32) -> Option<&'a [u8]>
-        ensures { option_copied result ≡ strings_of self.now index }
+        ensures held { option_copied result ≡ strings_of self.now index }
+        ensures small { IfSome result (λ bytes. length bytes.now ≤ INPUT_LIMIT) }
     {
         let number = u64::from(index);
         if number >= self.sections.count {
@@ -152,7 +162,8 @@ impl<'a> ElfFile<'a> {
 
     /// The name of the section of a number, or none exactly where there is no such section.
     pub fn section_name(&self, index: u32) -> Option<&'a [u8]>
-        ensures { option_copied result ≡ name_of_section self.now index }
+        ensures named { option_copied result ≡ name_of_section self.now index }
+        ensures outside { IfNone result ((table self.now).count ≤ index) }
     {
         let number = u64::from(index);
         if number >= self.sections.count {

@@ -12,10 +12,10 @@ use crate::constants::{
 use crate::records::{SectionHeader, SectionTable};
 use abi_base::{Fault, FaultKind, u16_in, u32_in, u64_in};
 
-/// The section header at a place, which lies inside.
+// The section header at a place, which lies inside.
 #[tactic(auto, unfolding(crate::specs::Elf::header_at))]
 fn header_in(bytes: &[u8], at: usize) -> SectionHeader
-    requires { at + 64 ≤ length bytes.now }
+    requires { at + SHDR_SIZE ≤ length bytes.now }
     ensures { result ≡ header_at bytes.now at }
 {
     SectionHeader {
@@ -30,11 +30,12 @@ fn header_in(bytes: &[u8], at: usize) -> SectionHeader
     }
 }
 
-/// Where the section table is, where section 0 lies in the file.
+/// Where the section table is, what it counts, and where the names are, where section 0 lies in the file. A count of 0
+/// stands in the size of section 0, and an index of `SHN_XINDEX` in its link.
 #[tactic(auto, unfolding(crate::specs::Elf::table))]
 pub fn table_in(bytes: &[u8]) -> SectionTable
-    requires header { 64 ≤ length bytes.now }
-    requires inside { (table bytes.now).at + 64 ≤ length bytes.now }
+    requires header { EHDR_SIZE ≤ length bytes.now }
+    requires inside { (table bytes.now).at + SHDR_SIZE ≤ length bytes.now }
     ensures { result ≡ table bytes.now }
 {
     let at = u64_in(bytes, E_SHOFF);
@@ -67,9 +68,11 @@ pub fn section_in(bytes: &[u8], sections: SectionTable, number: u64) -> SectionH
     header_in(bytes, (sections.at + SHDR_SIZE as u64 * number) as usize)
 }
 
+// Whether there is no section table, or it does not lie in the file, or none of its sections is the string table of the
+// names. Sizes are compared with the room that is left, since a sum could pass the end of its type.
 #[tactic(auto, unfolding(crate::specs::Elf::table, crate::specs::Elf::section))]
 fn is_table_bad(bytes: &[u8]) -> bool
-    requires { 64 ≤ length bytes.now }
+    requires { EHDR_SIZE ≤ length bytes.now }
     ensures { result ≡ the_table_is_bad bytes.now }
 {
     let len = bytes.len();
@@ -97,11 +100,11 @@ fn fault(kind: FaultKind, at: usize) -> Option<Fault>
     })
 }
 
-/// The first fault of the header.
+/// The first fault of the header, `ShortFile` to `SectionTable` in this order (gABI, "ELF Header").
 #[tactic(auto, unfolding(crate::specs::Elf::header_faults))]
 pub fn header_fault(bytes: &[u8]) -> Option<Fault>
     ensures fault { result ≡ first (header_faults bytes.now) }
-    ensures long { IfNone result (64 ≤ length bytes.now) }
+    ensures long { IfNone result (EHDR_SIZE ≤ length bytes.now) }
     ensures table { IfNone result (HasTable bytes.now) }
 {
     if bytes.len() < EHDR_SIZE {

@@ -5,11 +5,13 @@
 mod constants;
 mod file;
 mod header;
+pub mod laws;
 mod places;
 mod records;
 
 pub use constants::{
-    DEBUG_PREFIX, SHT_DYNAMIC, SHT_DYNSYM, SHT_GNU_VERDEF, SHT_GNU_VERNEED, SHT_GNU_VERSYM, SHT_STRTAB,
+    DEBUG_PREFIX, SHT_DYNAMIC, SHT_DYNSYM, SHT_GNU_VERDEF, SHT_GNU_VERNEED, SHT_GNU_VERSYM,
+    SHT_STRTAB,
 };
 pub use file::{ElfFile, read_elf};
 pub use records::{Section, SectionHeader, SectionTable};

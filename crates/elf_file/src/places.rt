@@ -9,12 +9,15 @@ use crate::header::section_in;
 use crate::records::{SectionHeader, SectionTable};
 use abi_base::{Fault, FaultKind, text_at};
 
+// Whether a section holds bytes in the file: section 0 and those of type NULL and NOBITS do not.
 fn has_bytes(number: u64, header: SectionHeader) -> bool
     ensures { result ≡ holds_bytes number header }
 {
     !(number == 0 || header.kind == SHT_NULL || header.kind == SHT_NOBITS)
 }
 
+// The fault of a section that does not lie in the file. Its size is compared with the room that is left, since the sum of
+// offset and size could pass the end of its type.
 #[tactic(auto, unfolding(crate::specs::Elf::range_fault))]
 fn range_fault_at(bytes: &[u8], sections: SectionTable, number: u64) -> Option<Fault>
     requires table { sections ≡ table bytes.now }
@@ -34,7 +37,7 @@ fn range_fault_at(bytes: &[u8], sections: SectionTable, number: u64) -> Option<F
     }
 }
 
-/// The first section that does not lie in the file.
+/// The fault of the first section that does not lie in the file.
 pub fn range_fault_in(bytes: &[u8], sections: SectionTable) -> Option<Fault>
     requires table { sections ≡ table bytes.now }
     requires has { HasTable bytes.now }
@@ -50,7 +53,7 @@ pub fn range_fault_in(bytes: &[u8], sections: SectionTable) -> Option<Fault>
     None
 }
 
-/// What a section of the file holds.
+/// What the section of a number holds.
 #[tactic(auto, unfolding(crate::specs::Elf::contents, crate::specs::Elf::range_fault))]
 pub fn contents_in<'a>(bytes: &'a [u8], sections: SectionTable, number: u64) -> &'a [u8]
     requires table { sections ≡ table bytes.now }
@@ -69,7 +72,7 @@ pub fn contents_in<'a>(bytes: &'a [u8], sections: SectionTable, number: u64) -> 
     }
 }
 
-/// The name of a section, in what the section of the names holds.
+/// The name of the section of a number, in what the section of the names holds (gABI, "String Table").
 #[tactic(auto, unfolding(crate::specs::Elf::section_name))]
 pub fn name_in<'a>(
     bytes: &[u8],
@@ -87,6 +90,7 @@ pub fn name_in<'a>(
     text_at(names, u64::from(header.name))
 }
 
+// The fault of a section whose name does not end in what the section of the names holds.
 #[tactic(auto, unfolding(crate::specs::Elf::name_fault))]
 fn name_fault_at(bytes: &[u8], sections: SectionTable, names: &[u8], number: u64) -> Option<Fault>
     requires table { sections ≡ table bytes.now }
@@ -104,7 +108,7 @@ fn name_fault_at(bytes: &[u8], sections: SectionTable, names: &[u8], number: u64
     }
 }
 
-/// The first section whose name does not end in the section of the names.
+/// The fault of the first section whose name does not end in what the section of the names holds.
 pub fn name_fault_in(bytes: &[u8], sections: SectionTable, names: &[u8]) -> Option<Fault>
     requires table { sections ≡ table bytes.now }
     requires has { HasTable bytes.now }
@@ -120,13 +124,17 @@ pub fn name_fault_in(bytes: &[u8], sections: SectionTable, names: &[u8]) -> Opti
     None
 }
 
+// Whether a section of this name and these flags is a debug section that is compressed (gABI, "Section Compression"; the
+// names with a z are of an older form).
 fn is_compressed(name: &[u8], flags: u64) -> bool
     ensures { result ≡ the_name_is_compressed name.now flags }
 {
+    // The flag is one bit: the lowest one of the quotient by its value.
     let has_flag = (flags / SHF_COMPRESSED) % 2 == 1;
     (name.starts_with(&DEBUG_PREFIX) && has_flag) || name.starts_with(&ZDEBUG_PREFIX)
 }
 
+// The fault of a debug section that is compressed. One without a name has none here: that is a fault by itself.
 #[tactic(auto, unfolding(crate::specs::Elf::compressed_fault))]
 fn compressed_fault_at(
     bytes: &[u8],
@@ -156,7 +164,7 @@ fn compressed_fault_at(
     }
 }
 
-/// The first debug section that is compressed.
+/// The fault of the first debug section that is compressed.
 pub fn compressed_fault_in(bytes: &[u8], sections: SectionTable, names: &[u8]) -> Option<Fault>
     requires table { sections ≡ table bytes.now }
     requires has { HasTable bytes.now }

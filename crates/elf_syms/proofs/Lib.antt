@@ -1,2 +1,4 @@
 mod Entries
+mod FirstSoname
+mod Numbered
 mod Reading

@@ -1,6 +1,6 @@
 -- The dynamic table of a file, its soname, and the first fault of the table (gABI, "Dynamic Section"). The table is the
 -- first section of type DYNAMIC, and its link names the string table of its strings.
-use Rattle.std.specs.Prelude.{ℕ, ◌+◌, ◌*◌, ◌/◌, ◌%◌, ◌==◌, Bool, false, not, ◌||◌, is_none, List, [], ◌∷◌, length, take_while, find, Option, None, unwrap_or, option_and_then}
+use Rattle.std.specs.Prelude.{ℕ, ◌≡◌, ◌≢◌, ◌<◌, ◌≤◌, ◌+◌, ◌*◌, ◌/◌, ◌%◌, ◌==◌, Bool, false, not, ◌||◌, is_none, List, [], ◌∷◌, length, take_while, find, Option, unwrap_or, option_and_then}
 use Rattle.std.specs.List.{range_with_len}
 use Rattle.std.specs.Option.{option_map_or}
 use Rattle.abi_base.specs.declared.fault.Fault.{Fault}
@@ -32,6 +32,13 @@ entry_numbers table = take_while (is_used table) (range_with_len 0 (length table
 -- the number of the first entry of tag SONAME
 abbrev pub soname_entry : List ℕ → Option ℕ
 soname_entry table = find (is_soname table) (entry_numbers table)
+
+-- The entry of a number has the tag SONAME, and none before it has, and none before it ends the table.
+pub record IsFirstSoname (table : List ℕ) (i : ℕ) : Type 0 where
+  pub inside : DYN_SIZE * (i + 1) ≤ length table
+  pub tagged : tag_in table i ≡ DT_SONAME
+  pub first_one : (j : ℕ) → j < i → tag_in table j ≢ DT_SONAME
+  pub before_end : (j : ℕ) → j < i → tag_in table j ≢ DT_NULL
 
 -- ---- of a file
 

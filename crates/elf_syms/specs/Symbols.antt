@@ -26,7 +26,8 @@ pub record PlainSymbol : Type 0 where
 unfoldable pub name_in : List ℕ → List ℕ → ℕ → Option (List ℕ)
 name_in table strings i = text_at strings (number 4 table (SYM_SIZE * i + ST_NAME))
 
--- the symbol of a number
+-- The symbol of a number. The binding is the high half of a byte and the type its low half, and the visibility is the two
+-- lowest bits of another (ELF64_ST_BIND, ELF64_ST_TYPE and ELF64_ST_VISIBILITY).
 unfoldable pub symbol_in : List ℕ → List ℕ → ℕ → PlainSymbol
 symbol_in table strings i =
     let at = SYM_SIZE * i in

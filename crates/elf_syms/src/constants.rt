@@ -4,12 +4,22 @@
 /// The size of a symbol, `Elf64_Sym`.
 pub const SYM_SIZE: usize = 24;
 
-// The places of the fields of a symbol.
+/// Where a symbol says where its name begins in the string table.
 pub const ST_NAME: usize = 0;
+
+/// Where a symbol says its binding, in the high half of a byte, and its type, in the low half.
 pub const ST_INFO: usize = 4;
+
+/// Where a symbol says its visibility, in the two lowest bits of a byte.
 pub const ST_OTHER: usize = 5;
+
+/// Where a symbol says the number of the section that it stands in.
 pub const ST_SHNDX: usize = 6;
+
+/// Where a symbol says its value.
 pub const ST_VALUE: usize = 8;
+
+/// Where a symbol says how many bytes it has.
 pub const ST_SIZE: usize = 16;
 
 /// A symbol that only its own file sees.
@@ -54,8 +64,10 @@ pub const SHN_UNDEF: u16 = 0;
 /// The size of an entry of the dynamic table, `Elf64_Dyn`.
 pub const DYN_SIZE: usize = 16;
 
-// The places of the fields of an entry.
+/// Where an entry of the dynamic table says its tag.
 pub const D_TAG: usize = 0;
+
+/// Where an entry of the dynamic table says its value.
 pub const D_VAL: usize = 8;
 
 /// The tag that ends the table.

@@ -1,7 +1,7 @@
 // The dynamic table and the soname.
 ghost use Rattle.std.specs.Prelude.{◌≡◌, ◌<◌, ◌≤◌, ◌+◌, ◌*◌, ◌/◌, ◌%◌, Some, length, IfOk, IfSome, is_none, option_and_then};
 ghost use Rattle.std.specs.Option.{option_copied};
-ghost use Rattle.abi_base.specs.Outcome.{Decides};
+ghost use Rattle.abi_base.specs.Outcome.{Settles};
 ghost use Rattle.elf_file.specs.Elf.{strings_of};
 ghost use Rattle.elf_file.specs.File.{viewed};
 ghost use Rattle.elf_syms.specs.Dynamic.{tag_in, value_in, text_of_entry, soname_entry, soname_fault, soname_of, dynamic_fault, is_dynamic_table_bad};
@@ -51,7 +51,7 @@ fn strings_for<'a>(file: &ElfFile<'a>, section: Section<'a>) -> Option<&'a [u8]>
 /// `DynamicTable`. It takes no memory.
 #[tactic(auto, unfolding(crate::specs::Dynamic::dynamic_fault, crate::specs::Dynamic::soname_of))]
 pub fn soname<'a>(file: &ElfFile<'a>) -> Result<Option<&'a [u8]>, Fault>
-    ensures judged { Decides result (dynamic_fault file.now) }
+    ensures judged { Settles result (dynamic_fault file.now) }
     ensures read { IfOk result (λ name. option_copied name ≡ soname_of file.now) }
 {
     match file.section_of_kind(SHT_DYNAMIC) {
@@ -69,7 +69,7 @@ pub fn soname<'a>(file: &ElfFile<'a>) -> Result<Option<&'a [u8]>, Fault>
 // The soname that a dynamic table names in its strings, or the fault that it has.
 #[tactic(auto, unfolding(crate::specs::Dynamic::soname_fault, crate::specs::Dynamic::value_in))]
 fn soname_in<'a>(table: &[u8], strings: &'a [u8]) -> Result<Option<&'a [u8]>, Fault>
-    ensures judged { Decides result (option_and_then (soname_fault table.now strings.now) (soname_entry table.now)) }
+    ensures judged { Settles result (option_and_then (soname_fault table.now strings.now) (soname_entry table.now)) }
     ensures read { IfOk result (λ name. option_copied name ≡ option_and_then (text_of_entry table.now strings.now) (soname_entry table.now)) }
 {
     match soname_entry_in(table) {

@@ -3,6 +3,7 @@
 
 mod constants;
 mod dynamic;
+pub mod laws;
 mod symbol;
 mod table;
 

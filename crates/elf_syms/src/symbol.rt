@@ -11,6 +11,7 @@ use crate::constants::{
 pub struct Symbol<'a> {
     /// Its place in the table, counted from 0, which is the reserved symbol.
     pub number: u32,
+    /// Its name, without the 0 byte that ends it. The reserved symbol mostly has the empty name.
     pub name: &'a [u8],
     /// Its binding, as `STB_GLOBAL`.
     pub binding: u8,

@@ -1,13 +1,14 @@
 // The dynamic symbol table.
-ghost use Rattle.std.specs.Prelude.{◌≡◌, ◌<◌, ◌≤◌, ◌+◌, ◌*◌, ◌/◌, ◌%◌, false, length, map, IfOk, IfSome, IfNone, is_none};
+ghost use Rattle.std.specs.Prelude.{◌≡◌, ◌<◌, ◌≤◌, ◌+◌, ◌*◌, ◌/◌, ◌%◌, ◌^◌, false, length, map, IfOk, IfSome, IfNone, is_none};
+ghost use Rattle.std.specs.List.{range_with_len};
 ghost use Rattle.std.specs.Option.{option_copied};
-ghost use Rattle.abi_base.specs.Outcome.{Judges, Decides, first};
+ghost use Rattle.abi_base.specs.Outcome.{Judges, Settles, first};
 ghost use Rattle.elf_file.specs.Elf.{strings_of};
 ghost use Rattle.elf_file.specs.File.{viewed};
 ghost use Rattle.elf_syms.specs.Plain.{plain_symbol, plain_symbols};
 ghost use Rattle.elf_syms.specs.Symbols.{symbol_in as the_symbol_in, symbols_in as the_symbols_in, name_in, symbol_name_fault, symbol_numbers, symbol_fault, symbols_of, is_symbol_table_bad};
 
-use crate::constants::{SYM_SIZE, ST_INFO, ST_NAME, ST_OTHER, ST_SHNDX, ST_SIZE, ST_VALUE};
+use crate::constants::{ST_INFO, ST_NAME, ST_OTHER, ST_SHNDX, ST_SIZE, ST_VALUE, SYM_SIZE};
 use crate::symbol::Symbol;
 use abi_base::{Fault, FaultKind, INPUT_LIMIT, Refusal, text_at, u16_in, u32_in, u64_in};
 use elf_file::{ElfFile, SHT_DYNSYM, Section};
@@ -17,18 +18,20 @@ use std::alloc::Global;
 #[tactic(auto, unfolding(crate::specs::Symbols::symbol_in, crate::specs::Symbols::name_in, crate::specs::Symbols::symbol_name_fault))]
 fn symbol_in<'a>(table: &[u8], strings: &'a [u8], number: u32) -> Result<Symbol<'a>, Fault>
     requires { SYM_SIZE * (number + 1) ≤ length table.now }
-    ensures judged { Decides result (symbol_name_fault table.now strings.now number) }
+    ensures judged { Settles result (symbol_name_fault table.now strings.now number) }
     ensures read { IfOk result (λ s. plain_symbol s ≡ the_symbol_in table.now strings.now number) }
 {
     let at = SYM_SIZE * number as usize;
+    // A byte holds two numbers: ELF64_ST_BIND and ELF64_ST_TYPE take them apart, and ELF64_ST_VISIBILITY leaves the two
+    // lowest bits of the other byte.
     let info = table[at + ST_INFO];
     match text_at(strings, u64::from(u32_in(table, at + ST_NAME))) {
         Some(name) => Ok(Symbol {
             number,
             name,
-            binding: info / 16,
-            kind: info % 16,
-            visibility: table[at + ST_OTHER] % 4,
+            binding: info >> 4,
+            kind: info & 0xf,
+            visibility: table[at + ST_OTHER] & 3,
             section: u16_in(table, at + ST_SHNDX),
             value: u64_in(table, at + ST_VALUE),
             size: u64_in(table, at + ST_SIZE),
@@ -41,6 +44,7 @@ fn symbol_in<'a>(table: &[u8], strings: &'a [u8], number: u32) -> Result<Symbol<
 }
 
 // All symbols of a table, or the first fault of their names.
+#[tactic(auto, using(crate::proofs::Numbered::numbered))]
 fn symbols_in<'a>(
     alloc: Global,
     table: &[u8],
@@ -49,6 +53,8 @@ fn symbols_in<'a>(
     requires { length table.now ≤ INPUT_LIMIT }
     ensures judged { Judges result (first (map (symbol_name_fault table.now strings.now) (symbol_numbers table.now))) }
     ensures read { IfOk result (λ symbols. plain_symbols symbols.items ≡ the_symbols_in table.now strings.now) }
+    ensures numbered { IfOk result (λ symbols. map (λ s. s.number) (plain_symbols symbols.items) ≡ range_with_len 0 (length symbols.items)) }
+    ensures few { IfOk result (λ symbols. length symbols.items < 2 ^ 32) }
 {
     let count = (table.len() / SYM_SIZE) as u32;
     let mut symbols = Vec::with_capacity(alloc, count as usize)?;
@@ -78,6 +84,8 @@ fn strings_for<'a>(file: &ElfFile<'a>, section: Section<'a>) -> Option<&'a [u8]>
 pub fn symbols<'a>(alloc: Global, file: &ElfFile<'a>) -> Result<Vec<Symbol<'a>>, Refusal>
     ensures judged { Judges result (symbol_fault file.now) }
     ensures read { IfOk result (λ symbols. plain_symbols symbols.items ≡ symbols_of file.now) }
+    ensures numbered { IfOk result (λ symbols. map (λ s. s.number) (plain_symbols symbols.items) ≡ range_with_len 0 (length symbols.items)) }
+    ensures few { IfOk result (λ symbols. length symbols.items < 2 ^ 32) }
 {
     match file.section_of_kind(SHT_DYNSYM) {
         None => Err(Refusal::Fault(Fault {

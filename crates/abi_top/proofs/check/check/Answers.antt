@@ -24,10 +24,11 @@ returns-then-no_breaks-clause-judged c =
     } in
     let filtered : gone ≡ filter (has_no_name_in n.names) o.exports.items = c.in_ok-gone.ensures ∙ ap (filter (has_no_name_in n.names)) c.deref.ensures.value in
     let none : no_breaks (option_copied o.soname) (option_copied n.soname) gone ≡ true =
-        ap (no_breaks (option_copied o.soname) (option_copied n.soname)) (sym c.deref-2.ensures.value) ∙ sym c.no_breaks.ensures ∙ c.if-no_breaks.true in
-    (compatible old new _ _ o.exports.items gone n.names are filtered none,
-     certified old new _ _ o.exports.items gone n.names are filtered (string_bytes c.in_ok-text.text)
-     (c.in_ok-text.ensures ∙ ap (λ l. certificate_with old new (flat_map (bind_line_in n.names) l)) c.deref-then-no_breaks.ensures.value))
+    ap (no_breaks (option_copied o.soname) (option_copied n.soname)) (sym c.deref-2.ensures.value) ∙ sym c.no_breaks.ensures ∙ c.if-no_breaks.true in (
+      compatible old new _ _ o.exports.items gone n.names are filtered none,
+      certified old new _ _ o.exports.items gone n.names are filtered (string_bytes c.in_ok-text.text)
+          (c.in_ok-text.ensures ∙ ap (λ l. certificate_with old new (flat_map (bind_line_in n.names) l)) c.deref-then-no_breaks.ensures.value),
+    )
 
 pub returns-clause-judged : goal.returns-clause-judged
 returns-clause-judged c =
@@ -44,7 +45,8 @@ returns-clause-judged c =
     } in
     let filtered : gone ≡ filter (has_no_name_in n.names) o.exports.items = c.in_ok-gone.ensures ∙ ap (filter (has_no_name_in n.names)) c.deref.ensures.value in
     let some : no_breaks (option_copied o.soname) (option_copied n.soname) gone ≡ false =
-        ap (no_breaks (option_copied o.soname) (option_copied n.soname)) (sym c.deref-2.ensures.value) ∙ sym c.no_breaks.ensures ∙ c.if-no_breaks.false in
-    (incompatible old new _ _ o.exports.items gone n.names are filtered some,
-     reported old new _ _ o.exports.items gone n.names are filtered (string_bytes c.in_ok-text-2.text)
-     (c.in_ok-text-2.ensures ∙ ap (λ l. report_of (soname_breaks (option_copied o.soname) (option_copied n.soname) ++ map export_gone (plain_exports l))) c.deref-else-no_breaks.ensures.value))
+    ap (no_breaks (option_copied o.soname) (option_copied n.soname)) (sym c.deref-2.ensures.value) ∙ sym c.no_breaks.ensures ∙ c.if-no_breaks.false in (
+      incompatible old new _ _ o.exports.items gone n.names are filtered some,
+      reported old new _ _ o.exports.items gone n.names are filtered (string_bytes c.in_ok-text-2.text)
+          (c.in_ok-text-2.ensures ∙ ap (λ l. report_of (soname_breaks (option_copied o.soname) (option_copied n.soname) ++ map export_gone (plain_exports l))) c.deref-else-no_breaks.ensures.value),
+    )

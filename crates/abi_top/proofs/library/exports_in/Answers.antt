@@ -8,9 +8,9 @@ pub loop-symbol-preserved : goal.loop-symbol-preserved
 loop-symbol-preserved c =
     elim c.if-is_exported.branch [
       | then-is_exported+in_ok-push w ↦
-        export_added c.args.symbols.now c.loop-symbol.symbol-index c.loop-symbol.exports.items c.if-is_exported.exports.items _ c.loop-symbol-test.true
-        (sym c.is_exported.ensures ∙ w.if-is_exported.true) refl (ap (λ v. v.items) w.exports-is ∙ w.in_ok-push.ensures.items) c.loop-symbol.invariant
+          export_added c.args.symbols.now c.loop-symbol.symbol-index c.loop-symbol.exports.items c.if-is_exported.exports.items _ c.loop-symbol-test.true
+          (sym c.is_exported.ensures ∙ w.if-is_exported.true) refl (ap (λ v. v.items) w.exports-is ∙ w.in_ok-push.ensures.items) c.loop-symbol.invariant
       | else-is_exported w ↦
-        ap (λ v. plain_exports v.items) w.exports-is
-        ∙ export_passed c.args.symbols.now c.loop-symbol.symbol-index c.loop-symbol.exports.items c.loop-symbol-test.true (sym c.is_exported.ensures ∙ w.if-is_exported.false) c.loop-symbol.invariant
+          ap (λ v. plain_exports v.items) w.exports-is
+          ∙ export_passed c.args.symbols.now c.loop-symbol.symbol-index c.loop-symbol.exports.items c.loop-symbol-test.true (sym c.is_exported.ensures ∙ w.if-is_exported.false) c.loop-symbol.invariant
     ]

@@ -8,6 +8,6 @@ pub loop-number-preserved : goal.loop-number-preserved
 loop-number-preserved c =
     let table = c.args.table.now in
     let number = c.loop-number.number in
-    let goes : is_used table number ≡ true = grind (arith, nat_tests, c.tag_at-tag.ensures, c.if-tag-eq-DT_NULL.false) in
-    let fails : is_soname table number ≡ false = grind (arith, nat_tests, c.tag_at-tag.ensures, c.if-tag-eq-DT_SONAME.false) in
+    let goes : is_used table number ≡ true = grind (arith, nat_tests) in
+    let fails : is_soname table number ≡ false = grind (arith, nat_tests) in
     sym (not_here (is_soname table) (is_used table) number _ c.loop-number-test.true goes fails) ∙ c.loop-number.invariant

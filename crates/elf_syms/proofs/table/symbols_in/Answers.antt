@@ -1,6 +1,7 @@
-use Rattle.std.proofs.Common.{◌∙◌, sym}
+use Rattle.std.proofs.Common.{◌∙◌, sym, arith}
 use Rattle.elf_syms.specs.Symbols.{symbol_name_fault}
 use Rattle.abi_base.proofs.OutcomeLemmas.{first_from-here}
+use Rattle.elf_syms.proofs.Numbered.{length_read}
 use Rattle.elf_syms.proofs.Reading.{read_more}
 use Rattle.elf_syms.proofs.table.symbols_in.Goals as goal
 
@@ -12,3 +13,7 @@ pub loop-number-preserved : goal.loop-number-preserved
 loop-number-preserved c =
     read_more c.args.table.now c.args.strings.now c.loop-number.number _ c.loop-number.symbols.items c.push.new.self.items c.in-Ok.symbol c.loop-number.invariant c.loop-number-test.true
     c.in-Ok.ensures.judged c.in-Ok.ensures.read c.in_ok-push-in-Ok.ensures.items
+
+pub returns-clause-few : goal.returns-clause-few
+returns-clause-few c =
+    omega (arith, length_read c.args.table.now c.args.strings.now c.loop-number.number c.loop-number.symbols.items c.loop-number.invariant.read)

@@ -1,0 +1,58 @@
+#!/usr/bin/env bash
+# Times `abi check` over plain libraries that gcc makes: one of 200 MB against itself, beside sha256sum over the same two
+# files, and one of 50,000 exports against itself, beside readelf over the same two files. Prints seconds of processor
+# time, ratios and peak memory.
+#
+# usage: bench/plain.sh [ABI]   (default: the program that `rt run` built in crates/abi_cli/out)
+set -eu
+top=$(cd "$(dirname "$0")/.." && pwd)
+abi=$(readlink -f "${1:-$top/crates/abi_cli/out/abi_cli}")
+work=$top/bench/work
+mkdir -p "$work"
+cd "$work"
+
+# Seconds of processor time of a command, the least of five runs, to standard output.
+least_time() {
+    for _ in 1 2 3 4 5; do
+        TIMEFORMAT='%U %S'
+        { time "$@" > /dev/null 2>&1; } 2>&1 | awk '{ print $1 + $2 }'
+    done | sort -g | head -n 1
+}
+
+# Peak memory of a command in megabytes, to standard output.
+peak_memory() {
+    python3 -c 'import resource, subprocess, sys
+subprocess.run(sys.argv[1:], stdout=subprocess.DEVNULL)
+print(resource.getrusage(resource.RUSAGE_CHILDREN).ru_maxrss // 1024)' "$@"
+}
+
+ratio() { awk -v a="$1" -v b="$2" 'BEGIN { printf "%.2f", a / b }'; }
+
+if [ ! -e large.so ]; then
+    head -c 200000000 /dev/urandom > large.bin
+    echo 'asm(".section .rodata\n.incbin \"large.bin\"\n"); int f(void) { return 1; }' > large.c
+    gcc -shared -nostdlib -fPIC -Wl,-soname,liblarge.so.1 -o large.so large.c
+    rm large.bin
+fi
+if [ ! -e many.so ]; then
+    for i in $(seq 50000); do echo "int library_function_$i(void) { return $i; }"; done > many.c
+    gcc -shared -nostdlib -fPIC -O1 -Wl,-soname,libmany.so.1 -o many.so many.c
+fi
+
+"$abi" check large.so large.so | head -n 1 | grep -qx 'yes 2'
+"$abi" check many.so many.so | head -n 1 | grep -qx 'yes 2'
+
+check=$(least_time "$abi" check large.so large.so)
+hash=$(least_time sha256sum large.so large.so)
+echo "large.so, $(stat -c %s large.so) bytes, against itself:"
+echo "  abi check $check s, sha256sum of both $hash s, ratio $(ratio "$check" "$hash"), peak $(peak_memory "$abi" check large.so large.so) MB"
+
+check=$(least_time "$abi" check many.so many.so)
+hash=$(least_time sha256sum many.so many.so)
+symbols=$(least_time readelf --wide --dyn-syms many.so many.so)
+echo "many.so, 50000 exports, $(stat -c %s many.so) bytes, against itself:"
+echo "  abi check $check s, sha256sum of both $hash s, readelf --dyn-syms of both $symbols s, ratio to readelf $(ratio "$check" "$symbols"), peak $(peak_memory "$abi" check many.so many.so) MB"
+if command -v abidiff > /dev/null 2>&1; then
+    peer=$(least_time abidiff many.so many.so)
+    echo "  abidiff $peer s, ratio of abi check to it $(ratio "$check" "$peer")"
+fi

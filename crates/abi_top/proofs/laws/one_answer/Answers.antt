@@ -1,0 +1,5 @@
+use Rattle.abi_top.proofs.Single.{one_answer}
+use Rattle.abi_top.proofs.laws.one_answer.Goals as goal
+
+pub returns : goal.returns
+returns c = one_answer
