@@ -13,7 +13,7 @@ pub const CHECK: &[&str] = &["check", "old", "new"];
 pub type Change = (usize, &'static [u8]);
 
 /// Inputs in memory of these names and bytes, whose listed calls fail.
-pub fn inputs(
+pub(crate) fn inputs(
     alloc: Global,
     files: &[(&str, &[u8])],
     failing: &[u64],
@@ -26,7 +26,7 @@ pub fn inputs(
 }
 
 /// A run of the words over the inputs must end with the status, and write the text.
-pub fn runs<R: Abort + AllocGlobal, I: Inputs>(
+pub(crate) fn runs<R: Abort + AllocGlobal, I: Inputs>(
     rt: &R,
     words: &[&str],
     inputs: &mut I,
@@ -42,7 +42,7 @@ pub fn runs<R: Abort + AllocGlobal, I: Inputs>(
 }
 
 /// The check of an old and of a new library must end with the status, and write the text.
-pub fn checks<R: Abort + AllocGlobal>(
+pub(crate) fn checks<R: Abort + AllocGlobal>(
     rt: &R,
     old: &[u8],
     new: &[u8],
@@ -58,12 +58,12 @@ pub fn checks<R: Abort + AllocGlobal>(
 /// Its sections, each with its place, its size and the place of its header: 0 with its header at 240; 1 `.dynsym` at 64,
 /// 72 and 304; 2 `.dynstr` at 136, 5 and 368; 3 `.dynamic` at 144, 32 and 432; 4 `.dynamic.str` at 176, 6 and 496;
 /// 5 `.shstrtab` at 184, 49 and 560.
-pub fn good_library(alloc: Global) -> Result<Vec<u8>, AllocError> {
+pub(crate) fn good_library(alloc: Global) -> Result<Vec<u8>, AllocError> {
     library_with_soname(alloc, "a.so", &["f", "g"])
 }
 
 /// Puts other bytes into an image.
-pub fn change(image: &mut [u8], changes: &[Change]) {
+pub(crate) fn change(image: &mut [u8], changes: &[Change]) {
     for (at, bytes) in changes {
         for (place, byte) in image.iter_mut().skip(*at).zip(bytes.iter()) {
             *place = *byte;
@@ -72,14 +72,14 @@ pub fn change(image: &mut [u8], changes: &[Change]) {
 }
 
 /// A library of these symbols alone.
-pub fn library_of(alloc: Global, symbols: &[ImageSymbol]) -> Result<Vec<u8>, AllocError> {
+pub(crate) fn library_of(alloc: Global, symbols: &[ImageSymbol]) -> Result<Vec<u8>, AllocError> {
     let mut image = Image::new(alloc);
     image.add_symbols(symbols)?;
     image.bytes(alloc)
 }
 
 /// A library without exports: the symbols, their names, `before` comments, and last a section of that name, type and flags.
-pub fn library_with_section(
+pub(crate) fn library_with_section(
     alloc: Global,
     before: usize,
     name: &str,
