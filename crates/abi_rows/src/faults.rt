@@ -218,6 +218,8 @@ fn twins_are_refused(rt: HostRuntime) -> Result<(), Fail> {
     let twins = library_of(alloc, &[twin, other, twin])?;
     let refused = "unreadable old 19 NotBuilt 0\n";
     checks(&rt, &twins, &none, Status::Unreadable, refused)?;
+    // The old library's fault comes before an earlier one of the new library.
+    checks(&rt, &twins, b"", Status::Unreadable, refused)?;
     let refused = "unreadable new 19 NotBuilt 0\n";
     checks(&rt, &none, &twins, Status::Unreadable, refused)?;
     let single = library_of(alloc, &[undefined, twin, local])?;
