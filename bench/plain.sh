@@ -7,9 +7,9 @@
 set -eu
 top=$(cd "$(dirname "$0")/.." && pwd)
 abi=$(readlink -f "${1:-$top/crates/abi_cli/out/abi_cli}")
-work=$top/bench/work
-mkdir -p "$work"
-cd "$work"
+made=$top/bench/made
+mkdir -p "$made"
+cd "$made"
 
 # Seconds of processor time of a command, the least of five runs, to standard output.
 least_time() {

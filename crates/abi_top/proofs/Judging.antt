@@ -1,19 +1,18 @@
 -- What the code finds by an index of names is what the definitions say of plain exports, and the verdict that follows.
 use Rattle.std.proofs.Common.{◌≡◌, ℕ, suc, Bool, true, false, cond, List, [], ◌∷◌, ◌++◌, length, map, Option, Some, None, refl, sym, ◌∙◌, ap, subst, arith, append_assoc}
-use Rattle.std.specs.Prelude.{filter, find, option_map, is_none, is_some, IsSome, ◌==◌, ◌&&◌, All, codes}
+use Rattle.std.specs.Prelude.{◌↔◌, filter, find, option_map, is_none, is_some, IsSome, ◌==◌, ◌&&◌, All, codes}
 use Rattle.std.specs.List.{flat_map, AllByRecursion}
-use Rattle.std.specs.Str.{bytes_eq}
 use Rattle.std.proofs.lemmas.Grind.{flat_map-append}
 use Rattle.std.proofs.lemmas.List.Elements.{All-from_recursion, recursion_from_All}
 use Rattle.std.proofs.lemmas.Bool.Decides.{Decides-eqb}
 use Rattle.std.proofs.lemmas.Slice.Eq.{bytes_eq-Decides}
 use Rattle.elf_syms.specs.Dynamic.{soname_of}
 use Rattle.abi_top.specs.declared.export.Export.{Export}
-use Rattle.abi_top.specs.Certificate.{bind_line_to, bind_lines, certificate_with, certificate_of}
+use Rattle.abi_top.specs.Certificate.{bind_lines, certificate_with, certificate_of}
 use Rattle.abi_top.specs.Check.{Compatible}
 use Rattle.abi_top.specs.Library.{PlainExport, exports_of, is_named}
 use Rattle.abi_top.specs.Named.{bind_line_in, gone_row, has_no_name_in, no_breaks, AreRead}
-use Rattle.abi_top.specs.Names.{Names, IsIndex, symbol_under, symbol_named}
+use Rattle.abi_top.specs.Names.{Names, IsIndex}
 use Rattle.abi_top.specs.Plain.{plain_export, plain_exports}
 use Rattle.abi_top.specs.Report.{Break, export_gone, bound_among, is_gone_from, soname_breaks, breaks_of, same_soname, report_of, row}
 use Rattle.abi_top.specs.Text.{newline}
@@ -140,3 +139,32 @@ module _ (old new : List ℕ) (old_soname new_soname : Option (List ℕ)) (old_e
       is ∙ ap report_of (ap (λ (l : List PlainExport). soname_breaks old_soname new_soname ++ map export_gone l) gone_is
       ∙ ap (λ (o : Option (List ℕ)). soname_breaks o new_soname ++ map export_gone (filter (is_gone_from (exports_of new)) (exports_of old))) are.old_soname_is
       ∙ ap (λ (o : Option (List ℕ)). soname_breaks (soname_of old) o ++ map export_gone (filter (is_gone_from (exports_of new)) (exports_of old))) are.new_soname_is)
+
+-- ---- breaks and compatibility
+
+nothing_joined : {A : Type 0} (xs ys : List A) → xs ++ ys ≡ [] → (xs ≡ []) × (ys ≡ [])
+nothing_joined [] ys h = (refl, h)
+nothing_joined (x ∷ xs) ys h = absurd (let bad = h in cc)
+
+no_soname_break : (old new : Option (List ℕ)) → soname_breaks old new ≡ [] → same_soname old new ≡ true
+no_soname_break old new none = by_test (same_soname old new) refl
+  where
+    by_test : (b : Bool) → same_soname old new ≡ b → same_soname old new ≡ true
+    by_test true is = is
+    by_test false is = absurd (let bad = rw is at none in cc)
+
+nothing_mapped : {A B : Type 0} (f : A → B) (xs : List A) → map f xs ≡ [] → xs ≡ []
+nothing_mapped f [] h = refl
+nothing_mapped f (x ∷ xs) h = absurd (let bad = h in cc)
+
+pub breaks_tell : (old new : List ℕ) → Compatible old new ↔ (breaks_of old new ≡ [])
+unfolding breaks_of
+breaks_tell old new = (
+  λ fits. rw (equal_sonames (soname_of old) (soname_of new) fits.sonames, none_gone (exports_of new) (exports_of old) fits.binds) refl,
+  λ none.
+      let parts = nothing_joined (soname_breaks (soname_of old) (soname_of new)) (map export_gone (filter (is_gone_from (exports_of new)) (exports_of old))) none in
+      record {
+        sonames = sonames_equal (soname_of old) (soname_of new) (no_soname_break (soname_of old) (soname_of new) parts.0);
+        binds = bound_all (exports_of new) (exports_of old) (nothing_mapped export_gone (filter (is_gone_from (exports_of new)) (exports_of old)) parts.1);
+      },
+)

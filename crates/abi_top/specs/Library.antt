@@ -1,5 +1,5 @@
 -- What a plain library shows: its exports, and the first fault of one that is not plain.
-use Rattle.std.specs.Prelude.{ℕ, Bool, false, not, ◌||◌, is_some, List, [], ◌∷◌, map, filter, Option}
+use Rattle.std.specs.Prelude.{ℕ, Bool, false, ◌||◌, is_some, List, [], ◌∷◌, map, filter, Option}
 use Rattle.std.specs.List.{list_any}
 use Rattle.std.specs.Str.{bytes_eq}
 use Rattle.abi_base.specs.declared.fault.Fault.{Fault}

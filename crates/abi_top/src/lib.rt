@@ -16,6 +16,6 @@ mod text;
 mod top;
 mod words;
 
-pub use laws::one_answer;
+pub use laws::{breaks_tell, one_answer};
 pub use status::{Input, Status};
 pub use top::run;

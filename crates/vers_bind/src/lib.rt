@@ -2,6 +2,7 @@
 #![tactic(auto)]
 
 mod all;
+mod names;
 mod one;
 mod reading;
 

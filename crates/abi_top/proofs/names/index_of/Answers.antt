@@ -1,4 +1,4 @@
-use Rattle.std.proofs.Common.{◌∙◌, sym, subst, take, ◌+◌}
+use Rattle.std.proofs.Common.{◌∙◌, sym, subst, take}
 use Rattle.abi_top.specs.Names.{IsIndex}
 use Rattle.abi_top.specs.Plain.{plain_exports}
 use Rattle.abi_top.proofs.Naming.{has_twin, next_export, indexed_more, export_at}
