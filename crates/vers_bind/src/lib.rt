@@ -2,7 +2,6 @@
 #![tactic(auto)]
 
 mod all;
-mod names;
 mod one;
 mod reading;
 
