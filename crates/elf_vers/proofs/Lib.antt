@@ -1,0 +1,2 @@
+mod ReadBefore
+mod Versioned
