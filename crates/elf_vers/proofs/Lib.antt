@@ -1,2 +1,3 @@
 mod ReadBefore
 mod Versioned
+mod VersionLaws

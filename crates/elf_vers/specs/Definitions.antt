@@ -82,8 +82,12 @@ unfoldable pub version_name : List ℕ → ℕ → Option (List ℕ)
 version_name f index =
     option_and_then (name_of (definition_table f) (definition_strings f)) (definition_with (definition_table f) (definition_count f) index)
 
--- no string table; then the definitions, one by one
+-- The definitions have a string table.
+abbrev pub strings_fault : List ℕ → Option Fault
+strings_fault f = fault_if (option_map_or (λ s. is_none (strings_of f s.link)) (section_of_kind f SHT_GNU_VERDEF) false) kind.VersionDefinition 0
+
+-- the string table; then the definitions, one by one
 abbrev pub definition_faults : List ℕ → List (Option Fault)
 definition_faults f =
-    fault_if (option_map_or (λ s. is_none (strings_of f s.link)) (section_of_kind f SHT_GNU_VERDEF) false) kind.VersionDefinition 0
+    strings_fault f
     ∷ map (definition_fault (definition_table f) (definition_strings f) (definition_count f)) (range_with_len 0 (definition_count f))

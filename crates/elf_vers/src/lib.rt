@@ -6,6 +6,7 @@ mod constants;
 mod definitions;
 mod indexes;
 mod kept;
+pub mod laws;
 mod reading;
 mod version;
 
