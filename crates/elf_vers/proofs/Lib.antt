@@ -1,0 +1,3 @@
+mod ReadBefore
+mod Versioned
+mod VersionLaws

@@ -5,8 +5,10 @@ use Rattle.std.specs.List.{range_with_len, list_any}
 use Rattle.std.specs.Option.{option_map_or}
 use Rattle.abi_base.specs.declared.fault.Fault.{Fault}
 use Rattle.abi_base.specs.declared.fault.FaultKind.TheVariants as kind
+use Rattle.abi_base.specs.declared.fault.Refusal.{Refusal}
+use Rattle.abi_base.specs.declared.fault.Refusal.TheVariants as refusal
 use Rattle.abi_base.specs.Numbers.{number, text_at}
-use Rattle.abi_base.specs.Outcome.{fault_if, first}
+use Rattle.abi_base.specs.Outcome.{fault_if}
 use Rattle.elf_file.specs.Elf.{section_of_kind, strings_of}
 use Rattle.elf_file.specs.declared.constants.TheConstants.{SHT_GNU_VERDEF}
 use Rattle.elf_vers.specs.declared.constants.TheConstants.{VERSYM_HIDDEN, VERDEF_SIZE, VD_VERSION, VD_NDX, VD_CNT, VD_AUX, VD_NEXT, VER_DEF_CURRENT, VERDAUX_SIZE, VDA_NAME}
@@ -35,22 +37,29 @@ abbrev pub stood_before : List ℕ → ℕ → Bool
 stood_before table k = list_any (λ j. index_of table j == index_of table k) (range_with_len 0 k)
 
 -- The definition or its first auxiliary entry lies outside, or it is of another version, has no auxiliary entry or no
--- index, has the index of an earlier one, has a name that does not end in the strings, or is not the last and names no next.
-unfoldable pub is_bad : List ℕ → List ℕ → ℕ → ℕ → Bool
-is_bad table strings count k =
+-- index, has a name that does not end in the strings, or is not the last and names no next.
+unfoldable pub is_malformed : List ℕ → List ℕ → ℕ → ℕ → Bool
+is_malformed table strings count k =
     let at = place_of table k in
     nat_lt (length table) (at + VERDEF_SIZE)
     || (not (number 2 table (at + VD_VERSION) == VER_DEF_CURRENT)
     || (number 2 table (at + VD_CNT) == 0
     || (index_of table k == 0
-    || (stood_before table k
     || (nat_lt (length table) (auxiliary_of table k + VERDAUX_SIZE)
     || (is_none (name_of table strings k)
-    || (nat_lt (k + 1) count && number 4 table (at + VD_NEXT) == 0)))))))
+    || (nat_lt (k + 1) count && number 4 table (at + VD_NEXT) == 0))))))
+
+-- It is malformed by itself, or has the index of an earlier one.
+unfoldable pub is_bad : List ℕ → List ℕ → ℕ → ℕ → Bool
+is_bad table strings count k = is_malformed table strings count k || stood_before table k
 
 -- the fault of a definition, at its number
 abbrev pub definition_fault : List ℕ → List ℕ → ℕ → ℕ → Option Fault
 definition_fault table strings count k = fault_if (is_bad table strings count k) kind.VersionDefinition k
+
+-- the refusal of a definition
+abbrev pub bad_definition_at : ℕ → Refusal
+bad_definition_at k = refusal.Fault (record { kind = kind.VersionDefinition; at = k })
 
 -- the number of the first definition with an index
 abbrev pub definition_with : List ℕ → ℕ → ℕ → Option ℕ
@@ -73,8 +82,12 @@ unfoldable pub version_name : List ℕ → ℕ → Option (List ℕ)
 version_name f index =
     option_and_then (name_of (definition_table f) (definition_strings f)) (definition_with (definition_table f) (definition_count f) index)
 
--- no string table; then the definitions, one by one
+-- The definitions have a string table.
+abbrev pub strings_fault : List ℕ → Option Fault
+strings_fault f = fault_if (option_map_or (λ s. is_none (strings_of f s.link)) (section_of_kind f SHT_GNU_VERDEF) false) kind.VersionDefinition 0
+
+-- the string table; then the definitions, one by one
 abbrev pub definition_faults : List ℕ → List (Option Fault)
 definition_faults f =
-    fault_if (option_map_or (λ s. is_none (strings_of f s.link)) (section_of_kind f SHT_GNU_VERDEF) false) kind.VersionDefinition 0
+    strings_fault f
     ∷ map (definition_fault (definition_table f) (definition_strings f) (definition_count f)) (range_with_len 0 (definition_count f))

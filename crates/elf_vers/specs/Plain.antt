@@ -1,5 +1,5 @@
 -- A version of the code, without where its name lies in memory.
-use Rattle.std.specs.Option.{option_map, option_copied}
+use Rattle.std.specs.Option.{option_copied}
 use Rattle.elf_vers.specs.declared.version.Version.{Version}
 use Rattle.elf_vers.specs.Versions.{PlainVersion}
 

@@ -3,11 +3,14 @@
 #![tactic(auto)]
 
 mod constants;
+mod definitions;
+mod indexes;
 mod kept;
+pub mod laws;
 mod reading;
 mod version;
 
 pub use constants::{VER_NDX_GLOBAL, VER_NDX_LOCAL};
+pub use kept::Versions;
 pub use reading::versions;
 pub use version::Version;
-pub use kept::Versions;
