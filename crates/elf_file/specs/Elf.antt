@@ -64,9 +64,13 @@ section_name f i = text_at (contents f (table f).names) (section f i).name
 abbrev pub has_name : List ℕ → List ℕ → ℕ → Bool
 has_name f name i = option_map_or (λ n. bytes_eq n name) (section_name f i) false
 
+-- the number of the first section of a name
+abbrev pub section_number : List ℕ → List ℕ → Option ℕ
+section_number f name = find (has_name f name) (all_sections f)
+
 -- what the first section of a name holds
 abbrev pub section_named : List ℕ → List ℕ → Option (List ℕ)
-section_named f name = option_map (contents f) (find (has_name f name) (all_sections f))
+section_named f name = option_map (contents f) (section_number f name)
 
 -- a name begins with these bytes
 abbrev pub starts : List ℕ → List ℕ → Bool

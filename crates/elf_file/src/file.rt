@@ -3,7 +3,7 @@ ghost use Rattle.std.specs.Prelude.{◌≡◌, ◌≢◌, ◌≤◌, ◌<◌, If
 ghost use Rattle.std.specs.Option.{option_copied, option_map, option_map_or};
 ghost use Rattle.std.specs.Str.{bytes_eq};
 ghost use Rattle.abi_base.specs.Outcome.{Judges};
-ghost use Rattle.elf_file.specs.Elf.{table, elf_fault, section_named, section_of_kind as the_section_of_kind, section_with_prefix as the_section_with_prefix, strings_of, name_of_section, starts};
+ghost use Rattle.elf_file.specs.Elf.{table, elf_fault, section_named, section_of_kind as the_section_of_kind, section_number as the_section_number, section_with_prefix as the_section_with_prefix, strings_of, name_of_section, starts};
 ghost use Rattle.elf_file.specs.File.{viewed};
 
 use crate::constants::SHT_STRTAB;
@@ -90,14 +90,25 @@ fn begins(found: Option<&[u8]>, prefix: &[u8]) -> bool
 
 impl<'a> ElfFile<'a> {
     /// What the first section of a name holds, or none exactly where there is no such section.
-    #[tactic(auto, using(abi_base::proofs::Places::find_more, abi_base::proofs::Places::find_here, abi_base::proofs::Places::find_none))]
     pub fn section(&self, name: &[u8]) -> Option<&'a [u8]>
         ensures found { option_copied result ≡ section_named self.now name.now }
         ensures small { IfSome result (λ bytes. length bytes.now ≤ INPUT_LIMIT) }
     {
+        match self.section_number(name) {
+            Some(number) => Some(contents_in(self.bytes, self.sections, u64::from(number))),
+            None => None,
+        }
+    }
+
+    /// The number of the first section of a name, or none exactly where there is no such section.
+    #[tactic(auto, using(abi_base::proofs::Places::find_more, abi_base::proofs::Places::find_here, abi_base::proofs::Places::find_none))]
+    pub fn section_number(&self, name: &[u8]) -> Option<u32>
+        ensures found { result ≡ the_section_number self.now name.now }
+        ensures inside { IfSome result (λ i. i < (table self.now).count) }
+    {
         for number in 0..self.sections.count {
             if is_name(name_in(self.bytes, self.sections, self.names, number), name) {
-                return Some(contents_in(self.bytes, self.sections, number));
+                return Some(number as u32);
             }
         }
         None
