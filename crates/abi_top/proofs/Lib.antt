@@ -1,6 +1,4 @@
 mod Endings
-mod Exporting
 mod InOrder
-mod Judging
-mod Naming
+pub mod Judging
 mod Single

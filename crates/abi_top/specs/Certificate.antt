@@ -3,8 +3,9 @@ use Rattle.std.specs.Prelude.{ℕ, List, [], ◌∷◌, Option, Some, None, code
 use Rattle.std.specs.List.{concat, flat_map}
 use Rattle.hex.specs.Hex.{encode_lower}
 use Rattle.sha2.specs.Sha256.{sha256}
-use Rattle.abi_top.specs.Library.{PlainExport, exports_of}
-use Rattle.abi_top.specs.Names.{symbol_named}
+use Rattle.abi_types.specs.Exports.{PlainExport}
+use Rattle.abi_top.specs.Library.{exports_of}
+use Rattle.abi_top.specs.Report.{partner_of}
 use Rattle.abi_top.specs.Text.{newline}
 
 -- the line of an input's SHA-256, in lower-case hexadecimal digits
@@ -16,13 +17,13 @@ abbrev pub bind_line : ℕ → ℕ → List ℕ
 bind_line old new = concat (codes "bind " ∷ decimal old ∷ codes " " ∷ decimal new ∷ newline ∷ [])
 
 -- the line of an old export, where it binds
-abbrev pub bind_line_to : PlainExport → Option ℕ → List ℕ
+abbrev pub bind_line_to : PlainExport → Option PlainExport → List ℕ
 bind_line_to e None = []
-bind_line_to e (Some symbol) = bind_line e.symbol symbol
+bind_line_to e (Some bound) = bind_line e.symbol bound.symbol
 
 -- a line for each old export that binds, in order
 abbrev pub bind_lines : List PlainExport → List PlainExport → List ℕ
-bind_lines old new = flat_map (λ e. bind_line_to e (symbol_named new e.name)) old
+bind_lines old new = flat_map (λ e. bind_line_to e (partner_of new e)) old
 
 -- The certificate of two libraries with these bind lines. The rule text is empty.
 abbrev pub certificate_with : List ℕ → List ℕ → List ℕ → List ℕ

@@ -1,37 +1,53 @@
 -- The breaks between two libraries, and the text that reports them: a line for each, in order.
-use Rattle.std.specs.Prelude.{ℕ, Bool, true, false, is_none, if◌then◌else◌, List, [], ◌∷◌, ◌++◌, map, filter, find, Option, Some, None, codes}
-use Rattle.std.specs.List.{concat, flat_map}
-use Rattle.std.specs.Str.{bytes_eq}
+use Rattle.std.specs.Prelude.{ℕ, Bool, if◌then◌else◌, List, [], ◌∷◌, ◌++◌, Option, Some, None, slice_get, option_and_then, codes, decimal}
+use Rattle.std.specs.List.{concat, flat_map, list_any}
+use Rattle.abi_types.specs.Exports.{PlainExport}
+use Rattle.abi_types.specs.Kinds.{kind_word}
+use Rattle.abi_types.specs.Shown.{label, shown}
 use Rattle.elf_syms.specs.Dynamic.{soname_of}
-use Rattle.abi_top.specs.Library.{PlainExport, exports_of, is_named}
-use Rattle.abi_top.specs.Shown.{shown}
+use Rattle.pair_rules.specs.ExportRules.{breaks_kind, breaks_size, breaks_type}
+use Rattle.vers_bind.specs.Binding.{bind_to, is_named}
+use Rattle.vers_bind.specs.Exports.{same_name}
+use Rattle.abi_top.specs.Library.{exports_of}
 use Rattle.abi_top.specs.Text.{newline}
 
--- a break: the sonames differ, or an old export is gone
+-- a break: the sonames differ, or an old export breaks one of the rules of exports
 pub data Break : Type 0 where
   soname_differs : (old new : Option (List ℕ)) → Break
   export_gone : PlainExport → Break
-
--- two sonames are equal, or there is none on either side
-abbrev pub same_soname : Option (List ℕ) → Option (List ℕ) → Bool
-same_soname None None = true
-same_soname (Some old) (Some new) = bytes_eq old new
-same_soname old new = false
-
--- the export among these that an old export binds to: the first of its name
-abbrev pub bound_among : List PlainExport → PlainExport → Option PlainExport
-bound_among exports e = find (is_named e.name) exports
-
--- an old export binds to none of these
-abbrev pub is_gone_from : List PlainExport → PlainExport → Bool
-is_gone_from exports e = is_none (bound_among exports e)
+  version_gone : PlainExport → Break
+  kind_differs : (old new : PlainExport) → Break
+  size_differs : (old new : PlainExport) → Break
+  type_gone : PlainExport → Break
 
 abbrev pub soname_breaks : Option (List ℕ) → Option (List ℕ) → List Break
-soname_breaks old new = if same_soname old new then [] else soname_differs old new ∷ []
+soname_breaks old new = if same_name old new then [] else soname_differs old new ∷ []
 
--- all breaks between two libraries: the sonames, then each old export that is gone, in order of the old exports
+-- ---- one old export
+
+-- some of these exports has the name
+abbrev pub has_name : List PlainExport → List ℕ → Bool
+has_name exports name = list_any (is_named name) exports
+
+-- the export among the new ones that an old one binds to
+abbrev pub partner_of : List PlainExport → PlainExport → Option PlainExport
+partner_of new e = option_and_then (slice_get new) (bind_to new e)
+
+abbrev pub break_if : Bool → Break → List Break
+break_if broken break = if broken then break ∷ [] else []
+
+-- the breaks of an old export that binds to a new one, or to none, where some new export has its name or none has
+abbrev pub breaks_between : Bool → PlainExport → Option PlainExport → List Break
+breaks_between there e None = (if there then version_gone e else export_gone e) ∷ []
+breaks_between there e (Some new) =
+    break_if (breaks_kind e new) (kind_differs e new) ++ (break_if (breaks_size e new) (size_differs e new) ++ break_if (breaks_type e new) (type_gone e))
+
+abbrev pub breaks_for : List PlainExport → PlainExport → List Break
+breaks_for new e = breaks_between (has_name new e.name) e (partner_of new e)
+
+-- all breaks between two libraries: the sonames, then those of each old export, in order of the exports and of the rules
 unfoldable pub breaks_of : List ℕ → List ℕ → List Break
-breaks_of old new = soname_breaks (soname_of old) (soname_of new) ++ map export_gone (filter (is_gone_from (exports_of new)) (exports_of old))
+breaks_of old new = soname_breaks (soname_of old) (soname_of new) ++ flat_map (breaks_for (exports_of new)) (exports_of old)
 
 -- ---- the text
 
@@ -42,8 +58,16 @@ shown_soname (Some name) = shown name
 -- the line of a break: its rule, the label of the export, and what is broken
 abbrev pub row : Break → List ℕ
 row (soname_differs old new) = concat (codes "X1 -: SONAME " ∷ shown_soname old ∷ codes ", now " ∷ shown_soname new ∷ newline ∷ [])
-row (export_gone e) = concat (codes "X2 " ∷ shown e.name ∷ codes ": gone" ∷ newline ∷ [])
+row (export_gone e) = concat (codes "X2 " ∷ label e ∷ codes ": gone" ∷ newline ∷ [])
+row (version_gone e) = concat (codes "X3 " ∷ label e ∷ codes ": version gone" ∷ newline ∷ [])
+row (kind_differs e new) = concat (codes "X4 " ∷ label e ∷ codes ": kind " ∷ kind_word e.kind ∷ codes ", now " ∷ kind_word new.kind ∷ newline ∷ [])
+row (size_differs e new) = concat (codes "X5 " ∷ label e ∷ codes ": object size " ∷ decimal e.size ∷ codes ", now " ∷ decimal new.size ∷ newline ∷ [])
+row (type_gone e) = concat (codes "X6 " ∷ label e ∷ codes ": type gone" ∷ newline ∷ [])
+
+-- a line for each break
+abbrev pub rows_of : List Break → List ℕ
+rows_of breaks = flat_map row breaks
 
 -- the line `no`, and a line for each break
 abbrev pub report_of : List Break → List ℕ
-report_of breaks = codes "no" ++ newline ++ flat_map row breaks
+report_of breaks = codes "no" ++ newline ++ rows_of breaks

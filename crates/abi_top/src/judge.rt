@@ -11,7 +11,7 @@ ghost use Rattle.abi_top.specs.declared.judge.Stop.TheVariants.{NoMemory as OutO
 use crate::check::check;
 use crate::words::Request;
 use crate::{Input, Status};
-use abi_base::{Fault, INPUT_LIMIT};
+use abi_base::{Fault, INPUT_LIMIT, NoMemory};
 use std::alloc::{AllocError, Global};
 
 /// What a command says where all its inputs are readable.
@@ -51,6 +51,14 @@ impl From<AllocError> for Stop {
     ghost from_gives = { λ _ e. e ≡ OutOfMemory };
 
     fn from(_: AllocError) -> Self {
+        Stop::NoMemory
+    }
+}
+
+impl From<NoMemory> for Stop {
+    ghost from_gives = { λ _ e. e ≡ OutOfMemory };
+
+    fn from(_: NoMemory) -> Self {
         Stop::NoMemory
     }
 }

@@ -3,14 +3,12 @@
 
 mod certificate;
 mod check;
-mod export;
 mod judge;
 mod laws;
 mod library;
 mod names;
 mod reading;
 mod report;
-mod shown;
 mod status;
 mod text;
 mod top;

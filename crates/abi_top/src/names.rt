@@ -1,26 +1,29 @@
-// Which export has a name.
-ghost use Rattle.std.specs.Prelude.{◌≡◌, true, IfOk, MatchOption};
-ghost use Rattle.abi_top.specs.Library.{has_twins};
-ghost use Rattle.abi_top.specs.Names.{IsIndex};
-ghost use Rattle.abi_top.specs.Plain.{plain_exports};
+// The names of exports.
+ghost use Rattle.std.specs.Prelude.{◌≡◌, IfOk};
+ghost use Rattle.abi_types.specs.Plain.{plain_exports};
+ghost use Rattle.abi_top.specs.Held.{IsNames, is_name_of};
 
-use crate::export::Export;
+use abi_types::Export;
 use std::alloc::{AllocError, Global};
-use std::collections::HashMap;
+use std::collections::HashSet;
 
-/// The symbols of exports by their names, or none exactly where two exports have one name.
-pub fn index_of<'a>(
+/// The names of some exports.
+pub fn names_of<'a>(
     alloc: Global,
     exports: &[Export<'a>],
-) -> Result<Option<HashMap<&'a [u8], u32>>, AllocError>
-    ensures { IfOk result (λ r. MatchOption r (has_twins (plain_exports exports.now) ≡ true) (λ names. IsIndex names (plain_exports exports.now))) }
+) -> Result<HashSet<&'a [u8]>, AllocError>
+    ensures { IfOk result (λ names. IsNames names (plain_exports exports.now)) }
 {
-    let mut names = HashMap::new(alloc);
+    let mut names = HashSet::new(alloc);
     for export in exports {
-        match names.insert(export.name, export.symbol)? {
-            None => {}
-            Some(_) => return Ok(None),
-        }
+        names.insert(export.name)?;
     }
-    Ok(Some(names))
+    Ok(names)
+}
+
+/// Whether a name is among these.
+pub fn is_among(names: &HashSet<&[u8]>, name: &[u8]) -> bool
+    ensures { result ≡ is_name_of names.now name.now }
+{
+    names.contains(&name)
 }

@@ -1,48 +1,21 @@
-// The breaks between two libraries, and the report of a no.
-ghost use Rattle.std.specs.Prelude.{◌≡◌, ◌++◌, map, filter, IfOk, OnOk, string_bytes};
+// The rows of the breaks between two libraries.
+ghost use Rattle.std.specs.Prelude.{◌≡◌, ◌++◌, Bool, Some, None, length, slice_get, option_and_then, IfOk, OnOk, string_bytes};
 ghost use Rattle.std.specs.List.{flat_map};
 ghost use Rattle.std.specs.Option.{option_copied};
-ghost use Rattle.abi_top.specs.Named.{gone_row, has_no_name_in};
-ghost use Rattle.abi_top.specs.Names.{symbol_under};
-ghost use Rattle.abi_top.specs.Plain.{plain_exports};
-ghost use Rattle.abi_top.specs.Report.{export_gone, report_of, row, same_soname as the_sonames_agree, shown_soname, soname_breaks, soname_differs};
+ghost use Rattle.abi_types.specs.Plain.{plain_export, plain_exports};
+ghost use Rattle.abi_types.specs.Shown.{label};
+ghost use Rattle.vers_bind.specs.Binding.{bind_each};
+ghost use Rattle.vers_bind.specs.Exports.{same_name};
+ghost use Rattle.abi_top.specs.Held.{is_name_of};
+ghost use Rattle.abi_top.specs.Report.{break_if, breaks_between, breaks_for, kind_differs, row, rows_of, size_differs, type_gone, shown_soname, soname_breaks, soname_differs};
 
-use crate::export::Export;
-use crate::shown::push_shown;
+use crate::library::Library;
+use crate::names::{is_among, names_of};
+use abi_types::{Export, push_label, push_shown};
+use pair_rules::export_breaks;
 use std::alloc::{AllocError, Global};
-use std::collections::HashMap;
-
-/// The symbol under a name.
-pub fn symbol_of(names: &HashMap<&[u8], u32>, name: &[u8]) -> Option<u32>
-    ensures { result ≡ symbol_under names.now name.now }
-{
-    names.get(&name).copied()
-}
-
-/// The exports that are gone, in order: those whose name none of the new names is.
-pub fn gone_exports<'a>(
-    alloc: Global,
-    old: &[Export<'a>],
-    new_names: &HashMap<&[u8], u32>,
-) -> Result<Vec<Export<'a>>, AllocError>
-    ensures { IfOk result (λ gone. gone.items ≡ filter (has_no_name_in new_names.now) old.now) }
-{
-    old.iter()
-        .filter(|export| symbol_of(new_names, export.name).is_none())
-        .copied()
-        .collect(alloc)
-}
-
-/// Whether two sonames are equal, or there is none on either side.
-pub fn same_soname(old: Option<&[u8]>, new: Option<&[u8]>) -> bool
-    ensures { result ≡ the_sonames_agree (option_copied old.entry) (option_copied new.entry) }
-{
-    match (old, new) {
-        (None, None) => true,
-        (Some(old), Some(new)) => old == new,
-        _ => false,
-    }
-}
+use std::collections::HashSet;
+use std::fmt::Write;
 
 // The printed form of a soname.
 fn soname_text(alloc: Global, soname: Option<&[u8]>) -> Result<String, AllocError>
@@ -57,7 +30,11 @@ fn soname_text(alloc: Global, soname: Option<&[u8]>) -> Result<String, AllocErro
 }
 
 // The line of sonames that differ.
-fn soname_row(alloc: Global, old: Option<&[u8]>, new: Option<&[u8]>) -> Result<String, AllocError>
+fn soname_row(
+    alloc: Global,
+    old: Option<&[u8]>,
+    new: Option<&[u8]>,
+) -> Result<String, AllocError>
     ensures { IfOk result (λ line. string_bytes line ≡ row (soname_differs (option_copied old.entry) (option_copied new.entry))) }
 {
     let old = soname_text(alloc, old)?;
@@ -65,28 +42,24 @@ fn soname_row(alloc: Global, old: Option<&[u8]>, new: Option<&[u8]>) -> Result<S
     format!(in alloc; "X1 -: SONAME {old}, now {new}\n")
 }
 
-// Appends the line of an export that is gone.
-fn push_gone_row(alloc: Global, text: &mut String, export: &Export) -> Result<(), AllocError>
-    ensures { OnOk result (string_bytes text.new ≡ string_bytes text.old ++ gone_row export.now) }
+// Whether two sonames are equal, or there is none on either side.
+fn same_soname(old: Option<&[u8]>, new: Option<&[u8]>) -> bool
+    ensures { result ≡ same_name (option_copied old.entry) (option_copied new.entry) }
 {
-    text.push_str("X2 ")?;
-    push_shown(alloc, text, export.name)?;
-    text.push_str(": gone\n")
-}
-
-// Appends a line for each export that is gone.
-fn push_gone_rows(alloc: Global, text: &mut String, gone: &[Export]) -> Result<(), AllocError>
-    ensures { OnOk result (string_bytes text.new ≡ string_bytes text.old ++ flat_map gone_row gone.now) }
-{
-    for export in gone {
-        push_gone_row(alloc, text, export)?;
+    match (old, new) {
+        (None, None) => true,
+        (Some(old), Some(new)) => old == new,
+        _ => false,
     }
-    Ok(())
 }
 
 // The line of the sonames, where they differ.
-fn soname_rows(alloc: Global, old: Option<&[u8]>, new: Option<&[u8]>) -> Result<String, AllocError>
-    ensures { IfOk result (λ lines. string_bytes lines ≡ flat_map row (soname_breaks (option_copied old.entry) (option_copied new.entry))) }
+fn soname_rows(
+    alloc: Global,
+    old: Option<&[u8]>,
+    new: Option<&[u8]>,
+) -> Result<String, AllocError>
+    ensures { IfOk result (λ lines. string_bytes lines ≡ rows_of (soname_breaks (option_copied old.entry) (option_copied new.entry))) }
 {
     if same_soname(old, new) {
         Ok(String::new(alloc))
@@ -95,18 +68,162 @@ fn soname_rows(alloc: Global, old: Option<&[u8]>, new: Option<&[u8]>) -> Result<
     }
 }
 
-/// The report: the line `no`, the line of the sonames where they differ, and a line for each export that is gone.
-pub fn report(
-    alloc: Global,
-    old_soname: Option<&[u8]>,
-    new_soname: Option<&[u8]>,
-    gone: &[Export],
-) -> Result<String, AllocError>
-    ensures { IfOk result (λ text. string_bytes text ≡ report_of (soname_breaks (option_copied old_soname.entry) (option_copied new_soname.entry) ++ map export_gone (plain_exports gone.now))) }
+// The label of an export.
+fn label_of(alloc: Global, export: &Export) -> Result<String, AllocError>
+    ensures { IfOk result (λ text. string_bytes text ≡ label (plain_export export.now)) }
 {
-    let mut text = String::from_str(alloc, "no\n")?;
-    let sonames = soname_rows(alloc, old_soname, new_soname)?;
-    text.push_str(sonames.as_str())?;
-    push_gone_rows(alloc, &mut text, gone)?;
+    let mut text = String::new(alloc);
+    push_label(alloc, &mut text, export)?;
     Ok(text)
+}
+
+// Appends the line of an export that binds to none.
+fn push_unbound(
+    alloc: Global,
+    text: &mut String,
+    old: &Export,
+    is_there: bool,
+) -> Result<(), AllocError>
+    ensures { OnOk result (string_bytes text.new ≡ string_bytes text.old ++ rows_of (breaks_between is_there (plain_export old.now) None)) }
+{
+    let label = label_of(alloc, old)?;
+    if is_there {
+        writeln!(text, "X3 {label}: version gone")
+    } else {
+        writeln!(text, "X2 {label}: gone")
+    }
+}
+
+// Appends the line of kinds that disagree, where they do.
+fn push_kind(
+    alloc: Global,
+    text: &mut String,
+    old: &Export,
+    new: &Export,
+    is_broken: bool,
+) -> Result<(), AllocError>
+    ensures { OnOk result (string_bytes text.new ≡ string_bytes text.old ++ rows_of (break_if is_broken (kind_differs (plain_export old.now) (plain_export new.now)))) }
+{
+    if !is_broken {
+        return Ok(());
+    }
+    let label = label_of(alloc, old)?;
+    let old_kind = old.kind.word();
+    let new_kind = new.kind.word();
+    writeln!(text, "X4 {label}: kind {old_kind}, now {new_kind}")
+}
+
+// Appends the line of sizes that differ, where they do.
+fn push_size(
+    alloc: Global,
+    text: &mut String,
+    old: &Export,
+    new: &Export,
+    is_broken: bool,
+) -> Result<(), AllocError>
+    ensures { OnOk result (string_bytes text.new ≡ string_bytes text.old ++ rows_of (break_if is_broken (size_differs (plain_export old.now) (plain_export new.now)))) }
+{
+    if !is_broken {
+        return Ok(());
+    }
+    let label = label_of(alloc, old)?;
+    let old_size = old.size;
+    let new_size = new.size;
+    writeln!(text, "X5 {label}: object size {old_size}, now {new_size}")
+}
+
+// Appends the line of a type that is gone, where it is.
+fn push_type(
+    alloc: Global,
+    text: &mut String,
+    old: &Export,
+    is_broken: bool,
+) -> Result<(), AllocError>
+    ensures { OnOk result (string_bytes text.new ≡ string_bytes text.old ++ rows_of (break_if is_broken (type_gone (plain_export old.now)))) }
+{
+    if !is_broken {
+        return Ok(());
+    }
+    let label = label_of(alloc, old)?;
+    writeln!(text, "X6 {label}: type gone")
+}
+
+// Appends the lines of an export that binds to another.
+fn push_bound(
+    alloc: Global,
+    text: &mut String,
+    old: &Export,
+    new: &Export,
+) -> Result<(), AllocError>
+    ensures { (is_there : Bool) → OnOk result (string_bytes text.new ≡ string_bytes text.old ++ rows_of (breaks_between is_there (plain_export old.now) (Some (plain_export new.now)))) }
+{
+    let [kind_breaks, size_breaks, type_breaks] = export_breaks(old, new);
+    push_kind(alloc, text, old, new, kind_breaks)?;
+    push_size(alloc, text, old, new, size_breaks)?;
+    push_type(alloc, text, old, type_breaks)
+}
+
+/// The new export at a place, where there is one.
+pub fn partner<'b, 'a>(new: &'b [Export<'a>], bound: Option<usize>) -> Option<&'b Export<'a>>
+    ensures { option_copied result ≡ option_and_then (slice_get new.now) bound }
+{
+    match bound {
+        Some(place) => new.get(place),
+        None => None,
+    }
+}
+
+// Appends the lines of an old export that binds to the new one at a place, or to none.
+#[tactic(auto, using(crate::proofs::Judging::partner_plain))]
+fn push_export(
+    alloc: Global,
+    text: &mut String,
+    names: &HashSet<&[u8]>,
+    new: &[Export],
+    old: &Export,
+    bound: Option<usize>,
+) -> Result<(), AllocError>
+    ensures { OnOk result (string_bytes text.new ≡ string_bytes text.old ++ rows_of (breaks_between (is_name_of names.now old.now.name.now) (plain_export old.now) (option_and_then (slice_get (plain_exports new.now)) bound))) }
+{
+    match partner(new, bound) {
+        Some(new) => push_bound(alloc, text, old, new),
+        None => push_unbound(alloc, text, old, is_among(names, old.name)),
+    }
+}
+
+// The lines of the old exports that bind to the new ones at these places.
+fn export_rows(
+    alloc: Global,
+    old: &[Export],
+    new: &[Export],
+    bound: &[Option<usize>],
+) -> Result<String, AllocError>
+    requires same { length bound.now ≡ length old.now }
+    requires bound { bound.now ≡ bind_each (plain_exports old.now) (plain_exports new.now) }
+    ensures { IfOk result (λ rows. string_bytes rows ≡ rows_of (flat_map (breaks_for (plain_exports new.now)) (plain_exports old.now))) }
+{
+    let names = names_of(alloc, new)?;
+    let mut rows = String::new(alloc);
+    for (place, export) in old.iter().enumerate() {
+        push_export(alloc, &mut rows, &names, new, export, bound[place])?;
+    }
+    Ok(rows)
+}
+
+/// The lines of all breaks: of the sonames where they differ, and of each old export, by what they bind to.
+pub fn break_rows(
+    alloc: Global,
+    old: &Library,
+    new: &Library,
+    bound: &[Option<usize>],
+) -> Result<String, AllocError>
+    requires same { length bound.now ≡ length old.now.exports.items }
+    requires bound { bound.now ≡ bind_each (plain_exports old.now.exports.items) (plain_exports new.now.exports.items) }
+    ensures { IfOk result (λ rows. string_bytes rows ≡ rows_of (soname_breaks (option_copied old.now.soname) (option_copied new.now.soname)
+        ++ flat_map (breaks_for (plain_exports new.now.exports.items)) (plain_exports old.now.exports.items))) }
+{
+    let mut rows = soname_rows(alloc, old.soname, new.soname)?;
+    let exports = export_rows(alloc, &old.exports, &new.exports, bound)?;
+    rows.push_str(exports.as_str())?;
+    Ok(rows)
 }
