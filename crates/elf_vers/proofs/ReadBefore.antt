@@ -83,10 +83,10 @@ read_none table strings count names empty =
     }
 
 -- an index under which a name stands is that of a definition before
-pub was_there : (table strings : List ℕ) (count number at : ℕ) (names : Names) (index : ℕ) (name : Bor (List ℕ)) → ReadBefore table strings count number at names
-    → index ≡ index_of table number → get nat_eq names index ≡ Some name → stood_before table number ≡ true
-was_there table strings count number at names index name so_far same under =
-    subst (λ (i : ℕ). list_any (λ j. index_of table j == i) (range_with_len 0 number) ≡ true) same (sym (so_far.stood index) ∙ ap is_some under)
+pub was_there : (table strings : List ℕ) (count number at : ℕ) (names : Names) (index : ℕ) → ReadBefore table strings count number at names
+    → index ≡ index_of table number → is_some (get nat_eq names index) ≡ true → stood_before table number ≡ true
+was_there table strings count number at names index so_far same under =
+    subst (λ (i : ℕ). list_any (λ j. index_of table j == i) (range_with_len 0 number) ≡ true) same (sym (so_far.stood index) ∙ under)
 
 -- a bad definition is refused at its number
 pub refuses : (table strings : List ℕ) (count number at : ℕ) (names : Names) (refusal : Refusal) → ReadBefore table strings count number at names → number < count
@@ -115,7 +115,7 @@ named_after false name under look number (Some j) so_far none named = so_far
 
 pub read_more : (table strings : List ℕ) (count number at next_at : ℕ) (names next : Names) (index : ℕ) (name : Bor (List ℕ)) → ReadBefore table strings count number at names → number < count
     → is_malformed table strings count number ≡ false → index ≡ index_of table number → name_of table strings number ≡ Some name.now → next_at ≡ place_of table (number + 1)
-    → get nat_eq names index ≡ None → Adds names next index name → ReadBefore table strings count (number + 1) next_at next
+    → is_some (get nat_eq names index) ≡ false → Adds names next index name → ReadBefore table strings count (number + 1) next_at next
 read_more table strings count number at next_at names next index name so_far lt whole same named place absent adds = record {
   place = place;
   named = λ q. named_at q;
@@ -124,7 +124,7 @@ read_more table strings count number at next_at names next index name so_far lt 
 }
   where
     before : list_any (λ j. index_of table j == index) (range_with_len 0 number) ≡ false
-    before = sym (so_far.stood index) ∙ ap is_some absent
+    before = sym (so_far.stood index) ∙ absent
 
     new : stood_before table number ≡ false
     new = subst (λ (i : ℕ). list_any (λ j. index_of table j == i) (range_with_len 0 number) ≡ false) same before

@@ -97,10 +97,13 @@ fn names_in<'a>(
     for number in 0..count {
         match definition_in(table, strings, count, number, at) {
             None => return Err(bad_definition(number)),
-            Some(definition) => match names.insert(definition.index, definition.name)? {
-                Some(_) => return Err(bad_definition(number)),
-                None => at = definition.next,
-            },
+            Some(definition) => {
+                let stood = names.insert(definition.index, definition.name)?.is_some();
+                if stood {
+                    return Err(bad_definition(number));
+                }
+                at = definition.next;
+            }
         }
     }
     Ok(names)
