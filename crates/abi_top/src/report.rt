@@ -1,6 +1,6 @@
 // The rows of the breaks between two libraries.
-ghost use Rattle.std.specs.Prelude.{◌≡◌, ◌++◌, Bool, Some, None, length, slice_get, option_and_then, IfOk, OnOk, string_bytes};
-ghost use Rattle.std.specs.List.{flat_map};
+ghost use Rattle.std.specs.Prelude.{◌≡◌, [], ◌∷◌, ◌++◌, Bool, Some, None, codes, decimal, length, slice_get, option_and_then, IfOk, OnOk, string_bytes};
+ghost use Rattle.std.specs.List.{concat, flat_map};
 ghost use Rattle.std.specs.Option.{option_copied};
 ghost use Rattle.abi_types.specs.Plain.{plain_export, plain_exports};
 ghost use Rattle.abi_types.specs.Shown.{label};
@@ -8,6 +8,7 @@ ghost use Rattle.vers_bind.specs.Binding.{bind_each};
 ghost use Rattle.vers_bind.specs.Exports.{same_name};
 ghost use Rattle.abi_top.specs.Held.{is_name_of};
 ghost use Rattle.abi_top.specs.Report.{break_if, breaks_between, breaks_for, kind_differs, row, rows_of, size_differs, type_gone, shown_soname, soname_breaks, soname_differs};
+ghost use Rattle.abi_top.specs.Text.{newline};
 
 use crate::library::Library;
 use crate::names::{is_among, names_of};
@@ -113,6 +114,13 @@ fn push_kind(
     writeln!(text, "X4 {label}: kind {old_kind}, now {new_kind}")
 }
 
+// Appends the line of two sizes.
+fn write_sizes(text: &mut String, label: &str, old: u64, new: u64) -> Result<(), AllocError>
+    ensures { OnOk result (string_bytes text.new ≡ string_bytes text.old ++ concat (codes "X5 " ∷ label.now ∷ codes ": object size " ∷ decimal old ∷ codes ", now " ∷ decimal new ∷ newline ∷ [])) }
+{
+    writeln!(text, "X5 {label}: object size {old}, now {new}")
+}
+
 // Appends the line of sizes that differ, where they do.
 fn push_size(
     alloc: Global,
@@ -127,9 +135,7 @@ fn push_size(
         return Ok(());
     }
     let label = label_of(alloc, old)?;
-    let old_size = old.size;
-    let new_size = new.size;
-    writeln!(text, "X5 {label}: object size {old_size}, now {new_size}")
+    write_sizes(text, &label, old.size, new.size)
 }
 
 // Appends the line of a type that is gone, where it is.
