@@ -1,1 +1,4 @@
 mod Placing
+mod InOrder
+mod Among
+mod Standing

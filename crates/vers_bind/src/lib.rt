@@ -2,6 +2,8 @@
 #![tactic(auto)]
 
 mod all;
+mod duplicates;
+mod exporting;
 mod one;
 mod reading;
 

@@ -1,0 +1,47 @@
+// Exports of one name and one version.
+ghost use Rattle.std.specs.Prelude.{◌≡◌, IfOk, List, [], ◌++◌, ◌∷◌};
+ghost use Rattle.std.specs.List.{list_any};
+ghost use Rattle.abi_base.specs.Outcome.{first};
+ghost use Rattle.abi_types.specs.Exports.{PlainExport};
+ghost use Rattle.abi_types.specs.Plain.{plain_export, plain_exports};
+ghost use Rattle.vers_bind.specs.Exports.{duplicate_faults, is_same};
+ghost use Rattle.vers_bind.specs.Stood.{Stood};
+
+use abi_base::{Fault, FaultKind};
+use abi_types::Export;
+use std::alloc::{AllocError, Global};
+use std::collections::HashMap;
+
+// Adds an export to those that stood before, and says whether one of them has its name and its version, or its name and
+// no version.
+fn stood_before<'a>(
+    unversioned: &mut HashMap<&'a [u8], u32>,
+    versioned: &mut HashMap<(&'a [u8], &'a [u8]), u32>,
+    export: &Export<'a>,
+) -> Result<bool, AllocError>
+    ensures says { IfOk result (λ stood. (before : List PlainExport) → Stood unversioned.old versioned.old before → stood ≡ list_any (is_same (plain_export export.now)) before) }
+    ensures adds { IfOk result (λ stood. (before : List PlainExport) → Stood unversioned.old versioned.old before → Stood unversioned.new versioned.new (before ++ plain_export export.now ∷ [])) }
+{
+    let earlier = match export.version {
+        None => unversioned.insert(export.name, export.symbol)?,
+        Some(version) => versioned.insert((export.name, version), export.symbol)?,
+    };
+    Ok(earlier.is_some())
+}
+
+// The fault of the first export of the name and the version of an earlier one.
+pub fn duplicate_fault(alloc: Global, exports: &[Export]) -> Result<Option<Fault>, AllocError>
+    ensures { IfOk result (λ fault. fault ≡ first (duplicate_faults [] (plain_exports exports.now))) }
+{
+    let mut unversioned = HashMap::new(alloc);
+    let mut versioned = HashMap::new(alloc);
+    for export in exports {
+        if stood_before(&mut unversioned, &mut versioned, export)? {
+            return Ok(Some(Fault {
+                kind: FaultKind::DuplicateExport,
+                at: u64::from(export.symbol),
+            }));
+        }
+    }
+    Ok(None)
+}
