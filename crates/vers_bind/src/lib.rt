@@ -2,7 +2,9 @@
 #![tactic(auto)]
 
 mod all;
+mod offers;
 mod one;
+mod places;
 mod reading;
 
 pub use all::bind_all;
