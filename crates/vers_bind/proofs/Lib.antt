@@ -1,3 +1,5 @@
+mod Filling
+mod Offering
 mod Placing
 mod InOrder
 mod Among

@@ -3,6 +3,7 @@ ghost use Rattle.std.specs.Prelude.{◌≡◌, IfOk};
 ghost use Rattle.abi_types.specs.Plain.{plain_exports};
 ghost use Rattle.vers_bind.specs.Binding.{bind_each};
 
+use crate::offers::{bind_in, offers_of};
 use abi_base::{List, NoMemory};
 use abi_types::Export;
 use std::alloc::Global;
@@ -15,5 +16,10 @@ pub fn bind_all(
 ) -> Result<List<Option<usize>>, NoMemory>
     ensures { IfOk result (λ places. places ≡ bind_each (plain_exports wanted.now) (plain_exports offered.now)) }
 {
-    Err(NoMemory)
+    let offers = offers_of(alloc, offered)?;
+    let mut places = List::new(alloc);
+    for export in wanted {
+        places.push(bind_in(&offers, export))?;
+    }
+    Ok(places)
 }

@@ -4,7 +4,9 @@
 mod all;
 mod duplicates;
 mod exporting;
+mod offers;
 mod one;
+mod places;
 mod reading;
 
 pub use all::bind_all;
