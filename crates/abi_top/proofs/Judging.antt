@@ -204,3 +204,15 @@ module _ (old new : List ℕ) (rows : List ℕ) (is : rows ≡ rows_of (breaks_o
 
   pub reported : (text : List ℕ) → text ≡ codes "no" ++ newline ++ rows → text ≡ report_of (breaks_of old new)
   reported text joined = joined ∙ ap (λ (l : List ℕ). codes "no" ++ newline ++ l) is
+
+-- what the code found of each library, put together
+module _ (old new : List ℕ) (old_soname new_soname : Option (List ℕ)) (old_exports new_exports : List PlainExport)
+         (is_old_soname : old_soname ≡ soname_of old) (is_new_soname : new_soname ≡ soname_of new)
+         (are_old : old_exports ≡ exports_of old) (are_new : new_exports ≡ exports_of new) where
+  pub all_rows : (rows : List ℕ) → rows ≡ rows_of (soname_breaks old_soname new_soname ++ flat_map (breaks_for new_exports) old_exports) → rows ≡ rows_of (breaks_of old new)
+  unfolding breaks_of
+  all_rows rows is = is ∙ rw (is_old_soname, is_new_soname, are_old, are_new) refl
+
+  pub certified : (text : List ℕ) → text ≡ certificate_with old new (bind_lines old_exports new_exports) → text ≡ certificate_of old new
+  unfolding certificate_of
+  certified text is = is ∙ rw (are_old, are_new) refl
