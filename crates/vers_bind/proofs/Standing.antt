@@ -1,8 +1,8 @@
 -- The names and versions of exports, as one more is added to them.
 use Rattle.std.proofs.Common.{◌≡◌, ℕ, ◌+◌, ◌<◌, Bool, true, false, cond, List, [], ◌∷◌, ◌++◌, length, take, drop, get_or, Option, Some, None, refl, sym, ◌∙◌, ap, subst, arith}
-use Rattle.std.specs.Prelude.{is_some, ◌||◌, ◌&&◌}
+use Rattle.std.specs.Prelude.{not, ◌||◌, ◌&&◌}
 use Rattle.std.specs.Borrow.{Bor}
-use Rattle.std.specs.HashMap.{IsEmpty}
+use Rattle.std.specs.HashSet.{IsEmpty}
 use Rattle.std.specs.List.{list_any}
 use Rattle.std.specs.Str.{bytes_eq}
 use Rattle.std.proofs.lemmas.List.Folds.{list_any-append}
@@ -14,7 +14,7 @@ use Rattle.abi_types.specs.declared.export.Export.{Export}
 use Rattle.abi_types.specs.Exports.{PlainExport}
 use Rattle.abi_types.specs.Plain.{plain_export, plain_exports}
 use Rattle.vers_bind.specs.Exports.{duplicate_faults, is_same, same_name}
-use Rattle.vers_bind.specs.Stood.{Names, Versioned, under_name, under_version, is_like, Stood}
+use Rattle.vers_bind.specs.Stood.{Names, Versioned, has_name, has_version, is_like, Stood}
 use Rattle.vers_bind.proofs.InOrder.{taken, dropped}
 
 bool_cases : {P : Type 0} (b : Bool) → (b ≡ true → P) → (b ≡ false → P) → P
@@ -29,6 +29,10 @@ turned a b =
     bool_cases (bytes_eq a b) (λ same. same ∙ sym (same_names a b same)) (λ apart.
     bool_cases (bytes_eq b a) (λ same. absurd (let h = same_names b a same in cc)) (λ other. apart ∙ sym other))
 
+not_not : (b : Bool) → not (not b) ≡ b
+not_not true = refl
+not_not false = refl
+
 and_true : (b : Bool) → (b && true) ≡ b
 and_true true = refl
 and_true false = refl
@@ -38,20 +42,20 @@ or_nothing true c = refl
 or_nothing false true = refl
 or_nothing false false = refl
 
--- whether something stands under a key after one is put under a key that may be it
-put : (b : Bool) (x : ℕ) (o : Option ℕ) → is_some (cond b (Some x) o) ≡ (is_some o || (b || false))
-put true x None = refl
-put true x (Some y) = refl
-put false x None = refl
-put false x (Some y) = refl
+-- whether a key is in a set after one is put in that may be it
+put : (b c : Bool) → cond b true c ≡ (c || (b || false))
+put true true = refl
+put true false = refl
+put false true = refl
+put false false = refl
 
 -- what an insert gives
 abbrev pub AddsName : Names → Names → PlainExport → Type 0
-AddsName names next e = (q : Bor (List ℕ)) → under_name next q.now ≡ cond (bytes_eq e.name q.now) (Some e.symbol) (under_name names q.now)
+AddsName names next e = (q : Bor (List ℕ)) → has_name next q.now ≡ cond (bytes_eq e.name q.now) true (has_name names q.now)
 
-abbrev pub AddsVersion : Versioned → Versioned → List ℕ → List ℕ → ℕ → Type 0
-AddsVersion names next name version symbol =
-    (q : Bor (List ℕ) × Bor (List ℕ)) → under_version next q.0.now q.1.now ≡ cond (bytes_eq name q.0.now && bytes_eq version q.1.now) (Some symbol) (under_version names q.0.now q.1.now)
+abbrev pub AddsVersion : Versioned → Versioned → List ℕ → List ℕ → Type 0
+AddsVersion names next name version =
+    (q : Bor (List ℕ) × Bor (List ℕ)) → has_version next q.0.now q.1.now ≡ cond (bytes_eq name q.0.now && bytes_eq version q.1.now) true (has_version names q.0.now q.1.now)
 
 abbrev pub borrowed : List ℕ → Bor (List ℕ)
 borrowed name = record { ref_ptr = (0, 0); now = name }
@@ -62,13 +66,13 @@ module _ (unversioned : Names) (versioned : Versioned) (before : List PlainExpor
 
   -- ---- an export without a version
 
-  pub said_bare : (o : Option ℕ) → e.version ≡ None → o ≡ under_name unversioned e.name → is_some o ≡ list_any (is_same e) before
-  said_bare o none is = ap is_some is ∙ so_far.bare e.name ∙ ap (λ (v : Option (List ℕ)). list_any (is_like e.name v) before) (sym none)
+  pub said_bare : (is_new : Bool) → e.version ≡ None → is_new ≡ not (has_name unversioned e.name) → not is_new ≡ list_any (is_same e) before
+  said_bare is_new none is = ap not is ∙ not_not (has_name unversioned e.name) ∙ so_far.bare e.name ∙ ap (λ (v : Option (List ℕ)). list_any (is_like e.name v) before) (sym none)
 
   pub added_bare : (next : Names) → e.version ≡ None → AddsName unversioned next e → Stood next versioned (before ++ e ∷ [])
   added_bare next none adds = record {
     bare = λ name.
-        ap is_some (adds (borrowed name)) ∙ put (bytes_eq e.name name) e.symbol (under_name unversioned name)
+        adds (borrowed name) ∙ put (bytes_eq e.name name) (has_name unversioned name)
         ∙ ap (λ (b : Bool). b || (bytes_eq e.name name || false)) (so_far.bare name)
         ∙ ap (λ (b : Bool). list_any (is_like name None) before || (b || false)) (turned e.name name ∙ sym (and_true (bytes_eq name e.name)) ∙ ap (λ (v : Option (List ℕ)). bytes_eq name e.name && same_name None v) (sym none))
         ∙ sym (one_more name None);
@@ -80,17 +84,17 @@ module _ (unversioned : Names) (versioned : Versioned) (before : List PlainExpor
 
   -- ---- an export with a version
 
-  pub said_paired : (o : Option ℕ) (version : List ℕ) → e.version ≡ Some version → o ≡ under_version versioned e.name version → is_some o ≡ list_any (is_same e) before
-  said_paired o version some is = ap is_some is ∙ so_far.paired e.name version ∙ ap (λ (v : Option (List ℕ)). list_any (is_like e.name v) before) (sym some)
+  pub said_paired : (is_new : Bool) (version : List ℕ) → e.version ≡ Some version → is_new ≡ not (has_version versioned e.name version) → not is_new ≡ list_any (is_same e) before
+  said_paired is_new version some is = ap not is ∙ not_not (has_version versioned e.name version) ∙ so_far.paired e.name version ∙ ap (λ (v : Option (List ℕ)). list_any (is_like e.name v) before) (sym some)
 
-  pub added_paired : (next : Versioned) (version : List ℕ) → e.version ≡ Some version → AddsVersion versioned next e.name version e.symbol → Stood unversioned next (before ++ e ∷ [])
+  pub added_paired : (next : Versioned) (version : List ℕ) → e.version ≡ Some version → AddsVersion versioned next e.name version → Stood unversioned next (before ++ e ∷ [])
   added_paired next version some adds = record {
     bare = λ name.
         so_far.bare name ∙ sym (or_nothing (list_any (is_like name None) before) (bytes_eq name e.name))
         ∙ ap (λ (v : Option (List ℕ)). list_any (is_like name None) before || ((bytes_eq name e.name && same_name None v) || false)) (sym some)
         ∙ sym (one_more name None);
     paired = λ name other.
-        ap is_some (adds (borrowed name, borrowed other)) ∙ put (bytes_eq e.name name && bytes_eq version other) e.symbol (under_version versioned name other)
+        adds (borrowed name, borrowed other) ∙ put (bytes_eq e.name name && bytes_eq version other) (has_version versioned name other)
         ∙ ap (λ (b : Bool). b || ((bytes_eq e.name name && bytes_eq version other) || false)) (so_far.paired name other)
         ∙ ap (λ (b : Bool). list_any (is_like name (Some other)) before || ((b && bytes_eq version other) || false)) (turned e.name name)
         ∙ ap (λ (b : Bool). list_any (is_like name (Some other)) before || ((bytes_eq name e.name && b) || false)) (turned version other)
@@ -104,17 +108,17 @@ pub record Unlike (exports : List Export) (i : ℕ) (unversioned : Names) (versi
   pub stood : Stood unversioned versioned (take i (plain_exports exports))
   pub judged : first (duplicate_faults (take i (plain_exports exports)) (drop i (plain_exports exports))) ≡ first (duplicate_faults [] (plain_exports exports))
 
-no_name : (names : Names) → IsEmpty names → (name : List ℕ) → under_name names name ≡ None
+no_name : (names : Names) → IsEmpty names → (name : List ℕ) → has_name names name ≡ false
 no_name names empty name = grind (arith, common_steps)
 
-no_version : (names : Versioned) → IsEmpty names → (name version : List ℕ) → under_version names name version ≡ None
+no_version : (names : Versioned) → IsEmpty names → (name version : List ℕ) → has_version names name version ≡ false
 no_version names empty name version = grind (arith, common_steps)
 
 pub none_yet : (exports : List Export) (unversioned : Names) (versioned : Versioned) → IsEmpty unversioned → IsEmpty versioned → Unlike exports 0 unversioned versioned
 none_yet exports unversioned versioned bare paired = record {
   stood = record {
-    bare = λ name. ap is_some (no_name unversioned bare name);
-    paired = λ name version. ap is_some (no_version versioned paired name version);
+    bare = λ name. no_name unversioned bare name;
+    paired = λ name version. no_version versioned paired name version;
   };
   judged = refl;
 }

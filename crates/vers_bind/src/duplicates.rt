@@ -10,31 +10,31 @@ ghost use Rattle.vers_bind.specs.Stood.{Stood};
 use abi_base::{Fault, FaultKind};
 use abi_types::Export;
 use std::alloc::{AllocError, Global};
-use std::collections::HashMap;
+use std::collections::HashSet;
 
 // Adds an export to those that stood before, and says whether one of them has its name and its version, or its name and
 // no version.
 fn stood_before<'a>(
-    unversioned: &mut HashMap<&'a [u8], u32>,
-    versioned: &mut HashMap<(&'a [u8], &'a [u8]), u32>,
+    unversioned: &mut HashSet<&'a [u8]>,
+    versioned: &mut HashSet<(&'a [u8], &'a [u8])>,
     export: &Export<'a>,
 ) -> Result<bool, AllocError>
     ensures says { IfOk result (λ stood. (before : List PlainExport) → Stood unversioned.old versioned.old before → stood ≡ list_any (is_same (plain_export export.now)) before) }
     ensures adds { IfOk result (λ stood. (before : List PlainExport) → Stood unversioned.old versioned.old before → Stood unversioned.new versioned.new (before ++ plain_export export.now ∷ [])) }
 {
-    let earlier = match export.version {
-        None => unversioned.insert(export.name, export.symbol)?,
-        Some(version) => versioned.insert((export.name, version), export.symbol)?,
+    let is_new = match export.version {
+        None => unversioned.insert(export.name)?,
+        Some(version) => versioned.insert((export.name, version))?,
     };
-    Ok(earlier.is_some())
+    Ok(!is_new)
 }
 
 // The fault of the first export of the name and the version of an earlier one.
 pub fn duplicate_fault(alloc: Global, exports: &[Export]) -> Result<Option<Fault>, AllocError>
     ensures { IfOk result (λ fault. fault ≡ first (duplicate_faults [] (plain_exports exports.now))) }
 {
-    let mut unversioned = HashMap::new(alloc);
-    let mut versioned = HashMap::new(alloc);
+    let mut unversioned = HashSet::new(alloc);
+    let mut versioned = HashSet::new(alloc);
     for export in exports {
         if stood_before(&mut unversioned, &mut versioned, export)? {
             return Ok(Some(Fault {
