@@ -8,7 +8,8 @@ use abi_base::{List, NoMemory};
 use abi_types::Export;
 use std::alloc::Global;
 
-/// What `bind` gives for each of the exports, in their order.
+/// What `bind` gives for each of the exports, in their order. It looks each of them up in maps of the exports offered, so it
+/// goes over either slice a fixed number of times.
 pub fn bind_all(
     alloc: Global,
     wanted: &[Export],
