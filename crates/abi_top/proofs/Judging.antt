@@ -203,6 +203,7 @@ module _ (old new : List ℕ) (rows : List ℕ) (is : rows ≡ rows_of (breaks_o
   incompatible some fits = some (is ∙ ap rows_of ((breaks_tell old new).0 fits))
 
   pub reported : (text : List ℕ) → text ≡ codes "no" ++ newline ++ rows → text ≡ report_of (breaks_of old new)
+  unfolding report_of
   reported text joined = joined ∙ ap (λ (l : List ℕ). codes "no" ++ newline ++ l) is
 
 -- what the code found of each library, put together

@@ -69,5 +69,5 @@ abbrev pub rows_of : List Break → List ℕ
 rows_of breaks = flat_map row breaks
 
 -- the line `no`, and a line for each break
-abbrev pub report_of : List Break → List ℕ
+unfoldable pub report_of : List Break → List ℕ
 report_of breaks = codes "no" ++ newline ++ rows_of breaks

@@ -1,12 +1,13 @@
 // Whether a new library may replace an old one.
-ghost use Rattle.std.specs.Prelude.{◌≡◌, ◌≤◌, [], ◌∷◌, None, length, OnOk, OnErr, IfOk, IfErr, string_bytes};
+ghost use Rattle.std.specs.Prelude.{◌≡◌, ◌≤◌, [], ◌∷◌, ◌++◌, None, codes, length, OnOk, OnErr, IfOk, IfErr, string_bytes};
+ghost use Rattle.std.specs.Bool.{Decides};
 ghost use Rattle.std.specs.Option.{option_copied};
 ghost use Rattle.abi_types.specs.Plain.{plain_exports};
 ghost use Rattle.elf_syms.specs.Dynamic.{soname_of};
 ghost use Rattle.abi_top.specs.Check.{CheckJudges};
 ghost use Rattle.abi_top.specs.Faults.{AreReadable, IsStopFor, StopsAt};
 ghost use Rattle.abi_top.specs.Library.{exports_of, library_fault};
-
+ghost use Rattle.abi_top.specs.Text.{newline};
 
 use crate::Input;
 use crate::certificate::certificate;
@@ -14,7 +15,7 @@ use crate::judge::{Judgement, Stop, Verdict};
 use crate::library::{Library, read_library};
 use crate::report::break_rows;
 use abi_base::{INPUT_LIMIT, Refusal};
-use std::alloc::Global;
+use std::alloc::{AllocError, Global};
 use vers_bind::bind_all;
 
 // One of the two libraries.
@@ -32,6 +33,20 @@ fn read_input<'a>(alloc: Global, which: Input, bytes: &'a [u8]) -> Result<Librar
     }
 }
 
+// Whether there is no line.
+fn are_none(rows: &str) -> bool
+    ensures { Decides result (rows.now ≡ []) }
+{
+    rows.is_empty()
+}
+
+// The report with these lines.
+fn report(alloc: Global, rows: &str) -> Result<String, AllocError>
+    ensures { IfOk result (λ text. string_bytes text ≡ codes "no" ++ newline ++ rows.now) }
+{
+    format!(in alloc; "no\n{rows}")
+}
+
 /// The judgement of `check` on the bytes of an old and of a new library: yes with the certificate where the sonames agree
 /// and every old export binds to one that agrees with it, else no with every break. The old library's fault goes before the new one's.
 pub fn check(alloc: Global, old: &[u8], new: &[u8]) -> Result<Judgement, Stop>
@@ -45,7 +60,7 @@ pub fn check(alloc: Global, old: &[u8], new: &[u8]) -> Result<Judgement, Stop>
     let new_library = read_input(alloc, Input::New, new)?;
     let bound = bind_all(alloc, &old_library.exports, &new_library.exports)?;
     let rows = break_rows(alloc, &old_library, &new_library, bound.as_slice())?;
-    if rows.is_empty() {
+    if are_none(&rows) {
         let text = certificate(
             alloc,
             old,
@@ -59,7 +74,7 @@ pub fn check(alloc: Global, old: &[u8], new: &[u8]) -> Result<Judgement, Stop>
             text,
         })
     } else {
-        let text = format!(in alloc; "no\n{rows}")?;
+        let text = report(alloc, &rows)?;
         Ok(Judgement {
             verdict: Verdict::No,
             text,
