@@ -6,7 +6,8 @@
 #   ABI=/path/of/abi tests/real_libraries.sh    takes another one
 set -eu
 title="real libraries"
-. "$(dirname "$0")/common.sh"
+tools="gcc readelf sha256sum"
+. "$(dirname "$0")/common.bash"
 
 # build NAME SOURCE OPTION..: the library NAME.so of a source.
 build() {
@@ -129,6 +130,41 @@ X3 plain@@V1: version gone
 X3 table@@V1: version gone
 END
 broken "and a library without versions may not replace one with versions" versions_1.so unversioned.so
+
+# Kinds: in kinds_old.so, `function_object` is a function, and in kinds_new.so an object; and so on for each pair of kinds.
+kinds="notype object function gnu_indirect_function tls_object"
+for side in old new; do
+    for first in $kinds; do
+        for second in $kinds; do
+            [ "$side" = old ] && kind=$first || kind=$second
+            case $kind in
+            function | gnu_indirect_function) echo ".text" ;;
+            tls_object) echo ".section .tdata, \"awT\", @progbits" ;;
+            *) echo ".data" ;;
+            esac
+            echo ".globl ${first}_$second"
+            echo ".type ${first}_$second, @$kind"
+            echo ".size ${first}_$second, 4"
+            echo "${first}_$second: .long 0"
+        done
+    done >kinds.s
+    gcc -shared -nostdlib -o "kinds_$side.so" kinds.s
+done
+sort >rows <<'END'
+X4 notype_tls_object: kind NOTYPE, now TLS
+X4 object_function: kind OBJECT, now FUNC
+X4 object_gnu_indirect_function: kind OBJECT, now IFUNC
+X4 object_tls_object: kind OBJECT, now TLS
+X4 function_object: kind FUNC, now OBJECT
+X4 function_tls_object: kind FUNC, now TLS
+X4 gnu_indirect_function_object: kind IFUNC, now OBJECT
+X4 gnu_indirect_function_tls_object: kind IFUNC, now TLS
+X4 tls_object_notype: kind TLS, now NOTYPE
+X4 tls_object_object: kind TLS, now OBJECT
+X4 tls_object_function: kind TLS, now FUNC
+X4 tls_object_gnu_indirect_function: kind TLS, now IFUNC
+END
+broken "twelve of the twenty-five pairs of kinds disagree" kinds_old.so kinds_new.so
 
 # Unreadable.
 entries=$(readelf --wide --sections debug.so | sed -n 's/^ *\[ *\([0-9]*\)\] \.debug_info .*/\1/p' | head -n 1)

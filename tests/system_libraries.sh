@@ -7,7 +7,8 @@
 #   ABI=/path/of/abi tests/system_libraries.sh    takes another one
 set -eu
 title="system libraries"
-. "$(dirname "$0")/common.sh"
+tools="readelf sha256sum"
+. "$(dirname "$0")/common.bash"
 
 # place NAME: the path of a library of the system, where it is there, an ELF-64 library for x86-64 without debug information.
 place() {
@@ -25,9 +26,10 @@ place() {
 
 names="libc.so.6 libm.so.6 libstdc++.so.6 libgcc_s.so.1 libz.so.1 libzstd.so.1 liblzma.so.5 libbz2.so.1.0 libcrypto.so.3
     libssl.so.3 libtinfo.so.6 libselinux.so.1 libpcre2-8.so.0 libcrypt.so.1 libresolv.so.2 libacl.so.1 libattr.so.1
-    libudev.so.1 libsystemd.so.0 libmount.so.1 libblkid.so.1 libgmp.so.10 libgnutls.so.30 libsqlite3.so.0"
+    libudev.so.1 libsystemd.so.0 libmount.so.1 libblkid.so.1 libgmp.so.10 libgnutls.so.30 libsqlite3.so.0
+    libcc1.so.0"
 
-rm -f found
+: >found
 for name in $names; do
     place "$name" >>found
 done

@@ -1,5 +1,5 @@
 # What the scripts beside this one share: how they skip, fail and count, which program they take, and what an answer must
-# be by sha256sum and readelf. A script sets `title` and then takes this file in.
+# be by sha256sum and readelf. A script sets `title` and the `tools` that it needs, and then takes this file in.
 export LC_ALL=C
 
 root=$(cd "$(dirname "$0")/.." && pwd)
@@ -15,7 +15,7 @@ fail() {
     exit 1
 }
 
-for tool in gcc readelf sha256sum; do
+for tool in $tools; do
     command -v "$tool" >/dev/null || skip "there is no $tool"
 done
 
@@ -86,6 +86,10 @@ exports() {
                 count++
             }
         }
+
+        # a binding and a kind that readelf only names where the header says GNU
+        part == "symbols" && $4 " " $5 " " $6 == "<OS specific>: 10" { sub(/<OS specific>: 10/, "IFUNC") }
+        part == "symbols" && $5 " " $6 " " $7 == "<OS specific>: 10" { sub(/<OS specific>: 10/, "UNIQUE") }
 
         part == "symbols" && $1 ~ /^[0-9]+:$/ && $5 ~ /^(GLOBAL|WEAK|UNIQUE)$/ && $6 ~ /^(DEFAULT|PROTECTED)$/ && $7 != "UND" {
             number = $1 + 0
