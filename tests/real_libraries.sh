@@ -1,66 +1,13 @@
 #!/usr/bin/env bash
-# Builds pairs of small libraries with gcc, and holds what the proved program says of them against what sha256sum and
-# readelf say. It skips where a tool is missing.
+# Builds pairs of small libraries with gcc, with versions and without, and holds what the proved program says of them
+# against what sha256sum and readelf say. It skips where a tool is missing.
 #
 #   tests/real_libraries.sh                 takes the program of this repository, and builds it where it is missing
 #   ABI=/path/of/abi tests/real_libraries.sh    takes another one
 set -eu
-export LC_ALL=C
-
-root=$(cd "$(dirname "$0")/.." && pwd)
-sources=$root/tests/c
-
-skip() {
-    echo "real libraries: skipped, since $1"
-    exit 0
-}
-
-fail() {
-    echo "real libraries: FAILED: $1" >&2
-    exit 1
-}
-
-for tool in gcc readelf sha256sum; do
-    command -v "$tool" >/dev/null || skip "there is no $tool"
-done
-
-# The program, which only rt builds, and only where it is proved. A run without words ends with the status of wrong words.
-if [ -n "${ABI:-}" ]; then
-    program=$(cd "$(dirname "$ABI")" && pwd)/$(basename "$ABI")
-else
-    program=$root/crates/abi_cli/out/abi_cli
-    if [ ! -x "$program" ]; then
-        command -v rt >/dev/null || skip "the program is not built, and there is no rt to build it with"
-        echo "building the program"
-        built=0
-        (cd "$root/crates/abi_cli" && rt run) || built=$?
-        [ "$built" -eq 64 ] || fail "rt run ended with status $built, not 64"
-    fi
-fi
-[ -x "$program" ] || fail "there is no program at $program"
-
-work=$(mktemp -d)
-trap 'rm -rf "$work"' EXIT
-cd "$work"
-
-checks=0
-
-# passed NAME: counts a check.
-passed() {
-    checks=$((checks + 1))
-    echo "ok: $1"
-}
-
-# expect NAME STATUS WORD..: the program, given the words, must end with the status and print what the file `want` holds.
-expect() {
-    local name=$1 status=$2 ended=0
-    shift 2
-    "$program" "$@" >got 2>errors || ended=$?
-    [ "$ended" -eq "$status" ] || fail "$name: status $ended, not $status"
-    diff -u want got >&2 || fail "$name: another text"
-    [ ! -s errors ] || fail "$name: it wrote to standard error"
-    passed "$name"
-}
+title="real libraries"
+tools="gcc readelf sha256sum"
+. "$(dirname "$0")/common.bash"
 
 # build NAME SOURCE OPTION..: the library NAME.so of a source.
 build() {
@@ -69,36 +16,13 @@ build() {
     gcc -shared -nostdlib -fPIC "$@" -o "$name.so" "$sources/$source.c"
 }
 
-# exports LIBRARY: a line with the number and the name of each export, in order of the numbers, as readelf has them.
-exports() {
-    readelf --wide --dyn-syms "$1" | awk '
-        $1 ~ /^[0-9]+:$/ && $5 ~ /^(GLOBAL|WEAK|UNIQUE)$/ && $6 ~ /^(DEFAULT|PROTECTED)$/ && $7 != "UND" {
-            print $1 + 0, $8
-        }'
-}
-
-# digest FILE: the SHA-256 of its bytes.
-digest() {
-    sha256sum <"$1" | cut -d ' ' -f 1
-}
-
-# certificate OLD NEW: what a yes must print.
-certificate() {
-    echo "yes 2"
-    echo "old $(digest "$1")"
-    echo "new $(digest "$2")"
-    echo "rules $(digest /dev/null)"
-    exports "$1" >old_exports
-    exports "$2" >new_exports
-    awk 'NR == FNR { number[$2] = $1; next } { print "bind", $1, number[$2] }' new_exports old_exports
-    echo "end"
-}
-
-# gone OLD NEW: the rows of the exports that are gone, in order of their numbers.
-gone() {
-    exports "$1" >old_exports
-    exports "$2" >new_exports
-    awk 'NR == FNR { there[$2] = 1; next } !($2 in there) { print "X2 " $2 ": gone" }' new_exports old_exports
+# broken NAME OLD NEW: the breaks must be those of the sorted file `rows`, by readelf and by the program, which must have
+# them in order.
+broken() {
+    breaks "$2" "$3" >breaks
+    sort breaks | diff -u rows - >&2 || fail "$1: readelf shows other breaks"
+    { echo no && cat breaks; } >want
+    expect "$1" 1 check "$2" "$3"
 }
 
 cat >usage <<'END'
@@ -119,11 +43,18 @@ build less_2 less -Wl,-soname,libshape.so.2
 build old_2 old -Wl,-soname,libshape.so.2
 build debug old -g
 
+# Libraries of versions, and libraries without versions that have names of theirs.
+for number in 1 2 3; do
+    build "versions_$number" versions "-DBUILD=$number" "-Wl,--version-script=$sources/versions.map"
+done
+build unversioned unversioned
+build late unversioned -DLATE
+
 # What readelf says of the exports, for sure: six in old.so, and two of them not in less.so.
-exports old.so | cut -d ' ' -f 2 | sort | tr '\n' ' ' >names
+exports old.so | cut -f 2 | sort | tr '\n' ' ' >names
 [ "$(cat names)" = "area around border count kept maybe " ] || fail "readelf names other exports of old.so: $(cat names)"
 passed "readelf names the exports of old.so"
-[ "$(gone old.so less.so | sort | tr '\n' ' ')" = "X2 border: gone X2 count: gone " ] ||
+[ "$(breaks old.so less.so | sort | tr '\n' ' ')" = "X2 border: gone X2 count: gone " ] ||
     fail "readelf names other exports of less.so"
 passed "readelf misses two of them in less.so"
 
@@ -137,11 +68,11 @@ certificate old_1.so more_1.so >want
 expect "so it may where both have one soname" 0 check old_1.so more_1.so
 
 # No, with a row for each break.
-{ echo no && gone old.so less.so; } >want
+{ echo no && breaks old.so less.so; } >want
 expect "a library with fewer exports may not" 1 check old.so less.so
-{ echo no && gone old_1.so less_1.so; } >want
+{ echo no && breaks old_1.so less_1.so; } >want
 expect "nor where both have one soname" 1 check old_1.so less_1.so
-{ echo no && gone more.so old.so; } >want
+{ echo no && breaks more.so old.so; } >want
 expect "nor may the old one replace the one with more" 1 check more.so old.so
 printf 'no\nX1 -: SONAME libshape.so.1, now libshape.so.2\n' >want
 expect "another soname is a break" 1 check old_1.so old_2.so
@@ -149,13 +80,98 @@ printf 'no\nX1 -: SONAME none, now libshape.so.1\n' >want
 expect "a new soname is a break" 1 check old.so old_1.so
 printf 'no\nX1 -: SONAME libshape.so.1, now none\n' >want
 expect "a lost soname is a break" 1 check old_1.so more.so
-{ echo no && echo "X1 -: SONAME libshape.so.1, now libshape.so.2" && gone old_1.so less_2.so; } >want
+{ echo no && breaks old_1.so less_2.so; } >want
+[ "$(sed -n 2p want)" = "X1 -: SONAME libshape.so.1, now libshape.so.2" ] || fail "readelf shows no other soname first"
 expect "the soname goes before the exports" 1 check old_1.so less_2.so
 
+# Versions. What readelf says of them, for sure.
+exports versions_1.so | cut -f 5 | sort | tr '\n' ' ' >names
+[ "$(cat names)" = "apart@@V2 apart@V1 lost@@V1 pick@@V2 pick@V1 plain@@V1 shape@@V1 table@@V1 " ] ||
+    fail "readelf names other exports of versions_1.so: $(cat names)"
+passed "readelf names the exports of versions_1.so"
+
+certificate versions_1.so versions_2.so >want
+[ "$(grep -c '^bind ' want)" -eq 8 ] || fail "not all eight exports bind"
+expect "a library with one more version may replace it" 0 check versions_1.so versions_2.so
+cat >rows <<'END'
+X2 lost@@V1: gone
+X3 apart@V1: version gone
+X3 pick@@V2: version gone
+X4 shape@@V1: kind FUNC, now OBJECT
+X5 table@@V1: object size 4, now 8
+END
+broken "a library that lost versions may not" versions_1.so versions_3.so
+cat >rows <<'END'
+X2 late@V2: gone
+X2 only@@V3: gone
+X3 pick@@V3: version gone
+END
+broken "nor may the old one replace the one with one more" versions_2.so versions_1.so
+
+# Versions for no versions: the first version, or else the only default one.
+certificate unversioned.so versions_2.so >want
+for name in pick@V1 plain@@V1 table@@V1 only@@V3; do
+    number=$(exports versions_2.so | awk -F '\t' -v label="$name" '$5 == label { print $1 }')
+    grep -q "^bind [0-9]* $number$" want || fail "nothing binds to $name"
+done
+expect "a library with versions may replace one without" 0 check unversioned.so versions_2.so
+echo "X3 late: version gone" >rows
+broken "not where a name has neither the first version nor a default one" late.so versions_2.so
+echo "X2 only: gone" >rows
+broken "nor where a name is gone" unversioned.so versions_1.so
+cat >rows <<'END'
+X2 apart@@V2: gone
+X2 apart@V1: gone
+X2 lost@@V1: gone
+X2 shape@@V1: gone
+X3 pick@@V2: version gone
+X3 pick@V1: version gone
+X3 plain@@V1: version gone
+X3 table@@V1: version gone
+END
+broken "and a library without versions may not replace one with versions" versions_1.so unversioned.so
+
+# Kinds: in kinds_old.so, `function_object` is a function, and in kinds_new.so an object; and so on for each pair of kinds.
+kinds="notype object function gnu_indirect_function tls_object"
+for side in old new; do
+    for first in $kinds; do
+        for second in $kinds; do
+            [ "$side" = old ] && kind=$first || kind=$second
+            case $kind in
+            function | gnu_indirect_function) echo ".text" ;;
+            tls_object) echo ".section .tdata, \"awT\", @progbits" ;;
+            *) echo ".data" ;;
+            esac
+            echo ".globl ${first}_$second"
+            echo ".type ${first}_$second, @$kind"
+            echo ".size ${first}_$second, 4"
+            echo "${first}_$second: .long 0"
+        done
+    done >kinds.s
+    gcc -shared -nostdlib -o "kinds_$side.so" kinds.s
+done
+sort >rows <<'END'
+X4 notype_tls_object: kind NOTYPE, now TLS
+X4 object_function: kind OBJECT, now FUNC
+X4 object_gnu_indirect_function: kind OBJECT, now IFUNC
+X4 object_tls_object: kind OBJECT, now TLS
+X4 function_object: kind FUNC, now OBJECT
+X4 function_tls_object: kind FUNC, now TLS
+X4 gnu_indirect_function_object: kind IFUNC, now OBJECT
+X4 gnu_indirect_function_tls_object: kind IFUNC, now TLS
+X4 tls_object_notype: kind TLS, now NOTYPE
+X4 tls_object_object: kind TLS, now OBJECT
+X4 tls_object_function: kind TLS, now FUNC
+X4 tls_object_gnu_indirect_function: kind TLS, now IFUNC
+END
+broken "twelve of the twenty-five pairs of kinds disagree" kinds_old.so kinds_new.so
+
 # Unreadable.
-echo "unreadable old 19 NotBuilt 0" >want
+entries=$(readelf --wide --sections debug.so | sed -n 's/^ *\[ *\([0-9]*\)\] \.debug_info .*/\1/p' | head -n 1)
+[ -n "$entries" ] || fail "readelf shows no section of debug information in debug.so"
+echo "unreadable old 19 NotBuilt $entries" >want
 expect "debug information in the old one is not read yet" 2 check debug.so old.so
-echo "unreadable new 19 NotBuilt 0" >want
+echo "unreadable new 19 NotBuilt $entries" >want
 expect "debug information in the new one is not read yet" 2 check old.so debug.so
 echo "unreadable old 2 NotElf 0" >want
 expect "a source is no library" 2 check "$sources/old.c" old.so

@@ -1,0 +1,175 @@
+# What the scripts beside this one share: how they skip, fail and count, which program they take, and what an answer must
+# be by sha256sum and readelf. A script sets `title` and the `tools` that it needs, and then takes this file in.
+export LC_ALL=C
+
+root=$(cd "$(dirname "$0")/.." && pwd)
+sources=$root/tests/c
+
+skip() {
+    echo "$title: skipped, since $1"
+    exit 0
+}
+
+fail() {
+    echo "$title: FAILED: $1" >&2
+    exit 1
+}
+
+for tool in $tools; do
+    command -v "$tool" >/dev/null || skip "there is no $tool"
+done
+
+# The program, which only rt builds, and only where it is proved. A run without words ends with the status of wrong words.
+if [ -n "${ABI:-}" ]; then
+    program=$(cd "$(dirname "$ABI")" && pwd)/$(basename "$ABI")
+else
+    program=$root/crates/abi_cli/out/abi_cli
+    if [ ! -x "$program" ]; then
+        command -v rt >/dev/null || skip "the program is not built, and there is no rt to build it with"
+        echo "building the program"
+        built=0
+        (cd "$root/crates/abi_cli" && rt run) || built=$?
+        [ "$built" -eq 64 ] || fail "rt run ended with status $built, not 64"
+    fi
+fi
+[ -x "$program" ] || fail "there is no program at $program"
+
+work=$(mktemp -d)
+trap 'rm -rf "$work"' EXIT
+cd "$work"
+
+checks=0
+
+# passed NAME: counts a check.
+passed() {
+    checks=$((checks + 1))
+    echo "ok: $1"
+}
+
+# expect NAME STATUS WORD..: the program, given the words, must end with the status and print what the file `want` holds.
+expect() {
+    local name=$1 status=$2 ended=0
+    shift 2
+    "$program" "$@" >got 2>errors || ended=$?
+    [ "$ended" -eq "$status" ] || fail "$name: status $ended, not $status: $(head -n 1 got)"
+    diff -u want got >differences || { head -n 40 differences >&2 && fail "$name: another text"; }
+    [ ! -s errors ] || fail "$name: it wrote to standard error"
+    passed "$name"
+}
+
+# exports LIBRARY: a line for each export, in order of the numbers, as readelf has them. Its fields, parted by tabs, are the
+# number, the name, the version (empty where there is none), the version's index, the label, the kind and the size.
+exports() {
+    { readelf --wide --version-info "$1" && echo "symbols" && readelf --wide --dyn-syms "$1"; } | awk '
+        # the value of a number in decimal, or in hexadecimal behind 0x
+        function value(text,    i, sum) {
+            if (text !~ /^0x/) return text + 0
+            for (i = 3; i <= length(text); i++) sum = 16 * sum + index("0123456789abcdef", substr(text, i, 1)) - 1
+            return sum
+        }
+
+        BEGIN { count = 0 }
+        $0 == "symbols" { part = "symbols" }
+
+        # the version of each symbol: its index, an `h` where it is hidden, and its name in brackets
+        /^Version symbols section / { part = "versions"; next }
+        part == "versions" && $0 == "" { part = "" }
+        part == "versions" && sub(/^ +[0-9a-f]+:/, "") {
+            has_versions = 1
+            while (match($0, /[0-9a-f]+[h ]\([^)]*\)/)) {
+                word = substr($0, RSTART, RLENGTH)
+                $0 = substr($0, RSTART + RLENGTH)
+                open = index(word, "(")
+                version_index[count] = value("0x" substr(word, 1, open - 2))
+                hidden[count] = substr(word, open - 1, 1) == "h"
+                version[count] = substr(word, open + 1, length(word) - open - 1)
+                count++
+            }
+        }
+
+        # a binding and a kind that readelf only names where the header says GNU
+        part == "symbols" && $4 " " $5 " " $6 == "<OS specific>: 10" { sub(/<OS specific>: 10/, "IFUNC") }
+        part == "symbols" && $5 " " $6 " " $7 == "<OS specific>: 10" { sub(/<OS specific>: 10/, "UNIQUE") }
+
+        part == "symbols" && $1 ~ /^[0-9]+:$/ && $5 ~ /^(GLOBAL|WEAK|UNIQUE)$/ && $6 ~ /^(DEFAULT|PROTECTED)$/ && $7 != "UND" {
+            number = $1 + 0
+            which = has_versions ? version_index[number] : 1
+            if (which == 0) next
+            name = label = $8
+            sub(/@.*/, "", name)
+            of = which > 1 ? version[number] : ""
+            # a symbol that stands for a version
+            if ($7 == "ABS" && name == of) next
+            label = of == "" ? name : name (hidden[number] ? "@" : "@@") of
+            printf "%d\t%s\t%s\t%d\t%s\t%s\t%.0f\n", number, name, of, which, label, $4, value($3)
+        }'
+}
+
+# soname LIBRARY: its soname, or `none`.
+soname() {
+    readelf --wide --dynamic "$1" | awk '
+        /\(SONAME\)/ && !found { found = 1; sub(/^[^[]*\[/, ""); sub(/\]$/, ""); print }
+        END { if (!found) print "none" }'
+}
+
+# digest FILE: the SHA-256 of its bytes.
+digest() {
+    sha256sum <"$1" | cut -d ' ' -f 1
+}
+
+# bound OLD NEW: for each old export, in order, a line with its number and that of the new export that it binds to, where
+# there is one; and where there is none, or the two do not agree, the rows of the report.
+bound() {
+    exports "$1" >old_exports
+    exports "$2" >new_exports
+    awk -F '\t' '
+        function is_function(kind) { return kind == "FUNC" || kind == "IFUNC" }
+        function is_object(kind) { return kind == "OBJECT" || kind == "COMMON" }
+        function agree(a, b) {
+            return is_function(a) && is_function(b) || is_object(a) && is_object(b) || a == "TLS" && b == "TLS" ||
+                a == "NOTYPE" && b != "TLS" || b == "NOTYPE" && a != "TLS"
+        }
+        function partner(name, of) {
+            if ((name, of) in exact) return exact[name, of]
+            if (of != "") return ""
+            if (name in first) return first[name]
+            return defaults[name] == 1 ? default_of[name] : ""
+        }
+
+        FILENAME == "new_exports" {
+            kind[$1] = $6
+            size[$1] = $7
+            named[$2] = 1
+            exact[$2, $3] = $1
+            if ($4 == 2 && !($2 in first)) first[$2] = $1
+            if ($3 != "" && $5 ~ /@@/) { defaults[$2]++; default_of[$2] = $1 }
+            next
+        }
+        {
+            to = partner($2, $3)
+            if (to == "") print $2 in named ? "X3 " $5 ": version gone" : "X2 " $5 ": gone"
+            else print "bind", $1, to
+            if (to != "" && !agree($6, kind[to])) print "X4 " $5 ": kind " $6 ", now " kind[to]
+            if (to != "" && is_object($6) && is_object(kind[to]) && $7 != size[to])
+                print "X5 " $5 ": object size " $7 ", now " size[to]
+        }' new_exports old_exports
+}
+
+# certificate OLD NEW: what a yes must print.
+certificate() {
+    echo "yes 2"
+    echo "old $(digest "$1")"
+    echo "new $(digest "$2")"
+    echo "rules $(digest /dev/null)"
+    bound "$1" "$2" | grep '^bind ' || true
+    echo "end"
+}
+
+# breaks OLD NEW: the rows of a report: the soname, and then those of the exports, in order of their numbers.
+breaks() {
+    local old new
+    old=$(soname "$1")
+    new=$(soname "$2")
+    [ "$old" = "$new" ] || echo "X1 -: SONAME $old, now $new"
+    bound "$1" "$2" | grep -v '^bind ' || true
+}
