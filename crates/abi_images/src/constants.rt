@@ -1,5 +1,5 @@
-//! The numbers of the System V gABI that images are built with, under their standard names, and the sizes of its
-//! 64-bit records.
+//! The numbers of the System V gABI and of GNU symbol versioning that images are built with, under their standard names,
+//! and the sizes of their 64-bit records.
 
 /// The class of files with 64-bit records.
 pub const ELFCLASS64: u8 = 2;
@@ -91,3 +91,33 @@ pub const DT_NULL: u64 = 0;
 
 /// The tag of the soname, whose value is an offset into the table's strings.
 pub const DT_SONAME: u64 = 14;
+
+/// The version indexes of the dynamic symbols.
+pub const SHT_GNU_VERSYM: u32 = 0x6fff_ffff;
+
+/// The version definitions.
+pub const SHT_GNU_VERDEF: u32 = 0x6fff_fffd;
+
+/// The bytes of a symbol's version index.
+pub const VERSYM_SIZE: usize = 2;
+
+/// The bit of a version index that says that the version is not the default one.
+pub const VERSYM_HIDDEN: u16 = 0x8000;
+
+/// The version index of a symbol that only its own file sees.
+pub const VER_NDX_LOCAL: u16 = 0;
+
+/// The version index of a symbol without a version that all files see.
+pub const VER_NDX_GLOBAL: u16 = 1;
+
+/// The bytes of a version definition.
+pub const VERDEF_SIZE: usize = 20;
+
+/// The bytes of an auxiliary entry of a version definition.
+pub const VERDAUX_SIZE: usize = 8;
+
+/// The one version of the format of version definitions.
+pub const VER_DEF_CURRENT: u16 = 1;
+
+/// The flag of the version definition that names the file itself.
+pub const VER_FLG_BASE: u16 = 1;

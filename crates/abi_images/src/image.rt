@@ -3,13 +3,14 @@ ghost use Rattle.std.specs.Prelude.{◌≡◌, ◌+◌, ◌-◌, ◌*◌, ◌^�
 
 use crate::constants::{
     DT_NULL, DT_SONAME, DYNAMIC_ENTRY_SIZE, ELF_HEADER_SIZE, SECTION_HEADER_SIZE, SHT_DYNAMIC,
-    SHT_DYNSYM, SHT_STRTAB, SYMBOL_SIZE,
+    SHT_DYNSYM, SHT_GNU_VERDEF, SHT_GNU_VERSYM, SHT_STRTAB, SYMBOL_SIZE, VERSYM_SIZE,
 };
 use crate::layout::Layout;
-use crate::numbers::{put_u64, to_u32};
+use crate::numbers::{put_u16, put_u64, to_u32};
 use crate::section::ImageSection;
 use crate::strings::StringTable;
 use crate::symbol::{ImageSymbol, put_symbol};
+use crate::version::{ImageVersion, put_definition};
 use std::alloc::{AllocError, Global};
 use std::marker::Model;
 
@@ -81,6 +82,36 @@ impl Image {
         self.add_with_strings(section, names)
     }
 
+    /// Puts the section `.gnu.version` last, right after the symbols and their names: the version index of each symbol,
+    /// the reserved symbol 0 among them, as GNU symbol versioning has it.
+    pub fn add_version_indexes(&mut self, indexes: &[u16]) -> Result<(), AllocError>
+        ensures added { OnOk result (length self.new ≡ length self.old + 1) }
+        ensures kept { OnErr result (self.new ≡ self.old) }
+    {
+        let alloc = *self.sections.allocator();
+        let table = index_table(alloc, indexes)?;
+        let mut section = ImageSection::new(alloc, ".gnu.version", SHT_GNU_VERSYM, table)?;
+        section.link = to_u32(self.sections.len()).saturating_sub(1);
+        section.entry_size = VERSYM_SIZE as u64;
+        self.sections.push(section)?;
+        Ok(())
+    }
+
+    /// Puts the sections `.gnu.version_d` and `.gnu.version_d.str` last: the version definitions and their names, as GNU
+    /// symbol versioning has them.
+    pub fn add_versions(&mut self, versions: &[ImageVersion]) -> Result<(), AllocError>
+        ensures added { OnOk result (length self.new ≡ length self.old + 2) }
+        ensures kept { OnErr result (self.new ≡ self.old) }
+    {
+        let alloc = *self.sections.allocator();
+        let mut names = StringTable::new(alloc)?;
+        let table = definition_table(alloc, versions, &mut names)?;
+        let mut section = ImageSection::new(alloc, ".gnu.version_d", SHT_GNU_VERDEF, table)?;
+        section.info = to_u32(versions.len());
+        let names = ImageSection::new(alloc, ".gnu.version_d.str", SHT_STRTAB, names.into_bytes())?;
+        self.add_with_strings(section, names)
+    }
+
     // Puts a section and then its string table last, to which it will link.
     fn add_with_strings(
         &mut self,
@@ -137,5 +168,30 @@ fn soname_table(alloc: Global, name_offset: u32) -> Result<Vec<u8>, AllocError>
     put_u64(&mut table, name_offset as u64)?;
     put_u64(&mut table, DT_NULL)?;
     put_u64(&mut table, 0)?;
+    Ok(table)
+}
+
+// The version indexes one after the other.
+fn index_table(alloc: Global, indexes: &[u16]) -> Result<Vec<u8>, AllocError> {
+    let mut table = Vec::new(alloc);
+    for index in indexes {
+        put_u16(&mut table, *index)?;
+    }
+    Ok(table)
+}
+
+// The version definitions one after the other, whose names go to the string table.
+fn definition_table(
+    alloc: Global,
+    versions: &[ImageVersion],
+    names: &mut StringTable,
+) -> Result<Vec<u8>, AllocError> {
+    let mut table = Vec::new(alloc);
+    let mut left = versions.len();
+    for version in versions {
+        left = left.saturating_sub(1);
+        let name_offset = names.add(version.name)?;
+        put_definition(&mut table, name_offset, version, left == 0)?;
+    }
     Ok(table)
 }

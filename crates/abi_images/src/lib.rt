@@ -10,11 +10,13 @@ mod numbers;
 mod section;
 mod strings;
 mod symbol;
+mod version;
 
 pub use image::Image;
 pub use libraries::{library, library_with_soname, numbered_library};
 pub use section::ImageSection;
 pub use symbol::ImageSymbol;
+pub use version::ImageVersion;
 
 #[cfg(test)]
 mod tests;

@@ -1,5 +1,5 @@
 use super::*;
-use crate::constants::SHT_PROGBITS;
+use crate::constants::{SHT_PROGBITS, VER_FLG_BASE, VERSYM_HIDDEN};
 use std::alloc::AllocError;
 
 // A file of two exports and a soname: 72 bytes of symbols at 64, 5 of names at 136, 32 of the dynamic table at 144, 6
@@ -60,5 +60,36 @@ fn adds_sections(rt: HostRuntime) -> Result<(), AllocError> {
         library(alloc, &["f"])?.get(112..115),
         Some(b"\0f\0".as_slice())
     );
+    Ok(())
+}
+
+// The version indexes stand at 120, after the symbols and their names, the definitions at 128, and their names at 184.
+#[test]
+fn adds_versions(rt: HostRuntime) -> Result<(), AllocError> {
+    let alloc = rt.alloc();
+    let mut image = Image::new(alloc);
+    image.add_symbols(&[ImageSymbol::function(b"f")])?;
+    image.add_version_indexes(&[0, VERSYM_HIDDEN | 2])?;
+    let base = ImageVersion {
+        index: 1,
+        flags: VER_FLG_BASE,
+        name: b"a.so",
+    };
+    let version = ImageVersion {
+        index: 2,
+        flags: 0,
+        name: b"V1",
+    };
+    image.add_versions(&[base, version])?;
+    let file = image.bytes(alloc)?;
+    let versions = [
+        0, 0, 2, 0x80, 0, 0, 0, 0, // the indexes
+        1, 0, 1, 0, 1, 0, 1, 0, 0, 0, 0, 0, 20, 0, 0, 0, 28, 0, 0, 0, // the first definition
+        1, 0, 0, 0, 0, 0, 0, 0, // its name
+        1, 0, 0, 0, 2, 0, 1, 0, 0, 0, 0, 0, 20, 0, 0, 0, 0, 0, 0, 0, // the second one
+        6, 0, 0, 0, 0, 0, 0, 0, // its name
+        0, b'a', b'.', b's', b'o', 0, b'V', b'1', 0, // the names
+    ];
+    assert_eq!(rt; file.get(120..193), Some(versions.as_slice()));
     Ok(())
 }

@@ -1,30 +1,16 @@
 // The first fault of a library, by its number and its place.
-use crate::fixture::{Change, change, checks, good_library, library_of, library_with_section};
+use crate::fixture::{
+    Change, are_refused, change, checks, good_library, library_of, library_with_section,
+};
 use abi_images::{ImageSymbol, library};
 use abi_top::Status;
-use std::process::Abort;
 use std::test::Fail;
-
-// Each changed good library must be refused with its fault as the old one, whatever the new one is.
-fn are_refused<R: Abort + AllocGlobal>(rt: &R, rows: &[(&[Change], &str)]) -> Result<(), Fail> {
-    let alloc = rt.alloc();
-    let good = good_library(alloc)?;
-    assert_eq!(rt; good.len(), 624);
-    for (changes, fault) in rows {
-        let mut bad = good.clone()?;
-        change(&mut bad, changes);
-        let old = format!(in alloc; "unreadable old {fault}\n")?;
-        checks(rt, &bad, &good, Status::Unreadable, &old)?;
-        let new = format!(in alloc; "unreadable new {fault}\n")?;
-        checks(rt, &good, &bad, Status::Unreadable, &new)?;
-    }
-    Ok(())
-}
 
 #[test]
 fn a_header_is_refused(rt: HostRuntime) -> Result<(), Fail> {
     are_refused(
         &rt,
+        &good_library(rt.alloc())?,
         &[
             (&[(0, &[0x7e])], "2 NotElf 0"),
             (&[(3, b"G")], "2 NotElf 0"),
@@ -70,6 +56,7 @@ fn a_header_is_refused(rt: HostRuntime) -> Result<(), Fail> {
 fn a_section_is_refused(rt: HostRuntime) -> Result<(), Fail> {
     are_refused(
         &rt,
+        &good_library(rt.alloc())?,
         &[
             // A section that ends or begins behind the file, and the names'.
             (&[(400, &[0xff, 0xff])], "9 SectionRange 2"),
@@ -96,6 +83,7 @@ fn a_section_is_refused(rt: HostRuntime) -> Result<(), Fail> {
 fn symbols_and_a_soname_are_refused(rt: HostRuntime) -> Result<(), Fail> {
     are_refused(
         &rt,
+        &good_library(rt.alloc())?,
         &[
             // The type of the symbols.
             (&[(308, &[1])], "12 NoDynamicSymbols 0"),
@@ -171,18 +159,20 @@ fn unusual_libraries_are_readable(rt: HostRuntime) -> Result<(), Fail> {
 fn debug_and_version_sections_are_refused(rt: HostRuntime) -> Result<(), Fail> {
     let alloc = rt.alloc();
     let good = good_library(alloc)?;
-    let (packed, not_built) = ("11 Compressed 7", "19 NotBuilt 0");
+    let (packed, not_built) = ("11 Compressed 7", "19 NotBuilt 7");
     // The section's name, its type, its flags and the fault. It is the seventh, as four others go before it.
     for (name, kind, flags, fault) in [
         (".debug_info", 1, 0x800, packed),
         (".debug_info", 1, 0xfff, packed),
+        (".debug_", 1, 0x800, packed),
         (".zdebug_info", 1, 0, packed),
         (".debug_info", 1, 0, not_built),
         (".debug_info", 1, 0x7ff, not_built),
-        (".debug_", 1, 0x1000, not_built),
-        ("v", 0x6fff_fffd, 0, not_built),
-        ("v", 0x6fff_fffe, 0, not_built),
-        ("v", 0x6fff_ffff, 0, not_built),
+        (".debug_info", 8, 0x1000, not_built),
+        // Its four bytes are two indexes, and there is one symbol.
+        ("v", 0x6fff_ffff, 0, "15 VersionTable 0"),
+        // It has no string table.
+        ("v", 0x6fff_fffd, 0, "16 VersionDefinition 0"),
     ] {
         let bad = library_with_section(alloc, 4, name, kind, flags)?;
         let old = format!(in alloc; "unreadable old {fault}\n")?;
@@ -191,13 +181,24 @@ fn debug_and_version_sections_are_refused(rt: HostRuntime) -> Result<(), Fail> {
         let new = format!(in alloc; "unreadable new {fault}\n")?;
         checks(&rt, &good, &bad, Status::Unreadable, &new)?;
     }
-    // Names that are none of those, and a flag that counts for these names alone.
+    Ok(())
+}
+
+// Names that are none of those, a flag that counts for names of debug sections alone, and the versions that a library needs.
+#[test]
+fn other_sections_are_passed_over(rt: HostRuntime) -> Result<(), Fail> {
+    let alloc = rt.alloc();
+    let good = good_library(alloc)?;
     for (name, kind, flags) in [
         (".debug", 1, 0x800),
         ("debug_info", 1, 0x800),
         (".zdebug", 1, 0),
         (".text", 1, 0x800),
+        (".debug_", 1, 0x1000),
+        (".debug_abbrev", 1, 0),
+        (".debug_info2", 1, 0),
         (".gnu.version", 1, 0),
+        (".gnu.version_r", 0x6fff_fffe, 0),
     ] {
         let plain = library_with_section(alloc, 4, name, kind, flags)?;
         let text = "no\nX1 -: SONAME a.so, now none\nX2 f: gone\nX2 g: gone\n";
@@ -216,12 +217,15 @@ fn twins_are_refused(rt: HostRuntime) -> Result<(), Fail> {
     let undefined = ImageSymbol { section: 0, ..twin };
     let local = ImageSymbol { info: 0x02, ..twin };
     let twins = library_of(alloc, &[twin, other, twin])?;
-    let refused = "unreadable old 19 NotBuilt 0\n";
+    let refused = "unreadable old 18 DuplicateExport 3\n";
     checks(&rt, &twins, &none, Status::Unreadable, refused)?;
     // The old library's fault comes before an earlier one of the new library.
     checks(&rt, &twins, b"", Status::Unreadable, refused)?;
-    let refused = "unreadable new 19 NotBuilt 0\n";
+    let refused = "unreadable new 18 DuplicateExport 3\n";
     checks(&rt, &none, &twins, Status::Unreadable, refused)?;
+    let neighbours = library_of(alloc, &[twin, twin])?;
+    let refused = "unreadable old 18 DuplicateExport 2\n";
+    checks(&rt, &neighbours, &none, Status::Unreadable, refused)?;
     let single = library_of(alloc, &[undefined, twin, local])?;
     checks(&rt, &single, &none, Status::No, "no\nX2 f: gone\n")
 }

@@ -96,3 +96,21 @@ pub(crate) fn library_with_section(
     image.add_section(section)?;
     image.bytes(alloc)
 }
+
+/// Each change of a readable library must be refused with its fault, as the old library and as the new one.
+pub(crate) fn are_refused<R: Abort + AllocGlobal>(
+    rt: &R,
+    good: &[u8],
+    rows: &[(&[Change], &str)],
+) -> Result<(), Fail> {
+    let alloc = rt.alloc();
+    for (changes, fault) in rows {
+        let mut bad = good.to_vec(alloc)?;
+        change(&mut bad, changes);
+        let old = format!(in alloc; "unreadable old {fault}\n")?;
+        checks(rt, &bad, good, Status::Unreadable, &old)?;
+        let new = format!(in alloc; "unreadable new {fault}\n")?;
+        checks(rt, good, &bad, Status::Unreadable, &new)?;
+    }
+    Ok(())
+}

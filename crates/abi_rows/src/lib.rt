@@ -12,3 +12,5 @@ mod faults;
 mod fixture;
 #[cfg(test)]
 mod sources;
+#[cfg(test)]
+mod versions;
