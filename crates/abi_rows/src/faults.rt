@@ -8,9 +8,11 @@ use std::test::Fail;
 
 #[test]
 fn a_header_is_refused(rt: HostRuntime) -> Result<(), Fail> {
+    let good = good_library(rt.alloc())?;
+    assert_eq!(rt; good.len(), 624);
     are_refused(
         &rt,
-        &good_library(rt.alloc())?,
+        &good,
         &[
             (&[(0, &[0x7e])], "2 NotElf 0"),
             (&[(3, b"G")], "2 NotElf 0"),

@@ -221,7 +221,7 @@ fn version_indexes_are_refused(rt: HostRuntime) -> Result<(), Fail> {
 }
 
 #[test]
-fn version_definitions_are_refused(rt: HostRuntime) -> Result<(), Fail> {
+fn chains_of_version_definitions_are_refused(rt: HostRuntime) -> Result<(), Fail> {
     are_refused(
         &rt,
         &good_versions(rt.alloc())?,
@@ -248,6 +248,16 @@ fn version_definitions_are_refused(rt: HostRuntime) -> Result<(), Fail> {
             (&[(144, &[0])], "16 VersionDefinition 0"),
             (&[(172, &[0])], "16 VersionDefinition 1"),
             (&[(612, &[4])], "16 VersionDefinition 2"),
+        ],
+    )
+}
+
+#[test]
+fn fields_of_version_definitions_are_refused(rt: HostRuntime) -> Result<(), Fail> {
+    are_refused(
+        &rt,
+        &good_versions(rt.alloc())?,
+        &[
             // Another version of the format, no auxiliary entry, and no index.
             (&[(128, &[0])], "16 VersionDefinition 0"),
             (&[(157, &[1])], "16 VersionDefinition 1"),
