@@ -1,8 +1,8 @@
 -- What the code finds of two libraries is what the definitions say of their plain exports, and the verdict that follows.
-use Rattle.std.proofs.Common.{◌≡◌, ℕ, ◌+◌, ◌<◌, Bool, true, false, cond, List, [], ◌∷◌, ◌++◌, length, map, take, get_or, Option, Some, None, refl, sym, ◌∙◌, ap, subst, arith, append_assoc}
-use Rattle.std.specs.Prelude.{◌↔◌, ◌||◌, slice_get, option_and_then, All, codes}
+use Rattle.std.proofs.Common.{◌≡◌, ℕ, ◌+◌, ◌<◌, Bool, true, false, cond, List, [], ◌∷◌, ◌++◌, length, take, get_or, Option, Some, None, refl, sym, ◌∙◌, ap, subst, arith, append_assoc}
+use Rattle.std.specs.Prelude.{◌↔◌, ◌||◌, slice_get, option_and_then, codes}
 use Rattle.std.specs.Borrow.{Bor}
-use Rattle.std.specs.List.{flat_map, list_any, AllByRecursion}
+use Rattle.std.specs.List.{flat_map, AllByRecursion}
 use Rattle.std.specs.Option.{option_map}
 use Rattle.std.specs.Str.{bytes_eq}
 use Rattle.std.proofs.lemmas.Grind.{flat_map-append}
@@ -90,8 +90,8 @@ rows_more old new bound names i before after are named inside grown so_far =
     let news = plain_exports new in
     let front = take i (plain_exports old) in
     let here : breaks_between (is_name_of names e.name) e (option_and_then (slice_get news) (get_or bound i None)) ≡ breaks_for news e =
-        ap (λ (b : Bool). breaks_between b e (option_and_then (slice_get news) (get_or bound i None))) (named e.name)
-        ∙ ap (λ (o : Option ℕ). breaks_between (has_name news e.name) e (option_and_then (slice_get news) o)) (bound_at old new bound i are inside) in
+    ap (λ (b : Bool). breaks_between b e (option_and_then (slice_get news) (get_or bound i None))) (named e.name)
+    ∙ ap (λ (o : Option ℕ). breaks_between (has_name news e.name) e (option_and_then (slice_get news) o)) (bound_at old new bound i are inside) in
     grown ∙ ap (λ (l : List ℕ). l ++ rows_of (breaks_between (is_name_of names e.name) e (option_and_then (slice_get news) (get_or bound i None)))) so_far
     ∙ ap (λ (l : List Break). rows_for news front ++ rows_of l) here
     ∙ sym (flat_map-append row (flat_map (breaks_for news) front) (breaks_for news e))
@@ -115,8 +115,8 @@ binds_more old new bound i start before after are inside grown so_far =
     ∙ ap (λ (l : List ℕ). l ++ bind_line_of news e) so_far
     ∙ append_assoc start (bind_lines front news) (bind_line_of news e)
     ∙ ap (λ (l : List ℕ). start ++ l)
-      (ap (λ (l : List ℕ). bind_lines front news ++ l) (sym (append-nil (bind_line_of news e))) ∙ sym (flat_map-append (bind_line_of news) front (e ∷ []))
-      ∙ ap (λ (l : List PlainExport). bind_lines l news) (sym (next_export old i inside)))
+    (ap (λ (l : List ℕ). bind_lines front news ++ l) (sym (append-nil (bind_line_of news e))) ∙ sym (flat_map-append (bind_line_of news) front (e ∷ []))
+    ∙ ap (λ (l : List PlainExport). bind_lines l news) (sym (next_export old i inside)))
 
 -- ---- breaks and compatibility
 
@@ -170,11 +170,11 @@ unfolding breaks_of
 breaks_tell old new = (
   λ fits. rw (equal_sonames (soname_of old) (soname_of new) fits.sonames) (none_each (exports_of new) (exports_of old) (recursion_from_All (Kept (exports_of new)) (exports_of old) fits.binds)),
   λ none.
-    let parts = nothing_joined (soname_breaks (soname_of old) (soname_of new)) (flat_map (breaks_for (exports_of new)) (exports_of old)) none in
-    record {
-      sonames = sonames_equal (soname_of old) (soname_of new) (no_soname_break (soname_of old) (soname_of new) parts.0);
-      binds = All-from_recursion (Kept (exports_of new)) (exports_of old) (kept_each (exports_of new) (exports_of old) parts.1);
-    },
+      let parts = nothing_joined (soname_breaks (soname_of old) (soname_of new)) (flat_map (breaks_for (exports_of new)) (exports_of old)) none in
+      record {
+        sonames = sonames_equal (soname_of old) (soname_of new) (no_soname_break (soname_of old) (soname_of new) parts.0);
+        binds = All-from_recursion (Kept (exports_of new)) (exports_of old) (kept_each (exports_of new) (exports_of old) parts.1);
+      },
 )
 
 -- ---- the verdict
@@ -208,8 +208,8 @@ module _ (old new : List ℕ) (rows : List ℕ) (is : rows ≡ rows_of (breaks_o
 
 -- what the code found of each library, put together
 module _ (old new : List ℕ) (old_soname new_soname : Option (List ℕ)) (old_exports new_exports : List PlainExport)
-         (is_old_soname : old_soname ≡ soname_of old) (is_new_soname : new_soname ≡ soname_of new)
-         (are_old : old_exports ≡ exports_of old) (are_new : new_exports ≡ exports_of new) where
+    (is_old_soname : old_soname ≡ soname_of old) (is_new_soname : new_soname ≡ soname_of new)
+    (are_old : old_exports ≡ exports_of old) (are_new : new_exports ≡ exports_of new) where
   pub all_rows : (rows : List ℕ) → rows ≡ rows_of (soname_breaks old_soname new_soname ++ flat_map (breaks_for new_exports) old_exports) → rows ≡ rows_of (breaks_of old new)
   unfolding breaks_of
   all_rows rows is = is ∙ rw (is_old_soname, is_new_soname, are_old, are_new) refl

@@ -8,10 +8,7 @@ use std::alloc::{AllocError, Global};
 use std::collections::HashSet;
 
 /// The names of some exports.
-pub fn names_of<'a>(
-    alloc: Global,
-    exports: &[Export<'a>],
-) -> Result<HashSet<&'a [u8]>, AllocError>
+pub fn names_of<'a>(alloc: Global, exports: &[Export<'a>]) -> Result<HashSet<&'a [u8]>, AllocError>
     ensures { IfOk result (λ names. IsNames names (plain_exports exports.now)) }
 {
     let mut names = HashSet::new(alloc);

@@ -31,11 +31,7 @@ fn soname_text(alloc: Global, soname: Option<&[u8]>) -> Result<String, AllocErro
 }
 
 // The line of sonames that differ.
-fn soname_row(
-    alloc: Global,
-    old: Option<&[u8]>,
-    new: Option<&[u8]>,
-) -> Result<String, AllocError>
+fn soname_row(alloc: Global, old: Option<&[u8]>, new: Option<&[u8]>) -> Result<String, AllocError>
     ensures { IfOk result (λ line. string_bytes line ≡ row (soname_differs (option_copied old.entry) (option_copied new.entry))) }
 {
     let old = soname_text(alloc, old)?;
@@ -55,11 +51,7 @@ fn same_soname(old: Option<&[u8]>, new: Option<&[u8]>) -> bool
 }
 
 // The line of the sonames, where they differ.
-fn soname_rows(
-    alloc: Global,
-    old: Option<&[u8]>,
-    new: Option<&[u8]>,
-) -> Result<String, AllocError>
+fn soname_rows(alloc: Global, old: Option<&[u8]>, new: Option<&[u8]>) -> Result<String, AllocError>
     ensures { IfOk result (λ lines. string_bytes lines ≡ rows_of (soname_breaks (option_copied old.entry) (option_copied new.entry))) }
 {
     if same_soname(old, new) {

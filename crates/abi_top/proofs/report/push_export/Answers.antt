@@ -1,4 +1,4 @@
-use Rattle.std.proofs.Common.{◌≡◌, ◌++◌, Option, Some, ap, sym, ◌∙◌, subst, OnOk, string_bytes}
+use Rattle.std.proofs.Common.{◌≡◌, ◌++◌, Option, ap, ◌∙◌, subst, OnOk, string_bytes}
 use Rattle.std.specs.Option.{option_map}
 use Rattle.abi_types.specs.Exports.{PlainExport}
 use Rattle.abi_types.specs.Plain.{plain_export}
