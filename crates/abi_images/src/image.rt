@@ -5,7 +5,7 @@ use crate::constants::{
     DT_NULL, DT_SONAME, DYNAMIC_ENTRY_SIZE, ELF_HEADER_SIZE, SECTION_HEADER_SIZE, SHT_DYNAMIC,
     SHT_DYNSYM, SHT_GNU_VERDEF, SHT_GNU_VERSYM, SHT_STRTAB, SYMBOL_SIZE, VERSYM_SIZE,
 };
-use crate::layout::Layout;
+use crate::layout::{Layout, SectionNumbers};
 use crate::numbers::{put_u16, put_u64, to_u32};
 use crate::section::ImageSection;
 use crate::strings::StringTable;
@@ -58,13 +58,40 @@ impl Image {
     {
         let alloc = *self.sections.allocator();
         let mut names = StringTable::new(alloc)?;
-        let table = symbol_table(alloc, symbols, &mut names)?;
-        let mut section = ImageSection::new(alloc, ".dynsym", SHT_DYNSYM, table)?;
-        // The first symbol that is not local.
-        section.info = 1;
-        section.entry_size = SYMBOL_SIZE as u64;
+        let section = symbol_section(alloc, symbols, &mut names)?;
         let names = ImageSection::new(alloc, ".dynstr", SHT_STRTAB, names.into_bytes())?;
         self.add_with_strings(section, names)
+    }
+
+    /// Puts the sections `.dynsym`, `.dynstr`, `.gnu.version` and `.gnu.version_d` last: the symbols as `add_symbols`
+    /// does, the version index of each, the reserved symbol 0 among them, and the version definitions. All names stand in
+    /// `.dynstr`.
+    pub fn add_versioned_symbols(
+        &mut self,
+        symbols: &[ImageSymbol],
+        indexes: &[u16],
+        versions: &[ImageVersion],
+    ) -> Result<(), AllocError>
+        ensures added { OnOk result (length self.new ≡ length self.old + 4) }
+        ensures kept { OnErr result (self.new ≡ self.old) }
+    {
+        let alloc = *self.sections.allocator();
+        let symbols_number = to_u32(self.sections.len()).saturating_add(1);
+        let names_number = symbols_number.saturating_add(1);
+        let mut names = StringTable::new(alloc)?;
+        let mut symbols = symbol_section(alloc, symbols, &mut names)?;
+        symbols.link = names_number;
+        let mut indexes = index_section(alloc, indexes)?;
+        indexes.link = symbols_number;
+        let mut definitions = definition_section(alloc, versions, &mut names)?;
+        definitions.link = names_number;
+        let names = ImageSection::new(alloc, ".dynstr", SHT_STRTAB, names.into_bytes())?;
+        let mut all = Vec::new(alloc);
+        all.push(symbols)?;
+        all.push(names)?;
+        all.push(indexes)?;
+        all.push(definitions)?;
+        self.sections.append(&mut all)
     }
 
     /// Puts the sections `.dynamic` and `.dynamic.str` last: a dynamic table that gives the soname, and its strings,
@@ -89,10 +116,8 @@ impl Image {
         ensures kept { OnErr result (self.new ≡ self.old) }
     {
         let alloc = *self.sections.allocator();
-        let table = index_table(alloc, indexes)?;
-        let mut section = ImageSection::new(alloc, ".gnu.version", SHT_GNU_VERSYM, table)?;
+        let mut section = index_section(alloc, indexes)?;
         section.link = to_u32(self.sections.len()).saturating_sub(1);
-        section.entry_size = VERSYM_SIZE as u64;
         self.sections.push(section)?;
         Ok(())
     }
@@ -105,9 +130,7 @@ impl Image {
     {
         let alloc = *self.sections.allocator();
         let mut names = StringTable::new(alloc)?;
-        let table = definition_table(alloc, versions, &mut names)?;
-        let mut section = ImageSection::new(alloc, ".gnu.version_d", SHT_GNU_VERDEF, table)?;
-        section.info = to_u32(versions.len());
+        let section = definition_section(alloc, versions, &mut names)?;
         let names = ImageSection::new(alloc, ".gnu.version_d.str", SHT_STRTAB, names.into_bytes())?;
         self.add_with_strings(section, names)
     }
@@ -128,21 +151,128 @@ impl Image {
         self.sections.append(&mut both)
     }
 
-    /// The file as the gABI has it: its header, the sections in order, `.shstrtab` as the last of them, and the
-    /// section table. Each section and the table stand at the next multiple of 8, with zeros between. The fields that
-    /// a reader of sections does not need, as those for segments and the header's own size, are 0.
-    pub fn bytes(&self, alloc: Global) -> Result<Vec<u8>, AllocError>
-        ensures { IfOk result (λ file. ELF_HEADER_SIZE + SECTION_HEADER_SIZE * (length self.now + 2) ≤ vec_len file) }
+    /// Puts the section of the sections' names last, `.shstrtab`. Its contents come with `bytes`, which otherwise puts it
+    /// after all others.
+    pub fn add_section_names(&mut self) -> Result<(), AllocError>
+        ensures added { OnOk result (length self.new ≡ length self.old + 1) }
+        ensures kept { OnErr result (self.new ≡ self.old) }
     {
-        // Section 0 and `.shstrtab` are the two others.
-        let section_count = to_u32(self.sections.len()).saturating_add(2);
-        let mut layout = Layout::new(alloc, section_count)?;
-        for section in &self.sections {
-            layout.add(section)?;
-        }
-        layout.add_names()?;
-        layout.into_file(alloc, section_count)
+        let alloc = *self.sections.allocator();
+        self.sections.push(names_section(alloc)?)?;
+        Ok(())
     }
+
+    // The place of the section of the sections' names among the sections, where it was put.
+    fn names_place(&self) -> Option<usize> {
+        self.sections
+            .iter()
+            .position(|section| section.name.as_str() == SECTION_NAMES)
+    }
+
+    /// The file as the gABI has it: its header, the sections in order, `.shstrtab` as the last of them where it was not
+    /// put before, and the section table. Each section and the table stand at the next multiple of 8, with zeros between.
+    /// The fields that a reader of sections does not need, as those for segments and the header's own size, are 0.
+    pub fn bytes(&self, alloc: Global) -> Result<Vec<u8>, AllocError>
+        ensures { IfOk result (λ file. ELF_HEADER_SIZE + SECTION_HEADER_SIZE * (length self.now + 1) ≤ vec_len file) }
+    {
+        let mut names = names_of(alloc, &self.sections)?;
+        // Section 0 is the other one.
+        let own = to_u32(self.sections.len()).saturating_add(1);
+        match self.names_place() {
+            Some(place) => {
+                let numbers = SectionNumbers {
+                    count: own,
+                    names: to_u32(place).saturating_add(1),
+                };
+                let layout = self.layout(alloc, numbers, names.as_slice())?;
+                layout.into_file(alloc, numbers)
+            }
+            None => {
+                let offset = names.add(SECTION_NAMES.as_bytes())?;
+                let numbers = SectionNumbers {
+                    count: own.saturating_add(1),
+                    names: own,
+                };
+                let mut layout = self.layout(alloc, numbers, names.as_slice())?;
+                layout.add(&names_section(alloc)?.header(offset), names.as_slice())?;
+                layout.into_file(alloc, numbers)
+            }
+        }
+    }
+
+    // The layout of the sections, whose names have this table.
+    fn layout(
+        &self,
+        alloc: Global,
+        numbers: SectionNumbers,
+        names: &[u8],
+    ) -> Result<Layout, AllocError>
+        ensures { IfOk result (λ layout. layout ≡ SECTION_HEADER_SIZE * (length self.now + 1)) }
+    {
+        let mut placed = StringTable::new(alloc)?;
+        let mut layout = Layout::new(alloc, numbers)?;
+        for section in &self.sections {
+            let bytes = if section.name.as_str() == SECTION_NAMES {
+                names
+            } else {
+                section.bytes.as_slice()
+            };
+            let name_offset = placed.add(section.name.as_bytes())?;
+            layout.add(&section.header(name_offset), bytes)?;
+        }
+        Ok(layout)
+    }
+}
+
+// The name of the section of the sections' names.
+const SECTION_NAMES: &str = ".shstrtab";
+
+// The section of the sections' names, without contents yet.
+fn names_section(alloc: Global) -> Result<ImageSection, AllocError> {
+    ImageSection::new(alloc, SECTION_NAMES, SHT_STRTAB, Vec::new(alloc))
+}
+
+// The table of the names of sections, in order.
+fn names_of(alloc: Global, sections: &[ImageSection]) -> Result<StringTable, AllocError> {
+    let mut names = StringTable::new(alloc)?;
+    for section in sections {
+        names.add(section.name.as_bytes())?;
+    }
+    Ok(names)
+}
+
+// The section of symbol 0 and of the symbols, whose names go to the string table.
+fn symbol_section(
+    alloc: Global,
+    symbols: &[ImageSymbol],
+    names: &mut StringTable,
+) -> Result<ImageSection, AllocError> {
+    let table = symbol_table(alloc, symbols, names)?;
+    let mut section = ImageSection::new(alloc, ".dynsym", SHT_DYNSYM, table)?;
+    // The first symbol that is not local.
+    section.info = 1;
+    section.entry_size = SYMBOL_SIZE as u64;
+    Ok(section)
+}
+
+// The section of the version indexes.
+fn index_section(alloc: Global, indexes: &[u16]) -> Result<ImageSection, AllocError> {
+    let table = index_table(alloc, indexes)?;
+    let mut section = ImageSection::new(alloc, ".gnu.version", SHT_GNU_VERSYM, table)?;
+    section.entry_size = VERSYM_SIZE as u64;
+    Ok(section)
+}
+
+// The section of the version definitions, whose names go to the string table.
+fn definition_section(
+    alloc: Global,
+    versions: &[ImageVersion],
+    names: &mut StringTable,
+) -> Result<ImageSection, AllocError> {
+    let table = definition_table(alloc, versions, names)?;
+    let mut section = ImageSection::new(alloc, ".gnu.version_d", SHT_GNU_VERDEF, table)?;
+    section.info = to_u32(versions.len());
+    Ok(section)
 }
 
 // The records of symbol 0 and of the symbols, whose names go to the string table.

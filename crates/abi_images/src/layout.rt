@@ -3,21 +3,26 @@ ghost use Rattle.std.specs.Prelude.{◌≡◌, ◌+◌, ◌≤◌, ◌↔◌, ve
 
 use crate::constants::{
     ALIGNMENT, E_IDENT, ELF_HEADER_SIZE, EM_X86_64, ET_DYN, EV_CURRENT, SECTION_HEADER_SIZE,
-    SHN_LORESERVE, SHN_XINDEX, SHT_NULL, SHT_STRTAB,
+    SHN_LORESERVE, SHN_XINDEX, SHT_NULL,
 };
 use crate::numbers::{align, put_u16, put_u32, put_u64};
-use crate::section::{ImageSection, SectionHeader, put_section_header};
-use crate::strings::StringTable;
+use crate::section::{SectionHeader, put_section_header};
 use std::alloc::{AllocError, Global};
 use std::marker::Model;
 
-/// A file that is being laid out: the contents between its header and its section table, the section table, and the
-/// names of its sections. Contracts see it as the length of the section table.
+/// How many sections a file has, 0 and the one of their names among them, and the number of the one of their names.
+#[derive(Clone, Copy)]
+pub struct SectionNumbers {
+    pub count: u32,
+    pub names: u32,
+}
+
+/// A file that is being laid out: the contents between its header and its section table, and the section table. Contracts
+/// see it as the length of the section table.
 #[derive(Drop)]
 pub struct Layout {
     contents: Vec<u8>,
     table: Vec<u8>,
-    names: StringTable,
 }
 
 impl Model for Layout {
@@ -29,54 +34,36 @@ impl Model for Layout {
 }
 
 impl Layout {
-    /// The layout with section 0 alone, for a file that will have that many sections, 0 and the names' among them.
-    pub fn new(alloc: Global, section_count: u32) -> Result<Layout, AllocError>
+    /// The layout with section 0 alone, for a file whose sections will be numbered so.
+    pub fn new(alloc: Global, numbers: SectionNumbers) -> Result<Layout, AllocError>
         ensures { IfOk result (λ layout. layout ≡ SECTION_HEADER_SIZE) }
     {
         let mut table = Vec::new(alloc);
-        put_section_header(&mut table, &null_header(section_count))?;
+        put_section_header(&mut table, &null_header(numbers))?;
         Ok(Layout {
             contents: Vec::new(alloc),
             table,
-            names: StringTable::new(alloc)?,
         })
     }
 
-    /// Puts a section last.
-    pub fn add(&mut self, section: &ImageSection) -> Result<(), AllocError>
+    /// Puts a section with this header and these contents last.
+    pub fn add(&mut self, header: &SectionHeader, bytes: &[u8]) -> Result<(), AllocError>
         ensures { OnOk result (self.new ≡ self.old + SECTION_HEADER_SIZE) }
     {
-        let name_offset = self.names.add(section.name.as_bytes())?;
-        let header = section.header(name_offset);
-        place(
-            &mut self.contents,
-            &mut self.table,
-            &header,
-            section.bytes.as_slice(),
-        )
+        place(&mut self.contents, &mut self.table, header, bytes)
     }
 
-    /// Puts the section of the sections' names last, its own among them.
-    pub fn add_names(&mut self) -> Result<(), AllocError>
-        ensures { OnOk result (self.new ≡ self.old + SECTION_HEADER_SIZE) }
-    {
-        let name_offset = self.names.add(b".shstrtab")?;
-        let header = SectionHeader::new(name_offset, SHT_STRTAB);
-        place(
-            &mut self.contents,
-            &mut self.table,
-            &header,
-            self.names.as_slice(),
-        )
-    }
-
-    /// The file of that many sections.
-    pub fn into_file(mut self, alloc: Global, section_count: u32) -> Result<Vec<u8>, AllocError>
+    /// The file whose sections are numbered so.
+    pub fn into_file(
+        mut self,
+        alloc: Global,
+        numbers: SectionNumbers,
+    ) -> Result<Vec<u8>, AllocError>
         ensures { IfOk result (λ file. ELF_HEADER_SIZE + self ≤ vec_len file) }
     {
         align(&mut self.contents)?;
         let mut file = Vec::new(alloc);
-        put_file_header(&mut file, after_header(&self.contents), section_count)?;
+        put_file_header(&mut file, after_header(&self.contents), numbers)?;
         file.append(&mut self.contents)?;
         file.append(&mut self.table)?;
         Ok(file)
@@ -108,35 +95,42 @@ fn place(
     contents.extend_from_slice(bytes)
 }
 
-// Whether the number of sections needs more than the 16 bits of the file's header.
-fn is_extended(section_count: u32) -> bool
-    ensures { IsTrue result ↔ (SHN_LORESERVE ≤ section_count) }
+// Whether a number of sections, or of a section, needs more than the 16 bits of the file's header.
+fn is_extended(number: u32) -> bool
+    ensures { IsTrue result ↔ (SHN_LORESERVE ≤ number) }
 {
-    section_count >= SHN_LORESERVE
+    number >= SHN_LORESERVE
 }
 
 // The header of section 0. It is zeros, but for the number of the sections and the number of the names' where the
 // file's header has no room for them.
-fn null_header(section_count: u32) -> SectionHeader {
-    let header = SectionHeader::new(0, SHT_NULL);
-    if is_extended(section_count) {
-        SectionHeader {
-            size: section_count as u64,
-            link: section_count - 1,
-            ..header
-        }
-    } else {
-        header
+fn null_header(numbers: SectionNumbers) -> SectionHeader {
+    SectionHeader {
+        size: if is_extended(numbers.count) {
+            numbers.count as u64
+        } else {
+            0
+        },
+        link: if is_extended(numbers.names) {
+            numbers.names
+        } else {
+            0
+        },
+        ..SectionHeader::new(0, SHT_NULL)
     }
 }
 
-// The fields of the file's header for the number of sections and the number of the names'.
-fn section_numbers(section_count: u32) -> (u16, u16) {
-    if is_extended(section_count) {
-        (0, SHN_XINDEX)
+// The field of the file's header for the number of sections.
+fn count_field(count: u32) -> u16 {
+    if is_extended(count) { 0 } else { count as u16 }
+}
+
+// The field of the file's header for the number of the names' section.
+fn names_field(number: u32) -> u16 {
+    if is_extended(number) {
+        SHN_XINDEX
     } else {
-        let count = section_count as u16;
-        (count, count.saturating_sub(1))
+        number as u16
     }
 }
 
@@ -144,11 +138,10 @@ fn section_numbers(section_count: u32) -> (u16, u16) {
 fn put_file_header(
     file: &mut Vec<u8>,
     table_place: u64,
-    section_count: u32,
+    numbers: SectionNumbers,
 ) -> Result<(), AllocError>
     ensures { OnOk result (vec_len file.new ≡ vec_len file.old + ELF_HEADER_SIZE) }
 {
-    let (count, names_number) = section_numbers(section_count);
     file.extend_from_slice(&E_IDENT)?;
     put_u16(file, ET_DYN)?;
     put_u16(file, EM_X86_64)?;
@@ -163,6 +156,6 @@ fn put_file_header(
     put_u16(file, 0)?;
     put_u16(file, 0)?;
     put_u16(file, SECTION_HEADER_SIZE as u16)?;
-    put_u16(file, count)?;
-    put_u16(file, names_number)
+    put_u16(file, count_field(numbers.count))?;
+    put_u16(file, names_field(numbers.names))
 }

@@ -93,3 +93,26 @@ fn adds_versions(rt: HostRuntime) -> Result<(), AllocError> {
     assert_eq!(rt; file.get(120..193), Some(versions.as_slice()));
     Ok(())
 }
+
+// The symbols stand at 64, their names and the versions' at 112, the version indexes at 120, the definition at 128, the names
+// of the sections at 160 and the note at 224.
+#[test]
+fn puts_section_names_in_the_middle(rt: HostRuntime) -> Result<(), AllocError> {
+    let alloc = rt.alloc();
+    let mut image = Image::new(alloc);
+    let version = ImageVersion {
+        index: 2,
+        flags: 0,
+        name: b"V1",
+    };
+    image.add_versioned_symbols(&[ImageSymbol::function(b"f")], &[0, 2], &[version])?;
+    image.add_section_names()?;
+    let notes = ImageSection::new(alloc, ".note", SHT_PROGBITS, Vec::from_slice(alloc, b"x")?)?;
+    assert_eq!(rt; image.add_section(notes)?, 6);
+    let file = image.bytes(alloc)?;
+    assert_eq!(rt; file.get(58..64), Some([64, 0, 7, 0, 5, 0].as_slice()));
+    assert_eq!(rt; file.get(112..118), Some(b"\0f\0V1\0".as_slice()));
+    let names = b"\0.dynsym\0.dynstr\0.gnu.version\0.gnu.version_d\0.shstrtab\0.note\0";
+    assert_eq!(rt; file.get(160..221), Some(names.as_slice()));
+    Ok(())
+}

@@ -319,17 +319,37 @@ const DEBUG_INFO: [u8; 38] = [
     0,
 ];
 
-// Two definitions and one symbol, then the debug information in the sections 6 and 7.
-#[test]
-fn debug_information_is_not_read_yet(rt: HostRuntime) -> Result<(), Fail> {
-    let alloc = rt.alloc();
-    let f = ImageSymbol::function(b"f");
-    let mut image = library_with_versions(alloc, &[b"a.so", b"V1"], &[(f, V1)])?;
+// A function of version V1 with its debug information: `.dynsym`, `.dynstr`, `.gnu.version`, `.gnu.version_d`, `.shstrtab`,
+// `.debug_abbrev` and `.debug_info`, in this order.
+fn library_with_debug_information(alloc: Global) -> Result<Vec<u8>, AllocError> {
+    let base = ImageVersion {
+        index: VER_NDX_GLOBAL,
+        flags: VER_FLG_BASE,
+        name: b"a.so",
+    };
+    let version = ImageVersion {
+        index: V1,
+        flags: 0,
+        name: b"V1",
+    };
+    let mut image = Image::new(alloc);
+    image.add_versioned_symbols(
+        &[ImageSymbol::function(b"f")],
+        &[VER_NDX_LOCAL, V1],
+        &[base, version],
+    )?;
+    image.add_section_names()?;
     let abbreviations = Vec::from_slice(alloc, &DEBUG_ABBREV)?;
     image.add_section(ImageSection::new(alloc, ".debug_abbrev", 1, abbreviations)?)?;
     let entries = Vec::from_slice(alloc, &DEBUG_INFO)?;
     image.add_section(ImageSection::new(alloc, ".debug_info", 1, entries)?)?;
-    let file = image.bytes(alloc)?;
+    image.bytes(alloc)
+}
+
+#[test]
+fn debug_information_is_not_read_yet(rt: HostRuntime) -> Result<(), Fail> {
+    let alloc = rt.alloc();
+    let file = library_with_debug_information(alloc)?;
     let refused = "unreadable old 19 NotBuilt 7\n";
     checks(&rt, &file, &file, Status::Unreadable, refused)?;
     let refused = "unreadable new 19 NotBuilt 7\n";
