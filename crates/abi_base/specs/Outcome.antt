@@ -31,3 +31,21 @@ Judges (Err e) fault = Refuses e fault
 abbrev pub Settles : {T : Type 0} → Result T Fault → Option Fault → Type 0
 Settles (Ok x) fault = fault ≡ None
 Settles (Err answered) fault = fault ≡ Some answered
+
+-- ---- steps that may fail
+
+infixl 10 ◌>>=◌
+abbrev pub ◌>>=◌ : {A B E : Type 0} → Result A E → (A → Result B E) → Result B E
+(Ok x) >>= f = f x
+(Err e) >>= f = Err e
+
+-- what is read, or the end e where it cannot be
+abbrev pub or_end : {A E : Type 0} → Option A → E → Result A E
+or_end None e = Err e
+or_end (Some x) e = Ok x
+
+-- What a call returned is what reading gives, but for want of memory.
+abbrev pub Gives : {T : Type 0} → Result T Refusal → Result T Fault → Type 0
+Gives (Ok x) read = read ≡ Ok x
+Gives (Err (refusal.Fault answered)) read = read ≡ Err answered
+Gives (Err refusal.NoMemory) read = Unit {0}

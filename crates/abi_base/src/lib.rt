@@ -2,8 +2,10 @@
 //! in bytes, and lists that contracts see as lists.
 #![tactic(auto)]
 
+pub mod dwarf;
 mod fault;
 mod inputs;
+mod leb;
 mod list;
 mod memory;
 mod numbers;
@@ -13,9 +15,10 @@ mod take;
 
 pub use fault::{Failed, Fault, FaultKind, NoMemory, Refusal, WriteFailed};
 pub use inputs::{Inputs, read_whole};
+pub use leb::{sleb, uleb};
 pub use list::List;
 pub use memory::{MemInputs, MemSink};
-pub use numbers::{text_at, u16_at, u16_in, u32_at, u32_in, u64_at, u64_in};
+pub use numbers::{text_at, u16_at, u16_in, u32_at, u32_in, u64_at, u64_in, uint_at};
 pub use outside::{FileInputs, StdSink};
 pub use sink::{Sink, write_all};
 pub use take::Take;

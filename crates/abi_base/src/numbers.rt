@@ -68,6 +68,22 @@ pub fn u64_at(bytes: &[u8], at: usize) -> Option<u64>
     }
 }
 
+/// The number in so many bytes at a place, one to eight, with the lowest byte first (System V gABI, "Data
+/// Representation"). None exactly where the bytes do not all lie inside.
+#[tactic(auto, using(crate::proofs::ReadNumbers::number_is))]
+pub fn uint_at(bytes: &[u8], at: usize, size: usize) -> Option<u64>
+    requires some { 0 < size }
+    requires few { size ≤ 8 }
+    ensures found { result ≡ number_at size bytes.now at }
+    ensures inside { IfSome result (λ _. at + size ≤ length bytes.now) }
+{
+    if at <= bytes.len() && bytes.len() - at >= size {
+        Some(LittleEndian::read_uint(&bytes[at..], size))
+    } else {
+        None
+    }
+}
+
 // The place of the first 0 byte.
 fn first_zero(rest: &[u8]) -> Option<usize>
     ensures found { result ≡ position is_zero rest.now }

@@ -1,7 +1,7 @@
 // What no clause says: real files and standard output, worked values from outside, and calls that fail in mid-stream.
 use crate::{
-    FaultKind, FileInputs, List, MemInputs, MemSink, StdSink, Take, WriteFailed, read_whole,
-    text_at, u16_at, u32_at, u64_at, write_all,
+    FaultKind, FileInputs, List, MemInputs, MemSink, StdSink, Take, WriteFailed, read_whole, sleb,
+    text_at, u16_at, u32_at, u64_at, uleb, write_all,
 };
 use std::alloc::{AllocError, Global};
 use std::fs;
@@ -117,6 +117,51 @@ fn the_lowest_byte_stands_first(rt: HostRuntime) {
     assert_eq!(rt; u64_at(&bytes, 0), Some(0x0102_0304_0506_0708));
     assert_eq!(rt; u64_at(&bytes, 3), None);
     assert_eq!(rt; u64_at(&bytes, usize::MAX), None);
+}
+
+// Tables 7.7 and 7.8 of DWARF 5, section 7.6, its example of three bytes, and the edges of 64 bits.
+#[test]
+fn numbers_of_variable_length_are_read(rt: HostRuntime) {
+    for (bytes, number) in [
+        (b"\x02".as_slice(), Some((2, 1))),
+        (b"\x7f".as_slice(), Some((127, 1))),
+        (b"\x80\x01".as_slice(), Some((128, 2))),
+        (b"\x81\x01".as_slice(), Some((129, 2))),
+        (b"\xb9\x64".as_slice(), Some((12857, 2))),
+        (b"\xe5\x8e\x26".as_slice(), Some((624485, 3))),
+        (b"\x82\x80\x00".as_slice(), Some((2, 3))),
+        (
+            b"\xff\xff\xff\xff\xff\xff\xff\xff\xff\x01".as_slice(),
+            Some((u64::MAX, 10)),
+        ),
+        (b"\x80\x80\x80\x80\x80\x80\x80\x80\x80\x02".as_slice(), None),
+        (
+            b"\x80\x80\x80\x80\x80\x80\x80\x80\x80\x80\x00".as_slice(),
+            None,
+        ),
+        (b"\x80".as_slice(), None),
+        (b"".as_slice(), None),
+    ] {
+        assert_eq!(rt; uleb(bytes, 0), number, "of {bytes:?}");
+    }
+    for (bytes, number) in [
+        (b"\x02".as_slice(), Some((2, 1))),
+        (b"\x7e".as_slice(), Some((-2, 1))),
+        (b"\xff\x00".as_slice(), Some((127, 2))),
+        (b"\x81\x7f".as_slice(), Some((-127, 2))),
+        (b"\x80\x01".as_slice(), Some((128, 2))),
+        (b"\x80\x7f".as_slice(), Some((-128, 2))),
+        (b"\xff\x7e".as_slice(), Some((-129, 2))),
+        (b"\xc0\xbb\x78".as_slice(), Some((-123456, 3))),
+        (
+            b"\x80\x80\x80\x80\x80\x80\x80\x80\x80\x7f".as_slice(),
+            Some((i64::MIN, 10)),
+        ),
+        (b"\x80\x80\x80\x80\x80\x80\x80\x80\x80\x01".as_slice(), None),
+        (b"\x80".as_slice(), None),
+    ] {
+        assert_eq!(rt; sleb(bytes, 0), number, "of {bytes:?}");
+    }
 }
 
 #[test]

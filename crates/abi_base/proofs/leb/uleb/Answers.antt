@@ -1,0 +1,7 @@
+use Rattle.std.proofs.Common.{sym}
+use Rattle.abi_base.proofs.LebLemmas.{uleb_of_one_byte}
+use Rattle.abi_base.proofs.leb.uleb.Goals as goal
+
+pub returns-in-Some-clause-found : goal.returns-in-Some-clause-found
+returns-in-Some-clause-found c =
+    rw c.from.ensures (sym (uleb_of_one_byte c.args.bytes.now c.args.at c.in-Some.byte.now c.in-Some.ensures.lookup.3.0 (c.in-Some.ensures.lookup.3.1 0) c.if-byte-lt-MORE.true))
