@@ -1,0 +1,18 @@
+//! Abbreviation tables of `.debug_abbrev`: what the entries of a unit look like, by their codes.
+#![tactic(auto)]
+
+mod abbrev;
+mod kept;
+mod laws;
+mod reading;
+
+pub use abbrev::{Abbrev, Spec};
+pub use kept::Table;
+pub use laws::{
+    a_fault_is_where_none_stands, a_table_stands_there, codes_are_apart, one_after_another,
+    what_stands_is_read,
+};
+pub use reading::table;
+
+#[cfg(test)]
+mod tests;
