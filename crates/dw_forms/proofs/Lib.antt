@@ -1,0 +1,2 @@
+pub mod ValueLemmas
+mod FormLemmas

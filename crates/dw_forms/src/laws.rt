@@ -1,0 +1,22 @@
+//! What follows from the definition of an attribute's value. Each law is the contract of a function that does nothing.
+ghost use Rattle.std.specs.Prelude.{◌≡◌, ◌≤◌, ℕ, ℤ, List, Ok};
+ghost use Rattle.abi_base.specs.declared.dwarf.TheConstants.{DW_FORM_ref_addr, DW_FORM_ref1, DW_FORM_ref2, DW_FORM_ref4, DW_FORM_ref8, DW_FORM_ref_udata};
+ghost use Rattle.dw_forms.specs.declared.values.Value.{Value};
+ghost use Rattle.dw_forms.specs.Values.{value_at, Refers, RefersByUleb, absolute, from_unit};
+
+/// The place after a value is not before the value's own, and not past the end of the unit.
+pub fn reading_moves_on_inside_the_unit()
+    ensures after { (form : ℕ) (implicit : ℤ) (unit end entry : ℕ) (bytes : List ℕ) (at : ℕ) (read : Value × ℕ) → value_at form implicit unit end entry bytes at ≡ Ok read → at ≤ read.1 }
+    ensures inside { (form : ℕ) (implicit : ℤ) (unit end entry : ℕ) (bytes : List ℕ) (at : ℕ) (read : Value × ℕ) → value_at form implicit unit end entry bytes at ≡ Ok read → at ≤ end → read.1 ≤ end }
+{}
+
+/// `DW_FORM_ref_addr` counts from the start of `.debug_info`, and adds nothing. The other references count from the start of
+/// their unit: its offset is added, modulo 2^64 (DWARF 5, section 7.5.5 "Classes and Forms", class reference).
+pub fn references_count_from_their_unit()
+    ensures ref_addr { Refers DW_FORM_ref_addr 4 absolute }
+    ensures ref1 { Refers DW_FORM_ref1 1 from_unit }
+    ensures ref2 { Refers DW_FORM_ref2 2 from_unit }
+    ensures ref4 { Refers DW_FORM_ref4 4 from_unit }
+    ensures ref8 { Refers DW_FORM_ref8 8 from_unit }
+    ensures ref_udata { RefersByUleb DW_FORM_ref_udata from_unit }
+{}

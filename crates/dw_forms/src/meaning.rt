@@ -1,0 +1,21 @@
+// What the numbers in values stand for.
+
+/// What a number in a value stands for.
+#[derive(Clone, Copy, Debug, PartialEq, Eq)]
+pub enum Meaning {
+    Address,
+    AddressIndex,
+    Unsigned,
+    StrOffset,
+    LineOffset,
+    StrIndex,
+    Flag,
+    /// A reference that counts from the start of its unit.
+    LocalReference,
+    /// A reference that counts from the start of `.debug_info`.
+    Reference,
+    Signature,
+    SectionOffset,
+    RangeIndex,
+    LocationIndex,
+}
