@@ -1,0 +1,6 @@
+pub mod EntriesLeft
+pub mod TokenLaws
+pub mod TreeLaw
+pub mod UnitsLeft
+pub mod ValuesAfter
+pub mod ValuesLoop

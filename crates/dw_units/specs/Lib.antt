@@ -1,0 +1,5 @@
+pub mod Grammar
+pub mod Kept
+pub mod Plain
+pub mod Sequence
+pub mod Units

@@ -1,0 +1,16 @@
+// A debugging information entry.
+use abi_base::List;
+use dw_forms::Value;
+
+/// A debugging information entry (DWARF 5, section 2.1 "The Debugging Information Entry").
+#[derive(Drop)]
+pub struct Entry {
+    /// Where it begins in `.debug_info`.
+    pub offset: u64,
+    /// How many entries it stands below. The root of a unit has 0.
+    pub depth: u32,
+    /// What it is, `DW_TAG_..`.
+    pub tag: u64,
+    /// The attributes, `DW_AT_..`, and their values, in their order.
+    pub attributes: List<(u64, Value)>,
+}
