@@ -1,0 +1,112 @@
+// Where the first range of a list begins.
+ghost use Rattle.std.specs.Prelude.{◌≡◌};
+ghost use Rattle.abi_base.specs.declared.fault.FaultKind.TheVariants as kind;
+ghost use Rattle.dw_ranges.specs.RangeLists.{first_start, list_run, pair_run, place_of_list, first_address_of};
+
+use crate::entry::Source;
+use crate::lists::ListAt;
+use crate::tables::offset_of;
+use abi_base::{Fault, FaultKind};
+
+// The place of the list of a number. It counts from where the unit's part begins.
+fn place_of(rnglists: &[u8], base: Option<u64>, index: u64) -> Option<u64>
+    ensures { result ≡ place_of_list rnglists.now base index }
+{
+    match base {
+        Some(start) => match offset_of(rnglists, base, index) {
+            Some(offset) => Some(start + u64::from(offset)),
+            None => None,
+        },
+        None => None,
+    }
+}
+
+// Where the first range begins of the list at a place of `.debug_rnglists`.
+#[tactic(auto, using(crate::proofs::ListLemmas::list_passes, crate::proofs::ListLemmas::list_gives, crate::proofs::ListLemmas::list_ends))]
+fn first_in_list(source: &Source, place: u64, low: u64) -> Result<Option<u64>, Fault>
+    ensures { result ≡ first_start (list_run source.now.addr.now source.now.addr_base source.now.entry source.now.bytes.now (place, low)) }
+{
+    let mut at = place as usize;
+    let mut base = low;
+    'walk: loop {
+        match source.list_entry(at, base) {
+            Ok(Some(entry)) => {
+                if let Some(start) = entry.start {
+                    return Ok(Some(start));
+                }
+                at = entry.after;
+                base = entry.base;
+            }
+            Ok(None) => return Ok(None),
+            Err(fault) => return Err(fault),
+        }
+    }
+}
+
+// Where the first range begins of the pairs from a place of `.debug_ranges` on.
+#[tactic(auto, using(crate::proofs::ListLemmas::pair_passes, crate::proofs::ListLemmas::pair_gives, crate::proofs::ListLemmas::pair_ends))]
+fn first_in_pairs(source: &Source, place: u64, low: u64) -> Result<Option<u64>, Fault>
+    ensures { result ≡ first_start (pair_run source.now.entry source.now.bytes.now (place, low)) }
+{
+    let mut at = place as usize;
+    let mut base = low;
+    'walk: loop {
+        match source.pair_entry(at, base) {
+            Ok(Some(entry)) => {
+                if let Some(start) = entry.start {
+                    return Ok(Some(start));
+                }
+                at = entry.after;
+                base = entry.base;
+            }
+            Ok(None) => return Ok(None),
+            Err(fault) => return Err(fault),
+        }
+    }
+}
+
+/// Where the first range of a list begins, an empty range too, and none exactly where the list has no range (DWARF 5, sections
+/// 2.17.3 "Non-Contiguous Address Ranges" and 7.25; for pairs DWARF 4, section 2.17.3). `rnglists`, `ranges` and `addr` are what
+/// the sections `.debug_rnglists`, `.debug_ranges` and `.debug_addr` hold, the bases are where the unit's parts of them begin,
+/// and `low` is the first base of its ranges. Sums of addresses are modulo 2^64.
+/// What stands after the first range is not read. Up to and with it, the fault is `Ranges` where the list does not lie in its
+/// section, or has a number that does not fit 64 bits or an entry of an unknown kind, and `Index` where the number of the list
+/// or of an address has no base or lies outside its section. Both are at the entry, and the first one counts as the fields are
+/// read.
+pub fn first_address(
+    list: ListAt,
+    rnglists: &[u8],
+    rnglists_base: Option<u64>,
+    ranges: &[u8],
+    addr: &[u8],
+    addr_base: Option<u64>,
+    low: u64,
+    entry: u64,
+) -> Result<Option<u64>, Fault>
+    ensures { result ≡ first_address_of rnglists.now rnglists_base ranges.now addr.now addr_base low entry list }
+{
+    let lists = Source {
+        bytes: rnglists,
+        addr,
+        addr_base,
+        entry,
+    };
+    match list {
+        ListAt::Offset(place) => first_in_list(&lists, place, low),
+        ListAt::Index(index) => match place_of(rnglists, rnglists_base, index) {
+            Some(place) => first_in_list(&lists, place, low),
+            None => Err(Fault {
+                kind: FaultKind::Index,
+                at: entry,
+            }),
+        },
+        ListAt::Pairs(place) => first_in_pairs(
+            &Source {
+                bytes: ranges,
+                ..lists
+            },
+            place,
+            low,
+        ),
+    }
+}

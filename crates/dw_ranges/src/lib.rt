@@ -1,0 +1,16 @@
+//! Ranges of addresses: where the first range of a list begins.
+#![tactic(auto)]
+
+mod constants;
+mod entry;
+mod first;
+pub mod laws;
+mod layout;
+mod lists;
+mod tables;
+
+pub use first::first_address;
+pub use lists::ListAt;
+
+#[cfg(test)]
+mod tests;

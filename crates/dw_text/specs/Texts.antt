@@ -1,0 +1,41 @@
+-- The texts and addresses that values of attributes lead to.
+use Rattle.std.specs.Prelude.{ℕ, ◌+◌, ◌*◌, List, Option, Some, None, Result, Ok, Err}
+use Rattle.abi_base.specs.declared.fault.Fault.{Fault}
+use Rattle.abi_base.specs.declared.fault.FaultKind.{FaultKind}
+use Rattle.abi_base.specs.declared.fault.FaultKind.TheVariants as kind
+use Rattle.abi_base.specs.Numbers.{number_at, text_at}
+use Rattle.abi_base.specs.Outcome.{◌>>=◌, or_end}
+use Rattle.dw_forms.specs.declared.values.Value.{Value}
+use Rattle.dw_forms.specs.declared.values.Value.TheVariants as value
+
+-- Entry k of the part of a table that begins at a base: the number of so many bytes, at base + size * k (DWARF 5, sections
+-- 7.26 "String Offsets Table" and 7.27 "Address Table"). There is none without a base, and none outside.
+abbrev pub entry_of_table : ℕ → List ℕ → Option ℕ → ℕ → Option ℕ
+entry_of_table size table None k = None
+entry_of_table size table (Some base) k = number_at size table (base + size * k)
+
+abbrev pub fault : FaultKind → ℕ → Fault
+fault kind entry = record { kind = kind; at = entry }
+
+-- a text of a section, which has to end with a 0 byte inside
+abbrev pub text_in : List ℕ → ℕ → ℕ → Result (List ℕ) Fault
+text_in section place entry = or_end (text_at section place) (fault kind.Text entry)
+
+-- The text that a value stands for (DWARF 5, section 7.5.5 "Classes and Forms", class string): it stands in `.debug_info`
+-- itself, or at an offset into `.debug_str` or `.debug_line_str`, or at an offset into `.debug_str` that stands in
+-- `.debug_str_offsets`, whose part for the unit begins at a base.
+abbrev pub text_of : (info str line_str str_offsets : List ℕ) → Option ℕ → ℕ → Value → Result (List ℕ) Fault
+text_of info str line_str str_offsets base entry (value.Inline place) = text_in info place entry
+text_of info str line_str str_offsets base entry (value.StrOffset place) = text_in str place entry
+text_of info str line_str str_offsets base entry (value.LineOffset place) = text_in line_str place entry
+text_of info str line_str str_offsets base entry (value.StrIndex k) = do
+  place ← or_end (entry_of_table 4 str_offsets base k) (fault kind.Index entry)
+  text_in str place entry
+text_of info str line_str str_offsets base entry other = Err (fault kind.Text entry)
+
+-- The address that a value stands for (DWARF 5, section 7.5.5, class address): it stands in the value, or in `.debug_addr`,
+-- whose part for the unit begins at a base.
+abbrev pub address_of : List ℕ → Option ℕ → ℕ → Value → Result ℕ Fault
+address_of addr base entry (value.Address address) = Ok address
+address_of addr base entry (value.AddressIndex k) = or_end (entry_of_table 8 addr base k) (fault kind.Index entry)
+address_of addr base entry other = Err (fault kind.Index entry)
