@@ -1,4 +1,13 @@
+pub mod Entries
 pub mod Exports
+pub mod Forms
+pub mod Graphs
 pub mod Kinds
+pub mod Libraries
+pub mod Lookups
+pub mod Parts
 pub mod Plain
 pub mod Shown
+pub mod Sorts
+pub mod Types
+pub mod Valid

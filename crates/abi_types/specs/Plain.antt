@@ -1,8 +1,10 @@
--- An export of the code, without where its names lie in memory.
+-- Exports and labels of the code, without where their names lie in memory.
 use Rattle.std.specs.Prelude.{List, map}
 use Rattle.std.specs.Option.{option_copied}
 use Rattle.abi_types.specs.declared.export.Export.{Export}
+use Rattle.abi_types.specs.declared.view.Label.{Label}
 use Rattle.abi_types.specs.Exports.{PlainExport}
+use Rattle.abi_types.specs.Types.{PlainLabel}
 
 abbrev pub plain_export : Export → PlainExport
 plain_export e = record {
@@ -21,3 +23,6 @@ plain_export e = record {
 
 abbrev pub plain_exports : List Export → List PlainExport
 plain_exports exports = map plain_export exports
+
+abbrev pub plain_label : Label → PlainLabel
+plain_label label = record { kind = label.kind; name = label.name.now }

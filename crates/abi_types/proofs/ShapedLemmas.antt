@@ -1,0 +1,167 @@
+-- Graphs with call places are graphs.
+use Rattle.std.proofs.Common.{◌≡◌, ◌<◌, ◌≤◌, ◌+◌, ◌*◌, ◌^◌, ℕ, Bool, true, false, cond, List, [], ◌∷◌, ◌++◌, length, map, get_or, refl, sym, ap, ◌∙◌, arith, subst, inl, inr, ◌⊎◌}
+use Rattle.std.specs.List.{range_with_len, sum_by}
+use Rattle.std.proofs.lemmas.Bool.{cases_lt, false≢true}
+use Rattle.std.proofs.lemmas.List.{get_or_read, get_or_past}
+use Rattle.std.proofs.lemmas.List.Sums.{sum_by-cons}
+use Rattle.std.proofs.lemmas.List.FromFn.{length-map-range_with_len, get_or-map-range_with_len, map-range_with_len_more}
+use Rattle.abi_types.specs.declared.place.CallShape.{CallShape}
+use Rattle.abi_types.specs.Types.{PlainPart, Param, PlainView, PlainNode}
+use Rattle.abi_types.specs.Forms.{has_elements, is_function, no_call, HasForm}
+use Rattle.abi_types.specs.Graphs.{IsGraph, KeepsLimits, KeepsBits, node_at, view_at, part_at, no_part, void_node, call_at, shaped_node, shaped, to_of, inner_of, room_of, rooms}
+use Rattle.abi_types.specs.Entries.{IsOfNode, IsEntryOrder}
+use Rattle.std.proofs.lemmas.List.Elements.{All-weaker}
+use Rattle.std.specs.Prelude.{Contains}
+
+-- ---- one node
+
+-- the node, or the node of a function with another call
+abbrev IsShaped : PlainNode → PlainNode → Type 0
+IsShaped n m = (m ≡ n) ⊎ ((is_function n.view.kind ≡ true) × ((call : CallShape) × (m ≡ record n { view = record n.view { call = call } })))
+
+module _ (n m : PlainNode) (is : IsShaped n m) where
+  same_entry : m.entry ≡ n.entry
+  same_entry = elim is [ inl e ↦ ap (λ (x : PlainNode). x.entry) e | inr f ↦ ap (λ (x : PlainNode). x.entry) f.1.1 ]
+
+  same_rank : m.rank ≡ n.rank
+  same_rank = elim is [ inl e ↦ ap (λ (x : PlainNode). x.rank) e | inr f ↦ ap (λ (x : PlainNode). x.rank) f.1.1 ]
+
+  same_kind : m.view.kind ≡ n.view.kind
+  same_kind = elim is [ inl e ↦ ap (λ (x : PlainNode). x.view.kind) e | inr f ↦ ap (λ (x : PlainNode). x.view.kind) f.1.1 ]
+
+  same_size : m.view.size ≡ n.view.size
+  same_size = elim is [ inl e ↦ ap (λ (x : PlainNode). x.view.size) e | inr f ↦ ap (λ (x : PlainNode). x.view.size) f.1.1 ]
+
+  same_count : m.view.count ≡ n.view.count
+  same_count = elim is [ inl e ↦ ap (λ (x : PlainNode). x.view.count) e | inr f ↦ ap (λ (x : PlainNode). x.view.count) f.1.1 ]
+
+  same_align : m.view.align ≡ n.view.align
+  same_align = elim is [ inl e ↦ ap (λ (x : PlainNode). x.view.align) e | inr f ↦ ap (λ (x : PlainNode). x.view.align) f.1.1 ]
+
+  same_parts : m.view.parts ≡ n.view.parts
+  same_parts = elim is [ inl e ↦ ap (λ (x : PlainNode). x.view.parts) e | inr f ↦ ap (λ (x : PlainNode). x.view.parts) f.1.1 ]
+
+form_with_call : (v : PlainView) (call : CallShape) → is_function v.kind ≡ true → HasForm v → HasForm (record v { call = call })
+form_with_call v call function form = record {
+  tag = form.tag;
+  defined = form.defined;
+  size = form.size;
+  group = form.group;
+  count = form.count;
+  variadic = form.variadic;
+  call = λ other. absurd (false≢true (sym other ∙ function));
+  parts = form.parts;
+  unsized = form.unsized;
+  empty = form.empty;
+}
+
+form_shaped : (n m : PlainNode) → IsShaped n m → HasForm n.view → HasForm m.view
+form_shaped n m (inl e) form = subst (λ (x : PlainNode). HasForm x.view) (sym e) form
+form_shaped n m (inr f) form = subst (λ (x : PlainNode). HasForm x.view) (sym f.1.1) (form_with_call n.view f.1.0 f.0 form)
+
+-- ---- all nodes
+
+IsShaped-shaped_node : (n : PlainNode) (call : CallShape) → IsShaped n (shaped_node n call)
+IsShaped-shaped_node n call = go (is_function n.view.kind) refl where
+  go : (b : Bool) → is_function n.view.kind ≡ b → IsShaped n (cond b (record n { view = record n.view { call = call } }) n)
+  go true e = inr (e, (call, refl))
+  go false e = inl refl
+
+pub length-shaped : (nodes : List PlainNode) (calls : List CallShape) → length (shaped nodes calls) ≡ length nodes
+unfolding shaped
+length-shaped nodes calls = length-map-range_with_len (λ i. shaped_node (node_at nodes i) (call_at calls i)) 0 (length nodes)
+
+node_at-shaped : (nodes : List PlainNode) (calls : List CallShape) (i : ℕ) → i < length nodes → node_at (shaped nodes calls) i ≡ shaped_node (node_at nodes i) (call_at calls i)
+unfolding shaped
+node_at-shaped nodes calls i inside = get_or-map-range_with_len (λ i. shaped_node (node_at nodes i) (call_at calls i)) 0 (length nodes) i i void_node inside (omega arith)
+
+pub IsShaped-at : (nodes : List PlainNode) (calls : List CallShape) (i : ℕ) → IsShaped (node_at nodes i) (node_at (shaped nodes calls) i)
+IsShaped-at nodes calls i =
+    elim (cases_lt i (length nodes)) [
+      | inl inside ↦ rw (node_at-shaped nodes calls i inside) (IsShaped-shaped_node (node_at nodes i) (call_at calls i))
+      | inr past ↦ inl (get_or_past (shaped nodes calls) i void_node (omega (arith, length-shaped nodes calls)) ∙ sym (get_or_past nodes i void_node past))
+    ]
+
+sum_by-agree : {X : Type 0} (f h : X → ℕ) (xs : List X) → ((x : X) → f x ≡ h x) → sum_by f xs ≡ sum_by h xs
+sum_by-agree f h [] same = refl
+sum_by-agree f h (x ∷ xs) same = let ih = sum_by-agree f h xs same in omega (arith, sum_by-cons f x xs, sum_by-cons h x xs, same x, ih)
+
+module _ (nodes : List PlainNode) (calls : List CallShape) where
+  at : (i : ℕ) → IsShaped (node_at nodes i) (node_at (shaped nodes calls) i)
+  at i = IsShaped-at nodes calls i
+
+  part-same : (i k : ℕ) → part_at (view_at (shaped nodes calls) i) k ≡ part_at (view_at nodes i) k
+  part-same i k = ap (λ (ps : List PlainPart). get_or ps k no_part) (same_parts (node_at nodes i) (node_at (shaped nodes calls) i) (at i))
+
+  size-same : (i : ℕ) → (view_at (shaped nodes calls) i).size ≡ (view_at nodes i).size
+  size-same i = same_size (node_at nodes i) (node_at (shaped nodes calls) i) (at i)
+
+  room-same : (p : PlainPart) → room_of (shaped nodes calls) p ≡ room_of nodes p
+  room-same (Param to) = ap (λ (n : ℕ). n + 2 ^ 33) (size-same to)
+  room-same _ = refl
+
+  rooms-same : (i : ℕ) → rooms (shaped nodes calls) (view_at (shaped nodes calls) i) ≡ rooms nodes (view_at nodes i)
+  rooms-same i = ap (sum_by (room_of (shaped nodes calls))) (same_parts (node_at nodes i) (node_at (shaped nodes calls) i) (at i)) ∙ sum_by-agree (room_of (shaped nodes calls)) (room_of nodes) (view_at nodes i).parts room-same
+
+  limits-shaped : (i : ℕ) → KeepsLimits nodes (view_at nodes i) → KeepsLimits (shaped nodes calls) (view_at (shaped nodes calls) i)
+  limits-shaped i limits = record {
+    size = rw (size-same i) limits.size;
+    count = rw (same_count (node_at nodes i) (node_at (shaped nodes calls) i) (at i)) limits.count;
+    align = rw (same_align (node_at nodes i) (node_at (shaped nodes calls) i) (at i)) limits.align;
+    bits = λ k. subst KeepsBits (sym (part-same i k)) (limits.bits k);
+    rooms = rw (rooms-same i) limits.rooms;
+  }
+
+  pub IsGraph-shaped : IsGraph nodes → IsGraph (shaped nodes calls)
+  IsGraph-shaped graph = record {
+    void_first = rw (length-shaped nodes calls) graph.void_first;
+    void_kind = same_kind (node_at nodes 0) (node_at (shaped nodes calls) 0) (at 0) ∙ graph.void_kind;
+    void_entry = same_entry (node_at nodes 0) (node_at (shaped nodes calls) 0) (at 0) ∙ graph.void_entry;
+    inside = λ i k to e. rw (length-shaped nodes calls) (graph.inside i k to (ap to_of (sym (part-same i k)) ∙ e));
+    apart = λ i j lt_i lt_j e.
+        graph.apart i j (rw (length-shaped nodes calls) at lt_i) (rw (length-shaped nodes calls) at lt_j) (sym (same_entry (node_at nodes i) (node_at (shaped nodes calls) i) (at i)) ∙ e ∙ same_entry (node_at nodes j) (node_at (shaped nodes calls) j) (at j));
+    falls = λ i k to e.
+        let low = graph.falls i k to (ap inner_of (sym (part-same i k)) ∙ e) in
+        omega (arith, low, same_rank (node_at nodes i) (node_at (shaped nodes calls) i) (at i), same_rank (node_at nodes to) (node_at (shaped nodes calls) to) (at to));
+    forms = λ i. form_shaped (node_at nodes i) (node_at (shaped nodes calls) i) (at i) (graph.forms i);
+    limits = λ i. limits-shaped i (graph.limits i);
+    whole = λ i to elements e.
+        size-same i ∙ graph.whole i to (ap has_elements (sym (same_kind (node_at nodes i) (node_at (shaped nodes calls) i) (at i))) ∙ elements) (ap to_of (sym (part-same i 0)) ∙ e)
+        ∙ ap (λ (n : ℕ). n * (view_at nodes to).size) (sym (same_count (node_at nodes i) (node_at (shaped nodes calls) i) (at i))) ∙ ap (λ (n : ℕ). (view_at (shaped nodes calls) i).count * n) (sym (size-same to));
+  }
+
+  of_node-shaped : (pair : ℕ × ℕ) → IsOfNode nodes pair → IsOfNode (shaped nodes calls) pair
+  of_node-shaped pair is = (rw (length-shaped nodes calls) is.0, same_entry (node_at nodes pair.1) (node_at (shaped nodes calls) pair.1) (at pair.1) ∙ is.1)
+
+  pub IsEntryOrder-shaped : (pairs : List (ℕ × ℕ)) → IsEntryOrder pairs nodes → IsEntryOrder pairs (shaped nodes calls)
+  IsEntryOrder-shaped pairs order = record {
+    rises = order.rises;
+    of_nodes = All-weaker (IsOfNode nodes) (IsOfNode (shaped nodes calls)) of_node-shaped pairs order.of_nodes;
+    all_nodes = λ i inside.
+        subst (λ (e : ℕ). Contains pairs (e, i)) (sym (same_entry (node_at nodes i) (node_at (shaped nodes calls) i) (at i))) (order.all_nodes i (rw (length-shaped nodes calls) at inside));
+  }
+
+-- ---- a loop over the nodes
+
+abbrev pub shaped_front : List PlainNode → List CallShape → ℕ → List PlainNode
+shaped_front nodes calls n = map (λ i. shaped_node (node_at nodes i) (call_at calls i)) (range_with_len 0 n)
+
+-- one more node
+pub shaped_front-more : (nodes : List PlainNode) (calls : List CallShape) (i : ℕ) (node copy : PlainNode) (call : CallShape) (so_far grown : List PlainNode) → i < length nodes → length calls ≡ length nodes
+    → node ≡ get_or nodes i node → call ≡ get_or calls i call → copy ≡ shaped_node node call → so_far ≡ shaped_front nodes calls i → grown ≡ so_far ++ copy ∷ [] → grown ≡ shaped_front nodes calls (i + 1)
+shaped_front-more nodes calls i node copy call so_far grown inside many node_is call_is copied is pushed =
+    let node_here : node ≡ node_at nodes i = get_or_read nodes i node inside node_is void_node in
+    let call_here : call ≡ call_at calls i = get_or_read calls i call (omega arith) call_is no_call in
+    pushed ∙ ap (λ (xs : List PlainNode). xs ++ copy ∷ []) is ∙ ap (λ (n : PlainNode). shaped_front nodes calls i ++ n ∷ []) (copied ∙ ap (λ (n : PlainNode). shaped_node n call) node_here ∙ ap (shaped_node (node_at nodes i)) call_here)
+    ∙ sym (map-range_with_len_more (λ i. shaped_node (node_at nodes i) (call_at calls i)) 0 i i (omega arith))
+
+pub shaped_front-all : (nodes : List PlainNode) (calls : List CallShape) (i : ℕ) (copies : List PlainNode) → i ≤ length nodes → length nodes ≤ i → copies ≡ shaped_front nodes calls i → copies ≡ shaped nodes calls
+unfolding shaped
+shaped_front-all nodes calls i copies le ge is = let all : i ≡ length nodes = omega arith in is ∙ ap (shaped_front nodes calls) all
+
+-- what a graph keeps, of the nodes with call places
+pub KeepsAll-shaped : (nodes slice : List PlainNode) (calls : List CallShape) (copies : List PlainNode) (pairs : List (ℕ × ℕ)) → slice ≡ nodes → copies ≡ shaped slice calls
+    → IsGraph nodes × IsEntryOrder pairs nodes → IsGraph copies × IsEntryOrder pairs copies
+KeepsAll-shaped nodes slice calls copies pairs same is kept =
+    let e : copies ≡ shaped nodes calls = is ∙ ap (λ (ns : List PlainNode). shaped ns calls) same in
+    (subst IsGraph (sym e) (IsGraph-shaped nodes calls kept.0), subst (IsEntryOrder pairs) (sym e) (IsEntryOrder-shaped nodes calls pairs kept.1))

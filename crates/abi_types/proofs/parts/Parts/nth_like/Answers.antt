@@ -1,0 +1,16 @@
+-- The place is one of the list.
+use Rattle.std.proofs.Common.{◌≡◌, rules}
+use Rattle.abi_types.specs.Parts.{plain_part, like}
+use Rattle.abi_types.specs.Parts.{place_of as the_place_of}
+use Rattle.abi_types.proofs.LikeLemmas.{place_of-within}
+use Rattle.abi_types.proofs.parts.Parts.nth_like.Goals as goal
+
+pub returns-in-None-clause-inside : goal.returns-in-None-clause-inside
+returns-in-None-clause-inside g c =
+    let e : c.place_of.result ≡ the_place_of (like (plain_part g.Jx.Index.number_of c.args.part.now)) c.args.k c.args.self.now = search rules in
+    place_of-within (like (plain_part g.Jx.Index.number_of c.args.part.now)) c.args.k c.args.self.now c.place_of.result e
+
+pub returns-in-Some-clause-inside : goal.returns-in-Some-clause-inside
+returns-in-Some-clause-inside g c =
+    let e : c.place_in.result ≡ the_place_of (like (plain_part g.Jx.Index.number_of c.args.part.now)) c.args.k c.args.self.now = search rules in
+    place_of-within (like (plain_part g.Jx.Index.number_of c.args.part.now)) c.args.k c.args.self.now c.place_in.result e

@@ -1,0 +1,96 @@
+-- What a view of each kind looks like.
+use Rattle.std.specs.Prelude.{◌≡◌, ℕ, Bool, true, false, List, [], ◌∷◌, Option, Some, None, IfSome}
+use Rattle.std.specs.List.{list_all}
+use Rattle.abi_types.specs.declared.kind.Kind.{Kind}
+use Rattle.abi_types.specs.declared.kind.Kind.TheVariants as kind
+use Rattle.abi_types.specs.declared.kind.Group.TheVariants as group
+use Rattle.abi_types.specs.declared.place.Place.TheVariants as place
+use Rattle.abi_types.specs.declared.place.CallShape.{CallShape}
+use Rattle.abi_types.specs.Types.{PlainPart, Member, Enumerator, Target, Element, Outcome, Param, PlainView}
+
+-- the kinds that have a tag, and that a declaration alone may name
+abbrev pub has_tag : Kind → Bool
+has_tag kind.Enumeration = true
+has_tag kind.Structure = true
+has_tag kind.Union = true
+has_tag other = false
+
+abbrev pub is_scalar : Kind → Bool
+is_scalar kind.Scalar = true
+is_scalar other = false
+
+-- the kinds that hold so many elements of one type
+abbrev pub has_elements : Kind → Bool
+has_elements kind.Array = true
+has_elements kind.Vector = true
+has_elements other = false
+
+abbrev pub is_function : Kind → Bool
+is_function kind.Function = true
+is_function other = false
+
+-- the size that all types of a kind have, where they have one
+abbrev pub size_of_kind : Kind → Option ℕ
+size_of_kind kind.Void = Some 0
+size_of_kind kind.Pointer = Some 8
+size_of_kind kind.Function = Some 0
+size_of_kind other = None
+
+abbrev pub is_member : PlainPart → Bool
+is_member (Member name bit width to) = true
+is_member other = false
+
+abbrev pub is_enumerator : PlainPart → Bool
+is_enumerator (Enumerator name value) = true
+is_enumerator other = false
+
+abbrev pub is_param : PlainPart → Bool
+is_param (Param to) = true
+is_param other = false
+
+abbrev pub is_one_target : List PlainPart → Bool
+is_one_target (Target to ∷ []) = true
+is_one_target other = false
+
+abbrev pub is_one_element : List PlainPart → Bool
+is_one_element (Element to ∷ []) = true
+is_one_element other = false
+
+-- a result, and parameters after it
+abbrev pub are_of_function : List PlainPart → Bool
+are_of_function (Outcome to ∷ parts) = list_all is_param parts
+are_of_function other = false
+
+abbrev pub are_none : List PlainPart → Bool
+are_none [] = true
+are_none (part ∷ parts) = false
+
+-- the parts are those that a type of this kind has
+abbrev pub parts_fit : Kind → List PlainPart → Bool
+parts_fit kind.Void parts = are_none parts
+parts_fit kind.Scalar parts = are_none parts
+parts_fit kind.Pointer parts = is_one_target parts
+parts_fit kind.Enumeration parts = list_all is_enumerator parts
+parts_fit kind.Structure parts = list_all is_member parts
+parts_fit kind.Union parts = list_all is_member parts
+parts_fit kind.Array parts = is_one_element parts
+parts_fit kind.Vector parts = is_one_element parts
+parts_fit kind.Function parts = are_of_function parts
+
+-- no places, as of what is no function
+abbrev pub no_call : CallShape
+no_call = record { outcome = place.Nothing; params = [] }
+
+-- The view has the form of its kind: fields that the kind does not use say nothing, and its parts are those of its kind.
+-- The explicit alignment may be there at any kind.
+pub record HasForm (v : PlainView) : Type 0 where
+  pub tag : has_tag v.kind ≡ false → v.tag ≡ []
+  pub defined : has_tag v.kind ≡ false → v.declared_only ≡ false
+  pub size : IfSome (size_of_kind v.kind) (λ size. v.size ≡ size)
+  pub group : is_scalar v.kind ≡ false → v.group ≡ group.Bool
+  pub count : has_elements v.kind ≡ false → v.count ≡ 0
+  pub variadic : is_function v.kind ≡ false → v.variadic ≡ false
+  pub call : is_function v.kind ≡ false → v.call ≡ no_call
+  pub parts : parts_fit v.kind v.parts ≡ true
+  pub unsized : v.declared_only ≡ true → v.size ≡ 0
+  pub empty : v.declared_only ≡ true → v.parts ≡ []

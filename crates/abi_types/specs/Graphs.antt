@@ -1,0 +1,124 @@
+-- Lists of nodes that are graphs of types.
+use Rattle.std.specs.Prelude.{◌≡◌, ◌<◌, ◌≤◌, ◌+◌, ◌*◌, ◌^◌, ◌==◌, ℕ, true, false, List, [], length, Option, Some, None, slice_index_or, find, map, if◌then◌else◌}
+use Rattle.std.specs.List.{sum_by, range_with_len}
+use Rattle.abi_types.specs.declared.kind.Kind.TheVariants as kind
+use Rattle.abi_types.specs.declared.kind.Group.TheVariants as group
+use Rattle.abi_types.specs.declared.place.CallShape.{CallShape}
+use Rattle.abi_types.specs.Types.{PlainPart, Member, Enumerator, Target, Element, Outcome, Param, PlainView, PlainNode}
+use Rattle.abi_types.specs.Forms.{has_elements, is_function, no_call, HasForm}
+
+-- ---- look-ups, which give a part that names no node, or void, past the end
+
+abbrev pub no_part : PlainPart
+no_part = Enumerator [] 0
+
+-- the part at a position
+abbrev pub part_at : PlainView → ℕ → PlainPart
+part_at v k = slice_index_or v.parts k no_part
+
+abbrev pub void_view : PlainView
+void_view = record {
+  kind = kind.Void;
+  declared_only = false;
+  tag = [];
+  size = 0;
+  group = group.Bool;
+  align = 0;
+  count = 0;
+  variadic = false;
+  parts = [];
+  call = no_call;
+}
+
+abbrev pub void_node : PlainNode
+void_node = record { entry = 0; rank = 0; view = void_view; labels = [] }
+
+-- the node of a number, and what it looks like
+abbrev pub node_at : List PlainNode → ℕ → PlainNode
+node_at nodes i = slice_index_or nodes i void_node
+
+abbrev pub view_at : List PlainNode → ℕ → PlainView
+view_at nodes i = (node_at nodes i).view
+
+-- the number of the first node that stands for an entry
+unfoldable pub node_of : List PlainNode → ℕ → Option ℕ
+node_of nodes entry = find (λ i. (node_at nodes i).entry == entry) (range_with_len 0 (length nodes))
+
+-- ---- graphs with call places
+
+-- the call shape at a number
+abbrev pub call_at : List CallShape → ℕ → CallShape
+call_at calls i = slice_index_or calls i no_call
+
+-- the node, in which the call of a function is this one
+abbrev pub shaped_node : PlainNode → CallShape → PlainNode
+shaped_node n call = if is_function n.view.kind then record n { view = record n.view { call = call } } else n
+
+-- the nodes, in which the call of each function is the one at its number
+unfoldable pub shaped : List PlainNode → List CallShape → List PlainNode
+shaped nodes calls = map (λ i. shaped_node (node_at nodes i) (call_at calls i)) (range_with_len 0 (length nodes))
+
+-- ---- the nodes that parts name
+
+-- the node that a part names
+abbrev pub to_of : PlainPart → Option ℕ
+to_of (Member name bit width to) = Some to
+to_of (Enumerator name value) = None
+to_of (Target to) = Some to
+to_of (Element to) = Some to
+to_of (Outcome to) = Some to
+to_of (Param to) = Some to
+
+-- the node that a part names by value, which is any but the target of a pointer
+abbrev pub inner_of : PlainPart → Option ℕ
+inner_of (Target to) = None
+inner_of other = to_of other
+
+-- ---- what a graph keeps
+
+-- the limits of a size and of a count, of a place and a width in bits, and of an explicit alignment
+abbrev pub size_limit : ℕ
+size_limit = 2 ^ 60
+
+abbrev pub bit_limit : ℕ
+bit_limit = 2 ^ 63
+
+abbrev pub align_limit : ℕ
+align_limit = 2 ^ 32
+
+-- a member's place and width in bits are below the limit
+abbrev pub KeepsBits : PlainPart → Type 0
+KeepsBits (Member name bit width to) = (bit < bit_limit) × (width < bit_limit)
+KeepsBits other = Unit {0}
+
+-- what the arguments of a function may take: for each parameter its size and room for its alignment, twice the limit
+abbrev pub room_of : List PlainNode → PlainPart → ℕ
+room_of nodes (Param to) = (view_at nodes to).size + 2 ^ 33
+room_of nodes other = 0
+
+abbrev pub rooms : List PlainNode → PlainView → ℕ
+rooms nodes v = sum_by (room_of nodes) v.parts
+
+-- an array or a vector has the size of its elements together
+abbrev pub IsWhole : List PlainNode → PlainView → Type 0
+IsWhole nodes v = (to : ℕ) → has_elements v.kind ≡ true → to_of (part_at v 0) ≡ Some to → v.size ≡ v.count * (view_at nodes to).size
+
+-- the view keeps the limits
+pub record KeepsLimits (nodes : List PlainNode) (v : PlainView) : Type 0 where
+  pub size : v.size ≤ size_limit
+  pub count : v.count ≤ size_limit
+  pub align : v.align ≤ align_limit
+  pub bits : (k : ℕ) → KeepsBits (part_at v k)
+  pub rooms : rooms nodes v ≤ 2 ^ 62
+
+-- The list meets all that a graph keeps. Cycles go through pointers alone, since the rank falls by value.
+pub record IsGraph (nodes : List PlainNode) : Type 0 where
+  pub void_first : 0 < length nodes
+  pub void_kind : (view_at nodes 0).kind ≡ kind.Void
+  pub void_entry : (node_at nodes 0).entry ≡ 0
+  pub inside : (i k to : ℕ) → to_of (part_at (view_at nodes i) k) ≡ Some to → to < length nodes
+  pub apart : (i j : ℕ) → i < length nodes → j < length nodes → (node_at nodes i).entry ≡ (node_at nodes j).entry → i ≡ j
+  pub falls : (i k to : ℕ) → inner_of (part_at (view_at nodes i) k) ≡ Some to → (node_at nodes to).rank < (node_at nodes i).rank
+  pub forms : (i : ℕ) → HasForm (view_at nodes i)
+  pub limits : (i : ℕ) → KeepsLimits nodes (view_at nodes i)
+  pub whole : (i : ℕ) → IsWhole nodes (view_at nodes i)

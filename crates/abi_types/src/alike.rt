@@ -1,0 +1,81 @@
+// What makes parts alike: their sort, and their name where that sort has names.
+ghost use Rattle.std.specs.Prelude.{◌≡◌, map, count_by};
+ghost use Rattle.abi_types.specs.Parts.{plain_part, like, place_of as the_place_of};
+ghost use Rattle.abi_types.specs.Sorts.{sort_of as the_sort_of, name_of as the_name_of};
+
+use crate::index::Index;
+use crate::part::Part;
+use crate::sort::Sort;
+
+/// The sort of a part.
+pub fn sort_of<Ix: Index>(part: &Part<Ix>) -> Sort
+    ensures { result ≡ the_sort_of (plain_part Ix.number_of part.now) }
+{
+    match part {
+        Part::Member { .. } => Sort::Member,
+        Part::Enumerator { .. } => Sort::Enumerator,
+        Part::Target { .. } => Sort::Target,
+        Part::Element { .. } => Sort::Element,
+        Part::Outcome { .. } => Sort::Outcome,
+        Part::Param { .. } => Sort::Param,
+    }
+}
+
+/// The name of a part, empty where its sort has none.
+pub fn name_of<'a, Ix: Index>(part: &Part<'a, Ix>) -> &'a [u8]
+    ensures { result.now ≡ the_name_of (plain_part Ix.number_of part.now) }
+{
+    match part {
+        Part::Member { name, .. } => *name,
+        Part::Enumerator { name, .. } => *name,
+        _ => &[],
+    }
+}
+
+/// Whether two parts are of one sort, and of one name where that sort has names.
+pub fn are_like<Ix: Index, Jx: Index>(one: &Part<Ix>, other: &Part<Jx>) -> bool
+    ensures { result ≡ like (plain_part Ix.number_of one.now) (plain_part Jx.number_of other.now) }
+{
+    match (one, other) {
+        (Part::Member { name, .. }, Part::Member { name: other, .. }) => *name == *other,
+        (Part::Enumerator { name, .. }, Part::Enumerator { name: other, .. }) => *name == *other,
+        (Part::Target { .. }, Part::Target { .. }) => true,
+        (Part::Element { .. }, Part::Element { .. }) => true,
+        (Part::Outcome { .. }, Part::Outcome { .. }) => true,
+        (Part::Param { .. }, Part::Param { .. }) => true,
+        _ => false,
+    }
+}
+
+/// How many of the parts are like `part`.
+pub fn count_like<Ix: Index, Jx: Index>(items: &[Part<Ix>], part: &Part<Jx>) -> usize
+    ensures { result ≡ count_by (like (plain_part Jx.number_of part.now)) (map (plain_part Ix.number_of) items.now) }
+{
+    let mut count = 0;
+    for i in 0..items.len() {
+        if are_like(part, &items[i]) {
+            count += 1;
+        }
+    }
+    count
+}
+
+/// The position of the part with the number `k`, counted from 0, among those that are like `part`.
+pub fn place_of<Ix: Index, Jx: Index>(
+    items: &[Part<Ix>],
+    part: &Part<Jx>,
+    k: usize,
+) -> Option<usize>
+    ensures { result ≡ the_place_of (like (plain_part Jx.number_of part.now)) k (map (plain_part Ix.number_of) items.now) }
+{
+    let mut left = k;
+    for i in 0..items.len() {
+        if are_like(part, &items[i]) {
+            if left == 0 {
+                return Some(i);
+            }
+            left -= 1;
+        }
+    }
+    None
+}

@@ -1,0 +1,191 @@
+// The types of a library as a graph.
+ghost use Rattle.std.specs.Prelude.{◌≡◌, ◌<◌, length, map, IfOk, IfSome};
+ghost use Rattle.std.specs.Option.{option_map};
+ghost use Rattle.abi_types.specs.Plain.{plain_label};
+ghost use Rattle.abi_types.specs.Graphs.{IsGraph, node_at, node_of, shaped, shaped_node as the_shaped_node, view_at};
+
+use crate::entries::{entries_of, number_beside};
+use crate::index::Index;
+use crate::kind::Kind;
+use crate::place::CallShape;
+use crate::view::{Label, Node, View};
+use abi_base::{List, NoMemory};
+use std::alloc::Global;
+use std::marker::Model;
+
+/// The types of one library: nodes, which their parts join. Contracts see it as the list of its nodes, which is a graph.
+#[derive(Drop)]
+pub struct Graph<'a, Ix: Index> {
+    nodes: List<Node<'a, Ix>>,
+    // The entry and the number of each node, in order of entries.
+    entries: Vec<(u64, usize)>,
+}
+
+impl<'a, Ix: Index> Model for Graph<'a, Ix> {
+    ghost use Rattle.std.specs.Prelude.{List};
+    ghost use Rattle.abi_types.specs.Types.{PlainNode};
+
+    ghost Value = { List PlainNode };
+
+    ghost use Rattle.abi_types.specs.Graphs.{IsGraph};
+    ghost use Rattle.abi_types.specs.Entries.{IsEntryOrder};
+
+    ghost view = { λ g. g.nodes };
+
+    ghost invariant = { λ g. IsGraph g.nodes × IsEntryOrder g.entries.items g.nodes };
+}
+
+// A copy of a call shape.
+fn copy_of_call(alloc: Global, call: &CallShape) -> Result<CallShape, NoMemory>
+    ensures { IfOk result (λ copy. copy ≡ call.now) }
+{
+    Ok(CallShape {
+        outcome: call.outcome,
+        params: List::copy_of(alloc, call.params.as_slice())?,
+    })
+}
+
+// A copy of a view with another call shape.
+fn view_with_call<'a, Ix: Index>(
+    alloc: Global,
+    view: &View<'a, Ix>,
+    call: &CallShape,
+) -> Result<View<'a, Ix>, NoMemory>
+    ensures { IfOk result (λ copy. copy ≡ record view.now { call = call.now }) }
+{
+    Ok(View {
+        kind: view.kind,
+        declared_only: view.declared_only,
+        tag: view.tag,
+        size: view.size,
+        group: view.group,
+        align: view.align,
+        count: view.count,
+        variadic: view.variadic,
+        parts: view.parts.copy(alloc)?,
+        call: copy_of_call(alloc, call)?,
+    })
+}
+
+// A copy of a node, in which the call of a function is this one.
+fn shaped_node<'a, Ix: Index>(
+    alloc: Global,
+    node: &Node<'a, Ix>,
+    call: &CallShape,
+) -> Result<Node<'a, Ix>, NoMemory>
+    ensures { IfOk result (λ copy. copy ≡ the_shaped_node node.now call.now) }
+{
+    let view = &node.view;
+    let view = match view.kind {
+        Kind::Function => view_with_call(alloc, view, call)?,
+        _ => view_with_call(alloc, view, &view.call)?,
+    };
+    Ok(Node {
+        entry: node.entry,
+        rank: node.rank,
+        view,
+        labels: List::copy_of(alloc, node.labels.as_slice())?,
+    })
+}
+
+// Copies of the nodes, in which the call of each function is the shape at its number.
+fn shaped_nodes<'a, Ix: Index>(
+    alloc: Global,
+    nodes: &[Node<'a, Ix>],
+    calls: &[CallShape],
+) -> Result<List<Node<'a, Ix>>, NoMemory>
+    requires { length calls.now ≡ length nodes.now }
+    ensures { IfOk result (λ copies. copies ≡ shaped nodes.now calls.now) }
+{
+    let mut copies = List::new(alloc);
+    for i in 0..nodes.len() {
+        copies.push(shaped_node(alloc, &nodes[i], &calls[i])?)?;
+    }
+    Ok(copies)
+}
+
+impl<'a, Ix: Index> Graph<'a, Ix> {
+    /// The graph of these nodes, each under its position in the list.
+    pub fn of_nodes(alloc: Global, nodes: List<Node<'a, Ix>>) -> Result<Graph<'a, Ix>, NoMemory>
+        requires { IsGraph nodes }
+        ensures { IfOk result (λ g. g ≡ nodes.entry) }
+    {
+        let entries = entries_of(alloc, nodes.as_slice())?;
+        Ok(Graph { nodes, entries })
+    }
+
+    /// The same graph, in which the call of each function is the shape at its number, and all else stays.
+    pub fn with_calls(
+        self,
+        alloc: Global,
+        calls: List<CallShape>,
+    ) -> Result<Graph<'a, Ix>, NoMemory>
+        requires { length calls ≡ length self }
+        ensures { IfOk result (λ g. g ≡ shaped self.entry calls) }
+    {
+        let Graph { nodes, entries } = self;
+        let nodes = shaped_nodes(alloc, nodes.as_slice(), calls.as_slice())?;
+        Ok(Graph { nodes, entries })
+    }
+
+    /// How many nodes there are.
+    pub fn len(&self) -> usize
+        ensures { result ≡ length self.now }
+    {
+        self.nodes.as_slice().len()
+    }
+
+    /// What the node looks like.
+    pub fn view(&self, ix: Ix) -> &View<'a, Ix>
+        requires { Ix.number_of ix < length self.now }
+        ensures { result.now ≡ view_at self.now (Ix.number_of ix) }
+    {
+        let node = &self.nodes.as_slice()[ix.number()];
+        &node.view
+    }
+
+    /// The names by which rules speak of the node.
+    pub fn labels(&self, ix: Ix) -> &[Label<'a>]
+        requires { Ix.number_of ix < length self.now }
+        ensures { map plain_label result.now ≡ (node_at self.now (Ix.number_of ix)).labels }
+    {
+        let node = &self.nodes.as_slice()[ix.number()];
+        node.labels.as_slice()
+    }
+
+    /// The offset of the entry that the node stands for.
+    pub fn entry_of(&self, ix: Ix) -> u64
+        requires { Ix.number_of ix < length self.now }
+        ensures { result ≡ (node_at self.now (Ix.number_of ix)).entry }
+    {
+        let node = &self.nodes.as_slice()[ix.number()];
+        node.entry
+    }
+
+    /// The node's rank, which falls from a node to what its parts name by value.
+    pub fn rank(&self, ix: Ix) -> u32
+        requires { Ix.number_of ix < length self.now }
+        ensures { result ≡ (node_at self.now (Ix.number_of ix)).rank }
+    {
+        let node = &self.nodes.as_slice()[ix.number()];
+        node.rank
+    }
+
+    /// The node that stands for an entry, `None` where there is none.
+    pub fn find(&self, entry: u64) -> Option<Ix>
+        ensures node { option_map Ix.number_of result ≡ node_of self.now entry }
+        ensures inside { IfSome result (λ ix. Ix.number_of ix < length self.now) }
+    {
+        match number_beside(self.entries.as_slice(), entry) {
+            Some(number) => Some(Ix::of(number)),
+            None => None,
+        }
+    }
+
+    /// What the type keeps. It does nothing.
+    pub fn known(&self)
+        ensures { IsGraph self.now }
+    {
+        let _ = &self.nodes;
+    }
+}

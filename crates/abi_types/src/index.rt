@@ -1,0 +1,76 @@
+// Numbers of nodes, of one library or of the other.
+ghost use Rattle.std.specs.Prelude.{◌≡◌, ℕ};
+
+use std::marker::Model;
+
+/// The number of a node in a graph. `OldIx` and `NewIx` number the nodes of two graphs, so that they cannot be mixed.
+pub trait Index: Copy {
+    ghost number_of: { Self → ℕ };
+
+    /// The number of the node.
+    fn number(self) -> usize
+        ensures { result ≡ number_of self };
+
+    /// The node of a number.
+    fn of(number: usize) -> Self
+        ensures { number_of result ≡ number };
+
+    /// Two nodes of one number are one.
+    ghost same: { (x y : Self) → number_of x ≡ number_of y → x ≡ y };
+}
+
+/// A node of the old library.
+#[derive(Clone, Copy, Debug, PartialEq, Eq)]
+pub struct OldIx {
+    number: usize,
+}
+
+impl Model for OldIx {
+    ghost Value = { ℕ };
+
+    ghost view = { λ ix. ix.number };
+
+    ghost inverse = { λ n. record { number = n } };
+}
+
+impl Index for OldIx {
+    ghost number_of = { λ ix. ix };
+
+    fn number(self) -> usize {
+        self.number
+    }
+
+    fn of(number: usize) -> OldIx {
+        OldIx { number }
+    }
+
+    ghost same = { λ x y e. e };
+}
+
+/// A node of the new library.
+#[derive(Clone, Copy, Debug, PartialEq, Eq)]
+pub struct NewIx {
+    number: usize,
+}
+
+impl Model for NewIx {
+    ghost Value = { ℕ };
+
+    ghost view = { λ ix. ix.number };
+
+    ghost inverse = { λ n. record { number = n } };
+}
+
+impl Index for NewIx {
+    ghost number_of = { λ ix. ix };
+
+    fn number(self) -> usize {
+        self.number
+    }
+
+    fn of(number: usize) -> NewIx {
+        NewIx { number }
+    }
+
+    ghost same = { λ x y e. e };
+}

@@ -1,0 +1,102 @@
+// A library as it is compared, and what a rule file marks in it.
+ghost use Rattle.std.specs.Prelude.{◌≡◌};
+ghost use Rattle.std.specs.Option.{option_copied};
+ghost use Rattle.abi_types.specs.Plain.{plain_exports};
+ghost use Rattle.abi_types.specs.Libraries.{plain_library, IsLibrary};
+
+use crate::export::Export;
+use crate::graph::Graph;
+use crate::index::Index;
+use abi_base::List;
+use std::marker::Model;
+
+/// A library: the digest of its file, its soname, its exports, and the types that they have. Contracts see it as a
+/// `PlainLibrary`.
+#[derive(Drop)]
+pub struct Library<'a, Ix: Index> {
+    digest: [u8; 32],
+    soname: Option<&'a [u8]>,
+    exports: List<Export<'a>>,
+    graph: Graph<'a, Ix>,
+}
+
+impl<'a, Ix: Index> Model for Library<'a, Ix> {
+    ghost use Rattle.abi_types.specs.Libraries.{PlainLibrary};
+
+    ghost Value = { PlainLibrary };
+
+    ghost use Rattle.abi_types.specs.Plain.{plain_exports};
+    ghost use Rattle.abi_types.specs.Libraries.{plain_library, IsLibrary};
+
+    ghost view = { λ l. plain_library l.digest l.soname l.exports l.graph };
+
+    ghost invariant = { λ l. IsLibrary (plain_exports l.exports) l.graph };
+}
+
+impl<'a, Ix: Index> Library<'a, Ix> {
+    /// The library of these parts.
+    pub fn new(
+        digest: [u8; 32],
+        soname: Option<&'a [u8]>,
+        exports: List<Export<'a>>,
+        graph: Graph<'a, Ix>,
+    ) -> Library<'a, Ix>
+        requires { IsLibrary (plain_exports exports) graph }
+        ensures { result ≡ plain_library digest soname.entry exports.entry graph.entry }
+    {
+        Library {
+            digest,
+            soname,
+            exports,
+            graph,
+        }
+    }
+
+    /// The SHA-256 of its file.
+    pub fn digest(&self) -> [u8; 32]
+        ensures { result ≡ self.now.digest }
+    {
+        self.digest
+    }
+
+    /// Its soname, where it has one.
+    pub fn soname(&self) -> Option<&'a [u8]>
+        ensures { option_copied result ≡ self.now.soname }
+    {
+        self.soname
+    }
+
+    /// Its exports, in the order of their symbols.
+    pub fn exports(&self) -> &[Export<'a>]
+        ensures { plain_exports result.now ≡ self.now.exports }
+    {
+        self.exports.as_slice()
+    }
+
+    /// The types of its exports.
+    pub fn graph(&self) -> &Graph<'a, Ix>
+        ensures { result.now ≡ self.now.graph }
+    {
+        &self.graph
+    }
+
+    /// What the type keeps. It does nothing.
+    pub fn known(&self)
+        ensures { IsLibrary self.now.exports self.now.graph }
+    {
+        let _ = &self.exports;
+    }
+}
+
+/// What a rule file says of the old library: what is not compared.
+#[derive(Drop)]
+pub struct Marks {
+    /// The SHA-256 of the rule file.
+    pub digest: [u8; 32],
+    /// For each export whether it is dropped.
+    pub exports: List<bool>,
+    /// For each node whether it is marked where it is reached by value.
+    pub direct: List<bool>,
+    /// For each node whether it is marked where it is reached through a pointer.
+    pub pointer: List<bool>,
+}

@@ -1,0 +1,66 @@
+// One part of a type.
+use crate::index::Index;
+
+/// One part of a type. `Ix` names the nodes of one graph.
+#[derive(Clone, Copy)]
+pub enum Part<'a, Ix> {
+    /// A member: where it stands, from the first bit of its type on; its width where it is a bit field, else 0; its type.
+    Member {
+        name: &'a [u8],
+        bit: u64,
+        width: u64,
+        to: Ix,
+    },
+    /// An enumerator, with its value modulo 2^64.
+    Enumerator {
+        name: &'a [u8],
+        value: u64,
+    },
+    /// What a pointer points to.
+    Target {
+        to: Ix,
+    },
+    /// The type of the elements of an array or a vector.
+    Element {
+        to: Ix,
+    },
+    /// The type of a function's result.
+    Outcome {
+        to: Ix,
+    },
+    /// The type of a parameter.
+    Param {
+        to: Ix,
+    },
+}
+
+impl<'a, Ix: Index> Part<'a, Ix> {
+    ghost use Rattle.std.specs.Prelude.{◌≡◌};
+    ghost use Rattle.std.specs.Option.{option_map};
+    ghost use Rattle.abi_types.specs.Parts.{plain_part};
+    ghost use Rattle.abi_types.specs.Graphs.{to_of, inner_of};
+
+    /// The node that the part names. An enumerator names none.
+    pub fn to(&self) -> Option<Ix>
+        ensures { option_map Ix.number_of result ≡ to_of (plain_part Ix.number_of self.now) }
+    {
+        match self {
+            Part::Member { to, .. } => Some(*to),
+            Part::Enumerator { .. } => None,
+            Part::Target { to } => Some(*to),
+            Part::Element { to } => Some(*to),
+            Part::Outcome { to } => Some(*to),
+            Part::Param { to } => Some(*to),
+        }
+    }
+
+    /// The node that the part names by value, which is any but the target of a pointer.
+    pub fn inner(&self) -> Option<Ix>
+        ensures { option_map Ix.number_of result ≡ inner_of (plain_part Ix.number_of self.now) }
+    {
+        match self {
+            Part::Target { .. } => None,
+            _ => self.to(),
+        }
+    }
+}
