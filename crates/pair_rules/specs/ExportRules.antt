@@ -1,5 +1,5 @@
 -- The rules that two exports bound to each other may break.
-use Rattle.std.specs.Prelude.{ℕ, Bool, true, false, not, ◌==◌, ◌||◌, ◌&&◌, List, [], ◌∷◌}
+use Rattle.std.specs.Prelude.{Bool, true, false, not, ◌==◌, ◌||◌, ◌&&◌, List, [], ◌∷◌}
 use Rattle.abi_types.specs.declared.export.SymbolKind.{SymbolKind}
 use Rattle.abi_types.specs.declared.export.SymbolKind.TheVariants.{NoType, Object, Func, Common, Tls, Ifunc}
 use Rattle.abi_types.specs.Exports.{PlainExport}

@@ -1,6 +1,18 @@
-//! The rules that a pair of an old and a new export, bound to each other, may break.
+//! The rules that a new library may break: those of two exports that are bound to each other, and those of two types. It also
+//! says which parts of two types are compared further, and which relations between the types of two libraries are closed under
+//! the rules.
 #![tactic(auto)]
 
 mod exports;
+pub mod laws;
+mod matching;
+mod rules;
+mod steps;
 
 pub use exports::export_breaks;
+pub use matching::{after, partner, partner_at};
+pub use rules::{Broken, breaks, holds};
+pub use steps::Steps;
+
+#[cfg(test)]
+mod tests;

@@ -1,0 +1,184 @@
+-- Types break no rule exactly where they keep each rule as a whole and at each part.
+use Rattle.std.proofs.Common.{◌≡◌, ◌<◌, ℕ, Bool, true, false, cond, not, List, [], ◌∷◌, ◌++◌, map, length, refl, sym, arith, inl, inr}
+use Rattle.std.specs.List.{filter, flat_map, list_all, range_with_len, AllPass}
+use Rattle.std.proofs.lemmas.Bool.{cases_Bool, and_parts, and_from, not-true, not_from_false, false≢true}
+use Rattle.std.proofs.lemmas.List.Sums.{AllPass-from_list_all}
+use Rattle.abi_types.specs.declared.rule.RuleName.{RuleName}
+use Rattle.abi_types.specs.declared.rule.RuleName.TheVariants.{L1, L2, L3, L4, L5, L6, L7, L8, L9, L10, L11, L12, L13, L14}
+use Rattle.abi_types.specs.Types.{PlainView}
+use Rattle.pair_rules.specs.Same.{same_kind}
+use Rattle.pair_rules.specs.TypeRules.{is_declaration, are_compared, breaks_whole, breaks_part, speaks_of_parts, rules_asked, broken_at, broken, breaks}
+use Rattle.pair_rules.specs.Keeping.{part_rules, keeps_whole, keeps_part, keeps_parts}
+use Rattle.pair_rules.proofs.Ranges.{list_all-below, list_all-below_at}
+
+-- ---- each rule speaks either of the types as a whole or of their parts
+
+pub whole-of_parts : (v w : PlainView) (r : RuleName) → speaks_of_parts r ≡ true → breaks_whole r v w ≡ false
+unfolding breaks_whole
+whole-of_parts v w L6 e = refl
+whole-of_parts v w L7 e = refl
+whole-of_parts v w L8 e = refl
+whole-of_parts v w L9 e = refl
+whole-of_parts v w L10 e = refl
+whole-of_parts v w L14 e = refl
+whole-of_parts v w r e = absurd cc
+
+pub part-of_whole : (v w : PlainView) (i : ℕ) (r : RuleName) → speaks_of_parts r ≡ false → breaks_part r v w i ≡ false
+unfolding breaks_part
+part-of_whole v w i L6 e = absurd cc
+part-of_whole v w i L7 e = absurd cc
+part-of_whole v w i L8 e = absurd cc
+part-of_whole v w i L9 e = absurd cc
+part-of_whole v w i L10 e = absurd cc
+part-of_whole v w i L14 e = absurd cc
+part-of_whole v w i r e = refl
+
+among_part_rules : (t : RuleName → Bool) (r : RuleName) → list_all t part_rules ≡ true → speaks_of_parts r ≡ true → t r ≡ true
+among_part_rules t L6 all e = AllPass-from_list_all t part_rules all 0 L6 (omega arith)
+among_part_rules t L7 all e = AllPass-from_list_all t part_rules all 1 L7 (omega arith)
+among_part_rules t L8 all e = AllPass-from_list_all t part_rules all 2 L8 (omega arith)
+among_part_rules t L9 all e = AllPass-from_list_all t part_rules all 3 L9 (omega arith)
+among_part_rules t L10 all e = AllPass-from_list_all t part_rules all 4 L10 (omega arith)
+among_part_rules t L14 all e = AllPass-from_list_all t part_rules all 5 L14 (omega arith)
+among_part_rules t r all e = absurd cc
+
+-- the rules that are asked of two definitions
+abbrev definition_rules : List RuleName
+definition_rules = L2 ∷ L3 ∷ L4 ∷ L6 ∷ L7 ∷ L8 ∷ L9 ∷ L10 ∷ L11 ∷ L12 ∷ L13 ∷ L14 ∷ []
+
+part_rules-among : (t : RuleName → Bool) → list_all t definition_rules ≡ true → list_all t part_rules ≡ true
+part_rules-among t all =
+    let at : AllPass t definition_rules = AllPass-from_list_all t definition_rules all in
+    and_from _ _ (at 3 L6 (omega arith)) (and_from _ _ (at 4 L7 (omega arith)) (and_from _ _ (at 5 L8 (omega arith)) (and_from _ _ (at 6 L9 (omega arith)) (and_from _ _ (at 7 L10 (omega arith)) (and_from _ _ (at 11 L14 (omega arith)) (refl))))))
+
+-- ---- a rule that is broken nowhere
+
+-- whether the rule is broken nowhere
+unfoldable pub kept : PlainView → PlainView → RuleName → Bool
+kept v w r = cond (speaks_of_parts r) (list_all (λ i. not (breaks_part r v w i)) (range_with_len 0 (length v.parts))) (not (breaks_whole r v w))
+
+all_fail : {X : Type 0} (h : ℕ → X) (p : ℕ → Bool) (xs : List ℕ) → map h (filter p xs) ≡ [] → list_all (λ i. not (p i)) xs ≡ true
+all_fail h p [] e = refl
+all_fail h p (x ∷ xs) e =
+    elim (cases_Bool (p x)) [
+      | inl passes ↦ let e' = rw passes at e in absurd cc
+      | inr fails ↦ let e' = rw fails at e in rw fails (all_fail h p xs e')
+    ]
+
+none_pass : {X : Type 0} (h : ℕ → X) (p : ℕ → Bool) (xs : List ℕ) → list_all (λ i. not (p i)) xs ≡ true → map h (filter p xs) ≡ []
+none_pass h p [] all = refl
+none_pass h p (x ∷ xs) all =
+    let both = and_parts (not (p x)) _ all in
+    rw (not-true (p x) both.0) (none_pass h p xs both.1)
+
+kept_from_none : (v w : PlainView) (r : RuleName) → broken v w r ≡ [] → kept v w r ≡ true
+unfolding broken kept
+kept_from_none v w r e =
+    elim (cases_Bool (speaks_of_parts r)) [
+      | inl of_parts ↦ let e' = rw of_parts at e in rw of_parts (all_fail (broken_at r) (breaks_part r v w) (range_with_len 0 (length v.parts)) e')
+      | inr of_whole ↦
+          elim (cases_Bool (breaks_whole r v w)) [
+            | inl breaks ↦ let e' = rw (of_whole, breaks) at e in absurd cc
+            | inr keeps ↦ rw (of_whole, keeps) refl
+          ]
+    ]
+
+none_from_kept : (v w : PlainView) (r : RuleName) → kept v w r ≡ true → broken v w r ≡ []
+unfolding broken kept
+none_from_kept v w r e =
+    elim (cases_Bool (speaks_of_parts r)) [
+      | inl of_parts ↦ let e' = rw of_parts at e in rw of_parts (none_pass (broken_at r) (breaks_part r v w) (range_with_len 0 (length v.parts)) e')
+      | inr of_whole ↦ let e' = rw of_whole at e in rw (of_whole, not-true (breaks_whole r v w) e') refl
+    ]
+
+left_nil : {X : Type 0} (xs ys : List X) → xs ++ ys ≡ [] → (xs ≡ []) × (ys ≡ [])
+left_nil [] ys e = (refl, e)
+left_nil (x ∷ xs) ys e = absurd cc
+
+all_kept : (v w : PlainView) (rs : List RuleName) → flat_map (broken v w) rs ≡ [] → list_all (kept v w) rs ≡ true
+all_kept v w [] e = refl
+all_kept v w (r ∷ rs) e =
+    let both = left_nil (broken v w r) (flat_map (broken v w) rs) e in
+    and_from (kept v w r) (list_all (kept v w) rs) (kept_from_none v w r both.0) (all_kept v w rs both.1)
+
+pub none_broken : (v w : PlainView) (rs : List RuleName) → list_all (kept v w) rs ≡ true → flat_map (broken v w) rs ≡ []
+none_broken v w [] e = refl
+none_broken v w (r ∷ rs) e =
+    let both = and_parts (kept v w r) (list_all (kept v w) rs) e in
+    rw (none_from_kept v w r both.0) (none_broken v w rs both.1)
+
+-- ---- rule by rule, and part by part
+
+list_all-weaker : {X : Type 0} (p q : X → Bool) → ((x : X) → p x ≡ true → q x ≡ true) → (xs : List X) → list_all p xs ≡ true → list_all q xs ≡ true
+list_all-weaker p q weaker [] all = refl
+list_all-weaker p q weaker (x ∷ xs) all =
+    let both = and_parts (p x) (list_all p xs) all in
+    and_from (q x) (list_all q xs) (weaker x both.0) (list_all-weaker p q weaker xs both.1)
+
+whole_from_kept : (v w : PlainView) (r : RuleName) → kept v w r ≡ true → not (breaks_whole r v w) ≡ true
+unfolding kept
+whole_from_kept v w r e =
+    elim (cases_Bool (speaks_of_parts r)) [
+      | inl of_parts ↦ not_from_false (breaks_whole r v w) (whole-of_parts v w r of_parts)
+      | inr of_whole ↦ rw of_whole at e
+    ]
+
+part_from_kept : (v w : PlainView) (i : ℕ) → i < length v.parts → (r : RuleName) → kept v w r ≡ true → not (breaks_part r v w i) ≡ true
+unfolding kept
+part_from_kept v w i inside r e =
+    elim (cases_Bool (speaks_of_parts r)) [
+      | inl of_parts ↦ list_all-below_at (λ k. not (breaks_part r v w k)) (length v.parts) i inside (rw of_parts at e)
+      | inr of_whole ↦ not_from_false (breaks_part r v w i) (part-of_whole v w i r of_whole)
+    ]
+
+kept_from_both : (v w : PlainView) → keeps_parts v w ≡ true → (r : RuleName) → not (breaks_whole r v w) ≡ true → kept v w r ≡ true
+unfolding kept keeps_parts keeps_part
+kept_from_both v w parts r e =
+    elim (cases_Bool (speaks_of_parts r)) [
+      | inl of_parts ↦ rw of_parts (list_all-below (λ i. not (breaks_part r v w i)) (length v.parts) (λ i inside. among_part_rules (λ rule. not (breaks_part rule v w i)) r (list_all-below_at (keeps_part v w) (length v.parts) i inside parts) of_parts))
+      | inr of_whole ↦ rw of_whole e
+    ]
+
+rules_asked-kinds : (v w : PlainView) → same_kind v.kind w.kind ≡ false → rules_asked v w ≡ L1 ∷ []
+rules_asked-kinds v w e = rw e refl
+
+rules_asked-declared : (v w : PlainView) → same_kind v.kind w.kind ≡ true → is_declaration v w ≡ true → rules_asked v w ≡ L5 ∷ []
+rules_asked-declared v w e d = rw (e, d) refl
+
+rules_asked-defined : (v w : PlainView) → same_kind v.kind w.kind ≡ true → is_declaration v w ≡ false → rules_asked v w ≡ definition_rules
+rules_asked-defined v w e d = rw (e, d) refl
+
+-- types of which parts are not compared: what is asked is asked of them as a whole
+pub none_uncompared : (v w : PlainView) → are_compared v w ≡ false → keeps_whole v w ≡ true → breaks v w ≡ []
+unfolding breaks keeps_whole kept
+none_uncompared v w e whole =
+    elim (cases_Bool (same_kind v.kind w.kind)) [
+      | inl same ↦
+          elim (cases_Bool (is_declaration v w)) [
+            | inl declared ↦
+                let asked = rules_asked-declared v w same declared in
+                rw asked (none_broken v w (L5 ∷ []) (rw asked at whole))
+            | inr defined ↦ absurd (false≢true (sym (rw (same, defined) at e)))
+          ]
+      | inr differ ↦
+          let asked = rules_asked-kinds v w differ in
+          rw asked (none_broken v w (L1 ∷ []) (rw asked at whole))
+    ]
+
+pub none_compared : (v w : PlainView) → are_compared v w ≡ true → keeps_whole v w ≡ true → keeps_parts v w ≡ true → breaks v w ≡ []
+unfolding breaks keeps_whole
+none_compared v w e whole parts =
+    none_broken v w (rules_asked v w) (list_all-weaker (λ rule. not (breaks_whole rule v w)) (kept v w) (kept_from_both v w parts) (rules_asked v w) whole)
+
+pub whole_from_none : (v w : PlainView) → breaks v w ≡ [] → keeps_whole v w ≡ true
+unfolding breaks keeps_whole
+whole_from_none v w none =
+    list_all-weaker (kept v w) (λ rule. not (breaks_whole rule v w)) (whole_from_kept v w) (rules_asked v w) (all_kept v w (rules_asked v w) none)
+
+pub parts_from_none : (v w : PlainView) → are_compared v w ≡ true → breaks v w ≡ [] → keeps_parts v w ≡ true
+unfolding breaks keeps_parts keeps_part
+parts_from_none v w e none =
+    let both = and_parts (same_kind v.kind w.kind) (not (is_declaration v w)) e in
+    let asked = rules_asked-defined v w both.0 (not-true (is_declaration v w) both.1) in
+    let all = part_rules-among (kept v w) (rw asked at (all_kept v w (rules_asked v w) none)) in
+    list_all-below (keeps_part v w) (length v.parts) (λ i inside. list_all-weaker (kept v w) (λ rule. not (breaks_part rule v w i)) (part_from_kept v w i inside) part_rules all)

@@ -1,0 +1,11 @@
+pub mod Given
+pub mod Keeps
+pub mod Leading
+pub mod Matches
+pub mod Occurrences
+pub mod OwnRules
+pub mod Partnering
+pub mod PlaceEq
+pub mod PlaceOf
+pub mod Ranges
+pub mod SameLemmas

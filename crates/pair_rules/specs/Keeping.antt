@@ -1,0 +1,23 @@
+-- That two types keep rules, part by part.
+use Rattle.std.specs.Prelude.{ℕ, Bool, not, List, [], ◌∷◌, length}
+use Rattle.std.specs.List.{list_all, range_with_len}
+use Rattle.abi_types.specs.declared.rule.RuleName.{RuleName}
+use Rattle.abi_types.specs.declared.rule.RuleName.TheVariants.{L6, L7, L8, L9, L10, L14}
+use Rattle.abi_types.specs.Types.{PlainView}
+use Rattle.pair_rules.specs.TypeRules.{rules_asked, breaks_whole, breaks_part}
+
+-- the rules that speak of parts
+abbrev pub part_rules : List RuleName
+part_rules = L6 ∷ L7 ∷ L8 ∷ L9 ∷ L10 ∷ L14 ∷ []
+
+-- whether two types break no rule that is asked of them as a whole
+unfoldable pub keeps_whole : PlainView → PlainView → Bool
+keeps_whole v w = list_all (λ rule. not (breaks_whole rule v w)) (rules_asked v w)
+
+-- whether they break no rule that speaks of parts, at part i of the old type
+unfoldable pub keeps_part : PlainView → PlainView → ℕ → Bool
+keeps_part v w i = list_all (λ rule. not (breaks_part rule v w i)) part_rules
+
+-- the same, at each part
+unfoldable pub keeps_parts : PlainView → PlainView → Bool
+keeps_parts v w = list_all (keeps_part v w) (range_with_len 0 (length v.parts))

@@ -1,0 +1,33 @@
+-- Paths from the types of exports to the triples that they lead to.
+use Rattle.std.specs.Prelude.{◌≡◌, ◌<◌, ◌⊎◌, ℕ, Some, slice_get}
+use Rattle.abi_types.specs.declared.kind.Way.TheVariants.{Direct}
+use Rattle.pair_rules.specs.Steps.{PlainRoot, Task, Triple, step}
+
+-- the export to begin from, and then steps, the last one outermost, each by the position of an old part
+pub data Path : Type 0 where
+  From : (export : ℕ) → Path
+  Then : (path : Path) (part : ℕ) → Path
+
+-- the triple of a root, which is reached by value
+abbrev pub root_triple : PlainRoot → Triple
+root_triple root = record { old = root.old; new = root.new; way = Direct }
+
+-- the path leads to the triple
+abbrev pub Leads : Task → Path → Triple → Type 0
+Leads t (From export) x = (k : ℕ) × (root : PlainRoot) × (slice_get t.roots k ≡ Some root) × (root.export ≡ export) × (x ≡ root_triple root)
+Leads t (Then path part) y = (x : Triple) × Leads t path x × (step t x part ≡ Some y)
+
+-- some path leads to the triple
+abbrev pub IsReachable : Task → Triple → Type 0
+IsReachable t x = (path : Path) × Leads t path x
+
+-- The path is shorter; or it is as long, and it comes from an earlier export, or from the same one by earlier parts, the first
+-- step counting most.
+abbrev pub IsBefore : Path → Path → Type 0
+IsBefore (From j) (From k) = j < k
+IsBefore (From j) (Then q k) = Unit {0}
+IsBefore (Then p j) (From k) = ⊥
+IsBefore (Then p j) (Then q k) = IsBefore p q ⊎ ((p ≡ q) × (j < k))
+
+abbrev pub IsNotAfter : Path → Path → Type 0
+IsNotAfter p q = IsBefore p q ⊎ (p ≡ q)

@@ -1,0 +1,62 @@
+-- What is compared, and how one pair of types leads to others.
+use Rattle.std.specs.Prelude.{ℕ, Bool, false, if◌then◌else◌, List, Option, Some, None, slice_index_or}
+use Rattle.abi_types.specs.declared.kind.Way.{Way}
+use Rattle.abi_types.specs.declared.kind.Way.TheVariants as way
+use Rattle.abi_types.specs.Types.{PlainView, PlainNode}
+use Rattle.abi_types.specs.Graphs.{part_at, view_at, to_of}
+use Rattle.pair_rules.specs.declared.rules.Broken.{Broken}
+use Rattle.pair_rules.specs.TypeRules.{breaks}
+use Rattle.pair_rules.specs.Partners.{partner_at}
+use Rattle.pair_rules.specs.Ways.{after}
+
+-- the types of an old export and of the new one that it binds to, each by the number of its node
+pub record PlainRoot : Type 0 where
+  pub export : ℕ
+  pub old : ℕ
+  pub new : ℕ
+
+-- two graphs, whether each node of the old one is marked at each way, and the pairs to begin from
+pub record Task : Type 0 where
+  pub old : List PlainNode
+  pub new : List PlainNode
+  pub direct : List Bool
+  pub pointer : List Bool
+  pub roots : List PlainRoot
+
+-- an old node and a new node in its place, and the way by which they are reached
+pub record Triple : Type 0 where
+  pub old : ℕ
+  pub new : ℕ
+  pub way : Way
+
+-- the marks at a way
+abbrev pub marks_at : Task → Way → List Bool
+marks_at t way.Direct = t.direct
+marks_at t way.Pointer = t.pointer
+
+-- whether an old node is marked at a way; none is past the end
+abbrev pub is_marked : Task → ℕ → Way → Bool
+is_marked t a at = slice_index_or (marks_at t at) a false
+
+-- the rules that the types of a triple break
+abbrev pub breaks_of : Task → Triple → List Broken
+breaks_of t x = breaks (view_at t.old x.old) (view_at t.new x.new)
+
+-- the nodes that two parts name, where both name one
+abbrev pub triple_of : Way → Option ℕ → Option ℕ → Option Triple
+triple_of at (Some a) (Some b) = Some (record { old = a; new = b; way = at })
+triple_of at a b = None
+
+-- the triple to which two partners lead
+abbrev pub led_by : PlainView → PlainView → Way → Option (ℕ × ℕ) → Option Triple
+led_by v w at None = None
+led_by v w at (Some p) = triple_of (after at (part_at v p.0)) (to_of (part_at v p.0)) (to_of (part_at w p.1))
+
+-- the triple to which part i of `v` and its partner lead, where `v` is reached by a way
+unfoldable pub next_of : PlainView → PlainView → Way → ℕ → Option Triple
+next_of v w at i = led_by v w at (partner_at v w i)
+
+-- The triple to which part i of the old type leads: that of the nodes which the part and its partner name. From an old node
+-- that is marked at its way no step leads on.
+unfoldable pub step : Task → Triple → ℕ → Option Triple
+step t x i = if is_marked t x.old x.way then None else next_of (view_at t.old x.old) (view_at t.new x.new) x.way i

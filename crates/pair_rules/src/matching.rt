@@ -1,0 +1,92 @@
+// Which part of a new type matches which part of an old one, and which pairs of parts lead further.
+ghost use Rattle.std.specs.Prelude.{◌≡◌, ◌<◌, length, slice_get, IfSome};
+ghost use Rattle.abi_types.specs.Parts.{plain_part};
+ghost use Rattle.pair_rules.specs.Matching.{match_of as the_match_of, number_of as the_number_of};
+ghost use Rattle.pair_rules.specs.TypeRules.{are_compared as the_types_are_compared};
+ghost use Rattle.pair_rules.specs.Partners.{partner_at as the_partner_at, partners};
+ghost use Rattle.pair_rules.specs.Same.{same_kind as the_same_kind};
+ghost use Rattle.pair_rules.specs.Ways.{after as the_way_after};
+
+use abi_types::{Index, Kind, NewIx, OldIx, Part, View, Way};
+
+// How many old parts before part `i` are like it.
+pub(crate) fn number_of(old: &View<OldIx>, i: usize) -> usize
+    requires { i < length old.now.parts }
+    ensures { result ≡ the_number_of old.now i }
+{
+    old.parts.like_before(i)
+}
+
+// The position of the new part that matches the old part `i`.
+#[tactic(auto, unfolding(crate::specs::Matching::match_of))]
+pub(crate) fn match_of(old: &View<OldIx>, new: &View<NewIx>, i: usize) -> Option<usize>
+    requires { i < length old.now.parts }
+    ensures place { result ≡ the_match_of old.now new.now i }
+    ensures inside { IfSome result (λ j. j < length new.now.parts) }
+{
+    new.parts.nth_like(old.part(i), number_of(old, i))
+}
+
+// Whether two kinds are one.
+pub(crate) fn same_kind(old: Kind, new: Kind) -> bool
+    ensures { result ≡ the_same_kind old new }
+{
+    old == new
+}
+
+// Whether both types are defined and of one kind.
+pub(crate) fn are_compared(old: &View<OldIx>, new: &View<NewIx>) -> bool
+    ensures { result ≡ the_types_are_compared old.now new.now }
+{
+    same_kind(old.kind, new.kind) && !(old.declared_only || new.declared_only)
+}
+
+/// The positions of the old part `i` and of its partner: the new part that matches it. Where the old part names no node, or
+/// the kinds differ, or one type is only declared, there is none.
+#[tactic(auto, unfolding(crate::specs::Partners::partner_at))]
+pub fn partner_at(old: &View<OldIx>, new: &View<NewIx>, i: usize) -> Option<(usize, usize)>
+    requires { i < length old.now.parts }
+    ensures places { result ≡ the_partner_at old.now new.now i }
+    ensures inside { IfSome result (λ p. (p.0 < length old.now.parts) × (p.1 < length new.now.parts)) }
+{
+    if !are_compared(old, new) {
+        return None;
+    }
+    match old.part(i) {
+        Part::Enumerator { .. } => None,
+        _ => match match_of(old, new, i) {
+            None => None,
+            Some(j) => Some((i, j)),
+        },
+    }
+}
+
+/// The positions of the partner with the number `k`, counted from 0 in order of the old position. Who wants all partners
+/// asks `partner_at` at each old position.
+pub fn partner(old: &View<OldIx>, new: &View<NewIx>, k: usize) -> Option<(usize, usize)>
+    ensures places { result ≡ slice_get (partners old.now new.now) k }
+    ensures inside { IfSome result (λ p. (p.0 < length old.now.parts) × (p.1 < length new.now.parts)) }
+{
+    let mut left = k;
+    'walk: for i in 0..old.parts_len() {
+        if let Some(found) = partner_at(old, new, i) {
+            if left == 0 {
+                return Some(found);
+            }
+            left -= 1;
+        }
+    }
+    None
+}
+
+/// The way by which the type that a part names is reached, where the type of the part is reached by `way`: a target through
+/// its pointer, a result and a parameter by value from their call, and all else as what it lies in.
+pub fn after<Ix: Index>(way: Way, part: &Part<Ix>) -> Way
+    ensures { result ≡ the_way_after way (plain_part Ix.number_of part.now) }
+{
+    match part {
+        Part::Target { .. } => Way::Pointer,
+        Part::Outcome { .. } | Part::Param { .. } => Way::Direct,
+        Part::Member { .. } | Part::Enumerator { .. } | Part::Element { .. } => way,
+    }
+}

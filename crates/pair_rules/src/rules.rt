@@ -1,0 +1,366 @@
+// The rules of two types.
+ghost use Rattle.std.specs.Prelude.{◌≡◌, ◌<◌, ◌+◌, ◌++◌, ◌↔◌, ℕ, [], List, Option, length, take, map, filter, slice_index_or, count_by, IsTrue, OnOk, IfOk};
+ghost use Rattle.std.specs.List.{range_with_len};
+ghost use Rattle.abi_types.specs.Forms.{has_elements as the_kind_has_elements};
+ghost use Rattle.abi_types.specs.Graphs.{part_at};
+ghost use Rattle.pair_rules.specs.Matching.{match_of as the_match_of};
+ghost use Rattle.pair_rules.specs.Same.{same_group as the_same_group, same_place as the_same_place};
+ghost use Rattle.pair_rules.specs.TypeRules.{bit_at as the_bit_at, breaks as the_breaks, breaks_part as the_part_breaks, breaks_whole as the_whole_breaks, broken as the_broken, broken_at, has_alignment as the_kind_has_alignment, has_size as the_kind_has_size, in_bytes as the_value_in_bytes, param_moved as the_param_moved, params_of as the_params_of, rules_asked as the_rules_asked, speaks_of_parts as the_rule_speaks_of_parts, value_at as the_value_at, width_at as the_width_at};
+ghost use Rattle.pair_rules.specs.Keeping.{keeps_part as the_part_keeps, keeps_parts as the_parts_keep, keeps_whole as the_whole_keeps};
+
+use crate::matching::{are_compared, match_of, number_of, same_kind};
+use crate::steps::Steps;
+use abi_base::{List, NoMemory};
+use abi_types::{Group, Index, Kind, NewIx, OldIx, Part, Place, RuleName, View};
+use std::alloc::Global;
+use std::sync::ledger::Ledger;
+
+/// A broken rule, with the position of the old part that it speaks of, else 0.
+#[derive(Clone, Copy, Debug, PartialEq, Eq)]
+pub struct Broken {
+    pub rule: RuleName,
+    pub part: usize,
+}
+
+// The rule that is asked of two kinds.
+static KIND_RULES: [RuleName; 1] = [RuleName::L1];
+
+// The rule that is asked where one type is only declared.
+static TAG_RULES: [RuleName; 1] = [RuleName::L5];
+
+// The rules that are asked of two definitions of one kind.
+static DEFINITION_RULES: [RuleName; 12] = [
+    RuleName::L2,
+    RuleName::L3,
+    RuleName::L4,
+    RuleName::L6,
+    RuleName::L7,
+    RuleName::L8,
+    RuleName::L9,
+    RuleName::L10,
+    RuleName::L11,
+    RuleName::L12,
+    RuleName::L13,
+    RuleName::L14,
+];
+
+// Those of them that speak of parts.
+static PART_RULES: [RuleName; 6] = [
+    RuleName::L6,
+    RuleName::L7,
+    RuleName::L8,
+    RuleName::L9,
+    RuleName::L10,
+    RuleName::L14,
+];
+
+// The rules that are asked of two types, in order.
+fn rules_asked(old: &View<OldIx>, new: &View<NewIx>) -> &'static [RuleName]
+    ensures { result.now ≡ the_rules_asked old.now new.now }
+{
+    if !same_kind(old.kind, new.kind) {
+        return &KIND_RULES;
+    }
+    if old.declared_only || new.declared_only {
+        return &TAG_RULES;
+    }
+    &DEFINITION_RULES
+}
+
+fn speaks_of_parts(rule: RuleName) -> bool
+    ensures { result ≡ the_rule_speaks_of_parts rule }
+{
+    matches!(
+        rule,
+        RuleName::L6 | RuleName::L7 | RuleName::L8 | RuleName::L9 | RuleName::L10 | RuleName::L14
+    )
+}
+
+fn has_size(kind: Kind) -> bool
+    ensures { result ≡ the_kind_has_size kind }
+{
+    !matches!(kind, Kind::Void | Kind::Pointer | Kind::Function)
+}
+
+fn has_alignment(kind: Kind) -> bool
+    ensures { result ≡ the_kind_has_alignment kind }
+{
+    !matches!(kind, Kind::Void | Kind::Function)
+}
+
+fn has_elements(kind: Kind) -> bool
+    ensures { result ≡ the_kind_has_elements kind }
+{
+    matches!(kind, Kind::Array | Kind::Vector)
+}
+
+fn same_group(old: Group, new: Group) -> bool
+    ensures { result ≡ the_same_group old new }
+{
+    old == new
+}
+
+fn same_place(old: Place, new: Place) -> bool
+    ensures { result ≡ the_same_place old new }
+{
+    old == new
+}
+
+// How many parameters a type has.
+fn params_of<Ix: Index>(view: &View<Ix>) -> usize
+    ensures { result ≡ the_params_of view.now }
+{
+    let mut count = 0;
+    'walk: for i in 0..view.parts_len() {
+        if let Part::Param { .. } = view.part(i) {
+            count += 1;
+        }
+    }
+    count
+}
+
+// Whether two types break a rule that speaks of them as a whole.
+#[tactic(auto, unfolding(crate::specs::TypeRules::breaks_whole))]
+fn breaks_whole(rule: RuleName, old: &View<OldIx>, new: &View<NewIx>) -> bool
+    ensures { result ≡ the_whole_breaks rule old.now new.now }
+{
+    match rule {
+        RuleName::L1 => !same_kind(old.kind, new.kind),
+        RuleName::L2 => has_size(old.kind) && old.size != new.size,
+        RuleName::L3 => old.kind == Kind::Scalar && !same_group(old.group, new.group),
+        RuleName::L4 => has_alignment(old.kind) && old.align != new.align,
+        RuleName::L5 => old.tag != new.tag,
+        RuleName::L11 => has_elements(old.kind) && old.count != new.count,
+        RuleName::L12 => old.kind == Kind::Function && params_of(old) != params_of(new),
+        RuleName::L13 => old.kind == Kind::Function && old.variadic != new.variadic,
+        _ => false,
+    }
+}
+
+// How many bits a byte has.
+const BYTE_BITS: u64 = 8;
+
+// How many bytes the value of an enumerator has.
+const VALUE_BYTES: u64 = 8;
+
+// A value in as many bytes.
+#[tactic(auto, unfolding(crate::specs::TypeRules::in_bytes))]
+fn in_bytes(size: u64, value: u64) -> u64
+    ensures { result ≡ the_value_in_bytes size value }
+{
+    if size < VALUE_BYTES {
+        value % (1 << (BYTE_BITS * size))
+    } else {
+        value
+    }
+}
+
+// The bit at which a member stands.
+fn bit_at(new: &View<NewIx>, j: usize) -> u64
+    requires { j < length new.now.parts }
+    ensures { result ≡ the_bit_at new.now j }
+{
+    match new.part(j) {
+        Part::Member { bit, .. } => *bit,
+        _ => 0,
+    }
+}
+
+// The width of a member where it is a bit field, else 0.
+fn width_at(new: &View<NewIx>, j: usize) -> u64
+    requires { j < length new.now.parts }
+    ensures { result ≡ the_width_at new.now j }
+{
+    match new.part(j) {
+        Part::Member { width, .. } => *width,
+        _ => 0,
+    }
+}
+
+// The value of an enumerator, in the bytes of its enumeration.
+fn value_at(new: &View<NewIx>, j: usize) -> u64
+    requires { j < length new.now.parts }
+    ensures { result ≡ the_value_at new.now j }
+{
+    match new.part(j) {
+        Part::Enumerator { value, .. } => in_bytes(new.size, *value),
+        _ => in_bytes(new.size, 0),
+    }
+}
+
+// Whether the place of the old parameter at position `i` differs from that of its match, where both are there.
+fn param_moved(old: &View<OldIx>, new: &View<NewIx>, i: usize, found: Option<usize>) -> bool
+    requires inside { i < length old.now.parts }
+    requires found { found ≡ the_match_of old.now new.now i }
+    ensures { result ≡ the_param_moved old.now new.now i }
+{
+    if found.is_none() {
+        return false;
+    }
+    let number = number_of(old, i);
+    match (
+        old.call.params.as_slice().get(number),
+        new.call.params.as_slice().get(number),
+    ) {
+        (Some(old), Some(new)) => !same_place(*old, *new),
+        _ => false,
+    }
+}
+
+// Whether two types break a rule that speaks of parts, at part `i` of the old one, whose match is at hand.
+#[tactic(auto, using(crate::proofs::Matches::inside), unfolding(crate::specs::TypeRules::breaks_part))]
+fn breaks_part(
+    rule: RuleName,
+    old: &View<OldIx>,
+    new: &View<NewIx>,
+    i: usize,
+    found: Option<usize>,
+) -> bool
+    requires inside { i < length old.now.parts }
+    requires found { found ≡ the_match_of old.now new.now i }
+    ensures { result ≡ the_part_breaks rule old.now new.now i }
+{
+    match (rule, old.part(i)) {
+        (RuleName::L6, Part::Member { .. }) => found.is_none(),
+        (RuleName::L7, Part::Member { bit, .. }) => match found {
+            Some(j) => *bit != bit_at(new, j),
+            None => false,
+        },
+        (RuleName::L8, Part::Member { width, .. }) => match found {
+            Some(j) => *width != width_at(new, j),
+            None => false,
+        },
+        (RuleName::L9, Part::Enumerator { .. }) => found.is_none(),
+        (RuleName::L10, Part::Enumerator { value, .. }) => match found {
+            Some(j) => in_bytes(old.size, *value) != value_at(new, j),
+            None => false,
+        },
+        (RuleName::L14, Part::Outcome { .. }) => !same_place(old.call.outcome, new.call.outcome),
+        (RuleName::L14, Part::Param { .. }) => param_moved(old, new, i, found),
+        _ => false,
+    }
+}
+
+// The match of each old part.
+fn matches_of(
+    alloc: Global,
+    old: &View<OldIx>,
+    new: &View<NewIx>,
+) -> Result<List<Option<usize>>, NoMemory>
+    ensures { IfOk result (λ list. list ≡ map (the_match_of old.now new.now) (range_with_len 0 (length old.now.parts))) }
+{
+    let mut list = List::new(alloc);
+    'walk: for i in 0..old.parts_len() {
+        list.push(match_of(old, new, i))?;
+    }
+    Ok(list)
+}
+
+// Appends where two types break a rule that speaks of parts, in order of the old parts.
+fn push_parts(
+    list: &mut List<Broken>,
+    rule: RuleName,
+    old: &View<OldIx>,
+    new: &View<NewIx>,
+    matches: &[Option<usize>],
+) -> Result<(), NoMemory>
+    requires { matches.now ≡ map (the_match_of old.now new.now) (range_with_len 0 (length old.now.parts)) }
+    ensures { OnOk result (list.new ≡ list.old ++ map (broken_at rule) (filter (the_part_breaks rule old.now new.now) (range_with_len 0 (length old.now.parts)))) }
+{
+    'walk: for (part, found) in matches.iter().enumerate() {
+        if breaks_part(rule, old, new, part, *found) {
+            list.push(Broken { rule, part })?;
+        }
+    }
+    Ok(())
+}
+
+// Appends where two types break a rule.
+#[tactic(auto, unfolding(crate::specs::TypeRules::broken))]
+fn push_broken(
+    list: &mut List<Broken>,
+    rule: RuleName,
+    old: &View<OldIx>,
+    new: &View<NewIx>,
+    matches: &[Option<usize>],
+) -> Result<(), NoMemory>
+    requires { matches.now ≡ map (the_match_of old.now new.now) (range_with_len 0 (length old.now.parts)) }
+    ensures { OnOk result (list.new ≡ list.old ++ the_broken old.now new.now rule) }
+{
+    if speaks_of_parts(rule) {
+        return push_parts(list, rule, old, new, matches);
+    }
+    if breaks_whole(rule, old, new) {
+        return list.push(Broken { rule, part: 0 });
+    }
+    Ok(())
+}
+
+/// All rules that two types break, in order of rule and then of the old parts. It counts as one step, also where there is no
+/// memory for the answer.
+#[tactic(auto, unfolding(crate::specs::TypeRules::breaks))]
+pub fn breaks<L: Ledger>(
+    alloc: Global,
+    old: &View<OldIx>,
+    new: &View<NewIx>,
+    steps: &mut Steps<L>,
+) -> Result<List<Broken>, NoMemory>
+    ensures breaks { IfOk result (λ list. list ≡ the_breaks old.now new.now) }
+    ensures step { steps.new ≡ steps.old + 1 }
+{
+    steps.tick();
+    let matches = matches_of(alloc, old, new)?;
+    let mut list = List::new(alloc);
+    'rules: for rule in rules_asked(old, new) {
+        push_broken(&mut list, *rule, old, new, matches.as_slice())?;
+    }
+    Ok(list)
+}
+
+// Whether two types break no rule that is asked of them as a whole.
+#[tactic(auto, unfolding(crate::specs::Keeping::keeps_whole))]
+fn keeps_whole(old: &View<OldIx>, new: &View<NewIx>) -> bool
+    ensures { result ≡ the_whole_keeps old.now new.now }
+{
+    rules_asked(old, new)
+        .iter()
+        .all(|rule| !breaks_whole(*rule, old, new))
+}
+
+// Whether two types break no rule that speaks of parts, at part `i` of the old one.
+#[tactic(auto, unfolding(crate::specs::Keeping::keeps_part))]
+fn keeps_part(old: &View<OldIx>, new: &View<NewIx>, i: usize) -> bool
+    requires { i < length old.now.parts }
+    ensures { result ≡ the_part_keeps old.now new.now i }
+{
+    let found = match_of(old, new, i);
+    PART_RULES
+        .iter()
+        .all(|rule| !breaks_part(*rule, old, new, i, found))
+}
+
+// The same, at each part.
+#[tactic(auto, unfolding(crate::specs::Keeping::keeps_parts))]
+fn keeps_parts(old: &View<OldIx>, new: &View<NewIx>) -> bool
+    ensures { result ≡ the_parts_keep old.now new.now }
+{
+    'walk: for i in 0..old.parts_len() {
+        if !keeps_part(old, new, i) {
+            return false;
+        }
+    }
+    true
+}
+
+/// Whether two types break no rule. It takes no memory.
+pub fn holds(old: &View<OldIx>, new: &View<NewIx>) -> bool
+    ensures { IsTrue result ↔ (the_breaks old.now new.now ≡ []) }
+{
+    if !keeps_whole(old, new) {
+        return false;
+    }
+    if !are_compared(old, new) {
+        return true;
+    }
+    keeps_parts(old, new)
+}
