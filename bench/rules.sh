@@ -1,0 +1,27 @@
+#!/usr/bin/env bash
+# Times the rules of two types on two structures of 1,000, 2,000, 5,000 and 10,000 members, which the crate rules_bench makes.
+# For each size it prints milliseconds of processor time for one call of `breaks`, `partner_at` at each member and `partner` of the last: the
+# difference between many rounds and none, divided by the rounds, the least of five runs.
+#
+# usage: bench/rules.sh [PROGRAM]   (default: the program that `rt run` built in crates/rules_bench/out)
+set -eu
+top=$(cd "$(dirname "$0")/.." && pwd)
+program=$(readlink -f "${1:-$top/crates/rules_bench/out/rules_bench}")
+rounds=20
+
+# Seconds of processor time of a command, the least of five runs, to standard output.
+least_time() {
+    for _ in 1 2 3 4 5; do
+        TIMEFORMAT='%U %S'
+        { time "$@" > /dev/null 2>&1; } 2>&1 | awk '{ print $1 + $2 }'
+    done | sort -g | head -n 1
+}
+
+echo "load $(cut -d ' ' -f 1-3 /proc/loadavg)"
+for members in 1000 2000 5000 10000; do
+    "$program" "$members" "$rounds" | grep -qx "0 broken, $((members * rounds)) partners"
+    made=$(least_time "$program" "$members" 0)
+    all=$(least_time "$program" "$members" "$rounds")
+    awk -v members="$members" -v made="$made" -v all="$all" -v rounds="$rounds" \
+        'BEGIN { printf "%d members: made in %.1f ms, compared in %.2f ms a round\n", members, 1000 * made, 1000 * (all - made) / rounds }'
+done
