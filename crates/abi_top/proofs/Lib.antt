@@ -1,4 +1,5 @@
 mod Endings
 mod InOrder
+pub mod Lines
 pub mod Judging
 mod Single

@@ -9,9 +9,10 @@ use Rattle.abi_top.specs.declared.judge.Verdict.{Verdict}
 use Rattle.abi_top.specs.declared.judge.Verdict.TheVariants as verdict
 use Rattle.abi_top.specs.declared.status.Input.{Input}
 use Rattle.abi_top.specs.declared.status.Status.{Status}
-use Rattle.abi_top.specs.declared.status.Status.TheVariants.{Yes, No, Unreadable, ReadFault, NoMemory, WriteFault, Usage}
-use Rattle.abi_top.specs.Asked.{Asked, check, asked_by, wanted_by}
+use Rattle.abi_top.specs.declared.status.Status.TheVariants.{Yes, No, Done, Unreadable, ReadFault, NoMemory, WriteFault, Usage}
+use Rattle.abi_top.specs.Asked.{Asked, check, entries, asked_by, wanted_by}
 use Rattle.abi_top.specs.Check.{CheckJudges}
+use Rattle.abi_top.specs.Listing.{ListingJudges}
 use Rattle.abi_top.specs.Faults.{FirstFault, AreReadable}
 use Rattle.abi_top.specs.Reading.{Gives, Reaches}
 use Rattle.abi_top.specs.Text.{usage_text, unreadable_text, read_fault_text}
@@ -33,6 +34,7 @@ call_of told faults given words old new = record { words = texts words; told = t
 -- the verdict of each command on the bytes of its inputs, with its text
 abbrev pub Judges : Asked → List (List ℕ) → Verdict → List ℕ → Type 0
 Judges (check old_name new_name) (old ∷ new ∷ []) v text = CheckJudges old new v text
+Judges (entries name) (library ∷ []) v text = ListingJudges library v text
 Judges asked all v text = ⊥
 
 -- the inputs that are read, in order
@@ -73,5 +75,6 @@ Answers call ReadFault text = (which : Input) × Asks call (FailsToRead call whi
 Answers call Unreadable text = (which : Input) × (fault : Fault) × Asks call (IsFaulty call which fault) × (text ≡ unreadable_text which fault)
 Answers call Yes text = IsJudged call verdict.Yes text
 Answers call No text = IsJudged call verdict.No text
+Answers call Done text = IsJudged call verdict.Done text
 Answers call NoMemory text = ⊥
 Answers call WriteFault text = ⊥

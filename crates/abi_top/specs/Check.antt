@@ -4,7 +4,7 @@ use Rattle.abi_types.specs.Exports.{PlainExport}
 use Rattle.elf_syms.specs.Dynamic.{soname_of}
 use Rattle.pair_rules.specs.ExportRules.{breaks_kind, breaks_size, breaks_type}
 use Rattle.abi_top.specs.declared.judge.Verdict.{Verdict}
-use Rattle.abi_top.specs.declared.judge.Verdict.TheVariants.{Yes, No}
+use Rattle.abi_top.specs.declared.judge.Verdict.TheVariants.{Yes, No, Done}
 use Rattle.abi_top.specs.Library.{exports_of}
 use Rattle.abi_top.specs.Report.{partner_of, breaks_of, report_of}
 use Rattle.abi_top.specs.Certificate.{certificate_of}
@@ -23,3 +23,4 @@ pub record Compatible (old new : List ℕ) : Type 0 where
 abbrev pub CheckJudges : List ℕ → List ℕ → Verdict → List ℕ → Type 0
 CheckJudges old new Yes text = Compatible old new × (text ≡ certificate_of old new)
 CheckJudges old new No text = (Compatible old new → ⊥) × (text ≡ report_of (breaks_of old new))
+CheckJudges old new Done text = ⊥

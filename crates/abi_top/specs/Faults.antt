@@ -2,15 +2,17 @@
 use Rattle.std.specs.Prelude.{◌≡◌, ◌⊎◌, ℕ, List, ◌∷◌, Option, Some, None}
 use Rattle.abi_base.specs.declared.fault.Fault.{Fault}
 use Rattle.abi_top.specs.declared.status.Input.{Input}
-use Rattle.abi_top.specs.declared.status.Input.TheVariants.{Old, New}
+use Rattle.abi_top.specs.declared.status.Input.TheVariants.{Old, New, Library}
 use Rattle.abi_top.specs.declared.judge.Stop.{Stop}
 use Rattle.abi_top.specs.declared.judge.Stop.TheVariants.{NoMemory, Fault as Faulty}
 use Rattle.abi_top.specs.Library.{library_fault}
+use Rattle.abi_top.specs.Listing.{listing_fault}
 
 -- the first fault of an input, by what it is
 abbrev pub fault_of : Input → List ℕ → Option Fault
 fault_of Old bytes = library_fault bytes
 fault_of New bytes = library_fault bytes
+fault_of Library bytes = listing_fault bytes
 
 -- the first input that has a fault, and that fault
 abbrev pub FirstFault : List Input → List (List ℕ) → Input → Fault → Type 0

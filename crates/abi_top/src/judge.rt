@@ -9,6 +9,7 @@ ghost use Rattle.abi_top.specs.Verdicts.{status_of};
 ghost use Rattle.abi_top.specs.declared.judge.Stop.TheVariants.{NoMemory as OutOfMemory};
 
 use crate::check::check;
+use crate::listing::list_entries;
 use crate::words::Request;
 use crate::{Input, Status};
 use abi_base::{Fault, INPUT_LIMIT, NoMemory};
@@ -19,6 +20,8 @@ use std::alloc::{AllocError, Global};
 pub enum Verdict {
     Yes,
     No,
+    /// What was asked for is there.
+    Done,
 }
 
 impl Verdict {
@@ -29,6 +32,7 @@ impl Verdict {
         match self {
             Verdict::Yes => Status::Yes,
             Verdict::No => Status::No,
+            Verdict::Done => Status::Done,
         }
     }
 }
@@ -74,6 +78,10 @@ pub fn judge(alloc: Global, request: &Request, all: &[Vec<u8>]) -> Result<Judgem
     match request {
         Request::Check { .. } => match all {
             [old, new] => check(alloc, old, new),
+            _ => unreachable!(),
+        },
+        Request::Entries { .. } => match all {
+            [library] => list_entries(alloc, library),
             _ => unreachable!(),
         },
     }

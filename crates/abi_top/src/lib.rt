@@ -6,6 +6,7 @@ mod check;
 mod judge;
 mod laws;
 mod library;
+mod listing;
 mod names;
 mod reading;
 mod report;

@@ -9,6 +9,8 @@ pub enum Status {
     Yes,
     /// It may not; the text has a line for each break.
     No,
+    /// What was asked for was printed.
+    Done,
     /// An input has a fault, or is too long; the text names the first one.
     Unreadable,
     /// Reading an input failed; the text names the input.
@@ -29,6 +31,7 @@ impl Status {
         match self {
             Status::Yes => 0,
             Status::No => 1,
+            Status::Done => 0,
             Status::Unreadable => 2,
             Status::ReadFault => 3,
             Status::NoMemory => 4,
@@ -43,6 +46,7 @@ impl Status {
 pub enum Input {
     Old,
     New,
+    Library,
 }
 
 impl Input {
@@ -53,6 +57,7 @@ impl Input {
         match self {
             Input::Old => "old",
             Input::New => "new",
+            Input::Library => "library",
         }
     }
 }

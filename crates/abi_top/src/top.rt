@@ -4,11 +4,12 @@ ghost use Rattle.std.specs.Io.KnownBytes.{Appends};
 ghost use Rattle.abi_base.specs.Causes.{Rose, AppendsFront};
 ghost use Rattle.abi_base.specs.declared.fault.Fault.{Fault as AnyFault};
 ghost use Rattle.abi_top.specs.Answer.{Answers, Asks, Call, FailsToRead, IsFaulty, call_of};
-ghost use Rattle.abi_top.specs.Asked.{asked_by, check};
+ghost use Rattle.abi_top.specs.Asked.{asked_by, check, entries};
 ghost use Rattle.abi_top.specs.Certificate.{certificate_of};
 ghost use Rattle.abi_top.specs.Check.{Compatible};
 ghost use Rattle.abi_top.specs.Ends.{IsStopAnswer, IsUnreadAnswer};
-ghost use Rattle.abi_top.specs.Headline.{OnLibraries, IsServed, IsVerdict};
+ghost use Rattle.abi_top.specs.Headline.{OnLibraries, OnLibrary, IsServed, IsVerdict};
+ghost use Rattle.abi_top.specs.Listing.{listing_of};
 ghost use Rattle.abi_top.specs.Report.{breaks_of, report_of};
 ghost use Rattle.abi_top.specs.Text.{usage_text, unreadable_text, read_fault_text};
 ghost use Rattle.abi_top.specs.Words.{texts};
@@ -18,7 +19,7 @@ ghost use Rattle.abi_top.specs.declared.status.Status.{Status as AnyStatus};
 use crate::judge::{Stop, judge};
 use crate::reading::{Unread, read_all};
 use crate::words::request_of;
-use crate::{Status, text};
+use crate::{Input, Status, text};
 use abi_base::{Fault, FaultKind, INPUT_LIMIT, Inputs, NoMemory, Sink, write_all};
 use std::alloc::Global;
 
@@ -49,6 +50,11 @@ pub fn run<I: Inputs, S: Sink>(
     ensures no { let call : Call = call_of I.told I.faults I.given words.now inputs.old inputs.new in
         result ≡ Status.No
         → OnLibraries call (λ old new. (Compatible old new → ⊥) × Appends (S.held sink.old) (S.held sink.new) (report_of (breaks_of old new))) }
+
+    // Done: the library is readable, and a line was printed for each of its entries.
+    ensures done { let call : Call = call_of I.told I.faults I.given words.now inputs.old inputs.new in
+        result ≡ Status.Done
+        → OnLibrary call (λ library. Appends (S.held sink.old) (S.held sink.new) (listing_of library)) }
 
     // Unreadable: the text names the first fault of the first input that has one, too long before all others.
     ensures unreadable { let call : Call = call_of I.told I.faults I.given words.now inputs.old inputs.new in
@@ -81,8 +87,14 @@ pub fn run<I: Inputs, S: Sink>(
     // is the verdict, or want of memory.
     ensures complete { let call : Call = call_of I.told I.faults I.given words.now inputs.old inputs.new in
         (old_name new_name old new : List ℕ) → asked_by (texts words.now) ≡ Some (check old_name new_name)
-        → IsServed call old_name old → IsServed call new_name new → (Rose (S.faults sink.old) (S.faults sink.new) → ⊥)
+        → IsServed call Input.Old old_name old → IsServed call Input.New new_name new → (Rose (S.faults sink.old) (S.faults sink.new) → ⊥)
         → result ≢ Status.NoMemory → IsVerdict old new result }
+
+    // The same of the entries of one library.
+    ensures complete_entries { let call : Call = call_of I.told I.faults I.given words.now inputs.old inputs.new in
+        (name library : List ℕ) → asked_by (texts words.now) ≡ Some (entries name)
+        → IsServed call Input.Library name library → (Rose (S.faults sink.old) (S.faults sink.new) → ⊥)
+        → result ≢ Status.NoMemory → result ≡ Status.Done }
 {
     match answer_to(alloc, words, inputs) {
         Err(NoMemory) => Status::NoMemory,

@@ -12,6 +12,7 @@ use std::alloc::{AllocError, Global};
 #[derive(Clone, Copy, Debug)]
 pub enum Request<'a> {
     Check { old: &'a str, new: &'a str },
+    Entries { library: &'a str },
 }
 
 /// What the words ask for, if they are right.
@@ -22,6 +23,13 @@ pub fn request_of<'a>(words: &[&'a str]) -> Option<Request<'a>>
         [command, old, new] => {
             if *command == "check" {
                 Some(Request::Check { old, new })
+            } else {
+                None
+            }
+        }
+        [command, library] => {
+            if *command == "entries" {
+                Some(Request::Entries { library })
             } else {
                 None
             }
@@ -37,6 +45,7 @@ impl<'a> Request<'a> {
     {
         let wanted = match self {
             Request::Check { old, new } => vec![in alloc; (Input::Old, *old), (Input::New, *new)]?,
+            Request::Entries { library } => vec![in alloc; (Input::Library, *library)]?,
         };
         Ok(wanted)
     }
