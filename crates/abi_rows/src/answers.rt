@@ -169,7 +169,7 @@ fn exports_are_told_from_other_symbols(rt: HostRuntime) -> Result<(), Fail> {
 
 #[test]
 fn wrong_words_print_the_usage(rt: HostRuntime) -> Result<(), Fail> {
-    let rows: [&[&str]; 8] = [
+    let rows: [&[&str]; 11] = [
         &[],
         &["check"],
         &["check", "a"],
@@ -178,6 +178,9 @@ fn wrong_words_print_the_usage(rt: HostRuntime) -> Result<(), Fail> {
         &["CHECK", "a", "b"],
         &["", "a", "b"],
         &["a", "check", "b"],
+        &["entries"],
+        &["entries", "a", "b"],
+        &["Entries", "a"],
     ];
     for words in rows {
         let mut inputs = inputs(rt.alloc(), &[("a", b""), ("b", b"")], &[])?;

@@ -1,4 +1,5 @@
 // Symbols with versions: what they bind to, how reports name them, and the faults of their tables.
+use crate::entries::{ABBREVS, UNIT};
 use crate::fixture::{CHECK, are_refused, change, checks, inputs, library_of};
 use abi_base::MemSink;
 use abi_images::constants::{VER_FLG_BASE, VER_NDX_GLOBAL, VER_NDX_LOCAL, VERSYM_HIDDEN};
@@ -303,22 +304,6 @@ fn unusual_versions_are_readable(rt: HostRuntime) -> Result<(), Fail> {
     Ok(())
 }
 
-// The debug information of a function `f` that gives an `int`, at the address of the function of an image.
-const DEBUG_ABBREV: [u8; 30] = [
-    0x01, 0x11, 0x01, 0x13, 0x05, 0, 0, // a unit
-    0x02, 0x24, 0, 0x0b, 0x0b, 0x3e, 0x0b, 0x03, 0x08, 0, 0, // a base type
-    0x03, 0x2e, 0, 0x03, 0x08, 0x49, 0x13, 0x11, 0x01, 0, 0, // a function
-    0,
-];
-
-const DEBUG_INFO: [u8; 38] = [
-    0x22, 0, 0, 0, 0x05, 0, 0x01, 0x08, 0, 0, 0, 0, // the header
-    0x01, 0x0c, 0, // the unit
-    0x02, 0x04, 0x05, 0x69, 0x6e, 0x74, 0, // the base type
-    0x03, 0x66, 0, 0x0f, 0, 0, 0, 0, 0x10, 0, 0, 0, 0, 0, 0, // the function
-    0,
-];
-
 // A function of version V1 with its debug information: `.dynsym`, `.dynstr`, `.gnu.version`, `.gnu.version_d`, `.shstrtab`,
 // `.debug_abbrev` and `.debug_info`, in this order.
 fn library_with_debug_information(alloc: Global) -> Result<Vec<u8>, AllocError> {
@@ -339,9 +324,9 @@ fn library_with_debug_information(alloc: Global) -> Result<Vec<u8>, AllocError> 
         &[base, version],
     )?;
     image.add_section_names()?;
-    let abbreviations = Vec::from_slice(alloc, &DEBUG_ABBREV)?;
+    let abbreviations = Vec::from_slice(alloc, ABBREVS)?;
     image.add_section(ImageSection::new(alloc, ".debug_abbrev", 1, abbreviations)?)?;
-    let entries = Vec::from_slice(alloc, &DEBUG_INFO)?;
+    let entries = Vec::from_slice(alloc, UNIT)?;
     image.add_section(ImageSection::new(alloc, ".debug_info", 1, entries)?)?;
     image.bytes(alloc)
 }
