@@ -1,0 +1,81 @@
+#!/usr/bin/env bash
+# Times `abi entries` over libraries with debug information that gcc and clang make of generated C: one unit of 1,000 and of
+# 4,000 groups of declarations, and 100 units of 40 groups, beside readelf --debug-dump=info over the same file, and beside
+# llvm-dwarfdump and eu-readelf where they are there. All print to /dev/null. Prints seconds of processor time, ratios and
+# peak memory.
+#
+# usage: bench/entries.sh [ABI]   (default: the program that `rt run` built in crates/abi_cli/out)
+set -eu
+top=$(cd "$(dirname "$0")/.." && pwd)
+abi=$(readlink -f "${1:-$top/crates/abi_cli/out/abi_cli}")
+source=$top/tests/c/entries.awk
+made=$top/bench/made/entries
+mkdir -p "$made"
+cd "$made"
+
+# seconds COMMAND..: adds the seconds of processor time of a run to the file `times`.
+seconds() {
+    TIMEFORMAT='%U %S'
+    { time "$@" >/dev/null 2>errors; } 2>>times
+}
+
+# least COMMAND..: the least seconds of processor time of seven runs.
+least() {
+    rm -f times
+    for _ in 1 2 3 4 5 6 7; do seconds "$@"; done
+    awk 'NR == 1 || $1 + $2 < cpu { cpu = $1 + $2 } END { printf "%.3f", cpu }' times
+}
+
+# Peak memory of a command in megabytes.
+peak_memory() {
+    if [ -x /usr/bin/time ]; then
+        /usr/bin/time -f '%M' -o memory "$@" >/dev/null 2>&1
+        awk '{ printf "%.1f", $1 / 1024 }' memory
+    else
+        printf 'unknown'
+    fi
+}
+
+ratio() { awk -v a="$1" -v b="$2" 'BEGIN { if (b > 0) printf "%.2f", a / b; else printf "none" }'; }
+
+# measured NAME LIBRARY: a line of each tool.
+measured() {
+    local entries size ours theirs
+    entries=$("$abi" entries "$2" | wc -l)
+    size=$(readelf --wide --section-headers "$2" | awk '/ \.debug_info / { sub(/^ *\[ *[0-9]+\]/, ""); print $5 }')
+    ours=$(least "$abi" entries "$2")
+    theirs=$(least readelf --debug-dump=info "$2")
+    echo "$1: $entries entries, $((16#$size)) bytes of .debug_info, $(stat -c %s "$2") bytes of file"
+    echo "  abi entries $ours s, peak $(peak_memory "$abi" entries "$2") MB"
+    echo "  readelf --debug-dump=info $theirs s, peak $(peak_memory readelf --debug-dump=info "$2") MB, ratio of abi entries to it $(ratio "$ours" "$theirs")"
+    if command -v llvm-dwarfdump >/dev/null; then
+        theirs=$(least llvm-dwarfdump --debug-info "$2")
+        echo "  llvm-dwarfdump --debug-info $theirs s, ratio of abi entries to it $(ratio "$ours" "$theirs")"
+    fi
+    if command -v eu-readelf >/dev/null; then
+        theirs=$(least eu-readelf --debug-dump=info "$2")
+        echo "  eu-readelf --debug-dump=info $theirs s, ratio of abi entries to it $(ratio "$ours" "$theirs")"
+    fi
+}
+
+for groups in 1000 4000; do
+    awk -v first=1 -v last="$groups" -f "$source" >"groups_$groups.c"
+done
+units=
+for unit in $(seq 1 100); do
+    awk -v first=$((unit * 40 - 39)) -v last=$((unit * 40)) -f "$source" >"unit_$unit.c"
+    units="$units unit_$unit.c"
+done
+compilers=gcc
+if command -v clang >/dev/null; then compilers="gcc clang"; fi
+for compiler in $compilers; do
+    for version in 5 4; do
+        for groups in 1000 4000; do
+            "$compiler" -shared -fPIC -w -g -gdwarf-$version -O1 -o library.so "groups_$groups.c"
+            measured "$compiler, DWARF $version, one unit of $groups groups" library.so
+        done
+    done
+    # The sources are words of their own.
+    "$compiler" -shared -fPIC -w -g -gdwarf-5 -O1 -o library.so $units
+    measured "$compiler, DWARF 5, 100 units of 40 groups" library.so
+done
