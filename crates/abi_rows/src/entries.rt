@@ -97,7 +97,7 @@ fn cut(alloc: Global, entries: &[u8], size: usize) -> Result<Vec<u8>, AllocError
         cut.push(*byte)?;
     }
     if let Some(length) = cut.first_mut() {
-        *length = size.saturating_sub(4) as u8;
+        *length = u8::try_from(size.saturating_sub(4)).unwrap_or(0);
     }
     Ok(cut)
 }
@@ -158,11 +158,7 @@ fn damaged_entries_are_refused(rt: HostRuntime) -> Result<(), Fail> {
         change(&mut entries, entry_changes);
         is_refused(&rt, &abbrevs, &entries, fault)?;
     }
-    let file = library(alloc, ABBREVS, UNIT)?;
-    lists(
-        &rt,
-        &file[..63],
-        Status::Unreadable,
-        "unreadable library 1 ShortFile 63\n",
-    )
+    let short = [0; 63];
+    let text = "unreadable library 1 ShortFile 63\n";
+    lists(&rt, &short, Status::Unreadable, text)
 }
