@@ -1,7 +1,7 @@
 #!/usr/bin/env bash
 # Times `abi entries` over libraries with debug information that gcc and clang make of generated C: one unit of 1,000 and of
 # 4,000 groups of declarations, and 100 units of 40 groups, beside readelf --debug-dump=info over the same file, and beside
-# llvm-dwarfdump and eu-readelf where they are there. All print to /dev/null. Prints seconds of processor time, ratios and
+# llvm-dwarfdump where it is there. All print to /dev/null. Prints seconds of processor time, ratios and
 # peak memory.
 #
 # usage: bench/entries.sh [ABI]   (default: the program that `rt run` built in crates/abi_cli/out)
@@ -19,10 +19,10 @@ seconds() {
     { time "$@" >/dev/null 2>errors; } 2>>times
 }
 
-# least COMMAND..: the least seconds of processor time of seven runs.
+# least COMMAND..: the least seconds of processor time of five runs.
 least() {
     rm -f times
-    for _ in 1 2 3 4 5 6 7; do seconds "$@"; done
+    for _ in 1 2 3 4 5; do seconds "$@"; done
     awk 'NR == 1 || $1 + $2 < cpu { cpu = $1 + $2 } END { printf "%.3f", cpu }' times
 }
 
@@ -51,10 +51,6 @@ measured() {
     if command -v llvm-dwarfdump >/dev/null; then
         theirs=$(least llvm-dwarfdump --debug-info "$2")
         echo "  llvm-dwarfdump --debug-info $theirs s, ratio of abi entries to it $(ratio "$ours" "$theirs")"
-    fi
-    if command -v eu-readelf >/dev/null; then
-        theirs=$(least eu-readelf --debug-dump=info "$2")
-        echo "  eu-readelf --debug-dump=info $theirs s, ratio of abi entries to it $(ratio "$ours" "$theirs")"
     fi
 }
 
