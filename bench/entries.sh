@@ -1,8 +1,7 @@
 #!/usr/bin/env bash
 # Times `abi entries` over libraries with debug information that gcc and clang make of generated C: one unit of 1,000 and of
 # 4,000 groups of declarations, and 100 units of 40 groups, beside readelf --debug-dump=info over the same file, and beside
-# llvm-dwarfdump where it is there. All print to /dev/null. Prints seconds of processor time, ratios and
-# peak memory.
+# llvm-dwarfdump where it is there. All print to /dev/null. Prints seconds of processor time, ratios and peak memory.
 #
 # usage: bench/entries.sh [ABI]   (default: the program that `rt run` built in crates/abi_cli/out)
 set -eu
