@@ -5,12 +5,10 @@
 #
 # usage: bench/entries.sh [ABI]   (default: the program that `rt run` built in crates/abi_cli/out)
 set -eu
-top=$(cd "$(dirname "$0")/.." && pwd)
-abi=$(readlink -f "${1:-$top/crates/abi_cli/out/abi_cli}")
+. "$(dirname "$0")/common.bash"
 source=$top/tests/c/entries.awk
-made=$top/bench/made/entries
-mkdir -p "$made"
-cd "$made"
+mkdir -p entries
+cd entries
 
 # seconds COMMAND..: adds the seconds of processor time of a run to the file `times`.
 seconds() {
@@ -24,18 +22,6 @@ least() {
     for _ in 1 2 3 4 5; do seconds "$@"; done
     awk 'NR == 1 || $1 + $2 < cpu { cpu = $1 + $2 } END { printf "%.3f", cpu }' times
 }
-
-# Peak memory of a command in megabytes.
-peak_memory() {
-    if [ -x /usr/bin/time ]; then
-        /usr/bin/time -f '%M' -o memory "$@" >/dev/null 2>&1
-        awk '{ printf "%.1f", $1 / 1024 }' memory
-    else
-        printf 'unknown'
-    fi
-}
-
-ratio() { awk -v a="$1" -v b="$2" 'BEGIN { if (b > 0) printf "%.2f", a / b; else printf "none" }'; }
 
 # measured NAME LIBRARY: a line of each tool.
 measured() {

@@ -5,11 +5,7 @@
 #
 # usage: bench/plain.sh [ABI]   (default: the program that `rt run` built in crates/abi_cli/out)
 set -eu
-top=$(cd "$(dirname "$0")/.." && pwd)
-abi=$(readlink -f "${1:-$top/crates/abi_cli/out/abi_cli}")
-made=$top/bench/made
-mkdir -p "$made"
-cd "$made"
+. "$(dirname "$0")/common.bash"
 
 # Seconds of processor time of a command, the least of five runs, to standard output.
 least_time() {
@@ -18,15 +14,6 @@ least_time() {
         { time "$@" > /dev/null 2>&1; } 2>&1 | awk '{ print $1 + $2 }'
     done | sort -g | head -n 1
 }
-
-# Peak memory of a command in megabytes, to standard output.
-peak_memory() {
-    python3 -c 'import resource, subprocess, sys
-subprocess.run(sys.argv[1:], stdout=subprocess.DEVNULL)
-print(resource.getrusage(resource.RUSAGE_CHILDREN).ru_maxrss // 1024)' "$@"
-}
-
-ratio() { awk -v a="$1" -v b="$2" 'BEGIN { printf "%.2f", a / b }'; }
 
 if [ ! -e large.so ]; then
     head -c 200000000 /dev/urandom > large.bin

@@ -5,11 +5,7 @@
 #
 # usage: bench/versions.sh [ABI]   (default: the program that `rt run` built in crates/abi_cli/out)
 set -eu
-top=$(cd "$(dirname "$0")/.." && pwd)
-abi=$(readlink -f "${1:-$top/crates/abi_cli/out/abi_cli}")
-made=$top/bench/made
-mkdir -p "$made"
-cd "$made"
+. "$(dirname "$0")/common.bash"
 
 # repeat TIMES COMMAND..: runs a command so many times.
 repeat() {
@@ -36,18 +32,6 @@ least_time() {
         NR == 1 || $3 < wall { wall = $3 }
         END { printf "%.4f %.4f\n", cpu / times, wall / times }' "time_$1"
 }
-
-# Peak memory of a command in megabytes, to standard output.
-peak_memory() {
-    if [ -x /usr/bin/time ]; then
-        /usr/bin/time -f '%M' -o memory "$@" > /dev/null 2>&1
-        awk '{ printf "%.1f", $1 / 1024 }' memory
-    else
-        printf 'unknown'
-    fi
-}
-
-ratio() { awk -v a="$1" -v b="$2" 'BEGIN { if (b > 0) printf "%.2f", a / b; else printf "none" }'; }
 
 gcc -O1 -o generator "$top/bench/versions.c"
 
