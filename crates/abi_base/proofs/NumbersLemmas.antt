@@ -1,9 +1,11 @@
 -- Laws of numbers in bytes.
-use Rattle.std.proofs.Common.{◌≡◌, ℕ, ◌+◌, ◌*◌, ◌^◌, List, [], ◌∷◌, refl, sym, ap, ◌∙◌, arith, add-one}
+use Rattle.std.proofs.Common.{◌≡◌, ℕ, ◌+◌, ◌*◌, ◌^◌, ◌≤◌, leb, List, [], ◌∷◌, length, Some, refl, sym, ap, ◌∙◌, arith, add-one}
 use Rattle.std.specs.List.{sum_by, enumerate_from}
 use Rattle.std.proofs.Math.Nat.{pow-zero, pow-suc}
 use Rattle.std.proofs.lemmas.List.Sums.{sum_by-cons}
-use Rattle.abi_base.specs.Numbers.{number_of}
+use Rattle.std.proofs.lemmas.Bool.{leb-true}
+use Rattle.abi_base.specs.Numbers.{number_of, number_at}
+use Rattle.abi_base.proofs.StepLemmas.{bool_cases}
 
 abbrev term : ℕ → ℕ × ℕ → ℕ
 term base d = d.1 * base ^ d.0
@@ -29,3 +31,10 @@ unfolding number_of
 number_of-cons base d ds =
     sum_by-cons (term base) (0, d) (enumerate_from (0 + 1) ds)
     ∙ rw (shifted base 0 ds, pow-zero base) (omega arith)
+
+-- a number that is read lies inside
+pub number_inside : (size : ℕ) (bytes : List ℕ) (at n : ℕ) → number_at size bytes at ≡ Some n → at + size ≤ length bytes
+number_inside size bytes at n h =
+    bool_cases (leb (at + size) (length bytes))
+    (λ is. leb-true (at + size) (length bytes) is)
+    (λ is. absurd (let e = rw is at h in cc))

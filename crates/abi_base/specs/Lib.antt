@@ -5,3 +5,4 @@ pub mod Leb
 pub mod Numbers
 pub mod Outcome
 pub mod Runs
+pub mod Tables

@@ -11,6 +11,7 @@ mod memory;
 mod numbers;
 mod outside;
 mod sink;
+mod tables;
 mod take;
 
 pub use fault::{Failed, Fault, FaultKind, NoMemory, Refusal, WriteFailed};
@@ -21,6 +22,7 @@ pub use memory::{MemInputs, MemSink};
 pub use numbers::{text_at, u16_at, u16_in, u32_at, u32_in, u64_at, u64_in, uint_at};
 pub use outside::{FileInputs, StdSink};
 pub use sink::{Sink, write_all};
+pub use tables::{table_address, table_offset};
 pub use take::Take;
 
 /// The most bytes that an input may have. A longer one is `FaultKind::TooLong`.

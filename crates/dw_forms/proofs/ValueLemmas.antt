@@ -9,6 +9,7 @@ use Rattle.abi_base.specs.declared.fault.Fault.{Fault}
 use Rattle.abi_base.specs.declared.fault.FaultKind.TheVariants as kind
 use Rattle.abi_base.specs.Numbers.{number_at, text_at, is_zero}
 use Rattle.abi_base.specs.Leb.{uleb_at, sleb_at}
+use Rattle.abi_base.proofs.NumbersLemmas.{number_inside}
 use Rattle.abi_base.proofs.LebLemmas.{uleb_inside, sleb_inside}
 use Rattle.abi_base.proofs.StepLemmas.{option_cases, bool_cases, same_Ok}
 use Rattle.dw_forms.specs.declared.values.Value.{Value}
@@ -24,12 +25,6 @@ moved : (v : Value) (at end next : ℕ) (r : Value × ℕ) → ◌≡◌ {A = Re
 moved v at end next r h le inside =
     let same : next ≡ r.1 = ap (λ (p : Value × ℕ). p.1) (same_Ok (v, next) r h) in
     record { after = omega arith; inside = λ i. omega (arith, inside i) }
-
-number_inside : (size : ℕ) (bytes : List ℕ) (at n : ℕ) → number_at size bytes at ≡ Some n → at + size ≤ length bytes
-number_inside size bytes at n h =
-    bool_cases (leb (at + size) (length bytes))
-    (λ is. leb-true (at + size) (length bytes) is)
-    (λ is. absurd (let e = rw is at h in cc))
 
 text_inside : (bytes : List ℕ) (at : ℕ) (t : List ℕ) → text_at bytes at ≡ Some t → at + length t < length bytes
 unfolding text_at

@@ -1,11 +1,12 @@
 -- The first range of a list, entry by entry.
-use Rattle.std.proofs.Common.{◌≡◌, ℕ, suc, ◌+◌, ◌-◌, ◌<◌, ◌≤◌, leb, List, [], length, Option, Some, None, Result, Ok, Err, ap, ◌∙◌, arith}
+use Rattle.std.proofs.Common.{◌≡◌, ℕ, suc, ◌+◌, ◌-◌, ◌<◌, ◌≤◌, List, [], length, Option, Some, None, Result, Ok, Err, ap, ◌∙◌, arith}
 use Rattle.std.specs.Prelude.{◌==◌, ◌&&◌}
-use Rattle.std.proofs.lemmas.Bool.{leb-true}
 use Rattle.abi_base.specs.declared.fault.Fault.{Fault}
 use Rattle.abi_base.specs.Numbers.{number_at}
 use Rattle.abi_base.specs.Leb.{uleb_at}
+use Rattle.abi_base.specs.Tables.{entry_of_table}
 use Rattle.abi_base.specs.Runs.{Run, run, Chain}
+use Rattle.abi_base.proofs.NumbersLemmas.{number_inside}
 use Rattle.abi_base.proofs.LebLemmas.{uleb_inside}
 use Rattle.abi_base.proofs.RunsLemmas.{Falls, run_more, run_end, run_chain}
 use Rattle.abi_base.proofs.StepLemmas.{option_cases, bool_cases, result_cases, same_Ok}
@@ -13,7 +14,7 @@ use Rattle.dw_ranges.specs.declared.layout.Field.{Field}
 use Rattle.dw_ranges.specs.declared.layout.Field.TheVariants as field
 use Rattle.dw_ranges.specs.declared.layout.Layout.{Layout}
 use Rattle.dw_ranges.specs.declared.constants.TheConstants.{DW_RLE_end_of_list}
-use Rattle.dw_ranges.specs.RangeLists.{State, Entry, entry_of_table, field_at, fields_step, layout_of, meant, kind_step, list_step, pair_means, pair_step, list_run, pair_run, first_or_end, first_start}
+use Rattle.dw_ranges.specs.RangeLists.{State, Entry, field_at, fields_step, layout_of, meant, kind_step, list_step, pair_means, pair_step, list_run, pair_run, first_or_end, first_start}
 
 -- ---- any list whose steps move on
 
@@ -29,12 +30,6 @@ ends : (step : State → Result (Entry × State) (Option Fault)) (n : ℕ) (s : 
 ends step n s e is = ap (λ (q : Run Entry (Option Fault)). first_start q) (run_end step None n s e is)
 
 -- ---- reading moves on
-
-number_inside : (size : ℕ) (bytes : List ℕ) (at n : ℕ) → number_at size bytes at ≡ Some n → at + size ≤ length bytes
-number_inside size bytes at n h =
-    bool_cases (leb (at + size) (length bytes))
-    (λ is. leb-true (at + size) (length bytes) is)
-    (λ is. absurd (let e = rw is at h in cc))
 
 place_is : {A : Type 0} {E : Type 0} (x : A) (after : ℕ) (r : A × ℕ) → ◌≡◌ {A = Result (A × ℕ) E} (Ok (x, after)) (Ok r) → after ≡ r.1
 place_is {A = A} x after r h = ap (λ (p : A × ℕ). p.1) (same_Ok (x, after) r h)

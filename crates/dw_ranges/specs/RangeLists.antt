@@ -1,6 +1,6 @@
 -- The ranges of addresses of a list: entries of `.debug_rnglists` (DWARF 5, sections 2.17.3 "Non-Contiguous Address Ranges"
 -- and 7.25), and pairs of `.debug_ranges` (DWARF 4, section 2.17.3).
-use Rattle.std.specs.Prelude.{ℕ, suc, ◌+◌, ◌*◌, ◌%◌, ◌^◌, ◌==◌, ◌&&◌, if◌then◌else◌, List, [], ◌∷◌, length, find, Option, Some, None, Result, Ok, Err}
+use Rattle.std.specs.Prelude.{ℕ, suc, ◌+◌, ◌%◌, ◌^◌, ◌==◌, ◌&&◌, if◌then◌else◌, List, [], ◌∷◌, length, find, Option, Some, None, Result, Ok, Err}
 use Rattle.std.specs.Option.{option_map}
 use Rattle.abi_base.specs.declared.fault.Fault.{Fault}
 use Rattle.abi_base.specs.declared.fault.FaultKind.{FaultKind}
@@ -8,6 +8,7 @@ use Rattle.abi_base.specs.declared.fault.FaultKind.TheVariants as kind
 use Rattle.abi_base.specs.Numbers.{number_at}
 use Rattle.abi_base.specs.Leb.{uleb_at}
 use Rattle.abi_base.specs.Outcome.{◌>>=◌, or_end}
+use Rattle.abi_base.specs.Tables.{entry_of_table}
 use Rattle.abi_base.specs.Runs.{Run, run, given}
 use Rattle.dw_ranges.specs.declared.constants.TheConstants.{DW_RLE_end_of_list, DW_RLE_base_addressx, DW_RLE_startx_endx, DW_RLE_startx_length, DW_RLE_offset_pair, DW_RLE_base_address, DW_RLE_start_end, DW_RLE_start_length, BASE_SELECTION}
 use Rattle.dw_ranges.specs.declared.layout.Field.{Field}
@@ -20,12 +21,6 @@ use Rattle.dw_ranges.specs.declared.lists.ListAt.TheVariants as list_at
 
 abbrev pub fault : FaultKind → ℕ → Fault
 fault kind entry = record { kind = kind; at = entry }
-
--- Entry k of the part of a table that begins at a base: the number of so many bytes, at base + size * k (DWARF 5, sections
--- 7.27 "Address Table" and 7.28 "Range List Table"). There is none without a base, and none outside.
-abbrev pub entry_of_table : ℕ → List ℕ → Option ℕ → ℕ → Option ℕ
-entry_of_table size table None k = None
-entry_of_table size table (Some base) k = number_at size table (base + size * k)
 
 -- ---- entries of `.debug_rnglists`
 

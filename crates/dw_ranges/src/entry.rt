@@ -7,8 +7,7 @@ ghost use Rattle.dw_ranges.specs.Seen.{seen_entry, seen_step};
 
 use crate::constants::{BASE_SELECTION, DW_RLE_end_of_list};
 use crate::layout::{Field, Layout, Role, layout_by_kind};
-use crate::tables::address_of;
-use abi_base::{Fault, FaultKind, u64_at, uint_at, uleb};
+use abi_base::{Fault, FaultKind, table_address, u64_at, uint_at, uleb};
 
 // The sizes of the kind of an entry and of an address.
 const KIND_SIZE: usize = 1;
@@ -64,7 +63,7 @@ impl<'a> Source<'a> {
         ensures inside { IfOk result (λ r. r.1 ≤ length self.now.bytes.now) }
     {
         match uleb(self.bytes, at) {
-            Some((index, after)) => match address_of(self.addr, self.addr_base, index) {
+            Some((index, after)) => match table_address(self.addr, self.addr_base, index) {
                 Some(address) => Ok((address, after)),
                 None => Err(Fault {
                     kind: FaultKind::Index,

@@ -5,15 +5,14 @@ ghost use Rattle.dw_ranges.specs.RangeLists.{first_start, list_run, pair_run, pl
 
 use crate::entry::Source;
 use crate::lists::ListAt;
-use crate::tables::offset_of;
-use abi_base::{Fault, FaultKind};
+use abi_base::{Fault, FaultKind, table_offset};
 
 // The place of the list of a number. It counts from where the unit's part begins.
 fn place_of(rnglists: &[u8], base: Option<u64>, index: u64) -> Option<u64>
     ensures { result ≡ place_of_list rnglists.now base index }
 {
     match base {
-        Some(start) => match offset_of(rnglists, base, index) {
+        Some(start) => match table_offset(rnglists, base, index) {
             Some(offset) => Some(start + u64::from(offset)),
             None => None,
         },

@@ -7,7 +7,6 @@ mod first;
 pub mod laws;
 mod layout;
 mod lists;
-mod tables;
 
 pub use first::first_address;
 pub use lists::ListAt;

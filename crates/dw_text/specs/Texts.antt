@@ -1,18 +1,13 @@
 -- The texts and addresses that values of attributes lead to.
-use Rattle.std.specs.Prelude.{ℕ, ◌+◌, ◌*◌, List, Option, Some, None, Result, Ok, Err}
+use Rattle.std.specs.Prelude.{ℕ, List, Option, Result, Ok, Err}
 use Rattle.abi_base.specs.declared.fault.Fault.{Fault}
 use Rattle.abi_base.specs.declared.fault.FaultKind.{FaultKind}
 use Rattle.abi_base.specs.declared.fault.FaultKind.TheVariants as kind
-use Rattle.abi_base.specs.Numbers.{number_at, text_at}
+use Rattle.abi_base.specs.Numbers.{text_at}
+use Rattle.abi_base.specs.Tables.{entry_of_table}
 use Rattle.abi_base.specs.Outcome.{◌>>=◌, or_end}
 use Rattle.dw_forms.specs.declared.values.Value.{Value}
 use Rattle.dw_forms.specs.declared.values.Value.TheVariants as value
-
--- Entry k of the part of a table that begins at a base: the number of so many bytes, at base + size * k (DWARF 5, sections
--- 7.26 "String Offsets Table" and 7.27 "Address Table"). There is none without a base, and none outside.
-abbrev pub entry_of_table : ℕ → List ℕ → Option ℕ → ℕ → Option ℕ
-entry_of_table size table None k = None
-entry_of_table size table (Some base) k = number_at size table (base + size * k)
 
 abbrev pub fault : FaultKind → ℕ → Fault
 fault kind entry = record { kind = kind; at = entry }

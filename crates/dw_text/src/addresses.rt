@@ -4,8 +4,7 @@ ghost use Rattle.abi_base.specs.declared.fault.FaultKind.TheVariants as kind;
 ghost use Rattle.dw_text.specs.Texts.{address_of as the_address_of, fault};
 
 use crate::bases::Bases;
-use crate::tables::address_of;
-use abi_base::{Fault, FaultKind};
+use abi_base::{Fault, FaultKind, table_address};
 use dw_forms::{Sections, Value};
 
 fn no_address(entry: u64) -> Fault
@@ -25,7 +24,7 @@ pub fn address(value: &Value, bases: &Bases, sections: &Sections, entry: u64) ->
 {
     match *value {
         Value::Address(address) => Ok(address),
-        Value::AddressIndex(index) => match address_of(sections.addr, bases.addr, index) {
+        Value::AddressIndex(index) => match table_address(sections.addr, bases.addr, index) {
             Some(address) => Ok(address),
             None => Err(no_address(entry)),
         },

@@ -3,7 +3,6 @@
 
 mod addresses;
 mod bases;
-mod tables;
 mod texts;
 
 pub use addresses::address;

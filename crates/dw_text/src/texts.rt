@@ -5,8 +5,7 @@ ghost use Rattle.abi_base.specs.declared.fault.FaultKind.TheVariants as kind;
 ghost use Rattle.dw_text.specs.Texts.{text_of, text_in as the_text_in, fault};
 
 use crate::bases::Bases;
-use crate::tables::offset_of;
-use abi_base::{Fault, FaultKind, text_at};
+use abi_base::{Fault, FaultKind, table_offset, text_at};
 use dw_forms::{Sections, Value};
 
 fn no_text(entry: u64) -> Fault
@@ -44,7 +43,11 @@ pub fn text<'a>(
         Value::Inline { from } => text_in(sections.info, from, entry),
         Value::StrOffset(place) => text_in(sections.str, place, entry),
         Value::LineOffset(place) => text_in(sections.line_str, place, entry),
-        Value::StrIndex(index) => match offset_of(sections.str_offsets, bases.str_offsets, index) {
+        Value::StrIndex(index) => match table_offset(
+            sections.str_offsets,
+            bases.str_offsets,
+            index,
+        ) {
             Some(place) => text_in(sections.str, u64::from(place), entry),
             None => Err(Fault {
                 kind: FaultKind::Index,

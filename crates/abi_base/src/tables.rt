@@ -1,16 +1,18 @@
 // Entries of tables of numbers, each counted from a base.
 ghost use Rattle.std.specs.Prelude.{◌≡◌};
-ghost use Rattle.dw_ranges.specs.RangeLists.{entry_of_table};
+ghost use Rattle.abi_base.specs.Tables.{entry_of_table};
 
-use abi_base::{u32_at, u64_at};
+use crate::numbers::{u32_at, u64_at};
 
 // The sizes of an offset and of an address.
 const OFFSET_SIZE: u128 = 4;
 
 const ADDRESS_SIZE: u128 = 8;
 
-// The offset at an index of a table of offsets. Its place may pass 64 bits, and lies outside then.
-pub(crate) fn offset_of(table: &[u8], base: Option<u64>, index: u64) -> Option<u32>
+/// The offset of four bytes at an index of the part of a table that begins at a base (DWARF 5, sections 7.26 "String
+/// Offsets Table" and 7.28 "Range List Table"). None exactly without a base and where the four bytes do not all lie
+/// inside; its place may pass 64 bits, and lies outside then.
+pub fn table_offset(table: &[u8], base: Option<u64>, index: u64) -> Option<u32>
     ensures { result ≡ entry_of_table 4 table.now base index }
 {
     match base {
@@ -26,8 +28,10 @@ pub(crate) fn offset_of(table: &[u8], base: Option<u64>, index: u64) -> Option<u
     }
 }
 
-// The address at an index of a table of addresses. Its place may pass 64 bits, and lies outside then.
-pub(crate) fn address_of(table: &[u8], base: Option<u64>, index: u64) -> Option<u64>
+/// The address of eight bytes at an index of the part of a table that begins at a base (DWARF 5, section 7.27 "Address
+/// Table"). None exactly without a base and where the eight bytes do not all lie inside; its place may pass 64 bits, and
+/// lies outside then.
+pub fn table_address(table: &[u8], base: Option<u64>, index: u64) -> Option<u64>
     ensures { result ≡ entry_of_table 8 table.now base index }
 {
     match base {
