@@ -1,26 +1,16 @@
 -- What `entries` prints of a library, and its first fault.
 use Rattle.std.specs.Prelude.{◌≡◌, ℕ, false, List, [], ◌∷◌, flat_map, Option, codes, decimal}
 use Rattle.std.specs.Fmt.{digits}
-use Rattle.std.specs.Option.{unwrap_or}
 use Rattle.std.specs.List.{concat}
 use Rattle.abi_base.specs.declared.fault.Fault.{Fault}
 use Rattle.abi_base.specs.Outcome.{first}
 use Rattle.dw_units.specs.declared.entry.Entry.{Entry}
 use Rattle.dw_units.specs.Sequence.{all_entries, entries_fault}
-use Rattle.elf_file.specs.Elf.{elf_fault, section_named}
+use Rattle.elf_debug.specs.DebugSections.{debug_info, debug_abbrev}
+use Rattle.elf_file.specs.Elf.{elf_fault}
 use Rattle.abi_top.specs.declared.judge.Verdict.{Verdict}
 use Rattle.abi_top.specs.declared.judge.Verdict.TheVariants.{Yes, No, Done}
 use Rattle.abi_top.specs.Text.{newline}
-
--- what the first section of a name holds, and nothing where there is none
-abbrev pub section_or_none : List ℕ → List ℕ → List ℕ
-section_or_none f name = unwrap_or (section_named f name) []
-
-abbrev pub debug_info : List ℕ → List ℕ
-debug_info f = section_or_none f (codes ".debug_info")
-
-abbrev pub debug_abbrev : List ℕ → List ℕ
-debug_abbrev f = section_or_none f (codes ".debug_abbrev")
 
 -- the first fault of a library whose entries are printed: of its header and sections, then of its units and entries
 unfoldable pub listing_fault : List ℕ → Option Fault

@@ -5,44 +5,17 @@ ghost use Rattle.dw_units.specs.Plain.{plain_unit};
 ghost use Rattle.dw_units.specs.Sequence.{all_entries, entries_fault};
 ghost use Rattle.dw_units.specs.Units.{entries_of};
 ghost use Rattle.abi_top.specs.Faults.{AreReadable, StopsAt};
-ghost use Rattle.abi_top.specs.Listing.{ListingJudges, debug_abbrev, debug_info, entry_line, line_of, listing_fault, listing_of, section_or_none};
+ghost use Rattle.abi_top.specs.Listing.{ListingJudges, entry_line, line_of, listing_fault, listing_of};
 
 use crate::Input;
 use crate::judge::{Judgement, Stop, Verdict};
 use abi_base::{INPUT_LIMIT, Refusal};
 use dw_forms::Sections;
 use dw_units::{Entry, Unit, entries, units};
-use elf_file::{ElfFile, read_elf};
+use elf_debug::debug_sections;
+use elf_file::read_elf;
 use std::alloc::{AllocError, Global};
 use std::fmt::Write;
-
-// What the first section of a name holds, and nothing where there is none.
-fn section_in<'a>(file: &ElfFile<'a>, name: &[u8]) -> &'a [u8]
-    ensures holds { result.now ≡ section_or_none file.now name.now }
-    ensures small { length result.now ≤ INPUT_LIMIT }
-{
-    match file.section(name) {
-        Some(bytes) => bytes,
-        None => &[],
-    }
-}
-
-/// The sections of debug information of a file.
-pub fn sections_of<'a>(file: &ElfFile<'a>) -> Sections<'a>
-    ensures info { result.info.now ≡ debug_info file.now }
-    ensures abbrevs { result.abbrev.now ≡ debug_abbrev file.now }
-{
-    Sections {
-        info: section_in(file, b".debug_info"),
-        abbrev: section_in(file, b".debug_abbrev"),
-        str: section_in(file, b".debug_str"),
-        line_str: section_in(file, b".debug_line_str"),
-        str_offsets: section_in(file, b".debug_str_offsets"),
-        addr: section_in(file, b".debug_addr"),
-        rnglists: section_in(file, b".debug_rnglists"),
-        ranges: section_in(file, b".debug_ranges"),
-    }
-}
 
 // Appends a line of an entry's offset and depth, and of its tag in hexadecimal.
 fn push_line(text: &mut String, offset: u64, depth: u32, tag: u64) -> Result<(), AllocError>
@@ -94,7 +67,7 @@ fn listing(alloc: Global, library: &[u8]) -> Result<String, Refusal>
     ensures lines { IfOk result (λ text. string_bytes text ≡ listing_of library.now) }
 {
     let file = read_elf(library)?;
-    let sections = sections_of(&file);
+    let sections = debug_sections(&file);
     lines_of(alloc, &sections)
 }
 
