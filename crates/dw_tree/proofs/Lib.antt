@@ -1,0 +1,13 @@
+pub mod Below
+pub mod Children
+pub mod Found
+pub mod Growth
+pub mod InOrder
+pub mod KeptLemmas
+pub mod OrderLemmas
+pub mod ParentLaws
+pub mod Places
+pub mod SearchLemmas
+pub mod TreeOrdered
+pub mod UnitEntries
+pub mod UnitPlaces
