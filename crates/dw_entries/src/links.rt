@@ -1,0 +1,204 @@
+// The tree of entries, and how its entries refer to one another.
+ghost use Rattle.std.specs.Prelude.{◌≡◌, ◌<◌, length, is_some, IfSome, IfOk};
+ghost use Rattle.std.specs.Option.{option_copied};
+ghost use Rattle.dw_tree.specs.Trees.{PlainTree, entry_at, head_at, own_of, entry_of};
+ghost use Rattle.dw_entries.specs.Places.{HoldUnits};
+ghost use Rattle.dw_entries.specs.Chains.{signed_of, target_of, link_by as the_link_by, link_of, is_too_deep as leads_too_deep, holder_of, attribute_along, origin_of};
+
+use crate::constants::{CHAIN_ENTRIES, CHAIN_LINKS};
+use crate::places::{keep_first, place_of};
+use crate::tags::is_read_tag;
+use abi_base::NoMemory;
+use abi_base::dwarf::{DW_AT_abstract_origin, DW_AT_specification};
+use dw_forms::Value;
+use dw_tree::Tree;
+use std::alloc::Global;
+use std::collections::HashMap;
+use std::marker::Model;
+
+// A tree, with the first unit of each signature. Contracts see it as the tree.
+#[derive(Drop)]
+pub(crate) struct Links {
+    tree: Tree,
+    signed: HashMap<u64, usize>,
+}
+
+impl Model for Links {
+    ghost use Rattle.dw_tree.specs.Trees.{PlainTree};
+
+    ghost Value = { PlainTree };
+
+    ghost use Rattle.dw_entries.specs.Places.{HoldUnits};
+
+    ghost view = { λ l. l.tree };
+
+    ghost invariant = { λ l. HoldUnits l.signed l.tree };
+}
+
+impl Links {
+    // The links of a tree.
+    pub(crate) fn of(alloc: Global, tree: Tree) -> Result<Links, NoMemory>
+        ensures { IfOk result (λ l. l ≡ tree) }
+    {
+        let signed = units_by_signature(alloc, &tree)?;
+        Ok(Links { tree, signed })
+    }
+
+    // The tree itself.
+    pub(crate) fn tree(&self) -> &Tree
+        ensures { result.now ≡ self.now }
+    {
+        &self.tree
+    }
+
+    // The first value that an entry itself has of an attribute.
+    pub(crate) fn own(&self, e: usize, name: u64) -> Option<&Value>
+        requires { e < length self.now.entries }
+        ensures { option_copied result ≡ own_of self.now e name }
+    {
+        self.tree.own(e, name)
+    }
+
+    // The entry of the type that a signature stands for.
+    pub(crate) fn by_signature(&self, signature: u64) -> Option<usize>
+        ensures found { result ≡ signed_of self.now signature }
+        ensures inside { IfSome result (λ e. e < length self.now.entries) }
+    {
+        match place_of(&self.signed, signature) {
+            Some(unit) => self.tree.find(self.tree.head(unit).type_entry),
+            None => None,
+        }
+    }
+
+    // The entry that a value refers to.
+    pub(crate) fn target(&self, value: &Value) -> Option<usize>
+        ensures found { result ≡ target_of self.now value.now }
+        ensures inside { IfSome result (λ e. e < length self.now.entries) }
+    {
+        match *value {
+            Value::Reference(offset) => self.tree.find(offset),
+            Value::Signature(signature) => self.by_signature(signature),
+            _ => None,
+        }
+    }
+
+    // Where an attribute links an entry to: none where there is no such link, and inside of it none where the link leads
+    // nowhere.
+    fn link_by(&self, e: usize, name: u64) -> Option<Option<usize>>
+        requires { e < length self.now.entries }
+        ensures found { result ≡ the_link_by self.now e name }
+        ensures inside { IfSome result (λ to. IfSome to (λ f. f < length self.now.entries)) }
+    {
+        match self.tree.own(e, name) {
+            Some(value) => match self.target(value) {
+                Some(to) => {
+                    if is_read_tag(self.tree.tag(to)) {
+                        Some(Some(to))
+                    } else {
+                        None
+                    }
+                }
+                None => Some(None),
+            },
+            None => None,
+        }
+    }
+
+    // The next entry of the chain.
+    #[tactic(auto, unfolding(crate::specs::Chains::link_of))]
+    fn link(&self, e: usize) -> Option<usize>
+        requires { e < length self.now.entries }
+        ensures found { result ≡ link_of self.now e }
+        ensures inside { IfSome result (λ f. f < length self.now.entries) }
+    {
+        match self.link_by(e, DW_AT_abstract_origin) {
+            Some(to) => to,
+            None => match self.link_by(e, DW_AT_specification) {
+                Some(to) => to,
+                None => None,
+            },
+        }
+    }
+
+    // Whether the chain has more links than are followed.
+    pub(crate) fn is_too_deep(&self, e: usize) -> bool
+        requires { e < length self.now.entries }
+        ensures { result ≡ leads_too_deep self.now e }
+    {
+        let mut at = e;
+        'chain: for followed in 0..CHAIN_LINKS + 1 {
+            match self.link(at) {
+                Some(to) => at = to,
+                None => return false,
+            }
+        }
+        true
+    }
+
+    // The last entry of the chain.
+    pub(crate) fn origin(&self, e: usize) -> usize
+        requires { e < length self.now.entries }
+        ensures found { result ≡ origin_of self.now e }
+        ensures inside { result < length self.now.entries }
+    {
+        let mut at = e;
+        'chain: for followed in 0..CHAIN_LINKS {
+            match self.link(at) {
+                Some(to) => at = to,
+                None => return at,
+            }
+        }
+        at
+    }
+
+    // Whether an entry has an attribute itself.
+    #[tactic(auto, using(crate::proofs::ReferLemmas::copied_is_some))]
+    pub(crate) fn has(&self, e: usize, name: u64) -> bool
+        requires { e < length self.now.entries }
+        ensures { result ≡ is_some (own_of self.now e name) }
+    {
+        self.tree.own(e, name).is_some()
+    }
+
+    // The first entry of the chain that has an attribute.
+    pub(crate) fn holder(&self, e: usize, name: u64) -> Option<usize>
+        requires { e < length self.now.entries }
+        ensures found { result ≡ holder_of self.now e name }
+        ensures inside { IfSome result (λ f. f < length self.now.entries) }
+    {
+        let mut at = e;
+        'chain: for followed in 0..CHAIN_ENTRIES {
+            if self.has(at, name) {
+                return Some(at);
+            }
+            match self.link(at) {
+                Some(to) => at = to,
+                None => return None,
+            }
+        }
+        None
+    }
+
+    // The value that an entry has of an attribute, itself or along the chain.
+    pub(crate) fn attr(&self, e: usize, name: u64) -> Option<&Value>
+        requires { e < length self.now.entries }
+        ensures { option_copied result ≡ attribute_along self.now e name }
+    {
+        match self.holder(e, name) {
+            Some(holder) => self.tree.own(holder, name),
+            None => None,
+        }
+    }
+}
+
+// The first unit of each signature.
+fn units_by_signature(alloc: Global, tree: &Tree) -> Result<HashMap<u64, usize>, NoMemory>
+    ensures { IfOk result (λ places. HoldUnits places tree.now) }
+{
+    let mut places = HashMap::new(alloc);
+    for unit in 0..tree.units_len() {
+        let head = tree.head(unit);
+        keep_first(&mut places, head.signature, unit)?;
+    }
+    Ok(places)
+}
