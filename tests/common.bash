@@ -1,6 +1,10 @@
 # What the scripts beside this one share: how they skip, fail and count, which program they take, and what an answer must
-# be by sha256sum and readelf. A script sets `title` and the `tools` that it needs, and then takes this file in.
+# be by sha256sum and readelf. A script sets `title` and the `tools` that it needs, and then takes this file in. One that runs
+# another program than `abi` sets its `crate`, the path that it is `given`, and the `usage_status` of a run without words.
 export LC_ALL=C
+crate=${crate:-abi_cli}
+given=${given-${ABI:-}}
+usage_status=${usage_status:-64}
 
 root=$(cd "$(dirname "$0")/.." && pwd)
 sources=$root/tests/c
@@ -20,16 +24,16 @@ for tool in $tools; do
 done
 
 # The program, which only rt builds, and only where it is proved. A run without words ends with the status of wrong words.
-if [ -n "${ABI:-}" ]; then
-    program=$(cd "$(dirname "$ABI")" && pwd)/$(basename "$ABI")
+if [ -n "$given" ]; then
+    program=$(cd "$(dirname "$given")" && pwd)/$(basename "$given")
 else
-    program=$root/crates/abi_cli/out/abi_cli
+    program=$root/crates/$crate/out/$crate
     if [ ! -x "$program" ]; then
         command -v rt >/dev/null || skip "the program is not built, and there is no rt to build it with"
         echo "building the program"
         built=0
-        (cd "$root/crates/abi_cli" && rt run) || built=$?
-        [ "$built" -eq 64 ] || fail "rt run ended with status $built, not 64"
+        (cd "$root/crates/$crate" && rt run) || built=$?
+        [ "$built" -eq "$usage_status" ] || fail "rt run ended with status $built, not $usage_status"
     fi
 fi
 [ -x "$program" ] || fail "there is no program at $program"

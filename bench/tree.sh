@@ -1,0 +1,91 @@
+#!/usr/bin/env bash
+# Times the reader of the tree of entries, by the program typed_exports, over libraries of generated C with 470,000 entries and
+# more: one unit of 6,500 groups of declarations by gcc, one by clang, and 150 units of 44 groups. They are compiled with
+# -fvisibility=hidden, so that they have no exports: the program then makes the tree and does nothing else. Beside it run
+# `abi entries`, which reads the same entries one by one and keeps none, readelf --debug-dump=info, and llvm-dwarfdump where it is
+# there. Prints seconds of processor time, the least of nine runs, ratios, and peak memory. Of the first library, compiled with
+# its exports, it prints also the bytes of memory for each entry that are resident while the tree is there, without those of the
+# file: the program is looked at while nobody takes what it prints.
+#
+# usage: bench/tree.sh [ABI [TYPED_EXPORTS]]   (default: the programs that `rt run` built in their crates' out)
+set -eu
+. "$(dirname "$0")/common.bash"
+typed=$(readlink -f "${2:-$top/crates/typed_exports/out/typed_exports}")
+source=$top/tests/c/entries.awk
+mkdir -p tree
+cd tree
+
+# seconds COMMAND..: adds the seconds of processor time of a run to the file `times`.
+seconds() {
+    TIMEFORMAT='%U %S'
+    { time "$@" >/dev/null 2>errors; } 2>>times
+}
+
+# least COMMAND..: the least seconds of processor time of nine runs.
+least() {
+    rm -f times
+    for _ in 1 2 3 4 5 6 7 8 9; do seconds "$@"; done
+    awk 'NR == 1 || $1 + $2 < cpu { cpu = $1 + $2 } END { printf "%.3f", cpu }' times
+}
+
+# resident ENTRIES LIBRARY: the bytes for each entry that are resident while the program waits to print.
+resident() {
+    local pid size
+    rm -f pipe
+    mkfifo pipe
+    "$typed" "$2" >pipe &
+    pid=$!
+    exec 3<pipe
+    sleep 3
+    size=$(awk '/^VmRSS:/ { print $2 }' "/proc/$pid/status")
+    cat <&3 >/dev/null
+    exec 3<&-
+    wait "$pid"
+    awk -v size="$size" -v file="$(stat -c %s "$2")" -v entries="$1" 'BEGIN { printf "%.0f", (1024 * size - file) / entries }'
+}
+
+# measured NAME LIBRARY: a line of each tool.
+measured() {
+    local entries ours
+    entries=$("$abi" entries "$2" | wc -l)
+    ours=$(least "$typed" "$2")
+    echo "$1: $entries entries, $(stat -c %s "$2") bytes of file, load $(cut -d ' ' -f 1 /proc/loadavg)"
+    echo "  typed_exports $ours s, peak $(peak_memory "$typed" "$2") MB"
+    beside "$ours" "$abi" entries "$2"
+    beside "$ours" readelf --debug-dump=info "$2"
+    if command -v llvm-dwarfdump >/dev/null; then beside "$ours" llvm-dwarfdump --debug-info "$2"; fi
+}
+
+# beside OURS COMMAND..: the seconds and the peak memory of another command, and the ratio to it.
+beside() {
+    local ours=$1 theirs
+    shift
+    theirs=$(least "$@")
+    echo "  $(basename "$1") $theirs s, peak $(peak_memory "$@") MB, ratio to it $(ratio "$ours" "$theirs")"
+}
+
+# built NAME COMMAND..: the library of a name, which the command makes where it is not there yet.
+built() {
+    local name=$1
+    shift
+    [ -e "$name" ] || "$@" -shared -fPIC -w -g -O1 -o "$name"
+}
+
+awk -v first=1 -v last=6500 -f "$source" >groups.c
+units=
+for unit in $(seq 1 150); do
+    awk -v first=$((unit * 44 - 43)) -v last=$((unit * 44)) -f "$source" >"unit_$unit.c"
+    units="$units unit_$unit.c"
+done
+# The sources of the units are words of their own.
+built gcc_5.so gcc -gdwarf-5 -fvisibility=hidden groups.c
+built gcc_4.so gcc -gdwarf-4 -fvisibility=hidden $units
+built gcc_exports.so gcc -gdwarf-5 groups.c
+measured "gcc, DWARF 5, one unit" gcc_5.so
+measured "gcc, DWARF 4, 150 units" gcc_4.so
+if command -v clang >/dev/null; then
+    built clang_5.so clang -gdwarf-5 -fvisibility=hidden groups.c
+    measured "clang, DWARF 5, one unit" clang_5.so
+fi
+entries=$("$abi" entries gcc_exports.so | wc -l)
+echo "gcc, DWARF 5, one unit, with exports: $entries entries, $(resident "$entries" gcc_exports.so) bytes an entry resident beside the file"
