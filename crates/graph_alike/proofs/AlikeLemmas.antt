@@ -1,0 +1,204 @@
+-- Alike nodes: looks and what parts name, stable classes, and that alike is an equivalence.
+use Rattle.std.proofs.Common.{◌≡◌, ◌+◌, ◌<◌, ℕ, suc, eqb, Bool, true, false, ◌&&◌, List, [], ◌∷◌, length, map, get_or, Option, Some, None, refl, sym, ◌∙◌, ap, arith}
+use Rattle.std.specs.Option.{option_map}
+use Rattle.std.specs.List.{list_any, range_with_len}
+use Rattle.std.proofs.lemmas.Bool.{eqb-true, eq-eqb}
+use Rattle.std.proofs.lemmas.List.FromFn.{length-range_with_len, get_or-range_with_len}
+use Rattle.std.proofs.lemmas.List.Folds.{Any-from_list_any, list_any_at}
+use Rattle.abi_types.specs.Types.{PlainPart, Member, Enumerator, Target, Element, Outcome, Param, PlainView, PlainNode, PlainLabel}
+use Rattle.abi_types.specs.Graphs.{IsGraph, node_at, view_at, part_at, no_part, to_of}
+use Rattle.pair_rules.specs.TypeRules.{breaks}
+use Rattle.pair_rules.specs.Partners.{partner_at}
+use Rattle.graph_alike.specs.Alike.{part_seen, view_seen, Look, look_of, shape_of, AreAlike}
+use Rattle.graph_alike.specs.Classes.{IsStable}
+use Rattle.graph_alike.proofs.Unseen.{named-seen, breaks-unseen, partner_at-unseen}
+
+-- ---- looks
+
+part_seen-seen : (f : ℕ → ℕ) (p : PlainPart) → part_seen (λ _. 0) (part_seen f p) ≡ part_seen (λ _. 0) p
+part_seen-seen f (Member name bit width to) = refl
+part_seen-seen f (Enumerator name value) = refl
+part_seen-seen f (Target to) = refl
+part_seen-seen f (Element to) = refl
+part_seen-seen f (Outcome to) = refl
+part_seen-seen f (Param to) = refl
+
+parts_seen-seen : (f : ℕ → ℕ) (ps : List PlainPart) → map (part_seen (λ _. 0)) (map (part_seen f) ps) ≡ map (part_seen (λ _. 0)) ps
+parts_seen-seen f [] = refl
+parts_seen-seen f (p ∷ ps) = rw (part_seen-seen f p, parts_seen-seen f ps) refl
+
+view_seen-seen : (f : ℕ → ℕ) (v : PlainView) → view_seen (λ _. 0) (view_seen f v) ≡ view_seen (λ _. 0) v
+unfolding view_seen
+view_seen-seen f v = ap (λ (ps : List PlainPart). record v { parts = ps }) (parts_seen-seen f v.parts)
+
+-- the look, in all but the nodes that parts name
+shape_in : Look → Look
+shape_in l = record { labels = l.labels; view = view_seen (λ _. 0) l.view }
+
+shape_in-look : (f : ℕ → ℕ) (n : PlainNode) → shape_in (look_of f n) ≡ shape_of n
+unfolding shape_in
+shape_in-look f n = ap (λ (v : PlainView). let l : Look = record { labels = n.labels; view = v } in l) (view_seen-seen f n.view)
+
+pub same_shape : (f : ℕ → ℕ) (m n : PlainNode) → look_of f m ≡ look_of f n → shape_of m ≡ shape_of n
+same_shape f m n same = sym (shape_in-look f m) ∙ ap shape_in same ∙ shape_in-look f n
+
+pub view_of_look : (f : ℕ → ℕ) (m n : PlainNode) → look_of f m ≡ look_of f n → view_seen f m.view ≡ view_seen f n.view
+view_of_look f m n same = ap (λ (l : Look). l.view) same
+
+labels_of_look : (f : ℕ → ℕ) (m n : PlainNode) → look_of f m ≡ look_of f n → m.labels ≡ n.labels
+labels_of_look f m n same = ap (λ (l : Look). l.labels) same
+
+-- what the parts of two views at one position name, where the views are equal but for numbers of nodes
+named_same : (f : ℕ → ℕ) (v w : PlainView) (k : ℕ) → view_seen f v ≡ view_seen f w → option_map f (to_of (part_at v k)) ≡ option_map f (to_of (part_at w k))
+named_same f v w k same = sym (named-seen f v k) ∙ ap (λ (u : PlainView). to_of (part_at u k)) same ∙ named-seen f w k
+
+some_same : (f : ℕ → ℕ) (o p : Option ℕ) (a b : ℕ) → option_map f o ≡ option_map f p → o ≡ Some a → p ≡ Some b → f a ≡ f b
+some_same f o p a b same here there = let e : option_map f (Some a) ≡ option_map f (Some b) = ap (option_map f) (sym here) ∙ same ∙ ap (option_map f) there in cc
+
+some_too : (f : ℕ → ℕ) (o p : Option ℕ) (a : ℕ) → option_map f o ≡ option_map f p → o ≡ Some a → (b : ℕ) × (p ≡ Some b)
+some_too f o None a same here = let e : option_map f (Some a) ≡ option_map f None = ap (option_map f) (sym here) ∙ same in cc
+some_too f o (Some b) a same here = (b, refl)
+
+-- the part of a node of the same shape names a node too
+pub named_too : (m n : PlainNode) (k a : ℕ) → shape_of m ≡ shape_of n → to_of (part_at m.view k) ≡ Some a → (b : ℕ) × (to_of (part_at n.view k) ≡ Some b)
+named_too m n k a same here = some_too (λ _. 0) (to_of (part_at m.view k)) (to_of (part_at n.view k)) a (named_same (λ _. 0) m.view n.view k (view_of_look (λ _. 0) m n same)) here
+
+-- ---- looks from shapes
+
+part_seen-same : (f : ℕ → ℕ) (p q : PlainPart) → part_seen (λ _. 0) p ≡ part_seen (λ _. 0) q → ((a b : ℕ) → to_of p ≡ Some a → to_of q ≡ Some b → f a ≡ f b) → part_seen f p ≡ part_seen f q
+part_seen-same f (Member m b w s) (Member n c x t) e same = let s' = same s t refl refl in cc
+part_seen-same f (Enumerator m v) (Enumerator n w) e same = cc
+part_seen-same f (Target s) (Target t) e same = ap Target (same s t refl refl)
+part_seen-same f (Element s) (Element t) e same = ap Element (same s t refl refl)
+part_seen-same f (Outcome s) (Outcome t) e same = ap Outcome (same s t refl refl)
+part_seen-same f (Param s) (Param t) e same = ap Param (same s t refl refl)
+part_seen-same f _ _ e same = cc
+
+parts_seen-same : (f : ℕ → ℕ) (ps qs : List PlainPart) → map (part_seen (λ _. 0)) ps ≡ map (part_seen (λ _. 0)) qs → ((k a b : ℕ) → to_of (get_or ps k no_part) ≡ Some a → to_of (get_or qs k no_part) ≡ Some b → f a ≡ f b) → map (part_seen f) ps ≡ map (part_seen f) qs
+parts_seen-same f [] [] e same = refl
+parts_seen-same f [] (q ∷ qs) e same = cc
+parts_seen-same f (p ∷ ps) [] e same = cc
+parts_seen-same f (p ∷ ps) (q ∷ qs) e same =
+    let head : part_seen (λ _. 0) p ≡ part_seen (λ _. 0) q = cc in
+    let tail : map (part_seen (λ _. 0)) ps ≡ map (part_seen (λ _. 0)) qs = cc in
+    let here = part_seen-same f p q head (λ a b x y. same 0 a b x y) in
+    let later = parts_seen-same f ps qs tail (λ k a b x y. same (suc k) a b x y) in
+    rw (here, later) refl
+
+-- a view without its parts
+bare : PlainView → PlainView
+bare v = record v { parts = [] }
+
+bare-seen : (f : ℕ → ℕ) (v : PlainView) → bare (view_seen f v) ≡ bare v
+unfolding bare view_seen
+bare-seen f v = refl
+
+view_seen-is : (f : ℕ → ℕ) (v : PlainView) → view_seen f v ≡ record (bare v) { parts = map (part_seen f) v.parts }
+unfolding bare view_seen
+view_seen-is f v = refl
+
+parts-seen : (f : ℕ → ℕ) (v : PlainView) → (view_seen f v).parts ≡ map (part_seen f) v.parts
+unfolding view_seen
+parts-seen f v = refl
+
+view_seen-same : (f : ℕ → ℕ) (v w : PlainView) → view_seen (λ _. 0) v ≡ view_seen (λ _. 0) w → ((k a b : ℕ) → to_of (part_at v k) ≡ Some a → to_of (part_at w k) ≡ Some b → f a ≡ f b) → view_seen f v ≡ view_seen f w
+view_seen-same f v w e same =
+    let others : bare v ≡ bare w = sym (bare-seen (λ _. 0) v) ∙ ap bare e ∙ bare-seen (λ _. 0) w in
+    let shapes : map (part_seen (λ _. 0)) v.parts ≡ map (part_seen (λ _. 0)) w.parts = sym (parts-seen (λ _. 0) v) ∙ ap (λ (x : PlainView). x.parts) e ∙ parts-seen (λ _. 0) w in
+    let parts = parts_seen-same f v.parts w.parts shapes same in
+    view_seen-is f v
+    ∙ ap (λ (x : PlainView). record x { parts = map (part_seen f) v.parts }) others
+    ∙ ap (λ (ps : List PlainPart). record (bare w) { parts = ps }) parts
+    ∙ sym (view_seen-is f w)
+
+-- nodes of one shape look the same by classes where the nodes that their parts name at each position are of one class
+pub same_look : (f : ℕ → ℕ) (m n : PlainNode) → shape_of m ≡ shape_of n → ((k a b : ℕ) → to_of (part_at m.view k) ≡ Some a → to_of (part_at n.view k) ≡ Some b → f a ≡ f b) → look_of f m ≡ look_of f n
+same_look f m n shapes named =
+    ap (λ (ls : List PlainLabel). let l : Look = record { labels = ls; view = view_seen f m.view } in l) (labels_of_look (λ _. 0) m n shapes)
+    ∙ ap (λ (v : PlainView). let l : Look = record { labels = n.labels; view = v } in l) (view_seen-same f m.view n.view (view_of_look (λ _. 0) m n shapes) named)
+
+-- ---- stable classes
+
+pub alike_from_stable : (nodes : List PlainNode) (class : ℕ → ℕ) → IsStable nodes class → (i j : ℕ) → class i ≡ class j → AreAlike nodes i j
+alike_from_stable nodes class stable i j e = (
+  λ x y. eqb (class x) (class y),
+  record {
+    shapes = λ x y h. same_shape class (node_at nodes x) (node_at nodes y) (stable x y (eqb-true (class x) (class y) h));
+    parts = λ x y k a b h to_a to_b.
+        let same = view_of_look class (node_at nodes x) (node_at nodes y) (stable x y (eqb-true (class x) (class y) h)) in
+        eq-eqb (class a) (class b) (some_same class (to_of (part_at (view_at nodes x) k)) (to_of (part_at (view_at nodes y) k)) a b (named_same class (view_at nodes x) (view_at nodes y) k same) to_a to_b);
+  },
+  eq-eqb (class i) (class j) e,
+)
+
+-- ---- an equivalence
+
+pub alike-reflexive : (nodes : List PlainNode) (i : ℕ) → AreAlike nodes i i
+alike-reflexive nodes i = alike_from_stable nodes (λ x. x) (λ x y e. ap (λ (z : ℕ). look_of (λ w. w) (node_at nodes z)) e) i i refl
+
+pub alike-symmetric : (nodes : List PlainNode) (i j : ℕ) → AreAlike nodes i j → AreAlike nodes j i
+alike-symmetric nodes i j (r, is, h) = (
+  λ x y. r y x,
+  record {
+    shapes = λ x y e. sym (is.shapes y x e);
+    parts = λ x y k a b e to_a to_b. is.parts y x k b a e to_b to_a;
+  },
+  h,
+)
+
+-- some number below a bound is related to the one and to the other
+via : ℕ → (ℕ → ℕ → Bool) → (ℕ → ℕ → Bool) → ℕ → ℕ → Bool
+via n r s x z = list_any (λ y. r x y && s y z) (range_with_len 0 n)
+
+both : (a b : Bool) → (a && b) ≡ true → (a ≡ true) × (b ≡ true)
+both true true e = (refl, refl)
+both true false e = cc
+both false b e = cc
+
+together : (a b : Bool) → a ≡ true → b ≡ true → (a && b) ≡ true
+together a b p q = rw (p, q) refl
+
+via_some : (n : ℕ) (r s : ℕ → ℕ → Bool) (x z : ℕ) → via n r s x z ≡ true → (y : ℕ) × (r x y ≡ true) × (s y z ≡ true)
+unfolding via
+via_some n r s x z e =
+    let (i, y, below, at, holds) = Any-from_list_any (λ y. r x y && s y z) (range_with_len 0 n) e in
+    let (one, two) = both (r x y) (s y z) holds in
+    (y, one, two)
+
+via_from : (n : ℕ) (r s : ℕ → ℕ → Bool) (x y z : ℕ) → y < n → r x y ≡ true → s y z ≡ true → via n r s x z ≡ true
+unfolding via
+via_from n r s x y z inside p q =
+    let at : get_or (range_with_len 0 n) y 0 ≡ 0 + y = get_or-range_with_len 0 n y 0 inside in
+    let there : get_or (range_with_len 0 n) y 0 ≡ y = omega arith in
+    let below : y < length (range_with_len 0 n) = rw (length-range_with_len 0 n) inside in
+    list_any_at (λ w. r x w && s w z) (range_with_len 0 n) y 0 below (rw there (together (r x y) (s y z) p q))
+
+pub alike-transitive : (nodes : List PlainNode) → IsGraph nodes → (i j k : ℕ) → j < length nodes → AreAlike nodes i j → AreAlike nodes j k → AreAlike nodes i k
+alike-transitive nodes graph i j k inside (r, is, p) (s, others, q) = (
+  via (length nodes) r s,
+  record {
+    shapes = λ x z e. let (y, one, two) = via_some (length nodes) r s x z e in is.shapes x y one ∙ others.shapes y z two;
+    parts = λ x z at a c e to_a to_c.
+        let (y, one, two) = via_some (length nodes) r s x z e in
+        let (b, to_b) = named_too (node_at nodes x) (node_at nodes y) at a (is.shapes x y one) to_a in
+        via_from (length nodes) r s a b c (graph.inside y at b to_b) (is.parts x y at a b one to_a to_b) (others.parts y z at b c two to_b to_c);
+  },
+  via_from (length nodes) r s i j k inside p q,
+)
+
+-- ---- rules
+
+pub alike_views : (nodes : List PlainNode) (i j : ℕ) → AreAlike nodes i j → view_seen (λ _. 0) (view_at nodes i) ≡ view_seen (λ _. 0) (view_at nodes j)
+alike_views nodes i j (r, is, h) = view_of_look (λ _. 0) (node_at nodes i) (node_at nodes j) (is.shapes i j h)
+
+pub same_breaks_old : (nodes : List PlainNode) (i j : ℕ) (w : PlainView) → AreAlike nodes i j → breaks (view_at nodes i) w ≡ breaks (view_at nodes j) w
+same_breaks_old nodes i j w alike = breaks-unseen (view_at nodes i) (view_at nodes j) w w (alike_views nodes i j alike) refl
+
+pub same_breaks_new : (nodes : List PlainNode) (i j : ℕ) (v : PlainView) → AreAlike nodes i j → breaks v (view_at nodes i) ≡ breaks v (view_at nodes j)
+same_breaks_new nodes i j v alike = breaks-unseen v v (view_at nodes i) (view_at nodes j) refl (alike_views nodes i j alike)
+
+pub same_partner_old : (nodes : List PlainNode) (i j : ℕ) (w : PlainView) (k : ℕ) → AreAlike nodes i j → partner_at (view_at nodes i) w k ≡ partner_at (view_at nodes j) w k
+same_partner_old nodes i j w k alike = partner_at-unseen (view_at nodes i) (view_at nodes j) w w k (alike_views nodes i j alike) refl
+
+pub same_partner_new : (nodes : List PlainNode) (i j : ℕ) (v : PlainView) (k : ℕ) → AreAlike nodes i j → partner_at v (view_at nodes i) k ≡ partner_at v (view_at nodes j) k
+same_partner_new nodes i j v k alike = partner_at-unseen v v (view_at nodes i) (view_at nodes j) k refl (alike_views nodes i j alike)

@@ -1,0 +1,12 @@
+mod AlikeLemmas
+mod BlockLemmas
+mod ClassLemmas
+mod EdgeLemmas
+mod Layouts
+mod NumberLemmas
+mod RefineLemmas
+mod RepLemmas
+mod ShapeLemmas
+mod SpellingLemmas
+mod SplitLemmas
+pub mod Unseen

@@ -1,0 +1,318 @@
+-- A spelling tells what it spells, and where it ends.
+use Rattle.std.proofs.Common.{◌≡◌, ℕ, suc, eqb, Bool, true, false, List, [], ◌∷◌, ◌++◌, length, map, refl, sym, ◌∙◌, ap, arith, append_assoc}
+use Rattle.std.specs.Prelude.{◌↔◌, flat_map}
+use Rattle.std.proofs.lemmas.Bool.{eq-eqb, false≢true}
+use Rattle.std.proofs.lemmas.List.{length-map}
+use Rattle.abi_types.specs.declared.kind.Kind.{Kind}
+use Rattle.abi_types.specs.declared.kind.Group.{Group}
+use Rattle.abi_types.specs.declared.kind.LabelKind.{LabelKind}
+use Rattle.abi_types.specs.declared.kind.LabelKind.TheVariants as label
+use Rattle.abi_types.specs.declared.place.Slot.{Slot}
+use Rattle.abi_types.specs.declared.place.Slot.TheVariants as slot
+use Rattle.abi_types.specs.declared.place.Place.{Place}
+use Rattle.abi_types.specs.declared.place.Place.TheVariants as place
+use Rattle.abi_types.specs.declared.place.CallShape.{CallShape}
+use Rattle.abi_types.specs.Types.{PlainPart, Member, Enumerator, Target, Element, Outcome, Param, PlainView, PlainLabel, PlainNode}
+use Rattle.pair_rules.specs.Same.{kind_number, group_number}
+use Rattle.pair_rules.proofs.SameLemmas.{equal_from_same_kind, equal_from_same_group}
+use Rattle.graph_alike.specs.Alike.{part_seen, view_seen, Look, shape_of}
+use Rattle.graph_alike.specs.Shapes.{label_number, truth_number, spelled_list, spelled_number, spelled_name, spelled_slot, spelled_place, spelled_call, spelled_part, spelled_label, spelled_numbers, spelled_view, spelled}
+
+-- A spelling with anything after it tells what a function gives of what is spelled, and what comes after.
+abbrev Tells : {X Y : Type 0} → (X → List ℕ) → (X → Y) → Type 0
+Tells {X} {Y} f h = (a b : X) (s t : List ℕ) → f a ++ s ≡ f b ++ t → (h a ≡ h b) × (s ≡ t)
+
+items_tell : {X Y : Type 0} (f : X → List ℕ) (h : X → Y) → Tells f h → (xs ys : List X) (s t : List ℕ) → length xs ≡ length ys → flat_map f xs ++ s ≡ flat_map f ys ++ t → (map h xs ≡ map h ys) × (s ≡ t)
+items_tell f h tells [] [] s t len e = (refl, e)
+items_tell f h tells [] (y ∷ ys) s t len e = absurd (let u : 0 ≡ suc (length ys) = len in omega arith)
+items_tell f h tells (x ∷ xs) [] s t len e = absurd (let u : suc (length xs) ≡ 0 = len in omega arith)
+items_tell f h tells (x ∷ xs) (y ∷ ys) s t len e =
+    let both : f x ++ (flat_map f xs ++ s) ≡ f y ++ (flat_map f ys ++ t) = sym (append_assoc (f x) (flat_map f xs) s) ∙ e ∙ append_assoc (f y) (flat_map f ys) t in
+    let (here, rest) = tells x y (flat_map f xs ++ s) (flat_map f ys ++ t) both in
+    let lens : length xs ≡ length ys = let u : suc (length xs) ≡ suc (length ys) = len in omega arith in
+    let (later, after) = items_tell f h tells xs ys s t lens rest in
+    (rw (here, later) refl, after)
+
+list_tells : {X Y : Type 0} (f : X → List ℕ) (h : X → Y) → Tells f h → Tells (spelled_list f) (map h)
+unfolding spelled_list
+list_tells f h tells xs ys s t e =
+    let len : length xs ≡ length ys = cc in
+    let rest : flat_map f xs ++ s ≡ flat_map f ys ++ t = cc in
+    items_tell f h tells xs ys s t len rest
+
+same_map : {X : Type 0} (xs : List X) → map (λ x. x) xs ≡ xs
+same_map [] = refl
+same_map (x ∷ xs) = ap (λ ys. x ∷ ys) (same_map xs)
+
+number_tells : Tells spelled_number (λ n. n)
+number_tells m n s t e = (let u : m ≡ n = cc in u, let v : s ≡ t = cc in v)
+
+name_tells : Tells spelled_name (λ n. n)
+unfolding spelled_name
+name_tells m n s t e =
+    let (same, rest) = list_tells spelled_number (λ (k : ℕ). k) number_tells m n s t e in
+    (sym (same_map m) ∙ same ∙ same_map n, rest)
+
+-- ---- slots and places
+
+slot_tag : Slot → ℕ
+slot_tag slot.Unused = 0
+slot_tag (slot.General n) = 1
+slot_tag (slot.Vector n) = 2
+slot_tag (slot.Upper n) = 3
+slot_tag (slot.X87 n) = 4
+
+slot_number : Slot → ℕ
+slot_number slot.Unused = 0
+slot_number (slot.General n) = n
+slot_number (slot.Vector n) = n
+slot_number (slot.Upper n) = n
+slot_number (slot.X87 n) = n
+
+slot_is : (a : Slot) (s : List ℕ) → spelled_slot a ++ s ≡ slot_tag a ∷ slot_number a ∷ s
+unfolding slot_tag slot_number
+slot_is slot.Unused s = refl
+slot_is (slot.General n) s = refl
+slot_is (slot.Vector n) s = refl
+slot_is (slot.Upper n) s = refl
+slot_is (slot.X87 n) s = refl
+
+slot_same : (a b : Slot) → eqb (slot_tag a) (slot_tag b) ≡ true → slot_number a ≡ slot_number b → a ≡ b
+unfolding slot_tag slot_number
+slot_same slot.Unused slot.Unused tags numbers = refl
+slot_same (slot.General m) (slot.General n) tags numbers = ap slot.General numbers
+slot_same (slot.Vector m) (slot.Vector n) tags numbers = ap slot.Vector numbers
+slot_same (slot.Upper m) (slot.Upper n) tags numbers = ap slot.Upper numbers
+slot_same (slot.X87 m) (slot.X87 n) tags numbers = ap slot.X87 numbers
+slot_same _ _ tags numbers = absurd (false≢true tags)
+
+slot_tells : Tells spelled_slot (λ a. a)
+slot_tells a b s t e =
+    let both : slot_tag a ∷ slot_number a ∷ s ≡ slot_tag b ∷ slot_number b ∷ t = sym (slot_is a s) ∙ e ∙ slot_is b t in
+    let tags : slot_tag a ≡ slot_tag b = cc in
+    let numbers : slot_number a ≡ slot_number b = cc in
+    (slot_same a b (eq-eqb (slot_tag a) (slot_tag b) tags) numbers, let u : s ≡ t = cc in u)
+
+place_tag : Place → ℕ
+place_tag place.Nothing = 0
+place_tag (place.Registers eightbytes) = 1
+place_tag (place.Stack offset size) = 2
+place_tag place.Hidden = 3
+
+place_rest : Place → List ℕ
+place_rest place.Nothing = []
+place_rest (place.Registers eightbytes) = spelled_list spelled_slot eightbytes
+place_rest (place.Stack offset size) = offset ∷ size ∷ []
+place_rest place.Hidden = []
+
+place_is : (a : Place) (s : List ℕ) → spelled_place a ++ s ≡ place_tag a ∷ (place_rest a ++ s)
+unfolding place_tag place_rest spelled_place
+place_is place.Nothing s = refl
+place_is (place.Registers eightbytes) s = refl
+place_is (place.Stack offset size) s = refl
+place_is place.Hidden s = refl
+
+place_same : (a b : Place) (s t : List ℕ) → eqb (place_tag a) (place_tag b) ≡ true → place_rest a ++ s ≡ place_rest b ++ t → (a ≡ b) × (s ≡ t)
+unfolding place_tag place_rest
+place_same place.Nothing place.Nothing s t tags rest = (refl, rest)
+place_same (place.Registers xs) (place.Registers ys) s t tags rest =
+    let (same, after) = list_tells spelled_slot (λ (a : Slot). a) slot_tells xs ys s t rest in
+    (ap place.Registers (sym (same_map xs) ∙ same ∙ same_map ys), after)
+place_same (place.Stack m p) (place.Stack n q) s t tags rest = (let u : m ≡ n = cc in let v : p ≡ q = cc in cc, let u : s ≡ t = cc in u)
+place_same place.Hidden place.Hidden s t tags rest = (refl, rest)
+place_same _ _ s t tags rest = absurd (false≢true tags)
+
+place_tells : Tells spelled_place (λ a. a)
+place_tells a b s t e =
+    let both : place_tag a ∷ (place_rest a ++ s) ≡ place_tag b ∷ (place_rest b ++ t) = sym (place_is a s) ∙ e ∙ place_is b t in
+    let tags : place_tag a ≡ place_tag b = cc in
+    let rest : place_rest a ++ s ≡ place_rest b ++ t = cc in
+    place_same a b s t (eq-eqb (place_tag a) (place_tag b) tags) rest
+
+call_tells : Tells spelled_call (λ c. c)
+unfolding spelled_call
+call_tells c d s t e =
+    let both : spelled_place c.outcome ++ (spelled_list spelled_place c.params ++ s) ≡ spelled_place d.outcome ++ (spelled_list spelled_place d.params ++ t) =
+    sym (append_assoc (spelled_place c.outcome) (spelled_list spelled_place c.params) s) ∙ e ∙ append_assoc (spelled_place d.outcome) (spelled_list spelled_place d.params) t in
+    let (outcomes, rest) = place_tells c.outcome d.outcome (spelled_list spelled_place c.params ++ s) (spelled_list spelled_place d.params ++ t) both in
+    let (params, after) = list_tells spelled_place (λ (a : Place). a) place_tells c.params d.params s t rest in
+    let same_params : c.params ≡ d.params = sym (same_map c.params) ∙ params ∙ same_map d.params in
+    let made : Place → List Place → CallShape = λ o ps. record { outcome = o; params = ps } in
+    (ap (λ (o : Place). made o c.params) outcomes ∙ ap (λ (ps : List Place). made d.outcome ps) same_params, after)
+
+-- ---- parts and labels
+
+part_tag : PlainPart → ℕ
+part_tag (Member name bit width to) = 0
+part_tag (Enumerator name value) = 1
+part_tag (Target to) = 2
+part_tag (Element to) = 3
+part_tag (Outcome to) = 4
+part_tag (Param to) = 5
+
+part_rest : PlainPart → List ℕ
+part_rest (Member name bit width to) = spelled_name name ++ bit ∷ width ∷ []
+part_rest (Enumerator name value) = spelled_name name ++ value ∷ []
+part_rest other = []
+
+part_is : (p : PlainPart) (s : List ℕ) → spelled_part p ++ s ≡ part_tag p ∷ (part_rest p ++ s)
+unfolding part_tag part_rest spelled_part
+part_is (Member name bit width to) s = refl
+part_is (Enumerator name value) s = refl
+part_is (Target to) s = refl
+part_is (Element to) s = refl
+part_is (Outcome to) s = refl
+part_is (Param to) s = refl
+
+part_same : (p q : PlainPart) (s t : List ℕ) → eqb (part_tag p) (part_tag q) ≡ true → part_rest p ++ s ≡ part_rest q ++ t → (part_seen (λ _. 0) p ≡ part_seen (λ _. 0) q) × (s ≡ t)
+unfolding part_tag part_rest
+part_same (Member m b w to) (Member n c x to') s t tags rest =
+    let both : spelled_name m ++ (b ∷ w ∷ s) ≡ spelled_name n ++ (c ∷ x ∷ t) = sym (append_assoc (spelled_name m) (b ∷ w ∷ []) s) ∙ rest ∙ append_assoc (spelled_name n) (c ∷ x ∷ []) t in
+    let (names, after) = name_tells m n (b ∷ w ∷ s) (c ∷ x ∷ t) both in
+    let bits : b ≡ c = cc in
+    let widths : w ≡ x = cc in
+    (let u : part_seen (λ _. 0) (Member m b w to) ≡ part_seen (λ _. 0) (Member n c x to') = cc in u, let u : s ≡ t = cc in u)
+part_same (Enumerator m v) (Enumerator n w) s t tags rest =
+    let both : spelled_name m ++ (v ∷ s) ≡ spelled_name n ++ (w ∷ t) = sym (append_assoc (spelled_name m) (v ∷ []) s) ∙ rest ∙ append_assoc (spelled_name n) (w ∷ []) t in
+    let (names, after) = name_tells m n (v ∷ s) (w ∷ t) both in
+    let values : v ≡ w = cc in
+    (let u : part_seen (λ _. 0) (Enumerator m v) ≡ part_seen (λ _. 0) (Enumerator n w) = cc in u, let u : s ≡ t = cc in u)
+part_same (Target to) (Target to') s t tags rest = (refl, rest)
+part_same (Element to) (Element to') s t tags rest = (refl, rest)
+part_same (Outcome to) (Outcome to') s t tags rest = (refl, rest)
+part_same (Param to) (Param to') s t tags rest = (refl, rest)
+part_same _ _ s t tags rest = absurd (false≢true tags)
+
+part_tells : Tells spelled_part (part_seen (λ _. 0))
+part_tells p q s t e =
+    let both : part_tag p ∷ (part_rest p ++ s) ≡ part_tag q ∷ (part_rest q ++ t) = sym (part_is p s) ∙ e ∙ part_is q t in
+    let tags : part_tag p ≡ part_tag q = cc in
+    let rest : part_rest p ++ s ≡ part_rest q ++ t = cc in
+    part_same p q s t (eq-eqb (part_tag p) (part_tag q) tags) rest
+
+label_same : (k l : LabelKind) → eqb (label_number k) (label_number l) ≡ true → k ≡ l
+label_same label.Structure label.Structure e = refl
+label_same label.Union label.Union e = refl
+label_same label.Enumeration label.Enumeration e = refl
+label_same label.Typedef label.Typedef e = refl
+label_same label.Builtin label.Builtin e = refl
+label_same _ _ e = absurd (false≢true e)
+
+label_tells : Tells spelled_label (λ l. l)
+label_tells k l s t e =
+    let numbers : label_number k.kind ≡ label_number l.kind = cc in
+    let rest : spelled_name k.name ++ s ≡ spelled_name l.name ++ t = cc in
+    let kinds = label_same k.kind l.kind (eq-eqb (label_number k.kind) (label_number l.kind) numbers) in
+    let (names, after) = name_tells k.name l.name s t rest in
+    let made : LabelKind → List ℕ → PlainLabel = λ kind name. record { kind = kind; name = name } in
+    (ap (λ (kind : LabelKind). made kind k.name) kinds ∙ ap (λ (name : List ℕ). made l.kind name) names, after)
+
+-- ---- views
+
+truth_same : (a b : Bool) → eqb (truth_number a) (truth_number b) ≡ true → a ≡ b
+truth_same true true e = refl
+truth_same false false e = refl
+truth_same _ _ e = absurd (false≢true e)
+
+made_view : Kind → Bool → List ℕ → ℕ → Group → ℕ → ℕ → Bool → List PlainPart → CallShape → PlainView
+made_view kind declared_only tag size group align count variadic parts call = record {
+  kind = kind;
+  declared_only = declared_only;
+  tag = tag;
+  size = size;
+  group = group;
+  align = align;
+  count = count;
+  variadic = variadic;
+  parts = parts;
+  call = call;
+}
+
+view_seen-made : (v : PlainView) → view_seen (λ _. 0) v ≡ made_view v.kind v.declared_only v.tag v.size v.group v.align v.count v.variadic (map (part_seen (λ _. 0)) v.parts) v.call
+unfolding view_seen made_view
+view_seen-made v = refl
+
+view_is : (v : PlainView) (s : List ℕ) → spelled_view v ++ s ≡ spelled_numbers v ++ (spelled_name v.tag ++ (spelled_list spelled_part v.parts ++ (spelled_call v.call ++ s)))
+unfolding spelled_view
+view_is v s =
+    append_assoc (spelled_numbers v ++ spelled_name v.tag ++ spelled_list spelled_part v.parts) (spelled_call v.call) s
+    ∙ append_assoc (spelled_numbers v ++ spelled_name v.tag) (spelled_list spelled_part v.parts) (spelled_call v.call ++ s)
+    ∙ append_assoc (spelled_numbers v) (spelled_name v.tag) (spelled_list spelled_part v.parts ++ (spelled_call v.call ++ s))
+
+made_same : (v w : PlainView) → v.kind ≡ w.kind → v.declared_only ≡ w.declared_only → v.tag ≡ w.tag → v.size ≡ w.size → v.group ≡ w.group → v.align ≡ w.align → v.count ≡ w.count → v.variadic ≡ w.variadic
+    → map (part_seen (λ _. 0)) v.parts ≡ map (part_seen (λ _. 0)) w.parts → v.call ≡ w.call → view_seen (λ _. 0) v ≡ view_seen (λ _. 0) w
+made_same v w kinds declared tags sizes groups aligns counts variadics parts calls =
+    let made : made_view v.kind v.declared_only v.tag v.size v.group v.align v.count v.variadic (map (part_seen (λ _. 0)) v.parts) v.call ≡ made_view w.kind w.declared_only w.tag w.size w.group w.align w.count w.variadic (map (part_seen (λ _. 0)) w.parts) w.call = cc in
+    view_seen-made v ∙ made ∙ sym (view_seen-made w)
+
+view_tells : Tells spelled_view (view_seen (λ _. 0))
+view_tells v w s t e =
+    let rest_v : List ℕ = spelled_name v.tag ++ (spelled_list spelled_part v.parts ++ (spelled_call v.call ++ s)) in
+    let rest_w : List ℕ = spelled_name w.tag ++ (spelled_list spelled_part w.parts ++ (spelled_call w.call ++ t)) in
+    let both : spelled_numbers v ++ rest_v ≡ spelled_numbers w ++ rest_w = sym (view_is v s) ∙ e ∙ view_is w t in
+    let kinds : kind_number v.kind ≡ kind_number w.kind = cc in
+    let declared : truth_number v.declared_only ≡ truth_number w.declared_only = cc in
+    let sizes : v.size ≡ w.size = cc in
+    let groups : group_number v.group ≡ group_number w.group = cc in
+    let aligns : v.align ≡ w.align = cc in
+    let counts : v.count ≡ w.count = cc in
+    let variadics : truth_number v.variadic ≡ truth_number w.variadic = cc in
+    let rest : rest_v ≡ rest_w = cc in
+    let (tags, rest1) = name_tells v.tag w.tag (spelled_list spelled_part v.parts ++ (spelled_call v.call ++ s)) (spelled_list spelled_part w.parts ++ (spelled_call w.call ++ t)) rest in
+    let (parts, rest2) = list_tells spelled_part (part_seen (λ _. 0)) part_tells v.parts w.parts (spelled_call v.call ++ s) (spelled_call w.call ++ t) rest1 in
+    let (calls, after) = call_tells v.call w.call s t rest2 in (
+      made_same v w (equal_from_same_kind v.kind w.kind (eq-eqb (kind_number v.kind) (kind_number w.kind) kinds)) (truth_same v.declared_only w.declared_only (eq-eqb (truth_number v.declared_only) (truth_number w.declared_only) declared)) tags sizes
+          (equal_from_same_group v.group w.group (eq-eqb (group_number v.group) (group_number w.group) groups)) aligns counts (truth_same v.variadic w.variadic (eq-eqb (truth_number v.variadic) (truth_number w.variadic) variadics)) parts calls,
+      after,
+    )
+
+look_tells : Tells spelled (λ l. let made : Look = record { labels = l.labels; view = view_seen (λ _. 0) l.view } in made)
+unfolding spelled
+look_tells k l s t e =
+    let both : spelled_list spelled_label k.labels ++ (spelled_view k.view ++ s) ≡ spelled_list spelled_label l.labels ++ (spelled_view l.view ++ t) =
+    sym (append_assoc (spelled_list spelled_label k.labels) (spelled_view k.view) s) ∙ e ∙ append_assoc (spelled_list spelled_label l.labels) (spelled_view l.view) t in
+    let (labels, rest) = list_tells spelled_label (λ (x : PlainLabel). x) label_tells k.labels l.labels (spelled_view k.view ++ s) (spelled_view l.view ++ t) both in
+    let (views, after) = view_tells k.view l.view s t rest in
+    let made : List PlainLabel → PlainView → Look = λ ls v. record { labels = ls; view = v } in
+    (ap (λ (ls : List PlainLabel). made ls (view_seen (λ _. 0) k.view)) (sym (same_map k.labels) ∙ labels ∙ same_map l.labels) ∙ ap (λ (v : PlainView). made l.labels v) views, after)
+
+-- ---- equal shapes are spelled alike
+
+part_unseen : (p : PlainPart) → spelled_part (part_seen (λ _. 0) p) ≡ spelled_part p
+unfolding spelled_part
+part_unseen (Member name bit width to) = refl
+part_unseen (Enumerator name value) = refl
+part_unseen (Target to) = refl
+part_unseen (Element to) = refl
+part_unseen (Outcome to) = refl
+part_unseen (Param to) = refl
+
+parts_unseen : (ps : List PlainPart) → flat_map spelled_part (map (part_seen (λ _. 0)) ps) ≡ flat_map spelled_part ps
+parts_unseen [] = refl
+parts_unseen (p ∷ ps) = rw (part_unseen p, parts_unseen ps) refl
+
+list_unseen : (ps : List PlainPart) → spelled_list spelled_part (map (part_seen (λ _. 0)) ps) ≡ spelled_list spelled_part ps
+unfolding spelled_list
+list_unseen ps = ap (λ (n : ℕ). n ∷ flat_map spelled_part (map (part_seen (λ _. 0)) ps)) (length-map ps (part_seen (λ _. 0))) ∙ ap (λ (ns : List ℕ). length ps ∷ ns) (parts_unseen ps)
+
+view_unseen : (v : PlainView) → spelled_view (view_seen (λ _. 0) v) ≡ spelled_view v
+unfolding spelled_view view_seen
+view_unseen v = ap (λ (ns : List ℕ). spelled_numbers v ++ spelled_name v.tag ++ ns ++ spelled_call v.call) (list_unseen v.parts)
+
+-- the look of a node as it stands
+abbrev pub own_look : PlainNode → Look
+own_look n = record { labels = n.labels; view = n.view }
+
+shape_unseen : (n : PlainNode) → spelled (shape_of n) ≡ spelled (own_look n)
+unfolding spelled
+shape_unseen n = ap (λ (ns : List ℕ). spelled_list spelled_label n.labels ++ ns) (view_unseen n.view)
+
+append_none : (xs : List ℕ) → xs ++ [] ≡ xs
+append_none [] = refl
+append_none (x ∷ xs) = ap (λ (ys : List ℕ). x ∷ ys) (append_none xs)
+
+pub same_spelling : (m n : PlainNode) → (spelled (own_look m) ≡ spelled (own_look n)) ↔ (shape_of m ≡ shape_of n)
+same_spelling m n = (
+  λ e. (look_tells (own_look m) (own_look n) [] [] (append_none (spelled (own_look m)) ∙ e ∙ sym (append_none (spelled (own_look n))))).0,
+  λ e. sym (shape_unseen m) ∙ ap spelled e ∙ shape_unseen n,
+)

@@ -1,0 +1,9 @@
+pub mod Alike
+pub mod Blocks
+pub mod Classes
+pub mod Edges
+pub mod Numbered
+pub mod Refined
+pub mod Reps
+pub mod Shapes
+pub mod Splits

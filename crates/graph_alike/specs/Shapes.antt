@@ -1,0 +1,71 @@
+-- Shapes of nodes, spelled as lists of numbers: equal shapes are spelled alike, and others are not.
+use Rattle.std.specs.Prelude.{ℕ, ◌++◌, Bool, List, [], ◌∷◌, length, flat_map, if◌then◌else◌}
+use Rattle.abi_types.specs.declared.kind.LabelKind.{LabelKind}
+use Rattle.abi_types.specs.declared.kind.LabelKind.TheVariants as label
+use Rattle.abi_types.specs.declared.place.Slot.{Slot}
+use Rattle.abi_types.specs.declared.place.Slot.TheVariants as slot
+use Rattle.abi_types.specs.declared.place.Place.{Place}
+use Rattle.abi_types.specs.declared.place.Place.TheVariants as place
+use Rattle.abi_types.specs.declared.place.CallShape.{CallShape}
+use Rattle.abi_types.specs.Types.{PlainPart, Member, Enumerator, Target, Element, Outcome, Param, PlainView, PlainLabel}
+use Rattle.pair_rules.specs.Same.{kind_number, group_number}
+use Rattle.graph_alike.specs.Alike.{Look}
+
+-- each kind of label has a number of its own
+abbrev pub label_number : LabelKind → ℕ
+label_number label.Structure = 0
+label_number label.Union = 1
+label_number label.Enumeration = 2
+label_number label.Typedef = 3
+label_number label.Builtin = 4
+
+abbrev pub truth_number : Bool → ℕ
+truth_number b = if b then 1 else 0
+
+-- how many items there are, and then each of them
+unfoldable pub spelled_list : {X : Type 0} → (X → List ℕ) → List X → List ℕ
+spelled_list f xs = length xs ∷ flat_map f xs
+
+abbrev pub spelled_number : ℕ → List ℕ
+spelled_number n = n ∷ []
+
+unfoldable pub spelled_name : List ℕ → List ℕ
+spelled_name = spelled_list spelled_number
+
+abbrev pub spelled_slot : Slot → List ℕ
+spelled_slot slot.Unused = 0 ∷ 0 ∷ []
+spelled_slot (slot.General n) = 1 ∷ n ∷ []
+spelled_slot (slot.Vector n) = 2 ∷ n ∷ []
+spelled_slot (slot.Upper n) = 3 ∷ n ∷ []
+spelled_slot (slot.X87 n) = 4 ∷ n ∷ []
+
+unfoldable pub spelled_place : Place → List ℕ
+spelled_place place.Nothing = 0 ∷ []
+spelled_place (place.Registers eightbytes) = 1 ∷ spelled_list spelled_slot eightbytes
+spelled_place (place.Stack offset size) = 2 ∷ offset ∷ size ∷ []
+spelled_place place.Hidden = 3 ∷ []
+
+unfoldable pub spelled_call : CallShape → List ℕ
+spelled_call c = spelled_place c.outcome ++ spelled_list spelled_place c.params
+
+-- a part, without the node that it names
+unfoldable pub spelled_part : PlainPart → List ℕ
+spelled_part (Member name bit width to) = 0 ∷ (spelled_name name ++ bit ∷ width ∷ [])
+spelled_part (Enumerator name value) = 1 ∷ (spelled_name name ++ value ∷ [])
+spelled_part (Target to) = 2 ∷ []
+spelled_part (Element to) = 3 ∷ []
+spelled_part (Outcome to) = 4 ∷ []
+spelled_part (Param to) = 5 ∷ []
+
+abbrev pub spelled_label : PlainLabel → List ℕ
+spelled_label l = label_number l.kind ∷ spelled_name l.name
+
+-- what a view says in numbers alone
+abbrev pub spelled_numbers : PlainView → List ℕ
+spelled_numbers v = kind_number v.kind ∷ truth_number v.declared_only ∷ v.size ∷ group_number v.group ∷ v.align ∷ v.count ∷ truth_number v.variadic ∷ []
+
+unfoldable pub spelled_view : PlainView → List ℕ
+spelled_view v = spelled_numbers v ++ spelled_name v.tag ++ spelled_list spelled_part v.parts ++ spelled_call v.call
+
+unfoldable pub spelled : Look → List ℕ
+spelled l = spelled_list spelled_label l.labels ++ spelled_view l.view

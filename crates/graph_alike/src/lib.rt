@@ -1,0 +1,17 @@
+//! Classes of alike nodes: each unit of a library repeats the types of its headers, and what cannot be told apart need be
+//! looked at once.
+#![tactic(auto)]
+
+mod blocks;
+mod classes;
+mod edges;
+pub mod laws;
+mod refine;
+mod reps;
+mod shapes;
+mod split;
+
+pub use classes::{Classes, alike, plain};
+
+#[cfg(test)]
+mod tests;

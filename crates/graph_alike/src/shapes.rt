@@ -1,0 +1,291 @@
+// What a node looks like in all but the nodes that its parts name, spelled as a list of numbers.
+ghost use Rattle.std.specs.Prelude.{◌≡◌, ◌<◌, ◌↔◌, ◌++◌, ◌⊎◌, ℕ, List, [], ◌∷◌, length, map, if◌then◌else◌, Some, IfOk, OnOk, Contains};
+ghost use Rattle.std.specs.List.Sorted.{IsNonDecreasingBy};
+ghost use Rattle.abi_types.specs.Types.{PlainPart};
+ghost use Rattle.abi_types.specs.Graphs.{node_at};
+ghost use Rattle.abi_types.specs.Plain.{plain_label};
+ghost use Rattle.abi_types.specs.Parts.{plain_part};
+ghost use Rattle.pair_rules.specs.Same.{kind_number as the_kind_number, group_number as the_group_number};
+ghost use Rattle.graph_alike.specs.Alike.{shape_of};
+ghost use Rattle.graph_alike.specs.Shapes.{label_number as the_label_number, truth_number, spelled_list, spelled_number, spelled_name, spelled_slot, spelled_place, spelled_call, spelled_part, spelled_label, spelled_numbers, spelled_view, spelled};
+ghost use Rattle.graph_alike.specs.Splits.{key_of, number_at, HaveSameKeys};
+ghost use Rattle.graph_alike.specs.Numbered.{Words, number_in, IsNumbered};
+
+use abi_base::NoMemory;
+use abi_types::{CallShape, Graph, Group, Index, Kind, Label, LabelKind, Part, Place, Slot, View};
+use std::alloc::Global;
+use std::collections::HashMap;
+
+// Each kind has a number of its own, and so have groups, kinds of labels, slots, places and parts.
+
+fn kind_number(kind: Kind) -> u64
+    ensures { result ≡ the_kind_number kind }
+{
+    match kind {
+        Kind::Void => 0,
+        Kind::Scalar => 1,
+        Kind::Pointer => 2,
+        Kind::Enumeration => 3,
+        Kind::Structure => 4,
+        Kind::Union => 5,
+        Kind::Array => 6,
+        Kind::Vector => 7,
+        Kind::Function => 8,
+    }
+}
+
+fn group_number(group: Group) -> u64
+    ensures { result ≡ the_group_number group }
+{
+    match group {
+        Group::Bool => 0,
+        Group::Signed => 1,
+        Group::Unsigned => 2,
+        Group::Float => 3,
+        Group::Quad => 4,
+        Group::Complex => 5,
+        Group::Decimal => 6,
+    }
+}
+
+fn label_number(kind: LabelKind) -> u64
+    ensures { result ≡ the_label_number kind }
+{
+    match kind {
+        LabelKind::Structure => 0,
+        LabelKind::Union => 1,
+        LabelKind::Enumeration => 2,
+        LabelKind::Typedef => 3,
+        LabelKind::Builtin => 4,
+    }
+}
+
+fn push_name(into: &mut Vec<u64>, name: &[u8]) -> Result<(), NoMemory>
+    ensures { OnOk result (into.new.items ≡ into.old.items ++ spelled_name name.now) }
+{
+    into.push(name.len() as u64)?;
+    'bytes: for i in 0..name.len() {
+        into.push(u64::from(name[i]))?;
+    }
+    Ok(())
+}
+
+fn push_pair(into: &mut Vec<u64>, one: u64, other: u64) -> Result<(), NoMemory>
+    ensures { OnOk result (into.new.items ≡ into.old.items ++ one ∷ other ∷ []) }
+{
+    into.push(one)?;
+    into.push(other)?;
+    Ok(())
+}
+
+fn push_slot(into: &mut Vec<u64>, slot: Slot) -> Result<(), NoMemory>
+    ensures { OnOk result (into.new.items ≡ into.old.items ++ spelled_slot slot) }
+{
+    match slot {
+        Slot::Unused => push_pair(into, 0, 0),
+        Slot::General(number) => push_pair(into, 1, u64::from(number)),
+        Slot::Vector(number) => push_pair(into, 2, u64::from(number)),
+        Slot::Upper(number) => push_pair(into, 3, u64::from(number)),
+        Slot::X87(number) => push_pair(into, 4, u64::from(number)),
+    }
+}
+
+fn push_slots(into: &mut Vec<u64>, slots: &[Slot]) -> Result<(), NoMemory>
+    ensures { OnOk result (into.new.items ≡ into.old.items ++ spelled_list spelled_slot slots.now) }
+{
+    into.push(slots.len() as u64)?;
+    'slots: for i in 0..slots.len() {
+        push_slot(into, slots[i])?;
+    }
+    Ok(())
+}
+
+fn push_registers(into: &mut Vec<u64>, slots: &[Slot]) -> Result<(), NoMemory>
+    ensures { OnOk result (into.new.items ≡ into.old.items ++ 1 ∷ spelled_list spelled_slot slots.now) }
+{
+    into.push(1)?;
+    push_slots(into, slots)
+}
+
+fn push_stack(into: &mut Vec<u64>, offset: u64, size: u64) -> Result<(), NoMemory>
+    ensures { OnOk result (into.new.items ≡ into.old.items ++ 2 ∷ offset ∷ size ∷ []) }
+{
+    into.push(2)?;
+    push_pair(into, offset, size)
+}
+
+fn push_number(into: &mut Vec<u64>, number: u64) -> Result<(), NoMemory>
+    ensures { OnOk result (into.new.items ≡ into.old.items ++ number ∷ []) }
+{
+    into.push(number)?;
+    Ok(())
+}
+
+#[tactic(auto, unfolding(crate::specs::Shapes::spelled_place))]
+fn push_place(into: &mut Vec<u64>, place: &Place) -> Result<(), NoMemory>
+    ensures { OnOk result (into.new.items ≡ into.old.items ++ spelled_place place.now) }
+{
+    match place {
+        Place::Nothing => push_number(into, 0),
+        Place::Registers { eightbytes } => push_registers(into, eightbytes),
+        Place::Stack { offset, size } => push_stack(into, *offset, *size),
+        Place::Hidden => push_number(into, 3),
+    }
+}
+
+fn push_places(into: &mut Vec<u64>, places: &[Place]) -> Result<(), NoMemory>
+    ensures { OnOk result (into.new.items ≡ into.old.items ++ spelled_list spelled_place places.now) }
+{
+    into.push(places.len() as u64)?;
+    'places: for i in 0..places.len() {
+        push_place(into, &places[i])?;
+    }
+    Ok(())
+}
+
+fn push_member(into: &mut Vec<u64>, name: &[u8], bit: u64, width: u64) -> Result<(), NoMemory>
+    ensures { OnOk result (into.new.items ≡ into.old.items ++ 0 ∷ (spelled_name name.now ++ bit ∷ width ∷ [])) }
+{
+    into.push(0)?;
+    push_name(into, name)?;
+    push_pair(into, bit, width)
+}
+
+fn push_enumerator(into: &mut Vec<u64>, name: &[u8], value: u64) -> Result<(), NoMemory>
+    ensures { OnOk result (into.new.items ≡ into.old.items ++ 1 ∷ (spelled_name name.now ++ value ∷ [])) }
+{
+    into.push(1)?;
+    push_name(into, name)?;
+    push_number(into, value)
+}
+
+#[tactic(auto, unfolding(crate::specs::Shapes::spelled_part))]
+fn push_part<Ix: Index>(into: &mut Vec<u64>, part: &Part<Ix>) -> Result<(), NoMemory>
+    ensures { OnOk result (into.new.items ≡ into.old.items ++ spelled_part (plain_part Ix.number_of part.now)) }
+{
+    match part {
+        Part::Member {
+            name,
+            bit,
+            width,
+            ..
+        } => push_member(into, *name, *bit, *width),
+        Part::Enumerator { name, value } => push_enumerator(into, *name, *value),
+        Part::Target { .. } => push_number(into, 2),
+        Part::Element { .. } => push_number(into, 3),
+        Part::Outcome { .. } => push_number(into, 4),
+        Part::Param { .. } => push_number(into, 5),
+    }
+}
+
+fn push_parts<Ix: Index>(into: &mut Vec<u64>, parts: &[Part<Ix>]) -> Result<(), NoMemory>
+    ensures { OnOk result (into.new.items ≡ into.old.items ++ spelled_list spelled_part (map (plain_part Ix.number_of) parts.now)) }
+{
+    into.push(parts.len() as u64)?;
+    'parts: for i in 0..parts.len() {
+        push_part(into, &parts[i])?;
+    }
+    Ok(())
+}
+
+fn push_label(into: &mut Vec<u64>, label: &Label) -> Result<(), NoMemory>
+    ensures { OnOk result (into.new.items ≡ into.old.items ++ spelled_label (plain_label label.now)) }
+{
+    into.push(label_number(label.kind))?;
+    push_name(into, label.name)
+}
+
+fn push_labels(into: &mut Vec<u64>, labels: &[Label]) -> Result<(), NoMemory>
+    ensures { OnOk result (into.new.items ≡ into.old.items ++ spelled_list spelled_label (map plain_label labels.now)) }
+{
+    into.push(labels.len() as u64)?;
+    'labels: for i in 0..labels.len() {
+        push_label(into, &labels[i])?;
+    }
+    Ok(())
+}
+
+#[tactic(auto, unfolding(crate::specs::Shapes::spelled_call))]
+fn push_call(into: &mut Vec<u64>, call: &CallShape) -> Result<(), NoMemory>
+    ensures { OnOk result (into.new.items ≡ into.old.items ++ spelled_call call.now) }
+{
+    push_place(into, &call.outcome)?;
+    push_places(into, call.params.as_slice())
+}
+
+fn push_numbers<Ix: Index>(into: &mut Vec<u64>, view: &View<Ix>) -> Result<(), NoMemory>
+    ensures { OnOk result (into.new.items ≡ into.old.items ++ spelled_numbers view.now) }
+{
+    push_pair(into, kind_number(view.kind), u64::from(view.declared_only))?;
+    push_pair(into, view.size, group_number(view.group))?;
+    push_pair(into, view.align, view.count)?;
+    push_number(into, u64::from(view.variadic))
+}
+
+#[tactic(auto, unfolding(crate::specs::Shapes::spelled_view))]
+fn push_view<Ix: Index>(into: &mut Vec<u64>, view: &View<Ix>) -> Result<(), NoMemory>
+    ensures { OnOk result (into.new.items ≡ into.old.items ++ spelled_view view.now) }
+{
+    push_numbers(into, view)?;
+    push_name(into, view.tag)?;
+    push_parts(into, view.parts.as_slice())?;
+    push_call(into, &view.call)
+}
+
+// The shape of a node.
+#[tactic(auto, unfolding(crate::specs::Shapes::spelled))]
+fn spell<Ix: Index>(alloc: Global, labels: &[Label], view: &View<Ix>) -> Result<Vec<u64>, NoMemory>
+    ensures { IfOk result (λ words. words.items ≡ spelled (record { labels = map plain_label labels.now; view = view.now })) }
+{
+    let mut words = Vec::new(alloc);
+    push_labels(&mut words, labels)?;
+    push_view(&mut words, view)?;
+    Ok(words)
+}
+
+// The number of a shape, which is `fresh` where it has none yet.
+fn number_of(
+    numbers: &mut HashMap<Vec<u64>, usize>,
+    words: Vec<u64>,
+    fresh: usize,
+) -> Result<usize, NoMemory>
+    ensures number { IfOk result (λ number. number_in numbers.new words ≡ Some number) }
+    ensures kept { OnOk result ((key : Words) (n : ℕ) → number_in numbers.old key ≡ Some n → number_in numbers.new key ≡ Some n) }
+    ensures fresh { OnOk result ((key : Words) (n : ℕ) → number_in numbers.new key ≡ Some n → (number_in numbers.old key ≡ Some n) ⊎ ((key.items ≡ words.items) × (n ≡ fresh))) }
+{
+    match numbers.get(words.as_slice()) {
+        Some(number) => return Ok(*number),
+        None => {}
+    }
+    numbers.insert(words, fresh)?;
+    Ok(fresh)
+}
+
+// For each node the first node of its shape, and the node.
+fn numbered<Ix: Index>(alloc: Global, graph: &Graph<Ix>) -> Result<Vec<(usize, usize)>, NoMemory>
+    ensures { IfOk result (IsNumbered graph.now) }
+{
+    let mut numbers = HashMap::new(alloc);
+    let mut pairs = Vec::new(alloc);
+    'nodes: for node in 0..graph.len() {
+        let ix = Ix::of(node);
+        let words = spell(alloc, graph.labels(ix), graph.view(ix))?;
+        let number = number_of(&mut numbers, words, node)?;
+        pairs.push((number, node))?;
+    }
+    Ok(pairs)
+}
+
+/// For each node a number that it shares with the nodes of its shape alone, and the node, in order of these numbers.
+pub fn shape_pairs<Ix: Index>(
+    alloc: Global,
+    graph: &Graph<Ix>,
+) -> Result<Vec<(usize, usize)>, NoMemory>
+    ensures rising { IfOk result (λ pairs. IsNonDecreasingBy key_of pairs.items) }
+    ensures numbers { IfOk result (λ pairs. (i : ℕ) → i < length pairs.items → number_at pairs.items i < length graph.now) }
+    ensures shapes { IfOk result (λ pairs. (x y : ℕ) → x < length graph.now → y < length graph.now → HaveSameKeys pairs.items x y ↔ (shape_of (node_at graph.now x) ≡ shape_of (node_at graph.now y))) }
+{
+    let mut pairs = numbered(alloc, graph)?;
+    pairs.sort_unstable_by_key(|pair| pair.0);
+    Ok(pairs)
+}
