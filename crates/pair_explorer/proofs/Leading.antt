@@ -1,0 +1,179 @@
+-- What a step over representatives leads to.
+use Rattle.std.proofs.Common.{◌≡◌, ◌<◌, ◌≤◌, ℕ, false, length, slice_get, List, [], Option, Some, None, refl, sym, ◌∙◌, ap, subst, inl, inr, arith}
+use Rattle.std.specs.Option.{option_map}
+use Rattle.std.proofs.lemmas.Option.{slice_get_within, same_Some, none-some}
+use Rattle.abi_types.specs.declared.kind.Way.{Way}
+use Rattle.abi_types.specs.Types.{PlainPart, PlainView}
+use Rattle.abi_types.specs.Graphs.{part_at, to_of, view_at}
+use Rattle.pair_rules.specs.Partners.{partner_at}
+use Rattle.pair_rules.specs.Ways.{after}
+use Rattle.pair_rules.specs.Steps.{PlainRoot, Triple, is_marked, step, triple_of, led_by, next_of}
+use Rattle.pair_rules.specs.Paths.{root_triple}
+use Rattle.pair_rules.proofs.Leading.{step-parts, step-from_next, step-inside, IsNext-from_some}
+use Rattle.pair_rules.proofs.Partnering.{IsPartner-from_some, part-inside}
+use Rattle.graph_alike.specs.Classes.{PlainClasses, AreSound, rep_of}
+use Rattle.pair_explorer.specs.declared.visits.Parent.{Parent}
+use Rattle.pair_explorer.specs.declared.visits.Parent.TheVariants.{Root, Step}
+use Rattle.pair_explorer.specs.declared.visits.Visit.{Visit}
+use Rattle.pair_explorer.specs.Scopes.{Scope, AreGraphs, IsScope, rep, rep_step}
+use Rattle.pair_explorer.specs.Visits.{seen}
+use Rattle.pair_explorer.specs.Adding.{visit_of, visit_to, visit_of_root, next_visit, root_visit}
+use Rattle.pair_explorer.proofs.Triples.{triple_eq}
+use Rattle.pair_explorer.proofs.Order.{LedBefore}
+use Rattle.pair_explorer.proofs.Visited.{IsPlaced, MayFollow, MayEnter}
+
+-- what a caller keeps, and what the types of graphs and classes keep
+pub record IsGround (s : Scope) : Type 0 where
+  pub scope : IsScope s
+  pub graphs : AreGraphs s
+  pub old : AreSound s.old
+  pub new : AreSound s.new
+
+-- ---- steps
+
+pub rep_step_of : (s : Scope) (x y : Triple) (i : ℕ) → step s.task x i ≡ Some y → rep_step s x i ≡ Some (rep s y)
+unfolding rep_step
+rep_step_of s x y i e = ap (option_map (rep s)) e
+
+-- what leads on over representatives
+pub record IsRepStep (s : Scope) (x : Triple) (i : ℕ) (z : Triple) : Type 0 where
+  pub to : Triple
+  pub stepped : step s.task x i ≡ Some to
+  pub is : rep s to ≡ z
+
+pub rep_step-parts : (s : Scope) (x z : Triple) (i : ℕ) → rep_step s x i ≡ Some z → IsRepStep s x i z
+unfolding rep_step
+rep_step-parts s x z i e = go (step s.task x i) refl e where
+  go : (o : Option Triple) → step s.task x i ≡ o → option_map (rep s) o ≡ Some z → IsRepStep s x i z
+  go None is e = absurd (none-some z e)
+  go (Some y) is e = record { to = y; stepped = is; is = same_Some (rep s y) z e }
+
+-- a step along a part leads on from an unmarked node, and the part is there
+pub step-part : (s : Scope) (x y : Triple) (i : ℕ) → step s.task x i ≡ Some y → (is_marked s.task x.old x.way ≡ false) × (i < length (view_at s.task.old x.old).parts)
+step-part s x y i e =
+    let parts = step-parts s.task x y i e in
+    let next = IsNext-from_some (view_at s.task.old x.old) (view_at s.task.new x.new) x.way i y parts.1 in
+    (parts.0, part-inside (view_at s.task.old x.old) i y.old next.old)
+
+-- the step that the code takes
+pub next_of-is : (v w : PlainView) (at : Way) (i : ℕ) (p : ℕ × ℕ) (a b : ℕ) → partner_at v w i ≡ Some p → to_of (part_at v p.0) ≡ Some a → to_of (part_at w p.1) ≡ Some b → next_of v w at i ≡ Some (record { old = a; new = b; way = after at (part_at v p.0) })
+unfolding next_of
+next_of-is v w at i p a b partners old new =
+    ap (led_by v w at) partners ∙ ap (λ o. triple_of (after at (part_at v p.0)) o (to_of (part_at w p.1))) old ∙ ap (triple_of (after at (part_at v p.0)) (Some a)) new
+
+pub next_visit-is : (s : Scope) (n i : ℕ) (x : Triple) (v w : PlainView) (p : ℕ × ℕ) (a b r q : ℕ) (way : Way) (part : PlainPart) → is_marked s.task x.old x.way ≡ false → v ≡ view_at s.task.old x.old → w ≡ view_at s.task.new x.new
+    → partner_at v w i ≡ Some p → part ≡ part_at v p.0 → to_of part ≡ Some a → to_of (part_at w p.1) ≡ Some b → r ≡ rep_of s.old a → q ≡ rep_of s.new b → way ≡ after x.way part
+    → next_visit s n x i ≡ Some (record { old = r; new = q; way = way; parent = Step n p.0 })
+unfolding next_visit rep_step
+next_visit-is s n i x v w p a b r q way part unmarked old new partners is_part to_a to_b is_r is_q is_way =
+    let place = (IsPartner-from_some v w i p partners).0 in
+    let to : Triple = record { old = a; new = b; way = after x.way (part_at v p.0) } in
+    let next : next_of v w x.way i ≡ Some to = next_of-is v w x.way i p a b partners (ap to_of (sym is_part) ∙ to_a) to_b in
+    let stepped : step s.task x i ≡ Some to = step-from_next s.task x i unmarked ∙ ap (λ u. next_of u (view_at s.task.new x.new) x.way i) (sym old) ∙ ap (λ u. next_of v u x.way i) (sym new) ∙ next in
+    let mk : ℕ → ℕ → Way → ℕ → Option Visit = λ m k u j. Some (record { old = m; new = k; way = u; parent = Step n j }) in
+    let code : mk r q way p.0 ≡ mk (rep_of s.old a) (rep_of s.new b) to.way i = ap (λ m. mk m q way p.0) is_r ∙ ap (λ k. mk (rep_of s.old a) k way p.0) is_q ∙ ap (λ u. mk (rep_of s.old a) (rep_of s.new b) u p.0) (is_way ∙ ap (after x.way) is_part) ∙ ap (mk (rep_of s.old a) (rep_of s.new b) to.way) place in
+    ap (λ o. visit_to (Step n i) (option_map (rep s) o)) stepped ∙ sym code
+
+-- ---- representatives
+
+rep_inside : (c : PlainClasses) (i n : ℕ) → AreSound c → length c.nodes ≡ n → i < n → rep_of c i < n
+rep_inside c i n sound many lt = omega (arith, sound.inside i (omega arith), many)
+
+pub rep-own : (s : Scope) (x : Triple) → IsGround s → rep s (rep s x) ≡ rep s x
+rep-own s x ground = triple_eq (rep s (rep s x)) (rep s x) (ground.old.own x.old) (ground.new.own x.new) refl
+
+pub rep-placed : (s : Scope) (x : Triple) → IsGround s → x.old < length s.task.old → x.new < length s.task.new → IsPlaced s (rep s x)
+rep-placed s x ground old new = record {
+  old = rep_inside s.old x.old (length s.task.old) ground.old (ap length ground.scope.nodes.old_nodes) old;
+  new = rep_inside s.new x.new (length s.task.new) ground.new (ap length ground.scope.nodes.new_nodes) new;
+  own = rep-own s x ground;
+}
+
+pub rep_step-placed : (s : Scope) (x z : Triple) (i : ℕ) → IsGround s → rep_step s x i ≡ Some z → IsPlaced s z
+rep_step-placed s x z i ground e =
+    let parts = rep_step-parts s x z i e in
+    let inside = step-inside s.task x parts.to i ground.graphs.old ground.graphs.new parts.stepped in
+    subst (IsPlaced s) parts.is (rep-placed s parts.to ground inside.0 inside.1)
+
+-- ---- visits of steps and of roots
+
+pub next_visit-parts : (s : Scope) (m i : ℕ) (x : Triple) (v : Visit) → next_visit s m x i ≡ Some v → (v.parent ≡ Step m i) × (rep_step s x i ≡ Some (seen v))
+unfolding next_visit
+next_visit-parts s m i x v e = go (rep_step s x i) refl e where
+  go : (o : Option Triple) → rep_step s x i ≡ o → visit_to (Step m i) o ≡ Some v → (v.parent ≡ Step m i) × (rep_step s x i ≡ Some (seen v))
+  go None is e = absurd (none-some v e)
+  go (Some z) is e =
+      let same = same_Some (visit_of z (Step m i)) v e in
+      (sym (ap (λ (y : Visit). y.parent) same), is ∙ ap (λ (y : Visit). Some (seen y)) same)
+
+pub next_visit_at : (s : Scope) (m i : ℕ) (x z : Triple) → rep_step s x i ≡ Some z → next_visit s m x i ≡ Some (visit_of z (Step m i))
+unfolding next_visit
+next_visit_at s m i x z e = ap (visit_to (Step m i)) e
+
+pub root_visit_at : (s : Scope) (k : ℕ) (root : PlainRoot) → slice_get s.task.roots k ≡ Some root → root_visit s k ≡ Some (visit_of (rep s (root_triple root)) (Root root.export))
+unfolding root_visit
+root_visit_at s k root e = ap (visit_of_root s) e
+
+pub record IsRootVisit (s : Scope) (k : ℕ) (v : Visit) : Type 0 where
+  pub root : PlainRoot
+  pub at : slice_get s.task.roots k ≡ Some root
+  pub parent : v.parent ≡ Root root.export
+  pub is : rep s (root_triple root) ≡ seen v
+
+pub root_visit-parts : (s : Scope) (k : ℕ) (v : Visit) → root_visit s k ≡ Some v → IsRootVisit s k v
+unfolding root_visit
+root_visit-parts s k v e = go (slice_get s.task.roots k) refl e where
+  go : (o : Option PlainRoot) → slice_get s.task.roots k ≡ o → visit_of_root s o ≡ Some v → IsRootVisit s k v
+  go None is e = absurd (none-some v e)
+  go (Some root) is e =
+      let same = same_Some (visit_of (rep s (root_triple root)) (Root root.export)) v e in
+      record { root = root; at = is; parent = sym (ap (λ (y : Visit). y.parent) same); is = ap seen same }
+
+MayFollow-next : (s : Scope) (ws : List Visit) (m i : ℕ) (v x : Visit) → IsGround s → slice_get ws m ≡ Some v → next_visit s m (seen v) i ≡ Some x → MayFollow s ws x
+MayFollow-next s ws m i v x ground at e =
+    let parts = next_visit-parts s m i (seen v) x e in
+    record { led = rw parts.0 (v, slice_get_within ws m v at, at, parts.1); placed = rep_step-placed s (seen v) (seen x) i ground parts.1 }
+
+MayFollow-root : (s : Scope) (ws : List Visit) (k : ℕ) (x : Visit) → IsGround s → root_visit s k ≡ Some x → MayFollow s ws x
+MayFollow-root s ws k x ground e =
+    let parts = root_visit-parts s k x e in
+    let inside = ground.scope.nodes.roots k parts.root parts.at in
+    record {
+      led = rw parts.parent (k, parts.root, parts.at, refl, sym parts.is);
+      placed = subst (IsPlaced s) parts.is (rep-placed s (root_triple parts.root) ground inside.0 inside.1);
+    }
+
+-- what led to a visit is of a visit before number m
+abbrev pub IsUnder : ℕ → Parent → Type 0
+IsUnder m (Root export) = Unit {0}
+IsUnder m (Step pair part) = pair < m
+
+under-before : (m k : ℕ) (parent : Parent) → IsUnder m parent → LedBefore parent (Step m k)
+under-before m k (Root export) under = tt
+under-before m k (Step pair part) under = inl under
+
+pub under-more : (m n : ℕ) (parent : Parent) → m ≤ n → IsUnder m parent → IsUnder n parent
+under-more m n (Root export) le under = tt
+under-more m n (Step pair part) le under = omega (arith, under)
+
+pub MayEnter-next : (s : Scope) (vs : List Visit) (m : ℕ) (v : Visit) → IsGround s → slice_get vs m ≡ Some v → ((n : ℕ) (u : Visit) → slice_get vs n ≡ Some u → IsUnder m u.parent) → MayEnter s (next_visit s m (seen v)) vs
+MayEnter-next s vs m v ground at under = record {
+  follow = λ ws i x grows e. MayFollow-next s ws m i v x ground (grows.kept m v at) e;
+  rising = λ j k x y lt e f.
+      let p = next_visit-parts s m j (seen v) x e in
+      let q = next_visit-parts s m k (seen v) y f in
+      rw (p.0, q.0) (inr (refl, lt));
+  after = λ k x e n u at_n.
+      let p = next_visit-parts s m k (seen v) x e in
+      rw p.0 (under-before m k u.parent (under n u at_n));
+}
+
+pub MayEnter-root : (s : Scope) → IsGround s → MayEnter s (root_visit s) []
+MayEnter-root s ground = record {
+  follow = λ ws k x grows e. MayFollow-root s ws k x ground e;
+  rising = λ j k x y lt e f.
+      let p = root_visit-parts s j x e in
+      let q = root_visit-parts s k y f in
+      rw (p.parent, q.parent) (ground.scope.ascending j k p.root q.root lt p.at q.at);
+  after = λ k x e n u at_n. absurd (none-some u at_n);
+}

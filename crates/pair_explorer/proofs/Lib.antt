@@ -1,0 +1,13 @@
+pub mod Bounds
+pub mod Entered
+pub mod Growth
+pub mod Keyed
+pub mod Leading
+pub mod Loop
+pub mod Order
+pub mod Representatives
+pub mod Scoped
+pub mod Triples
+pub mod Verdict
+pub mod Visited
+pub mod Walked

@@ -1,0 +1,37 @@
+-- What holds over representatives, and over all nodes.
+use Rattle.std.specs.Prelude.{◌≡◌, ℕ, false, List, Some, Contains, slice_get}
+use Rattle.graph_alike.specs.Classes.{AreSound}
+use Rattle.pair_rules.specs.declared.rules.Broken.{Broken}
+use Rattle.pair_rules.specs.Steps.{Triple, is_marked, breaks_of}
+use Rattle.pair_rules.specs.Paths.{Path, Leads, IsNotAfter}
+use Rattle.pair_explorer.specs.declared.visits.Visit.{Visit}
+use Rattle.pair_explorer.specs.Scopes.{Scope, IsScope, rep}
+use Rattle.pair_explorer.specs.Visits.{seen}
+
+-- what a caller keeps, and what the types of classes keep
+pub record IsSound (s : Scope) : Type 0 where
+  pub scope : IsScope s
+  pub old : AreSound s.old
+  pub new : AreSound s.new
+
+-- a triple of nodes that a break tells of
+pub record IsToldBy (s : Scope) (visits : List Visit) (n : ℕ) (broken : Broken) (path : Path) : Type 0 where
+  pub triple : Triple
+  -- the path leads to it
+  pub leads : Leads s.task path triple
+  -- and none to a triple of the same classes and the same way comes before
+  pub first : (other : Path) (x : Triple) → Leads s.task other x → rep s x ≡ rep s triple → IsNotAfter path other
+  pub unmarked : is_marked s.task triple.old triple.way ≡ false
+  pub breaks : Contains (breaks_of s.task triple) broken
+  -- its representatives are those of the visit
+  pub visit : Visit
+  pub at : slice_get visits n ≡ Some visit
+  pub is : rep s triple ≡ seen visit
+
+-- the break of a triple of nodes is told at the visit of its representatives
+pub record IsTold (s : Scope) (visits : List Visit) (breaks : List (ℕ × Broken)) (x : Triple) (broken : Broken) : Type 0 where
+  pub number : ℕ
+  pub visit : Visit
+  pub at : slice_get visits number ≡ Some visit
+  pub is : rep s x ≡ seen visit
+  pub told : Contains breaks (number, broken)

@@ -1,0 +1,8 @@
+pub mod Adding
+pub mod ByClass
+pub mod Explorations
+pub mod Grounds
+pub mod Keys
+pub mod Routes
+pub mod Scopes
+pub mod Visits

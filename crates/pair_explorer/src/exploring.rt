@@ -1,0 +1,112 @@
+// All triples to which the roots lead, breadth first.
+ghost use Rattle.std.specs.Prelude.{◌≡◌, ◌≤◌, ◌<◌, ◌+◌, ◌++◌, map, false, length, IfOk, OnOk};
+ghost use Rattle.pair_explorer.specs.Adding.{expanded};
+ghost use Rattle.pair_explorer.specs.Explorations.{IsExploration, visit_breaks, most_triples};
+ghost use Rattle.pair_explorer.specs.Grounds.{scope_of};
+ghost use Rattle.pair_explorer.specs.Scopes.{AreGraphs, HasNodes, IsScope, scope};
+
+use crate::ground::{Ground, add_partners, add_roots, is_marked};
+use crate::roots::Root;
+use crate::visits::{Visit, Visits};
+use abi_base::{List, NoMemory};
+use abi_types::{Graph, Marks, NewIx, OldIx};
+use graph_alike::Classes;
+use pair_rules::{Broken, Steps, breaks};
+use std::alloc::Global;
+use std::sync::ledger::Ledger;
+
+/// What an exploration gives.
+#[derive(Drop)]
+pub struct Explored {
+    /// The triples that were reached, with what led to each first.
+    pub visits: Visits,
+    /// The broken rules, each with the number of its triple.
+    pub breaks: List<(usize, Broken)>,
+}
+
+// Adds the breaks of the visit of a number.
+fn add_breaks(
+    list: &mut List<(usize, Broken)>,
+    number: usize,
+    found: &[Broken],
+) -> Result<(), NoMemory>
+    ensures { OnOk result (list.new ≡ list.old ++ map (λ broken. (number, broken)) found.now) }
+{
+    for broken in found {
+        list.push((number, *broken))?;
+    }
+    Ok(())
+}
+
+// Compares the types of the visit of a number, and adds what it leads to.
+#[tactic(auto, unfolding(crate::specs::Adding::expanded, crate::specs::Explorations::visit_breaks))]
+fn expand<L: Ledger>(
+    alloc: Global,
+    ground: &Ground,
+    explored: &mut Explored,
+    number: usize,
+    visit: &Visit,
+    steps: &mut Steps<L>,
+) -> Result<(), NoMemory>
+    requires nodes { HasNodes (scope_of ground.now) }
+    requires graphs { AreGraphs (scope_of ground.now) }
+    requires old { visit.now.old < length ground.now.old.now }
+    requires new { visit.now.new < length ground.now.new.now }
+    ensures visits { OnOk result (explored.new.visits ≡ expanded (scope_of ground.now) explored.old.visits number visit.now) }
+    ensures breaks { OnOk result (explored.new.breaks ≡ explored.old.breaks ++ visit_breaks (scope_of ground.now).task number visit.now) }
+    ensures cost { steps.new ≤ steps.old + 1 }
+{
+    if is_marked(ground, visit.old, visit.way) {
+        return Ok(());
+    }
+    let old = ground.old.view(visit.old);
+    let new = ground.new.view(visit.new);
+    let found = breaks(alloc, old, new, steps)?;
+    add_breaks(&mut explored.breaks, number, found.as_slice())?;
+    add_partners(ground, &mut explored.visits, number, visit, old, new)
+}
+
+/// All triples to which the roots lead, over the representatives of classes, with the first path to each, and the broken rules
+/// of those whose old node is unmarked at its way. The classes are those of the two graphs; `is_scope` says what else is asked
+/// of the roots and of the marks.
+pub fn explore<L: Ledger>(
+    alloc: Global,
+    old: &Graph<OldIx>,
+    new: &Graph<NewIx>,
+    roots: &[Root],
+    marks: &Marks,
+    old_classes: &Classes<OldIx>,
+    new_classes: &Classes<NewIx>,
+    steps: &mut Steps<L>,
+) -> Result<Explored, NoMemory>
+    requires { IsScope (scope old.now new.now roots.now marks.now old_classes.now new_classes.now) }
+    ensures exploration { IfOk result (λ e. IsExploration (scope old.now new.now roots.now marks.now old_classes.now new_classes.now) e.visits e.breaks) }
+    ensures few { IfOk result (λ e. length e.visits ≤ most_triples (scope old.now new.now roots.now marks.now old_classes.now new_classes.now)) }
+    ensures cost { IfOk result (λ e. steps.new ≤ steps.old + length e.visits) }
+    ensures bound { steps.new ≤ steps.old + most_triples (scope old.now new.now roots.now marks.now old_classes.now new_classes.now) }
+{
+    old.known();
+    new.known();
+    old_classes.known();
+    new_classes.known();
+    let ground = Ground {
+        old,
+        new,
+        roots,
+        marks,
+        old_classes,
+        new_classes,
+    };
+    let mut explored = Explored {
+        visits: Visits::new(alloc),
+        breaks: List::new(alloc),
+    };
+    add_roots(&ground, &mut explored.visits)?;
+    let mut number = 0;
+    'list: while number < explored.visits.len() {
+        let visit = explored.visits.visit(number);
+        expand(alloc, &ground, &mut explored, number, &visit, steps)?;
+        number += 1;
+    }
+    Ok(explored)
+}

@@ -1,0 +1,131 @@
+// What an exploration goes by, and how one triple leads to others.
+ghost use Rattle.std.specs.Prelude.{◌≡◌, ◌<◌, length, false, Some, OnOk};
+ghost use Rattle.abi_types.specs.Graphs.{view_at};
+ghost use Rattle.pair_rules.specs.Steps.{is_marked as the_node_is_marked};
+ghost use Rattle.pair_explorer.specs.Visits.{seen};
+ghost use Rattle.pair_explorer.specs.Adding.{entered, next_visit as the_next_visit, root_visit as the_root_visit};
+ghost use Rattle.pair_explorer.specs.Grounds.{scope_of};
+ghost use Rattle.pair_explorer.specs.Scopes.{HasNodes, AreGraphs};
+
+use crate::roots::Root;
+use crate::visits::{Parent, Visit, Visits};
+use abi_base::NoMemory;
+use abi_types::{Graph, Index, Marks, NewIx, OldIx, View, Way};
+use graph_alike::Classes;
+use pair_rules::{after, partner_at};
+
+/// What is compared, and the classes of its nodes. The lifetimes are those that a caller's graphs and classes bring along.
+#[derive(Clone, Copy)]
+pub struct Ground<'x, 'o, 'n, 'og, 'oc, 'ng, 'nc> {
+    pub old: &'x Graph<'o, OldIx>,
+    pub new: &'x Graph<'n, NewIx>,
+    pub roots: &'x [Root],
+    pub marks: &'x Marks,
+    pub old_classes: &'x Classes<'og, 'oc, OldIx>,
+    pub new_classes: &'x Classes<'ng, 'nc, NewIx>,
+}
+
+// Whether an old node is marked at a way.
+pub fn is_marked(ground: &Ground, node: OldIx, way: Way) -> bool
+    ensures { result ≡ the_node_is_marked (scope_of ground.now).task node way }
+{
+    let flags = match way {
+        Way::Direct => ground.marks.direct.as_slice(),
+        Way::Pointer => ground.marks.pointer.as_slice(),
+    };
+    match flags.get(node.number()) {
+        Some(mark) => *mark,
+        None => false,
+    }
+}
+
+// The visit of a root.
+#[tactic(auto, unfolding(crate::specs::Adding::root_visit))]
+fn root_visit(ground: &Ground, k: usize) -> Visit
+    requires inside { k < length ground.now.roots.now }
+    requires nodes { HasNodes (scope_of ground.now) }
+    ensures { Some result ≡ the_root_visit (scope_of ground.now) k }
+{
+    let root = ground.roots[k];
+    Visit {
+        old: ground.old_classes.rep(root.old),
+        new: ground.new_classes.rep(root.new),
+        way: Way::Direct,
+        parent: Parent::Root {
+            export: root.export,
+        },
+    }
+}
+
+// Adds the visits of the roots.
+pub fn add_roots(ground: &Ground, visits: &mut Visits) -> Result<(), NoMemory>
+    requires { HasNodes (scope_of ground.now) }
+    ensures { OnOk result (visits.new ≡ entered (the_root_visit (scope_of ground.now)) (length ground.now.roots.now) visits.old) }
+{
+    for k in 0..ground.roots.len() {
+        let visit = root_visit(ground, k);
+        visits.add(&visit)?;
+    }
+    Ok(())
+}
+
+// The visit to which the old part `i` leads from the visit of a number, whose old node is unmarked at its way.
+#[tactic(auto, unfolding(crate::specs::Adding::next_visit, crate::specs::Scopes::rep_step, pair_rules::specs::Steps::step, pair_rules::specs::Steps::next_of))]
+fn next_visit(
+    ground: &Ground,
+    number: usize,
+    visit: &Visit,
+    old: &View<OldIx>,
+    new: &View<NewIx>,
+    i: usize,
+) -> Option<Visit>
+    requires nodes { HasNodes (scope_of ground.now) }
+    requires graphs { AreGraphs (scope_of ground.now) }
+    requires unmarked { the_node_is_marked (scope_of ground.now).task visit.now.old visit.now.way ≡ false }
+    requires old { old.now ≡ view_at ground.now.old.now visit.now.old }
+    requires new { new.now ≡ view_at ground.now.new.now visit.now.new }
+    requires inside { i < length old.now.parts }
+    ensures { result ≡ the_next_visit (scope_of ground.now) number (seen visit.now) i }
+{
+    let (i, j) = match partner_at(old, new, i) {
+        None => return None,
+        Some(places) => places,
+    };
+    let part = old.part(i);
+    match (part.to(), new.part(j).to()) {
+        (Some(a), Some(b)) => Some(Visit {
+            old: ground.old_classes.rep(a),
+            new: ground.new_classes.rep(b),
+            way: after(visit.way, part),
+            parent: Parent::Step {
+                pair: number,
+                part: i,
+            },
+        }),
+        _ => None,
+    }
+}
+
+// Adds all to which the visit of a number leads. Its old node is unmarked at its way.
+pub fn add_partners(
+    ground: &Ground,
+    visits: &mut Visits,
+    number: usize,
+    visit: &Visit,
+    old: &View<OldIx>,
+    new: &View<NewIx>,
+) -> Result<(), NoMemory>
+    requires nodes { HasNodes (scope_of ground.now) }
+    requires graphs { AreGraphs (scope_of ground.now) }
+    requires unmarked { the_node_is_marked (scope_of ground.now).task visit.now.old visit.now.way ≡ false }
+    requires old { old.now ≡ view_at ground.now.old.now visit.now.old }
+    requires new { new.now ≡ view_at ground.now.new.now visit.now.new }
+    ensures { OnOk result (visits.new ≡ entered (the_next_visit (scope_of ground.now) number (seen visit.now)) (length old.now.parts) visits.old) }
+{
+    for i in 0..old.parts_len() {
+        if let Some(next) = next_visit(ground, number, visit, old, new, i) {
+            visits.add(&next)?;
+        }
+    }
+    Ok(())
+}

@@ -1,0 +1,20 @@
+//! All pairs of types to which the bound exports of two libraries lead, with the rules that they break and the first path to
+//! each. Of types that cannot be told apart one is looked at for all.
+#![tactic(auto)]
+
+mod exploring;
+mod ground;
+pub mod laws;
+mod roots;
+mod routes;
+mod scopes;
+mod visits;
+
+pub use exploring::{Explored, explore};
+pub use roots::Root;
+pub use routes::{Route, route_to};
+pub use scopes::is_scope;
+pub use visits::{Parent, Visit, Visits};
+
+#[cfg(test)]
+mod tests;

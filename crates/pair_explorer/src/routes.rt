@@ -1,0 +1,40 @@
+// The path to a triple.
+ghost use Rattle.std.specs.Prelude.{◌<◌, length, IfOk};
+ghost use Rattle.pair_explorer.specs.Visits.{Along, AreEarlier};
+ghost use Rattle.pair_explorer.specs.Routes.{path_of};
+
+use crate::visits::{Parent, Visits};
+use abi_base::{List, NoMemory};
+use std::alloc::Global;
+
+/// A path: an export, and the positions of the parts that are followed from its type, the first one first.
+#[derive(Drop)]
+pub struct Route {
+    /// The position of the export among the old ones.
+    pub export: u32,
+    pub parts: List<usize>,
+}
+
+/// The path to the triple of a number: the one that the parents spell.
+pub fn route_to(alloc: Global, visits: &Visits, number: usize) -> Result<Route, NoMemory>
+    requires number { number < length visits.now }
+    requires earlier { AreEarlier visits.now }
+    ensures { IfOk result (λ route. Along visits.now number (path_of route.export route.parts)) }
+{
+    let mut parts = Vec::new(alloc);
+    let mut at = number;
+    'walk: loop {
+        let visit = visits.visit(at);
+        match visit.parent {
+            Parent::Root { export } => {
+                parts.as_mut_slice().reverse();
+                let parts = List::of(parts);
+                return Ok(Route { export, parts });
+            }
+            Parent::Step { pair, part } => {
+                parts.push(part)?;
+                at = pair;
+            }
+        }
+    }
+}
