@@ -7,35 +7,22 @@
 #
 # usage: bench/alike.sh [PROGRAM]   (default: the program that `rt run` built in crates/alike_bench/out)
 set -eu
-top=$(cd "$(dirname "$0")/.." && pwd)
-program=$(readlink -f "${1:-$top/crates/alike_bench/out/alike_bench}")
+program=$(readlink -f "${1:-$(dirname "$0")/../crates/alike_bench/out/alike_bench}")
+. "$(dirname "$0")/common.bash"
 rounds=20
-
-# Seconds of processor time of a command, the least of two runs, to standard output.
-least_time() {
-    for _ in 1 2; do
-        TIMEFORMAT='%U %S'
-        { time "$@" > /dev/null 2>&1; } 2>&1 | awk '{ print $1 + $2 }'
-    done | sort -g | head -n 1
-}
-
-# Peak memory of a command in kilobytes.
-peak() {
-    /usr/bin/time -f %M "$@" 2>&1 > /dev/null | tail -n 1
-}
 
 echo "load $(cut -d ' ' -f 1-3 /proc/loadavg)"
 for pattern in rings chain wide copies; do
     for nodes in 1000 10000 100000; do
         classes=$("$program" "$pattern" "$nodes" 1 | sed 's/.*, //')
-        made=$(least_time "$program" "$pattern" "$nodes" 0)
-        all=$(least_time "$program" "$pattern" "$nodes" "$rounds")
+        made=$(least 2 "$program" "$pattern" "$nodes" 0)
+        all=$(least 2 "$program" "$pattern" "$nodes" "$rounds")
         awk -v pattern="$pattern" -v nodes="$nodes" -v classes="$classes" -v made="$made" -v all="$all" -v rounds="$rounds" \
-            -v graph="$(peak "$program" "$pattern" "$nodes" 0)" -v memory="$(peak "$program" "$pattern" "$nodes" 1)" \
+            -v graph="$(peak_memory "$program" "$pattern" "$nodes" 0)" -v memory="$(peak_memory "$program" "$pattern" "$nodes" 1)" \
             'BEGIN {
                 ms = 1000 * (all - made) / rounds
                 printf "%s, %d nodes, %s: %.2f ms, %.0f ns a node, %.1f MB at the peak, %.1f MB of them for the graph\n",
-                    pattern, nodes, classes, ms, 1000000 * ms / nodes, memory / 1024, graph / 1024
+                    pattern, nodes, classes, ms, 1000000 * ms / nodes, memory, graph
             }'
     done
 done

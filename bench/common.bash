@@ -1,5 +1,5 @@
-# What the scripts beside this one share: where they work, which program they take, peak memory and ratios. A script takes
-# this file in with its own arguments.
+# What the scripts beside this one share: where they work, which program they take, processor time, peak memory and ratios. A
+# script takes this file in with its own arguments.
 top=$(cd "$(dirname "${BASH_SOURCE[0]}")/.." && pwd)
 abi=$(readlink -f "${1:-$top/crates/abi_cli/out/abi_cli}")
 made=$top/bench/made
@@ -14,6 +14,21 @@ peak_memory() {
     else
         printf 'unknown'
     fi
+}
+
+# seconds COMMAND..: adds the seconds of processor time of a run to the file `times`.
+seconds() {
+    TIMEFORMAT='%U %S'
+    { time "$@" >/dev/null 2>errors; } 2>>times
+}
+
+# least RUNS COMMAND..: the least seconds of processor time of so many runs.
+least() {
+    local run runs=$1
+    shift
+    rm -f times
+    for run in $(seq "$runs"); do seconds "$@"; done
+    awk 'NR == 1 || $1 + $2 < cpu { cpu = $1 + $2 } END { printf "%.3f", cpu }' times
 }
 
 ratio() { awk -v a="$1" -v b="$2" 'BEGIN { if (b > 0) printf "%.2f", a / b; else printf "none" }'; }

@@ -10,31 +10,18 @@ source=$top/tests/c/entries.awk
 mkdir -p entries
 cd entries
 
-# seconds COMMAND..: adds the seconds of processor time of a run to the file `times`.
-seconds() {
-    TIMEFORMAT='%U %S'
-    { time "$@" >/dev/null 2>errors; } 2>>times
-}
-
-# least COMMAND..: the least seconds of processor time of five runs.
-least() {
-    rm -f times
-    for _ in 1 2 3 4 5; do seconds "$@"; done
-    awk 'NR == 1 || $1 + $2 < cpu { cpu = $1 + $2 } END { printf "%.3f", cpu }' times
-}
-
 # measured NAME LIBRARY: a line of each tool.
 measured() {
     local entries size ours theirs
     entries=$("$abi" entries "$2" | wc -l)
     size=$(readelf --wide --section-headers "$2" | awk '/ \.debug_info / { sub(/^ *\[ *[0-9]+\]/, ""); print $5 }')
-    ours=$(least "$abi" entries "$2")
-    theirs=$(least readelf --debug-dump=info "$2")
+    ours=$(least 5 "$abi" entries "$2")
+    theirs=$(least 5 readelf --debug-dump=info "$2")
     echo "$1: $entries entries, $((16#$size)) bytes of .debug_info, $(stat -c %s "$2") bytes of file"
     echo "  abi entries $ours s, peak $(peak_memory "$abi" entries "$2") MB"
     echo "  readelf --debug-dump=info $theirs s, peak $(peak_memory readelf --debug-dump=info "$2") MB, ratio of abi entries to it $(ratio "$ours" "$theirs")"
     if command -v llvm-dwarfdump >/dev/null; then
-        theirs=$(least llvm-dwarfdump --debug-info "$2")
+        theirs=$(least 5 llvm-dwarfdump --debug-info "$2")
         echo "  llvm-dwarfdump --debug-info $theirs s, ratio of abi entries to it $(ratio "$ours" "$theirs")"
     fi
 }

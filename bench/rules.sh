@@ -5,23 +5,15 @@
 #
 # usage: bench/rules.sh [PROGRAM]   (default: the program that `rt run` built in crates/rules_bench/out)
 set -eu
-top=$(cd "$(dirname "$0")/.." && pwd)
-program=$(readlink -f "${1:-$top/crates/rules_bench/out/rules_bench}")
+program=$(readlink -f "${1:-$(dirname "$0")/../crates/rules_bench/out/rules_bench}")
+. "$(dirname "$0")/common.bash"
 rounds=20
-
-# Seconds of processor time of a command, the least of five runs, to standard output.
-least_time() {
-    for _ in 1 2 3 4 5; do
-        TIMEFORMAT='%U %S'
-        { time "$@" > /dev/null 2>&1; } 2>&1 | awk '{ print $1 + $2 }'
-    done | sort -g | head -n 1
-}
 
 echo "load $(cut -d ' ' -f 1-3 /proc/loadavg)"
 for members in 1000 2000 5000 10000; do
     "$program" "$members" "$rounds" | grep -qx "0 broken, $((members * rounds)) partners"
-    made=$(least_time "$program" "$members" 0)
-    all=$(least_time "$program" "$members" "$rounds")
+    made=$(least 5 "$program" "$members" 0)
+    all=$(least 5 "$program" "$members" "$rounds")
     awk -v members="$members" -v made="$made" -v all="$all" -v rounds="$rounds" \
         'BEGIN { printf "%d members: made in %.1f ms, compared in %.2f ms a round\n", members, 1000 * made, 1000 * (all - made) / rounds }'
 done

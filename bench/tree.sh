@@ -9,24 +9,11 @@
 #
 # usage: bench/tree.sh [ABI [TYPED_EXPORTS]]   (default: the programs that `rt run` built in their crates' out)
 set -eu
+typed=$(readlink -f "${2:-$(dirname "$0")/../crates/typed_exports/out/typed_exports}")
 . "$(dirname "$0")/common.bash"
-typed=$(readlink -f "${2:-$top/crates/typed_exports/out/typed_exports}")
 source=$top/tests/c/entries.awk
 mkdir -p tree
 cd tree
-
-# seconds COMMAND..: adds the seconds of processor time of a run to the file `times`.
-seconds() {
-    TIMEFORMAT='%U %S'
-    { time "$@" >/dev/null 2>errors; } 2>>times
-}
-
-# least COMMAND..: the least seconds of processor time of nine runs.
-least() {
-    rm -f times
-    for _ in 1 2 3 4 5 6 7 8 9; do seconds "$@"; done
-    awk 'NR == 1 || $1 + $2 < cpu { cpu = $1 + $2 } END { printf "%.3f", cpu }' times
-}
 
 # resident ENTRIES LIBRARY: the bytes for each entry that are resident while the program waits to print.
 resident() {
@@ -48,7 +35,7 @@ resident() {
 measured() {
     local entries ours
     entries=$("$abi" entries "$2" | wc -l)
-    ours=$(least "$typed" "$2")
+    ours=$(least 9 "$typed" "$2")
     echo "$1: $entries entries, $(stat -c %s "$2") bytes of file, load $(cut -d ' ' -f 1 /proc/loadavg)"
     echo "  typed_exports $ours s, peak $(peak_memory "$typed" "$2") MB"
     beside "$ours" "$abi" entries "$2"
@@ -60,7 +47,7 @@ measured() {
 beside() {
     local ours=$1 theirs
     shift
-    theirs=$(least "$@")
+    theirs=$(least 9 "$@")
     echo "  $(basename "$1") $theirs s, peak $(peak_memory "$@") MB, ratio to it $(ratio "$ours" "$theirs")"
 }
 
