@@ -1,5 +1,6 @@
 mod AlikeLemmas
 mod BlockLemmas
+mod BlockSplits
 mod ClassLemmas
 mod EdgeLemmas
 mod Layouts

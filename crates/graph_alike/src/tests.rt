@@ -163,7 +163,7 @@ fn a_ring_with_another_member_is_told_apart(rt: HostRuntime) -> Result<(), Fail>
     )
 }
 
-// Two units hold the same ring and int, and the first one of them has a typedef of the int between.
+// Three units hold the same ring and int, and the last one has a typedef of the int between.
 #[test]
 fn units_share_classes_but_for_typedefs(rt: HostRuntime) -> Result<(), Fail> {
     let alloc = rt.alloc();

@@ -1,6 +1,6 @@
 -- The class is split in two.
 use Rattle.std.proofs.Common.{ap, ◌∙◌}
-use Rattle.graph_alike.proofs.BlockLemmas.{cutting_by, cutting-split}
+use Rattle.graph_alike.proofs.BlockSplits.{cutting_by, cutting-split}
 use Rattle.graph_alike.proofs.blocks.Blocks.cut.Goals as goal
 
 pub returns : goal.returns

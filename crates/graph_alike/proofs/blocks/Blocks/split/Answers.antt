@@ -1,6 +1,7 @@
 -- One class after the other is split.
 use Rattle.std.proofs.Common.{◌≡◌, length, arith}
-use Rattle.graph_alike.proofs.BlockLemmas.{KeepsTogether-same, popped_inside, IsSplitting-more, unlisted}
+use Rattle.graph_alike.proofs.BlockLemmas.{unlisted}
+use Rattle.graph_alike.proofs.BlockSplits.{KeepsTogether-same, popped_inside, IsSplitting-more}
 use Rattle.graph_alike.proofs.blocks.Blocks.split.Goals as goal
 
 pub touched-init : goal.touched-init

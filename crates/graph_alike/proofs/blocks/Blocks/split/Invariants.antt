@@ -1,6 +1,6 @@
 -- The classes that are still listed are to be split.
 use Rattle.std.proofs.Common.{vec_len}
-use Rattle.graph_alike.proofs.BlockLemmas.{IsSplitting}
+use Rattle.graph_alike.proofs.BlockSplits.{IsSplitting}
 use Rattle.graph_alike.proofs.blocks.Blocks.split.Given as goal
 
 abbrev pub invariant-touched : goal.invariant-touched

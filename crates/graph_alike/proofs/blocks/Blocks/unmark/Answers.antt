@@ -1,6 +1,6 @@
 -- All numbers of the class have the same mark.
 use Rattle.std.proofs.Common.{refl}
-use Rattle.graph_alike.proofs.BlockLemmas.{unmarking-split}
+use Rattle.graph_alike.proofs.BlockSplits.{unmarking-split}
 use Rattle.graph_alike.proofs.blocks.Blocks.unmark.Goals as goal
 
 pub returns : goal.returns
