@@ -1,7 +1,11 @@
 pub mod Causes
+pub mod Dwarf
+pub mod Elf
 pub mod Fault
 pub mod Files
+pub mod GnuVersions
 pub mod Leb
+pub mod Limits
 pub mod Numbers
 pub mod Outcome
 pub mod Runs
