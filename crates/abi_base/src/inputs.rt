@@ -46,7 +46,7 @@ pub trait Inputs {
         ensures next { (k : ℕ) → is_made_to_fail self.new k ≡ is_made_to_fail self.old (k + 1) };
 
     /// Gives the next bytes of the current input at the front of `into`, and how many they are: none only at its end,
-    /// or where `into` has no room. After `Failed` what is left is as before.
+    /// or where `into` has no room. After `Failed` what is left is as before, which `bytes` says too.
     fn read(&mut self, into: &mut [u8]) -> Result<usize, Failed>
         ensures told { (other : List ℕ) → told self.new other ≡ told self.old other }
         ensures later { NeverFall (faults self.old) (faults self.new) }

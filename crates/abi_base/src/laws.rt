@@ -9,13 +9,11 @@ use crate::dwarf::*;
 /// The limit of inputs is the one that definitions speak of.
 pub fn the_limit_of_inputs_is_as_said()
     ensures { INPUT_LIMIT ≡ input_limit }
-{
-}
+{}
 
 /// Each form has its number of DWARF 5, section 7.5.6 "Form Encodings", and those of GNU theirs.
 pub fn forms_have_their_numbers()
-    ensures {
-        (DW_FORM_addr ≡ dw_form_addr)
+    ensures { (DW_FORM_addr ≡ dw_form_addr)
         × (DW_FORM_block2 ≡ dw_form_block2)
         × (DW_FORM_block4 ≡ dw_form_block4)
         × (DW_FORM_data2 ≡ dw_form_data2)
@@ -59,15 +57,12 @@ pub fn forms_have_their_numbers()
         × (DW_FORM_addrx3 ≡ dw_form_addrx3)
         × (DW_FORM_addrx4 ≡ dw_form_addrx4)
         × (DW_FORM_GNU_ref_alt ≡ dw_form_gnu_ref_alt)
-        × (DW_FORM_GNU_strp_alt ≡ dw_form_gnu_strp_alt)
-    }
-{
-}
+        × (DW_FORM_GNU_strp_alt ≡ dw_form_gnu_strp_alt) }
+{}
 
 /// Each tag has its number of DWARF 5, section 7.5.3 "Abbreviations Tables".
 pub fn tags_have_their_numbers()
-    ensures {
-        (DW_TAG_array_type ≡ dw_tag_array_type)
+    ensures { (DW_TAG_array_type ≡ dw_tag_array_type)
         × (DW_TAG_enumeration_type ≡ dw_tag_enumeration_type)
         × (DW_TAG_formal_parameter ≡ dw_tag_formal_parameter)
         × (DW_TAG_member ≡ dw_tag_member)
@@ -88,15 +83,12 @@ pub fn tags_have_their_numbers()
         × (DW_TAG_restrict_type ≡ dw_tag_restrict_type)
         × (DW_TAG_partial_unit ≡ dw_tag_partial_unit)
         × (DW_TAG_type_unit ≡ dw_tag_type_unit)
-        × (DW_TAG_atomic_type ≡ dw_tag_atomic_type)
-    }
-{
-}
+        × (DW_TAG_atomic_type ≡ dw_tag_atomic_type) }
+{}
 
 /// Each attribute has its number of DWARF 5, section 7.5.4 "Attribute Encodings", and that of GNU its own.
 pub fn attributes_have_their_numbers()
-    ensures {
-        (DW_AT_location ≡ dw_at_location)
+    ensures { (DW_AT_location ≡ dw_at_location)
         × (DW_AT_name ≡ dw_at_name)
         × (DW_AT_byte_size ≡ dw_at_byte_size)
         × (DW_AT_bit_offset ≡ dw_at_bit_offset)
@@ -120,39 +112,28 @@ pub fn attributes_have_their_numbers()
         × (DW_AT_addr_base ≡ dw_at_addr_base)
         × (DW_AT_rnglists_base ≡ dw_at_rnglists_base)
         × (DW_AT_alignment ≡ dw_at_alignment)
-        × (DW_AT_GNU_vector ≡ dw_at_gnu_vector)
-    }
-{
-}
+        × (DW_AT_GNU_vector ≡ dw_at_gnu_vector) }
+{}
 
 /// Each language has its number of DWARF 5, section 7.12 "Source Languages", and those that came later theirs.
 pub fn languages_have_their_numbers()
-    ensures {
-        (DW_LANG_C89 ≡ dw_lang_c89)
+    ensures { (DW_LANG_C89 ≡ dw_lang_c89)
         × (DW_LANG_C ≡ dw_lang_c)
         × (DW_LANG_C99 ≡ dw_lang_c99)
         × (DW_LANG_C11 ≡ dw_lang_c11)
         × (DW_LANG_C17 ≡ dw_lang_c17)
-        × (DW_LANG_Mips_Assembler ≡ dw_lang_mips_assembler)
-    }
-{
-}
+        × (DW_LANG_Mips_Assembler ≡ dw_lang_mips_assembler) }
+{}
 
 /// Each type of unit has its number of DWARF 5, section 7.5.1 "Unit Headers".
 pub fn unit_types_have_their_numbers()
-    ensures {
-        (DW_UT_compile ≡ dw_ut_compile)
+    ensures { (DW_UT_compile ≡ dw_ut_compile)
         × (DW_UT_type ≡ dw_ut_type)
-        × (DW_UT_partial ≡ dw_ut_partial)
-    }
-{
-}
+        × (DW_UT_partial ≡ dw_ut_partial) }
+{}
 
 /// Whether an entry has children is said by the numbers of DWARF 5, section 7.5.3 "Abbreviations Tables".
 pub fn children_have_their_numbers()
-    ensures {
-        (DW_CHILDREN_no ≡ dw_children_no)
-        × (DW_CHILDREN_yes ≡ dw_children_yes)
-    }
-{
-}
+    ensures { (DW_CHILDREN_no ≡ dw_children_no)
+        × (DW_CHILDREN_yes ≡ dw_children_yes) }
+{}

@@ -16,7 +16,7 @@ const TRIES: u64 = u64::MAX;
 
 // What one read gives. A read that is interrupted gives nothing and is tried again.
 #[tactic(auto, using(crate::proofs::Loops::kept))]
-fn read_some<F: Read>(file: &mut F, into: &mut [u8]) -> Result<usize, Failed>
+pub(crate) fn read_some<F: Read>(file: &mut F, into: &mut [u8]) -> Result<usize, Failed>
     ensures bound { ReadsAtMost result into.new }
     ensures bytes { ReadConsumes (F.remaining file.old) (F.remaining file.new) result into.new }
 {
@@ -47,7 +47,7 @@ fn write_some<P: Print>(rt: &P, bytes: &[u8]) -> Result<usize, Failed>
 }
 
 /// Files by their paths. One count of faults, which each call that fails raises, serves for every name, and the
-/// current input answers to every name, since one file may have several.
+/// current input answers to every name, since one file may have several. A read that a signal interrupts is tried again.
 #[derive(Drop)]
 pub struct FileInputs<'a, R: Files> {
     rt: &'a R,
@@ -61,6 +61,9 @@ impl<'a, R: Files> FileInputs<'a, R> {
     pub fn new(rt: &'a R) -> Self
         ensures faults { (name : List ℕ) → ⟦<FileInputs<'a, R> as Inputs>⟧.faults result name ≡ 0 }
         ensures given { ⟦<FileInputs<'a, R> as Inputs>⟧.given result ≡ 0 }
+
+        // Nothing is left before a first start.
+        ensures left { ⟦<FileInputs<'a, R> as Inputs>⟧.left result ≡ Some [] }
     {
         FileInputs {
             rt,
@@ -115,7 +118,8 @@ impl<R: Files> Inputs for FileInputs<'_, R> {
 }
 
 /// Standard output, written without a buffer. Its count of faults rises with each call that fails, and with one that
-/// takes none of a piece that is not empty, which is answered as a failure.
+/// takes none of a piece that is not empty, which is answered as a failure. A write that a signal interrupts is tried
+/// again.
 #[derive(Drop)]
 pub struct StdSink<'a, P: Print> {
     rt: &'a P,
