@@ -1,6 +1,9 @@
 pub mod EntryLemmas
+pub mod LeafLemmas
 pub mod LibraryLemmas
 pub mod LikeLemmas
 pub mod LookupLemmas
+pub mod Recursion
 pub mod ShapedLemmas
 pub mod ValidLemmas
+pub mod WalkLemmas

@@ -123,6 +123,7 @@ module _ (nodes : List PlainNode) (calls : List CallShape) where
     falls = λ i k to e.
         let low = graph.falls i k to (ap inner_of (sym (part-same i k)) ∙ e) in
         omega (arith, low, same_rank (node_at nodes i) (node_at (shaped nodes calls) i) (at i), same_rank (node_at nodes to) (node_at (shaped nodes calls) to) (at to));
+    shallow = λ i. rw (same_rank (node_at nodes i) (node_at (shaped nodes calls) i) (at i)) (graph.shallow i);
     forms = λ i. form_shaped (node_at nodes i) (node_at (shaped nodes calls) i) (at i) (graph.forms i);
     limits = λ i. limits-shaped i (graph.limits i);
     whole = λ i to elements e.

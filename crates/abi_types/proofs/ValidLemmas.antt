@@ -2,6 +2,7 @@
 use Rattle.std.proofs.Common.{◌≡◌, ◌<◌, ◌≤◌, ℕ, List, length, get_or, Some, None, refl, sym, ap, ◌∙◌, subst, arith, inl, inr}
 use Rattle.std.proofs.lemmas.Bool.{cases_lt, cases_order}
 use Rattle.std.proofs.lemmas.List.{get_or_past, get_or_read}
+use Rattle.abi_base.specs.Limits.{depth_limit}
 use Rattle.abi_types.specs.Types.{PlainView, PlainNode}
 use Rattle.abi_types.specs.Forms.{HasForm}
 use Rattle.abi_types.specs.Graphs.{IsGraph, KeepsLimits, IsWhole, node_at, view_at, part_at, void_node, void_view, to_of, inner_of}
@@ -47,9 +48,9 @@ void_limits nodes = record {
 
 -- ---- all nodes
 
-pub IsGraph-all : (nodes : List PlainNode) (n : ℕ) → length nodes ≤ n → IsVoidFirst nodes → ((i : ℕ) → i < n → IsNewEntry nodes i) → ((i : ℕ) → i < n → NamesNodes nodes i)
+pub IsGraph-all : (nodes : List PlainNode) (n : ℕ) → length nodes ≤ n → IsVoidFirst nodes → ((i : ℕ) → i < n → IsNewEntry nodes i) → ((i : ℕ) → i < n → NamesNodes nodes i) → ((i : ℕ) → i < n → (node_at nodes i).rank ≤ depth_limit)
     → ((i : ℕ) → i < n → HasForm (view_at nodes i)) → ((i : ℕ) → i < n → KeepsLimits nodes (view_at nodes i)) → ((i : ℕ) → i < n → IsWhole nodes (view_at nodes i)) → IsGraph nodes
-IsGraph-all nodes n past void new names forms limits whole = record {
+IsGraph-all nodes n past void new names shallow forms limits whole = record {
   void_first = void.first;
   void_kind = void.kind;
   void_entry = void.entry;
@@ -65,6 +66,10 @@ IsGraph-all nodes n past void new names forms limits whole = record {
   falls = λ i k to e. elim (cases_lt i (length nodes)) [
     | inl below ↦ (names i (omega arith)).falls k to e
     | inr over ↦ absurd (no_inner_past nodes i k to over e)
+  ];
+  shallow = λ i. elim (cases_lt i (length nodes)) [
+    | inl below ↦ shallow i (omega arith)
+    | inr over ↦ subst (λ (m : PlainNode). m.rank ≤ depth_limit) (sym (void_past nodes i over)) (omega arith)
   ];
   forms = λ i. elim (cases_lt i (length nodes)) [
     | inl below ↦ forms i (omega arith)

@@ -1,6 +1,7 @@
 -- Lists of nodes that are graphs of types.
 use Rattle.std.specs.Prelude.{◌≡◌, ◌<◌, ◌≤◌, ◌+◌, ◌*◌, ◌^◌, ◌==◌, ℕ, true, false, List, [], length, Option, Some, None, slice_index_or, find, map, if◌then◌else◌}
 use Rattle.std.specs.List.{sum_by, range_with_len}
+use Rattle.abi_base.specs.Limits.{depth_limit}
 use Rattle.abi_types.specs.declared.kind.Kind.TheVariants as kind
 use Rattle.abi_types.specs.declared.kind.Group.TheVariants as group
 use Rattle.abi_types.specs.declared.place.CallShape.{CallShape}
@@ -111,7 +112,8 @@ pub record KeepsLimits (nodes : List PlainNode) (v : PlainView) : Type 0 where
   pub bits : (k : ℕ) → KeepsBits (part_at v k)
   pub rooms : rooms nodes v ≤ 2 ^ 62
 
--- The list meets all that a graph keeps. Cycles go through pointers alone, since the rank falls by value.
+-- The list meets all that a graph keeps. Cycles go through pointers alone, since the rank falls by value; and no chain of
+-- by-value steps is longer than the limit, since no rank is above it.
 pub record IsGraph (nodes : List PlainNode) : Type 0 where
   pub void_first : 0 < length nodes
   pub void_kind : (view_at nodes 0).kind ≡ kind.Void
@@ -119,6 +121,7 @@ pub record IsGraph (nodes : List PlainNode) : Type 0 where
   pub inside : (i k to : ℕ) → to_of (part_at (view_at nodes i) k) ≡ Some to → to < length nodes
   pub apart : (i j : ℕ) → i < length nodes → j < length nodes → (node_at nodes i).entry ≡ (node_at nodes j).entry → i ≡ j
   pub falls : (i k to : ℕ) → inner_of (part_at (view_at nodes i) k) ≡ Some to → (node_at nodes to).rank < (node_at nodes i).rank
+  pub shallow : (i : ℕ) → (node_at nodes i).rank ≤ depth_limit
   pub forms : (i : ℕ) → HasForm (view_at nodes i)
   pub limits : (i : ℕ) → KeepsLimits nodes (view_at nodes i)
   pub whole : (i : ℕ) → IsWhole nodes (view_at nodes i)

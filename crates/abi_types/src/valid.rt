@@ -1,9 +1,10 @@
 // The tests whether a list of nodes is a graph, and whether exports and a graph are those of a library.
-ghost use Rattle.std.specs.Prelude.{◌≡◌, ◌<◌, length, map, count_by, All, IsSome, IsTrue};
+ghost use Rattle.std.specs.Prelude.{◌≡◌, ◌<◌, ◌≤◌, length, map, count_by, All, IsSome, IsTrue};
+ghost use Rattle.abi_base.specs.Limits.{depth_limit};
 ghost use Rattle.abi_types.specs.Exports.{PlainExport};
 ghost use Rattle.abi_types.specs.Forms.{is_param as the_part_is_param};
-ghost use Rattle.abi_types.specs.Graphs.{IsGraph, node_of};
-ghost use Rattle.abi_types.specs.Libraries.{HasPlaces, IsLibrary};
+ghost use Rattle.abi_types.specs.Graphs.{IsGraph, node_at, node_of};
+ghost use Rattle.abi_types.specs.Libraries.{AreNumbered, HasPlaces, IsLibrary};
 ghost use Rattle.abi_types.specs.Parts.{plain_part};
 ghost use Rattle.abi_types.specs.Plain.{plain_exports};
 ghost use Rattle.abi_types.specs.Valid.{IsVoidFirst, IsNewEntry, NamesNodes};
@@ -71,6 +72,18 @@ fn names_nodes<Ix: Index>(nodes: &[Node<Ix>], i: usize) -> bool
     true
 }
 
+// The highest rank.
+const RANK_LIMIT: u32 = 512;
+
+// Whether the rank of the node is not above the limit.
+fn is_shallow<Ix: Index>(nodes: &[Node<Ix>], i: usize) -> bool
+    requires { i < length nodes.now }
+    ensures { IsTrue result → (node_at nodes.now i).rank ≤ depth_limit }
+{
+    let node = &nodes[i];
+    node.rank <= RANK_LIMIT
+}
+
 /// Whether the nodes are a graph. It is for tests alone: it compares each node's entry with those of all before it, so its time
 /// grows with the square of their number. What makes graphs proves that its nodes are one.
 pub fn is_graph<Ix: Index>(nodes: &[Node<Ix>]) -> bool
@@ -84,6 +97,9 @@ pub fn is_graph<Ix: Index>(nodes: &[Node<Ix>]) -> bool
             return false;
         }
         if !names_nodes(nodes, i) {
+            return false;
+        }
+        if !is_shallow(nodes, i) {
             return false;
         }
         let node = &nodes[i];
@@ -137,11 +153,26 @@ fn have_nodes<Ix: Index>(exports: &[Export], graph: &Graph<Ix>) -> bool
     true
 }
 
+// Whether the exports stand in order of the numbers of their symbols.
+fn are_numbered(exports: &[Export]) -> bool
+    ensures { IsTrue result → AreNumbered (plain_exports exports.now) }
+{
+    for i in 1..exports.len() {
+        if exports[i - 1].symbol >= exports[i].symbol {
+            return false;
+        }
+    }
+    true
+}
+
 /// Whether the exports and the graph are those of a library. It is for tests alone, which make libraries by hand.
 pub fn is_library<Ix: Index>(exports: &[Export], graph: &Graph<Ix>) -> bool
     ensures { IsTrue result → IsLibrary (plain_exports exports.now) graph.now }
 {
     if !have_nodes(exports, graph) {
+        return false;
+    }
+    if !are_numbered(exports) {
         return false;
     }
     for i in 0..graph.len() {
