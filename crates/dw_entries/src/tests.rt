@@ -68,7 +68,7 @@ const RANGELESS: &[u8] =
 
 // The bytes, or none where they are more than an input may have.
 fn within_limit(bytes: &[u8]) -> &[u8]
-    ensures { length result.now ≤ INPUT_LIMIT }
+    ensures { length result.now ≤ input_limit }
 {
     if bytes.len() > INPUT_LIMIT {
         &[]
@@ -248,10 +248,10 @@ fn an_address_is_an_attribute_along_the_chain(rt: HostRuntime) -> Result<(), Fai
         Ok(dwarf) => {
             assert_eq!(rt; dwarf.len(), 8);
             assert_eq!(rt;
-                dwarf.attr(7, DW_AT_low_pc).copied(),
+                dwarf.attr(7, DW_AT_low_pc),
                 Some(Value::Address(0x1000))
             );
-            assert_eq!(rt; dwarf.own(7, DW_AT_low_pc).copied(), None);
+            assert_eq!(rt; dwarf.own(7, DW_AT_low_pc), None);
             assert_eq!(rt; dwarf.next_child(0, None), Some(1));
             assert_eq!(rt;
                 (dwarf.offset(5), dwarf.tag(5), dwarf.find(37)),
