@@ -17,6 +17,7 @@ use crate::source::Source;
 use crate::typed::entries_by_address;
 use abi_base::{NoMemory, Refusal};
 use dw_forms::{Sections, Value};
+use dw_tree::laws::children_stand_one_deeper;
 use dw_tree::read_tree;
 use std::alloc::Global;
 use std::collections::HashMap;
@@ -104,6 +105,7 @@ impl<'a> Dwarf<'a> {
         ensures children { IfOk result (λ list. list.items ≡ filter (is_tagged self.now.tree tag) (children_of self.now.tree e)) }
         ensures inside { IfOk result (λ list. All (λ child. child < length self.now.tree.entries) list.items) }
     {
+        children_stand_one_deeper();
         self.source.tree().tagged(alloc, e, tag)
     }
 
