@@ -1,9 +1,8 @@
 pub mod EntryLemmas
 pub mod LeafLemmas
-pub mod LibraryLemmas
 pub mod LikeLemmas
 pub mod LookupLemmas
+pub mod NameLemmas
 pub mod Recursion
 pub mod ShapedLemmas
-pub mod ValidLemmas
 pub mod WalkLemmas

@@ -1,4 +1,5 @@
 pub mod ByValue
+pub mod Calls
 pub mod Entries
 pub mod Exports
 pub mod Forms
@@ -7,12 +8,14 @@ pub mod Inside
 pub mod Kinds
 pub mod Leaves
 pub mod Libraries
+pub mod Limits
 pub mod Lookups
+pub mod Names
 pub mod Parts
 pub mod Plain
+pub mod Rules
 pub mod Seen
 pub mod Shown
 pub mod Sorts
 pub mod Types
-pub mod Valid
 pub mod Walks

@@ -1,5 +1,5 @@
 -- Libraries as plain data, and what they keep.
-use Rattle.std.specs.Prelude.{◌≡◌, ◌<◌, ◌^◌, ℕ, List, length, Option, Some, IsSome, All, count_by, slice_get}
+use Rattle.std.specs.Prelude.{◌≡◌, ◌<◌, ℕ, List, length, Option, Some, IsSome, All, count_by, slice_get}
 use Rattle.std.specs.Borrow.{Bor}
 use Rattle.std.specs.Option.{option_copied}
 use Rattle.abi_types.specs.declared.export.Export.{Export}
@@ -8,6 +8,7 @@ use Rattle.abi_types.specs.Exports.{PlainExport}
 use Rattle.abi_types.specs.Types.{PlainView, PlainNode}
 use Rattle.abi_types.specs.Forms.{is_param}
 use Rattle.abi_types.specs.Graphs.{node_of, view_at}
+use Rattle.abi_types.specs.Limits.{symbol_limit}
 use Rattle.abi_types.specs.Plain.{plain_exports}
 
 -- a library, without where its names lie in memory
@@ -28,10 +29,6 @@ plain_library digest soname exports graph = record {
 -- the call of a function has a place for each of its parameters
 abbrev pub HasPlaces : PlainView → Type 0
 HasPlaces v = v.kind ≡ kind.Function → length v.call.params ≡ count_by is_param v.parts
-
--- numbers of symbols are below this
-unfoldable pub symbol_limit : ℕ
-symbol_limit = 2 ^ 32
 
 -- the exports stand in strictly ascending order of the numbers of their symbols
 pub record AreNumbered (exports : List PlainExport) : Type 0 where

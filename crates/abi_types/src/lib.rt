@@ -5,22 +5,20 @@
 mod alike;
 mod entries;
 mod export;
-mod form;
 mod graph;
 mod index;
 mod kind;
 pub mod laws;
 mod leaf;
 mod library;
-mod limits;
 mod lookup;
+mod names;
 mod part;
 mod parts;
 mod place;
 mod rule;
 mod shown;
 mod sort;
-mod valid;
 mod view;
 
 pub use export::{Export, SymbolKind};
@@ -34,7 +32,6 @@ pub use parts::Parts;
 pub use place::{CallShape, Place, Slot};
 pub use rule::RuleName;
 pub use shown::{push_label, push_shown};
-pub use valid::{is_graph, is_library};
 pub use view::{Label, Node, View};
 
 #[cfg(test)]

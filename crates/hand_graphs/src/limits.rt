@@ -1,6 +1,7 @@
 // The test whether a view keeps the limits of a graph.
-ghost use Rattle.std.specs.Prelude.{◌≡◌, ◌≤◌, ◌+◌, ◌^◌, IsTrue, IfSome};
+ghost use Rattle.std.specs.Prelude.{◌≡◌, ◌≤◌, ◌+◌, IsTrue, IfSome};
 ghost use Rattle.abi_types.specs.Parts.{plain_part};
+ghost use Rattle.abi_types.specs.Limits.{size_limit, align_room, room_limit};
 ghost use Rattle.abi_types.specs.Graphs.{room_of as the_room_of, rooms, KeepsBits, KeepsLimits, IsWhole};
 
 use crate::form::has_elements;
@@ -36,7 +37,7 @@ fn keeps_bits<Ix: Index>(part: &Part<Ix>) -> bool
 // The room that a part takes among arguments, where it names a node that keeps the limit of its size.
 fn room_of<Ix: Index>(nodes: &[Node<Ix>], part: &Part<Ix>) -> Option<u64>
     ensures room { IfSome result (λ room. room ≡ the_room_of nodes.now (plain_part Ix.number_of part.now)) }
-    ensures bound { IfSome result (λ room. room ≤ 2 ^ 60 + 2 ^ 33) }
+    ensures bound { IfSome result (λ room. room ≤ size_limit + align_room) }
 {
     match part {
         Part::Param { to } => {
@@ -57,7 +58,7 @@ fn room_of<Ix: Index>(nodes: &[Node<Ix>], part: &Part<Ix>) -> Option<u64>
 
 // Whether the arguments of a function find room.
 fn rooms_fit<Ix: Index>(nodes: &[Node<Ix>], view: &View<Ix>) -> bool
-    ensures { IsTrue result → rooms nodes.now view.now ≤ 2 ^ 62 }
+    ensures { IsTrue result → rooms nodes.now view.now ≤ room_limit }
 {
     let mut all: u64 = 0;
     for k in 0..view.parts_len() {
