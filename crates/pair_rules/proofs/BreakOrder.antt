@@ -7,11 +7,12 @@ use Rattle.std.proofs.lemmas.List.FromFn.{get_or-range_with_len, length-range_wi
 use Rattle.std.proofs.lemmas.List.Kept.{AllPairs-filter}
 use Rattle.std.proofs.lemmas.Option.{slice_get-map, slice_get_within, get_or_from_slice_get, same_Some, none-some}
 use Rattle.abi_types.specs.declared.rule.RuleName.{RuleName}
+use Rattle.abi_types.specs.Rules.{rule_place}
 use Rattle.abi_types.specs.Types.{PlainView}
 use Rattle.pair_rules.specs.declared.rules.Broken.{Broken}
 use Rattle.pair_rules.specs.Same.{same_kind}
 use Rattle.pair_rules.specs.TypeRules.{speaks_of_parts, breaks_part, breaks_whole, broken_at, broken, breaks, rules_asked, is_declaration}
-use Rattle.pair_rules.specs.BreakOrder.{rule_place, IsBrokenBefore}
+use Rattle.pair_rules.specs.BreakOrder.{IsBrokenBefore}
 
 -- each item is before all later ones
 abbrev pub Ascends : {X : Type 0} → (X → X → Type 0) → List X → Type 0
