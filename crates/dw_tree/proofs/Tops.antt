@@ -1,16 +1,15 @@
 -- The entries that stand below none are the first ones of their units.
-use Rattle.std.proofs.Common.{◌≡◌, ◌≢◌, ◌∙◌, ℕ, zero, suc, ◌+◌, ◌<◌, ◌≤◌, Bool, true, false, List, [], ◌∷◌, ◌++◌, length, map, get_or, Option, Some, None, Ok, refl, sym, ap, subst, arith, inl, inr}
-use Rattle.std.specs.Prelude.{◌↔◌, ◌==◌, nat_lt, position, slice_index_or}
+use Rattle.std.proofs.Common.{◌≡◌, ◌≢◌, ◌∙◌, ℕ, zero, suc, ◌+◌, ◌<◌, ◌≤◌, Bool, true, false, List, [], ◌∷◌, ◌++◌, length, map, get_or, Option, Some, None, refl, sym, ap, subst, arith, inl, inr}
+use Rattle.std.specs.Prelude.{◌↔◌, ◌==◌, nat_lt, slice_index_or}
 use Rattle.std.specs.List.{filter_map, position_or_len}
 use Rattle.std.proofs.lemmas.Bool.{cases_lt, eq-eqb, ne_eqb, eqb-false, lt-ltb}
 use Rattle.std.proofs.lemmas.Option.{same_Some}
 use Rattle.std.proofs.lemmas.List.Quantifiers.{position-Some}
 use Rattle.abi_base.specs.declared.fault.Fault.{Fault}
 use Rattle.abi_base.specs.Runs.{Chain}
-use Rattle.abi_base.proofs.StepLemmas.{bool_cases}
 use Rattle.dw_units.specs.declared.entry.Entry.{Entry}
 use Rattle.dw_units.specs.Units.{PlainUnit, State, entries_of, open_lists, root_of as unit_root, token_at, tokens_from}
-use Rattle.dw_tree.specs.Trees.{TreeEntry, PlainTree, no_entry, entry_at, depth_at, placed, placed_entries, root_of}
+use Rattle.dw_tree.specs.Trees.{TreeEntry, PlainTree, no_entry, entry_at, depth_at, placed, root_of}
 use Rattle.dw_tree.proofs.Growth.{entries_in}
 use Rattle.dw_tree.proofs.UnitLaws.{UnitLaws}
 

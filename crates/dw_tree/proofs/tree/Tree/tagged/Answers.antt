@@ -1,6 +1,5 @@
-use Rattle.std.proofs.Common.{ℕ, ◌≡◌, ◌∙◌, List, Option, Some, ap, subst, sym}
-use Rattle.dw_tree.specs.Trees.{next_child_of}
-use Rattle.dw_tree.proofs.ChildOrder.{IsTaking, taking_start, taking_more, taking_end}
+use Rattle.std.proofs.Common.{ℕ, List, Option, subst, sym}
+use Rattle.dw_tree.proofs.ChildOrder.{IsTaking, taking_start, taking_more}
 use Rattle.dw_tree.proofs.tree.Tree.tagged.Goals as goal
 
 pub children-init : goal.children-init
