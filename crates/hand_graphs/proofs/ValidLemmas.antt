@@ -7,7 +7,7 @@ use Rattle.abi_base.specs.Limits.{depth_limit}
 use Rattle.abi_types.specs.Types.{PlainView, PlainNode}
 use Rattle.abi_types.specs.Forms.{has_elements, HasForm}
 use Rattle.abi_types.specs.Graphs.{IsGraph, KeepsLimits, IsWhole, node_at, view_at, part_at, void_node, void_view, to_of, inner_of}
-use Rattle.hand_graphs.specs.Valid.{IsVoidFirst, HaveOwnEntries, NamesNodes, KeepsNode}
+use Rattle.hand_graphs.specs.Valid.{IsVoidFirst, HaveOwnEntries, KeepsNode}
 
 -- ---- past the last node there is void
 
