@@ -11,7 +11,7 @@ use crate::kinds::{is_aggregate, is_leaf};
 use abi_types::{Graph, Index, Leaf};
 
 /// Merges the leaves of the node's object, which stands at `bit` and is a bit field of `width` bits, or none where that is 0.
-/// All of it lies inside 64 bytes, so no array in it has more elements that it visits.
+/// All of the object lies inside 64 bytes, and an array of size 0 is not walked, so at most 64 elements of an array are.
 pub fn add_leaves<Ix: Index>(
     graph: &Graph<Ix>,
     ix: Ix,

@@ -38,22 +38,17 @@ pub fn inside_of<Ix: Index>(graph: &Graph<Ix>, ix: Ix, n: u64) -> Option<Inner<I
     graph.known();
     let view = graph.view(ix);
     match view.kind {
-        Kind::Array => {
-            if view.parts_len() == 0 {
-                return None;
+        Kind::Array => match view.element() {
+            None => None,
+            Some(to) => {
+                let held = graph.view(to);
+                Some(Inner {
+                    bit: BYTE_BITS * (n * held.size),
+                    width: 0,
+                    to,
+                })
             }
-            match view.part(0).inner() {
-                None => None,
-                Some(to) => {
-                    let element = graph.view(to);
-                    Some(Inner {
-                        bit: BYTE_BITS * (n * element.size),
-                        width: 0,
-                        to,
-                    })
-                }
-            }
-        }
+        },
         _ => match view.part(n as usize) {
             Part::Member { bit, width, to, .. } => Some(Inner {
                 bit: *bit,
