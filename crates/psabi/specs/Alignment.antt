@@ -41,6 +41,7 @@ unfoldable pub greatest : {X : Type 0} → (X → ℕ) → List X → ℕ
 greatest f [] = 1
 greatest f (x ∷ xs) = max (f x) (greatest f xs)
 
+-- what `f` gives of the node that is named, or `d` where none is
 abbrev pub named_or : {X : Type 0} → X → (ℕ → X) → Option ℕ → X
 named_or d f None = d
 named_or d f (Some to) = f to

@@ -8,6 +8,7 @@ use Rattle.abi_types.specs.declared.place.CallShape.{CallShape}
 use Rattle.abi_types.specs.Types.{PlainNode}
 use Rattle.abi_types.specs.Forms.{is_param}
 use Rattle.abi_types.specs.Graphs.{IsGraph, view_at, shaped}
+use Rattle.abi_types.specs.Libraries.{HasPlaces}
 use Rattle.psabi.specs.declared.class.Class.{Class}
 use Rattle.psabi.specs.declared.taken.Taken.{Taken}
 use Rattle.psabi.specs.Arguments.{goes_to_stack, taken_with}
@@ -67,6 +68,10 @@ EachParameterHasAPlace = (nodes : List PlainNode) (i : ℕ) → (view_at nodes i
 abbrev pub CallsStayInShapedGraphs : Type 0
 CallsStayInShapedGraphs = (nodes : List PlainNode) (calls : List CallShape) → IsGraph nodes → (i : ℕ) → call_of (shaped nodes calls) i ≡ call_of nodes i
 
--- a graph that is given the calls of its nodes has at each node the call of that node
+-- A graph that is given the calls of its nodes has at each node the call of that node, and a place for each parameter of a
+-- function.
 abbrev pub GivenCallsAreRight : Type 0
 GivenCallsAreRight = (nodes : List PlainNode) → IsGraph nodes → (i : ℕ) → (view_at (shaped nodes (calls_of nodes)) i).call ≡ call_of (shaped nodes (calls_of nodes)) i
+
+abbrev pub GivenCallsHavePlaces : Type 0
+GivenCallsHavePlaces = (nodes : List PlainNode) → IsGraph nodes → (i : ℕ) → HasPlaces (view_at (shaped nodes (calls_of nodes)) i)

@@ -5,8 +5,8 @@ ghost use Rattle.psabi.specs.Passing.{IsRight};
 
 use crate::argument::place_argument;
 use crate::kinds::is_function;
-use crate::passing::Known;
 use crate::outcome::{outcome, taken_by_result};
+use crate::passing::Known;
 use abi_base::{List, NoMemory};
 use abi_types::{CallShape, Graph, Index, Place};
 use std::alloc::Global;
@@ -59,11 +59,9 @@ pub fn call_shape<Ix: Index>(
 
 /// The call shapes of all nodes, each at the number of its node. What a type asks for is found once for all calls. It fails for
 /// want of memory alone.
-pub fn call_shapes<Ix: Index>(
-    alloc: Global,
-    graph: &Graph<Ix>,
-) -> Result<List<CallShape>, NoMemory>
-    ensures { IfOk result (λ shapes. shapes ≡ calls_of graph.now) }
+pub fn call_shapes<Ix: Index>(alloc: Global, graph: &Graph<Ix>) -> Result<List<CallShape>, NoMemory>
+    ensures shapes { IfOk result (λ shapes. shapes ≡ calls_of graph.now) }
+    ensures many { IfOk result (λ shapes. length shapes ≡ length graph.now) }
 {
     let mut known = Known::of_len(alloc, graph.len())?;
     let mut shapes = List::new(alloc);

@@ -1,5 +1,5 @@
 //! Laws of classes and places. The functions do nothing.
-ghost use Rattle.psabi.specs.Laws.{LargeObjectsAreInMemory, StackTakesNoRegister, ArgumentsShareNoRegister, ArgumentsHoldTheirRegisters, HiddenResultsKeepRdi, StackPlacesAscend, EachParameterHasAPlace, CallsStayInShapedGraphs, GivenCallsAreRight};
+ghost use Rattle.psabi.specs.Laws.{LargeObjectsAreInMemory, StackTakesNoRegister, ArgumentsShareNoRegister, ArgumentsHoldTheirRegisters, HiddenResultsKeepRdi, StackPlacesAscend, EachParameterHasAPlace, CallsStayInShapedGraphs, GivenCallsAreRight, GivenCallsHavePlaces};
 
 use abi_types::laws::{params_are_counted, shapes_change_calls_alone};
 
@@ -51,5 +51,13 @@ pub fn calls_stay_in_shaped_graphs()
 pub fn given_calls_are_right()
     ensures { GivenCallsAreRight }
 {
+    shapes_change_calls_alone();
+}
+
+/// A graph that is given the call shapes of its nodes has a place for each parameter, as a library's has.
+pub fn given_calls_have_places()
+    ensures { GivenCallsHavePlaces }
+{
+    params_are_counted();
     shapes_change_calls_alone();
 }

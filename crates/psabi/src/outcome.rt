@@ -14,6 +14,7 @@ use abi_types::{Graph, Index, Place, Slot};
 
 // The numbers of general registers for results, in the order rdi, rsi, rdx, rcx, r8, r9, rax.
 const RDX: u8 = 2;
+
 const RAX: u8 = 6;
 
 // The number of the register at the top of the floating-point stack.

@@ -52,8 +52,8 @@ fn led_to<Ix: Index>(view: &View<Ix>, part: &Part<Ix>) -> Option<Ix>
     }
 }
 
-/// Whether a member of the node's object, or of an aggregate inside it, ends past the aggregate whose member it is. It looks
-/// at types alone, and not at each element of an array.
+/// Whether a member of the node's object, or of an aggregate inside it, ends past the aggregate whose member it is. It looks at
+/// types alone, and not at each element of an array. It calls itself at most 513 deep, since no rank is above 512.
 pub fn ends_past<Ix: Index>(graph: &Graph<Ix>, ix: Ix) -> bool
     requires { Ix.number_of ix < length graph.now }
     ensures { result ≡ the_object_ends_past graph.now (Ix.number_of ix) }

@@ -66,7 +66,11 @@ fn stack_offset(end: u64, align: u64) -> u64
     requires align { align ≤ align_limit }
     ensures { result ≡ the_stack_offset end align }
 {
-    let step = if align < STACK_ALIGNMENT { EIGHTBYTE } else { align };
+    let step = if align < STACK_ALIGNMENT {
+        EIGHTBYTE
+    } else {
+        align
+    };
     (end + (step - 1)) / step * step
 }
 
