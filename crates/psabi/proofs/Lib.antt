@@ -1,0 +1,11 @@
+pub mod AlignBounds
+pub mod AlignLemmas
+pub mod CallLemmas
+pub mod ClassLemmas
+pub mod LawLemmas
+pub mod LeafLemmas
+pub mod Merges
+pub mod PassingLemmas
+pub mod PastLemmas
+pub mod Ranges
+pub mod ShapedCalls

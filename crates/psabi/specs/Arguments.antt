@@ -1,0 +1,86 @@
+-- Where arguments are, one after another (psABI, section 3.2.3 "Parameter Passing", "Passing"). That an argument without bytes
+-- or classes has no place, and that offsets and sizes on the stack are rounded up as here, is this project's own.
+use Rattle.std.specs.Prelude.{ℕ, ◌+◌, ◌-◌, ◌*◌, ◌/◌, ◌^◌, ◌||◌, nat_lt, Bool, true, false, if◌then◌else◌, List, [], ◌∷◌, map, take}
+use Rattle.std.specs.List.{fold, list_any, range_with_len}
+use Rattle.abi_types.specs.declared.place.Slot.{Slot}
+use Rattle.abi_types.specs.declared.place.Slot.TheVariants as slot
+use Rattle.abi_types.specs.declared.place.Place.{Place}
+use Rattle.abi_types.specs.declared.place.Place.TheVariants as place
+use Rattle.abi_types.specs.Types.{PlainNode}
+use Rattle.abi_types.specs.Graphs.{view_at}
+use Rattle.psabi.specs.declared.class.Class.{Class}
+use Rattle.psabi.specs.declared.class.Class.TheVariants.{Integer, Sse, SseUp, X87, X87Up, ComplexX87, Memory}
+use Rattle.psabi.specs.declared.taken.Taken.{Taken}
+use Rattle.psabi.specs.Alignment.{align_of}
+use Rattle.psabi.specs.Class.{class_at}
+use Rattle.psabi.specs.Classes.{classes_of}
+use Rattle.psabi.specs.Psabi.{eightbyte_size, eightbyte_limit, general_registers, vector_registers, stack_alignment}
+use Rattle.psabi.specs.Registers.{general_count, vector_count, has_no_place}
+
+-- a class that no register for arguments takes
+abbrev pub is_stacked : Class → Bool
+is_stacked X87 = true
+is_stacked X87Up = true
+is_stacked ComplexX87 = true
+is_stacked Memory = true
+is_stacked other = false
+
+-- an argument goes to the stack where a class asks for it, or the registers that are left do not suffice for all of it
+unfoldable pub goes_to_stack : Taken → List Class → Bool
+goes_to_stack taken cs = list_any is_stacked cs || nat_lt general_registers (taken.general + general_count cs) || nat_lt vector_registers (taken.vector + vector_count cs)
+
+-- the least multiple of the step from the offset on
+abbrev pub rounded : ℕ → ℕ → ℕ
+rounded offset step = (offset + (step - 1)) / step * step
+
+-- a place on the stack begins at a multiple of 8, or of its alignment from 16 on
+abbrev pub step_of : ℕ → ℕ
+step_of align = if nat_lt align stack_alignment then eightbyte_size else align
+
+unfoldable pub stack_offset : ℕ → ℕ → ℕ
+stack_offset end align = rounded end (step_of align)
+
+-- and has its size in whole eightbytes
+unfoldable pub stack_size : ℕ → ℕ
+stack_size size = rounded size eightbyte_size
+
+abbrev pub argument_slot_of : Class → ℕ → ℕ → Slot
+argument_slot_of Integer general vector = slot.General general
+argument_slot_of Sse general vector = slot.Vector vector
+argument_slot_of SseUp general vector = slot.Upper (vector - 1)
+argument_slot_of other general vector = slot.Unused
+
+-- the slot of an eightbyte: the next register after those that earlier arguments and earlier eightbytes hold
+abbrev pub argument_slot : Taken → List Class → ℕ → Slot
+argument_slot taken cs k = argument_slot_of (class_at cs k) (taken.general + general_count (take k cs)) (taken.vector + vector_count (take k cs))
+
+unfoldable pub argument_slots : Taken → List Class → List Slot
+argument_slots taken cs = map (argument_slot taken cs) (range_with_len 0 eightbyte_limit)
+
+-- the place of an argument of this size, alignment and these classes, after what is taken
+unfoldable pub place_in : Taken → ℕ → ℕ → List Class → Place
+place_in taken size align cs =
+    if has_no_place size cs then place.Nothing else
+    if goes_to_stack taken cs then place.Stack (stack_offset taken.stack align) (stack_size size) else place.Registers (argument_slots taken cs)
+
+-- what is taken after it: an argument that goes to the stack takes no register
+unfoldable pub taken_with : Taken → ℕ → ℕ → List Class → Taken
+taken_with taken size align cs =
+    if has_no_place size cs then taken else
+    if goes_to_stack taken cs then record taken { stack = stack_offset taken.stack align + stack_size size } else
+    record taken { general = taken.general + general_count cs; vector = taken.vector + vector_count cs }
+
+abbrev pub place_of_node : List PlainNode → Taken → ℕ → Place
+place_of_node nodes taken i = place_in taken (view_at nodes i).size (align_of nodes i) (classes_of nodes i)
+
+abbrev pub taken_with_node : List PlainNode → Taken → ℕ → Taken
+taken_with_node nodes taken i = taken_with taken (view_at nodes i).size (align_of nodes i) (classes_of nodes i)
+
+-- what earlier arguments take
+unfoldable pub taken_by : List PlainNode → Taken → List ℕ → Taken
+taken_by nodes taken params = fold (taken_with_node nodes) taken params
+
+-- the places of arguments in order, each after what the earlier ones take
+unfoldable pub places : List PlainNode → Taken → List ℕ → List Place
+places nodes taken [] = []
+places nodes taken (i ∷ params) = place_of_node nodes taken i ∷ places nodes (taken_with_node nodes taken i) params

@@ -1,0 +1,77 @@
+-- What classes and places keep.
+use Rattle.std.specs.Prelude.{◌≡◌, ◌<◌, ◌≤◌, ℕ, ◌+◌, true, List, length, Some, count_by, slice_get}
+use Rattle.abi_types.specs.declared.kind.Kind.TheVariants as kind
+use Rattle.abi_types.specs.declared.place.Slot.TheVariants as slot
+use Rattle.abi_types.specs.declared.place.Place.{Place}
+use Rattle.abi_types.specs.declared.place.Place.TheVariants as place
+use Rattle.abi_types.specs.declared.place.CallShape.{CallShape}
+use Rattle.abi_types.specs.Types.{PlainNode}
+use Rattle.abi_types.specs.Forms.{is_param}
+use Rattle.abi_types.specs.Graphs.{IsGraph, view_at, shaped}
+use Rattle.abi_types.specs.Libraries.{HasPlaces}
+use Rattle.psabi.specs.declared.class.Class.{Class}
+use Rattle.psabi.specs.declared.taken.Taken.{Taken}
+use Rattle.psabi.specs.Arguments.{goes_to_stack, taken_with}
+use Rattle.psabi.specs.Calls.{call_of, calls_of}
+use Rattle.psabi.specs.Classes.{classes_of}
+use Rattle.psabi.specs.Psabi.{object_limit, general_registers, vector_registers, rdi}
+use Rattle.psabi.specs.Rows.{all_memory}
+
+-- ---- one object
+
+-- an object above 64 bytes is in memory
+abbrev pub LargeObjectsAreInMemory : Type 0
+LargeObjectsAreInMemory = (nodes : List PlainNode) (i : ℕ) → IsGraph nodes → object_limit < (view_at nodes i).size → classes_of nodes i ≡ all_memory
+
+-- an argument that goes to the stack leaves the registers as they were
+abbrev pub StackTakesNoRegister : Type 0
+StackTakesNoRegister = (t : Taken) (size align : ℕ) (cs : List Class) → goes_to_stack t cs ≡ true → ((taken_with t size align cs).general ≡ t.general) × ((taken_with t size align cs).vector ≡ t.vector)
+
+-- ---- the arguments of one call
+
+-- a place holds a general register, or the low part of a vector register
+abbrev pub HoldsGeneral : Place → ℕ → Type 0
+HoldsGeneral (place.Registers slots) n = (k : ℕ) × (slice_get slots k ≡ Some (slot.General n))
+HoldsGeneral other n = ⊥
+
+abbrev pub HoldsVector : Place → ℕ → Type 0
+HoldsVector (place.Registers slots) n = (k : ℕ) × (slice_get slots k ≡ Some (slot.Vector n))
+HoldsVector other n = ⊥
+
+-- the place of parameter a
+abbrev pub IsPlaceOf : CallShape → ℕ → Place → Type 0
+IsPlaceOf call a p = slice_get call.params a ≡ Some p
+
+-- no register is held by two arguments
+abbrev pub ArgumentsShareNoRegister : Type 0
+ArgumentsShareNoRegister = (nodes : List PlainNode) (i a b : ℕ) (p q : Place) → a < b → IsPlaceOf (call_of nodes i) a p → IsPlaceOf (call_of nodes i) b q → (n : ℕ) → (HoldsGeneral p n → HoldsGeneral q n → ⊥) × (HoldsVector p n → HoldsVector q n → ⊥)
+
+-- arguments hold the registers for arguments alone
+abbrev pub ArgumentsHoldTheirRegisters : Type 0
+ArgumentsHoldTheirRegisters = (nodes : List PlainNode) (i a : ℕ) (p : Place) → IsPlaceOf (call_of nodes i) a p → (n : ℕ) → (HoldsGeneral p n → n < general_registers) × (HoldsVector p n → n < vector_registers)
+
+-- where the result is hidden, its address is in rdi, which no argument holds
+abbrev pub HiddenResultsKeepRdi : Type 0
+HiddenResultsKeepRdi = (nodes : List PlainNode) (i a : ℕ) (p : Place) → (call_of nodes i).outcome ≡ place.Hidden → IsPlaceOf (call_of nodes i) a p → HoldsGeneral p rdi → ⊥
+
+-- a place on the stack begins where an earlier one ends, or later
+abbrev pub StackPlacesAscend : Type 0
+StackPlacesAscend = (nodes : List PlainNode) (i a b from size from' size' : ℕ) → a < b → IsPlaceOf (call_of nodes i) a (place.Stack from size) → IsPlaceOf (call_of nodes i) b (place.Stack from' size') → from + size ≤ from'
+
+-- each parameter has a place
+abbrev pub EachParameterHasAPlace : Type 0
+EachParameterHasAPlace = (nodes : List PlainNode) (i : ℕ) → (view_at nodes i).kind ≡ kind.Function → length (call_of nodes i).params ≡ count_by is_param (view_at nodes i).parts
+
+-- ---- graphs with their calls
+
+-- calls decide nothing about calls
+abbrev pub CallsStayInShapedGraphs : Type 0
+CallsStayInShapedGraphs = (nodes : List PlainNode) (calls : List CallShape) → IsGraph nodes → (i : ℕ) → call_of (shaped nodes calls) i ≡ call_of nodes i
+
+-- A graph that is given the calls of its nodes has at each node the call of that node, and a place for each parameter of a
+-- function.
+abbrev pub GivenCallsAreRight : Type 0
+GivenCallsAreRight = (nodes : List PlainNode) → IsGraph nodes → (i : ℕ) → (view_at (shaped nodes (calls_of nodes)) i).call ≡ call_of (shaped nodes (calls_of nodes)) i
+
+abbrev pub GivenCallsHavePlaces : Type 0
+GivenCallsHavePlaces = (nodes : List PlainNode) → IsGraph nodes → (i : ℕ) → HasPlaces (view_at (shaped nodes (calls_of nodes)) i)

@@ -1,0 +1,16 @@
+pub mod Alignment
+pub mod Arguments
+pub mod Calls
+pub mod Class
+pub mod Classes
+pub mod Cleanup
+pub mod Inner
+pub mod Laws
+pub mod Merging
+pub mod Passing
+pub mod Past
+pub mod Psabi
+pub mod Registers
+pub mod Results
+pub mod Rows
+pub mod Touching

@@ -1,0 +1,35 @@
+-- Objects whose members end past them, as packed or broken debugging information may give them.
+use Rattle.std.specs.Prelude.{ℕ, ◌==◌, ◌||◌, ◌&&◌, ◌+◌, ◌*◌, nat_lt, Bool, false, if◌then◌else◌, List, Option, Some, None}
+use Rattle.std.specs.List.{list_any}
+use Rattle.abi_types.specs.Types.{PlainPart, Member, Element, PlainView, PlainNode}
+use Rattle.abi_types.specs.Forms.{is_aggregate}
+use Rattle.abi_types.specs.Graphs.{view_at}
+use Rattle.abi_types.specs.ByValue.{by_value}
+use Rattle.psabi.specs.Alignment.{named_or}
+use Rattle.psabi.specs.Psabi.{byte_bits}
+
+-- How many bits an object takes of the aggregate that it is a member of. A bit field takes its width; one whose type is an
+-- aggregate, which C does not have, takes the bytes of the aggregate.
+abbrev pub extent : List PlainNode → ℕ → ℕ → ℕ
+extent nodes width to = if width == 0 || is_aggregate (view_at nodes to).kind then byte_bits * (view_at nodes to).size else width
+
+-- a member that ends past the aggregate
+abbrev pub own_past : List PlainNode → PlainView → PlainPart → Bool
+own_past nodes v (Member name bit width to) = nat_lt (byte_bits * v.size) (bit + extent nodes width to)
+own_past nodes v other = false
+
+-- what is asked in its turn: the type of a member, or of elements where there are some
+abbrev pub led_to : PlainView → PlainPart → Option ℕ
+led_to v (Member name bit width to) = Some to
+led_to v (Element to) = if v.count == 0 then None else Some to
+led_to v other = None
+
+abbrev pub part_past : List PlainNode → (ℕ → Bool) → PlainView → PlainPart → Bool
+part_past nodes f v p = own_past nodes v p || named_or false f (led_to v p)
+
+abbrev pub past_step : List PlainNode → (ℕ → Bool) → ℕ → Bool
+past_step nodes f i = is_aggregate (view_at nodes i).kind && list_any (part_past nodes f (view_at nodes i)) (view_at nodes i).parts
+
+-- a member of the node's object, or of an aggregate inside it, ends past the aggregate whose member it is
+unfoldable pub ends_past : List PlainNode → ℕ → Bool
+ends_past nodes i = by_value false (past_step nodes) nodes i

@@ -1,0 +1,73 @@
+// Where calls put their results and arguments.
+ghost use Rattle.std.specs.Prelude.{◌≡◌, ◌<◌, length, IfOk};
+ghost use Rattle.psabi.specs.Calls.{call_of, calls_of};
+ghost use Rattle.psabi.specs.Passing.{IsRight};
+
+use crate::argument::place_argument;
+use crate::kinds::is_function;
+use crate::outcome::{outcome, taken_by_result};
+use crate::passing::Known;
+use abi_base::{List, NoMemory};
+use abi_types::{CallShape, Graph, Index, Place};
+use std::alloc::Global;
+
+// Where a call of the node's function puts its result and its arguments, with what is known of types.
+fn shape_with<Ix: Index>(
+    alloc: Global,
+    graph: &Graph<Ix>,
+    ix: Ix,
+    known: &mut Known,
+) -> Result<CallShape, NoMemory>
+    requires inside { Ix.number_of ix < length graph.now }
+    requires right { IsRight graph.now known.now }
+    ensures right { IsRight graph.now known.new }
+    ensures shape { IfOk result (λ shape. shape ≡ call_of graph.now (Ix.number_of ix)) }
+{
+    graph.known();
+    let view = graph.view(ix);
+    let mut params = List::new(alloc);
+    if !is_function(view.kind) {
+        return Ok(CallShape {
+            outcome: Place::Nothing,
+            params,
+        });
+    }
+    let outcome = outcome(graph, ix, known);
+    let mut taken = taken_by_result(&outcome);
+    for k in 0..view.parts_len() {
+        if let Some(to) = view.part(k).param() {
+            let place = place_argument(graph, to, known, &mut taken);
+            params.push(place)?;
+        }
+    }
+    Ok(CallShape { outcome, params })
+}
+
+/// Where a call of the node's function puts its result and its arguments: nowhere at a node that is no function. It fails for
+/// want of memory alone.
+pub fn call_shape<Ix: Index>(
+    alloc: Global,
+    graph: &Graph<Ix>,
+    ix: Ix,
+) -> Result<CallShape, NoMemory>
+    requires { Ix.number_of ix < length graph.now }
+    ensures { IfOk result (λ shape. shape ≡ call_of graph.now (Ix.number_of ix)) }
+{
+    let mut known = Known::none(alloc);
+    shape_with(alloc, graph, ix, &mut known)
+}
+
+/// The call shapes of all nodes, each at the number of its node. What a type asks for is found once for all calls. It fails for
+/// want of memory alone.
+pub fn call_shapes<Ix: Index>(alloc: Global, graph: &Graph<Ix>) -> Result<List<CallShape>, NoMemory>
+    ensures shapes { IfOk result (λ shapes. shapes ≡ calls_of graph.now) }
+    ensures many { IfOk result (λ shapes. length shapes ≡ length graph.now) }
+{
+    let mut known = Known::of_len(alloc, graph.len())?;
+    let mut shapes = List::new(alloc);
+    for i in 0..graph.len() {
+        let shape = shape_with(alloc, graph, Ix::of(i), &mut known)?;
+        shapes.push(shape)?;
+    }
+    Ok(shapes)
+}

@@ -1,0 +1,136 @@
+// What follows the merging of an object's leaves (psABI, section 3.2.3 "Parameter Passing", "post merger cleanup").
+ghost use Rattle.std.specs.Prelude.{◌≡◌, ◌<◌, ◌≤◌, ◌-◌};
+ghost use Rattle.std.specs.List.{list_all, range_with_len};
+ghost use Rattle.psabi.specs.Cleanup.{is_lone_x87_up as the_eightbyte_is_lone, has_lone_x87_up as one_is_lone, is_upper_at as the_eightbyte_is_upper, is_vector as they_are_a_vector, eightbytes_of as the_eightbytes_of, becomes_memory as it_becomes_memory, grounded as the_grounded, cleaned_up as the_cleaned_up};
+ghost use Rattle.psabi.specs.Psabi.{eightbyte_limit, object_limit};
+
+use crate::class::{Class, has_memory};
+use crate::rows::all_memory;
+use crate::sizes::{EIGHTBYTE, EIGHTBYTES, PAIR_LIMIT};
+
+// Whether the eightbyte is an X87UP without the X87 before it.
+fn is_lone_x87_up(classes: &[Class; 8], k: usize) -> bool
+    requires { k < eightbyte_limit }
+    ensures { result ≡ the_eightbyte_is_lone classes.now k }
+{
+    match classes[k] {
+        Class::X87Up => {
+            if k == 0 {
+                return true;
+            }
+            match classes[k - 1] {
+                Class::X87 => false,
+                _ => true,
+            }
+        }
+        _ => false,
+    }
+}
+
+#[tactic(auto, unfolding(crate::specs::Cleanup::has_lone_x87_up))]
+fn has_lone_x87_up(classes: &[Class; 8]) -> bool
+    ensures { result ≡ one_is_lone classes.now }
+{
+    for k in 0..EIGHTBYTES {
+        if is_lone_x87_up(classes, k) {
+            return true;
+        }
+    }
+    false
+}
+
+fn is_upper(classes: &[Class; 8], k: usize) -> bool
+    requires { k < eightbyte_limit }
+    ensures { result ≡ the_eightbyte_is_upper classes.now k }
+{
+    match classes[k] {
+        Class::SseUp => true,
+        _ => false,
+    }
+}
+
+// Whether the eightbytes after the first, of so many in all, are SSEUP.
+fn rest_are_upper(classes: &[Class; 8], count: usize) -> bool
+    requires some { 1 ≤ count }
+    requires few { count ≤ eightbyte_limit }
+    ensures { result ≡ list_all (the_eightbyte_is_upper classes.now) (range_with_len 1 (count - 1)) }
+{
+    for k in 1..count {
+        if !is_upper(classes, k) {
+            return false;
+        }
+    }
+    true
+}
+
+// Whether the first so many eightbytes are those of one vector.
+#[tactic(auto, unfolding(crate::specs::Cleanup::is_vector))]
+fn is_vector(classes: &[Class; 8], count: usize) -> bool
+    requires some { 1 ≤ count }
+    requires few { count ≤ eightbyte_limit }
+    ensures { result ≡ they_are_a_vector classes.now count }
+{
+    match classes[0] {
+        Class::Sse => rest_are_upper(classes, count),
+        _ => false,
+    }
+}
+
+// How many eightbytes an object of this size has.
+fn eightbytes_of(size: u64) -> usize
+    requires { size ≤ object_limit }
+    ensures { result ≡ the_eightbytes_of size }
+{
+    ((size + (EIGHTBYTE - 1)) / EIGHTBYTE) as usize
+}
+
+#[tactic(auto, unfolding(crate::specs::Cleanup::becomes_memory))]
+fn becomes_memory(classes: &[Class; 8], size: u64) -> bool
+    requires { size ≤ object_limit }
+    ensures { result ≡ it_becomes_memory classes.now size }
+{
+    if has_memory(classes) {
+        return true;
+    }
+    if has_lone_x87_up(classes) {
+        return true;
+    }
+    if size <= PAIR_LIMIT {
+        return false;
+    }
+    !is_vector(classes, eightbytes_of(size))
+}
+
+// The class of an eightbyte, where an SSEUP that follows neither SSE nor SSEUP becomes SSE.
+fn grounded(classes: &[Class; 8], k: usize) -> Class
+    requires { k < eightbyte_limit }
+    ensures { result ≡ the_grounded classes.now k }
+{
+    match classes[k] {
+        Class::SseUp => {
+            if k == 0 {
+                return Class::Sse;
+            }
+            match classes[k - 1] {
+                Class::Sse | Class::SseUp => Class::SseUp,
+                _ => Class::Sse,
+            }
+        }
+        _ => classes[k],
+    }
+}
+
+/// The classes of an aggregate of at most 64 bytes, from those that its leaves were merged to.
+pub fn cleaned_up(classes: &[Class; 8], size: u64) -> [Class; 8]
+    requires { size ≤ object_limit }
+    ensures { result ≡ the_cleaned_up classes.now size }
+{
+    if becomes_memory(classes, size) {
+        return all_memory();
+    }
+    let mut cleaned = *classes;
+    for k in 0..EIGHTBYTES {
+        cleaned[k] = grounded(classes, k);
+    }
+    cleaned
+}

@@ -1,0 +1,29 @@
+// Kinds of objects.
+ghost use Rattle.std.specs.Prelude.{◌≡◌};
+ghost use Rattle.abi_types.specs.Forms.{is_aggregate as the_kind_is_aggregate, is_function as the_kind_is_function, is_leaf as the_kind_is_leaf};
+
+use abi_types::Kind;
+
+/// Whether objects of the kind are made of other objects.
+pub fn is_aggregate(kind: Kind) -> bool
+    ensures { result ≡ the_kind_is_aggregate kind }
+{
+    matches!(kind, Kind::Structure | Kind::Union | Kind::Array)
+}
+
+/// Whether an object of the kind is a leaf of what it stands in.
+pub fn is_leaf(kind: Kind) -> bool
+    ensures { result ≡ the_kind_is_leaf kind }
+{
+    matches!(
+        kind,
+        Kind::Scalar | Kind::Pointer | Kind::Enumeration | Kind::Vector
+    )
+}
+
+/// Whether an object of the kind is a function.
+pub fn is_function(kind: Kind) -> bool
+    ensures { result ≡ the_kind_is_function kind }
+{
+    matches!(kind, Kind::Function)
+}

@@ -1,0 +1,63 @@
+//! Laws of classes and places. The functions do nothing.
+ghost use Rattle.psabi.specs.Laws.{LargeObjectsAreInMemory, StackTakesNoRegister, ArgumentsShareNoRegister, ArgumentsHoldTheirRegisters, HiddenResultsKeepRdi, StackPlacesAscend, EachParameterHasAPlace, CallsStayInShapedGraphs, GivenCallsAreRight, GivenCallsHavePlaces};
+
+use abi_types::laws::{params_are_counted, shapes_change_calls_alone};
+
+/// An object above 64 bytes is in memory, whatever it is made of.
+pub fn large_objects_are_in_memory()
+    ensures { LargeObjectsAreInMemory }
+{}
+
+/// An argument that goes to the stack leaves the registers as they were.
+pub fn the_stack_takes_no_register()
+    ensures { StackTakesNoRegister }
+{}
+
+/// No register holds parts of two arguments of a call.
+pub fn arguments_share_no_register()
+    ensures { ArgumentsShareNoRegister }
+{}
+
+/// Arguments are in rdi, rsi, rdx, rcx, r8 and r9, and in xmm0 to xmm7, and in no other registers.
+pub fn arguments_hold_their_registers()
+    ensures { ArgumentsHoldTheirRegisters }
+{}
+
+/// Where the result is in memory whose address the caller hands over, no argument is in rdi, which holds the address.
+pub fn hidden_results_keep_rdi()
+    ensures { HiddenResultsKeepRdi }
+{}
+
+/// A place on the stack begins where an earlier one ends, or later.
+pub fn stack_places_ascend()
+    ensures { StackPlacesAscend }
+{}
+
+/// The call of a function has a place for each of its parameters.
+pub fn each_parameter_has_a_place()
+    ensures { EachParameterHasAPlace }
+{
+    params_are_counted();
+}
+
+/// The call of a node is the same in a graph and in that graph with any call shapes.
+pub fn calls_stay_in_shaped_graphs()
+    ensures { CallsStayInShapedGraphs }
+{
+    shapes_change_calls_alone();
+}
+
+/// A graph that is given the call shapes of its nodes has at each node the call shape of that node.
+pub fn given_calls_are_right()
+    ensures { GivenCallsAreRight }
+{
+    shapes_change_calls_alone();
+}
+
+/// A graph that is given the call shapes of its nodes has a place for each parameter, as a library's has.
+pub fn given_calls_have_places()
+    ensures { GivenCallsHavePlaces }
+{
+    params_are_counted();
+    shapes_change_calls_alone();
+}

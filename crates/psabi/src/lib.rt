@@ -1,0 +1,31 @@
+//! Where a call puts its result and its arguments, and what decides it: sizes, alignments and classes of objects, by the
+//! System V psABI for x86-64, sections 3.1.2 "Data Representation" and 3.2.3 "Parameter Passing".
+#![tactic(auto)]
+
+mod alignment;
+mod argument;
+mod calling;
+mod class;
+mod classification;
+mod cleanup;
+mod descent;
+mod eightbytes;
+mod inside;
+mod kinds;
+pub mod laws;
+mod outcome;
+mod passing;
+mod past;
+mod registers;
+mod rows;
+mod sizes;
+mod taken;
+mod touching;
+
+pub use alignment::{align, size};
+pub use calling::{call_shape, call_shapes};
+pub use class::Class;
+pub use classification::classes;
+
+#[cfg(test)]
+mod tests;

@@ -1,0 +1,112 @@
+// Where results are (psABI, section 3.2.3 "Parameter Passing", "Returning of Values").
+ghost use Rattle.std.specs.Prelude.{◌≡◌, ◌<◌, length};
+ghost use Rattle.abi_types.specs.Graphs.{view_at};
+ghost use Rattle.psabi.specs.Passing.{IsRight};
+ghost use Rattle.psabi.specs.Psabi.{eightbyte_limit};
+ghost use Rattle.psabi.specs.Results.{result_register as the_result_register, result_slot as the_result_slot, result_slots as the_result_slots, result_place as the_result_place, outcome_of, taken_by_result as what_the_result_takes};
+
+use crate::class::{Class, has_memory};
+use crate::passing::Known;
+use crate::registers::{general_count, has_no_place, vector_count};
+use crate::sizes::EIGHTBYTES;
+use crate::taken::Taken;
+use abi_types::{Graph, Index, Place, Slot};
+
+// The numbers of general registers for results, in the order rdi, rsi, rdx, rcx, r8, r9, rax.
+const RDX: u8 = 2;
+
+const RAX: u8 = 6;
+
+// The number of the register at the top of the floating-point stack.
+const ST0: u8 = 0;
+
+// How many eightbytes a register of that stack holds.
+const X87_EIGHTBYTES: usize = 2;
+
+// The general register for the next eightbyte of a result, of which so many are in general registers.
+fn result_register(general: u64) -> u8
+    ensures { result ≡ the_result_register general }
+{
+    if general == 0 { RAX } else { RDX }
+}
+
+// The slot of an eightbyte of a result in registers.
+fn result_slot(classes: &[Class; 8], k: usize) -> Slot
+    requires { k < eightbyte_limit }
+    ensures { result ≡ the_result_slot classes.now k }
+{
+    let general = general_count(&classes[..k]);
+    let vector = vector_count(&classes[..k]);
+    match classes[k] {
+        Class::Integer => Slot::General(result_register(general)),
+        Class::Sse => Slot::Vector(vector as u8),
+        Class::SseUp => Slot::Upper(vector.saturating_sub(1) as u8),
+        Class::X87 | Class::X87Up => Slot::X87(ST0),
+        Class::ComplexX87 => Slot::X87((k / X87_EIGHTBYTES) as u8),
+        _ => Slot::Unused,
+    }
+}
+
+// The slots of a result in registers.
+fn result_slots(classes: &[Class; 8]) -> [Slot; 8]
+    ensures { result ≡ the_result_slots classes.now }
+{
+    let mut slots = [Slot::Unused; 8];
+    for k in 0..EIGHTBYTES {
+        slots[k] = result_slot(classes, k);
+    }
+    slots
+}
+
+// The place of a result of this size and these classes.
+#[tactic(auto, unfolding(crate::specs::Results::result_place))]
+fn result_place(size: u64, classes: &[Class; 8]) -> Place
+    ensures { result ≡ the_result_place size classes.now }
+{
+    if has_no_place(size, classes) {
+        return Place::Nothing;
+    }
+    if has_memory(classes) {
+        return Place::Hidden;
+    }
+    Place::Registers {
+        eightbytes: result_slots(classes),
+    }
+}
+
+/// The place of the result of a function.
+pub fn outcome<Ix: Index>(graph: &Graph<Ix>, ix: Ix, known: &mut Known) -> Place
+    requires inside { Ix.number_of ix < length graph.now }
+    requires right { IsRight graph.now known.now }
+    ensures right { IsRight graph.now known.new }
+    ensures place { result ≡ outcome_of graph.now (view_at graph.now (Ix.number_of ix)) }
+{
+    graph.known();
+    let view = graph.view(ix);
+    if view.parts_len() == 0 {
+        return Place::Nothing;
+    }
+    match view.part(0).to() {
+        None => Place::Nothing,
+        Some(to) => {
+            let result = graph.view(to);
+            let passing = known.passing(graph, to);
+            result_place(result.size, &passing.classes)
+        }
+    }
+}
+
+/// What a result takes of what arguments are passed in: the address of a hidden one takes the first general register.
+pub fn taken_by_result(outcome: &Place) -> Taken
+    ensures { result ≡ what_the_result_takes outcome.now }
+{
+    let general = match outcome {
+        Place::Hidden => 1,
+        _ => 0,
+    };
+    Taken {
+        general,
+        vector: 0,
+        stack: 0,
+    }
+}

@@ -1,0 +1,48 @@
+// How many registers an object takes, by the classes of its eightbytes.
+ghost use Rattle.std.specs.Prelude.{◌≡◌, ◌≤◌, length};
+ghost use Rattle.std.specs.List.{list_all};
+ghost use Rattle.psabi.specs.Class.{is_no_class};
+ghost use Rattle.psabi.specs.Registers.{general_count as the_general_count, vector_count as the_vector_count, has_no_place as it_has_no_place};
+
+use crate::class::Class;
+
+/// How many general registers an object takes whose eightbytes have these classes.
+#[tactic(auto, unfolding(crate::specs::Registers::general_count))]
+pub fn general_count(classes: &[Class]) -> u64
+    ensures number { result ≡ the_general_count classes.now }
+    ensures few { result ≤ length classes.now }
+{
+    classes
+        .iter()
+        .filter(|class| matches!(**class, Class::Integer))
+        .count() as u64
+}
+
+/// How many vector registers an object takes whose eightbytes have these classes.
+#[tactic(auto, unfolding(crate::specs::Registers::vector_count))]
+pub fn vector_count(classes: &[Class]) -> u64
+    ensures number { result ≡ the_vector_count classes.now }
+    ensures few { result ≤ length classes.now }
+{
+    classes
+        .iter()
+        .filter(|class| matches!(**class, Class::Sse))
+        .count() as u64
+}
+
+fn have_no_class(classes: &[Class]) -> bool
+    ensures { result ≡ list_all is_no_class classes.now }
+{
+    classes.iter().all(|class| matches!(*class, Class::NoClass))
+}
+
+/// Whether nothing of an object of this size and these classes is in a register or on the stack.
+#[tactic(auto, unfolding(crate::specs::Registers::has_no_place))]
+pub fn has_no_place(size: u64, classes: &[Class; 8]) -> bool
+    ensures { result ≡ it_has_no_place size classes.now }
+{
+    if size == 0 {
+        return true;
+    }
+    have_no_class(classes)
+}
