@@ -12,5 +12,5 @@ mod reading;
 
 pub use all::bind_all;
 pub use named::bind_in;
-pub use one::bind;
+pub use one::{bind, same_name};
 pub use reading::exports;
