@@ -1,6 +1,6 @@
 -- What holds of entries that have no fault.
 use Rattle.std.proofs.Common.{◌≡◌, ◌∙◌, ℕ, zero, suc, ◌<◌, Bool, true, false, List, [], ◌∷◌, length, map, Option, Some, None, Result, Ok, Err, refl, sym, ap, subst, inl, inr}
-use Rattle.std.specs.Prelude.{◌⊎◌, ◌&&◌, ◌==◌, find, is_some, is_none, IfSome, IsSome, IsOk}
+use Rattle.std.specs.Prelude.{◌⊎◌, ◌&&◌, ◌==◌, find, is_some, IfSome, IsSome, IsOk}
 use Rattle.std.specs.List.{list_any}
 use Rattle.std.specs.Option.{option_map, option_map_or}
 use Rattle.std.proofs.lemmas.Bool.{or_parts}
@@ -12,15 +12,15 @@ use Rattle.abi_base.specs.declared.fault.FaultKind.{FaultKind}
 use Rattle.abi_base.specs.declared.fault.FaultKind.TheVariants as kind
 use Rattle.abi_base.specs.Outcome.{fault_if, first, or_end}
 use Rattle.abi_base.specs.Tables.{entry_of_table}
-use Rattle.abi_base.proofs.StepLemmas.{option_cases, bool_cases, result_cases}
+use Rattle.abi_base.proofs.StepLemmas.{option_cases, bool_cases}
 use Rattle.dw_forms.specs.declared.values.Value.{Value}
 use Rattle.dw_forms.specs.declared.values.Value.TheVariants as value
 use Rattle.dw_text.specs.Texts.{fault, text_of}
 use Rattle.dw_tree.specs.Trees.{PlainTree, entry_at, entry_of, head_at, no_entry, own_of}
-use Rattle.dw_entries.specs.Addresses.{tag_at, where_there}
-use Rattle.dw_entries.specs.Chains.{is_own_attribute, is_read_tag, is_too_deep, signed_of, target_of, read_link, link_by, either_link, link_of, holder_of, attribute_along, name_of, own_text, known_text}
+use Rattle.dw_entries.specs.Addresses.{tag_at}
+use Rattle.dw_entries.specs.Chains.{is_own_attribute, is_read_tag, is_too_deep, signed_of, target_of, read_link, link_by, link_of, holder_of, attribute_along, name_of, own_text, known_text}
 use Rattle.dw_entries.specs.Debug.{PlainDwarf, bases_of, text_at_entry}
-use Rattle.dw_entries.specs.Pass.{address_faults, entry_fault, entry_rows, fault_of, has_bad_reference, name_fault, of_kind, references, refers_nowhere, is_signed, lacks_unit}
+use Rattle.dw_entries.specs.Pass.{address_faults, entry_fault, entry_rows, has_bad_reference, name_fault, of_kind, references, refers_nowhere, is_signed, lacks_unit}
 use Rattle.dw_entries.specs.Sound.{AreFaultless, IsSound, RefersThere}
 use Rattle.dw_entries.proofs.ChainLemmas.{rest_of, holder_found}
 
@@ -68,12 +68,14 @@ own_name d e (Some v) is no_text no_index = cases (text_at_entry d e v) refl
   where
     name_is : (f : Fault) → text_at_entry d e v ≡ Err f → name_fault d e ≡ Some f
     name_is f at = rw (is, at) refl
+
     refused : (f : Fault) → text_at_entry d e v ≡ Err f → ⊥
     refused f at =
         elim (of_text d e v f at) [
           | inl text ↦ absurd (some_of kind.Text f (rw (name_is f at) at no_text) (subst (λ (g : Fault). of_kind kind.Text (Some g) ≡ Some g) text refl))
           | inr index ↦ absurd (some_of kind.Index f (rw (name_is f at) at no_index) (subst (λ (g : Fault). of_kind kind.Index (Some g) ≡ Some g) index refl))
         ]
+
     cases : (r : Result (List ℕ) Fault) → text_at_entry d e v ≡ r → IsOk (text_at_entry d e v)
     cases (Ok text) at = rw at refl
     cases (Err f) at = absurd (refused f at)
@@ -184,6 +186,7 @@ names_there d e faultless inside is_read = cases (holder_of d.tree e dw_at_name)
     own : (f : ℕ) (value : Option Value) → own_of d.tree f dw_at_name ≡ value → IfSome value (λ v. IsOk (text_at_entry d f v)) → is_some (own_of d.tree f dw_at_name) ≡ is_some (known_text (own_text d f dw_at_name))
     own f None is sound = rw is refl
     own f (Some v) is sound = rw is (text_known (text_at_entry d f v) sound)
+
     cases : (holder : Option ℕ) → holder_of d.tree e dw_at_name ≡ holder
         → is_some (option_map_or (λ f. own_of d.tree f dw_at_name) (holder_of d.tree e dw_at_name) None) ≡ is_some (option_map_or (λ f. known_text (own_text d f dw_at_name)) (holder_of d.tree e dw_at_name) None)
     cases None is = rw is refl
