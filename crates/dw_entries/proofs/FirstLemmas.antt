@@ -1,5 +1,5 @@
 -- The first entry and the first unit that pass a test.
-use Rattle.std.proofs.Common.{◌≡◌, ◌∙◌, ℕ, zero, suc, ◌+◌, ◌<◌, ◌≤◌, ltb, Bool, true, false, List, [], ◌∷◌, length, map, Option, Some, None, Result, Ok, Err, refl, sym, ap, subst, arith, inl, inr}
+use Rattle.std.proofs.Common.{◌≡◌, ◌∙◌, ℕ, zero, suc, ◌+◌, ◌<◌, ◌≤◌, ltb, Bool, true, false, List, [], ◌∷◌, length, map, Option, Some, None, Ok, refl, sym, ap, subst, arith, inl, inr}
 use Rattle.std.specs.Prelude.{find, position, slice_index_or}
 use Rattle.std.specs.List.{range_with_len}
 use Rattle.std.specs.Option.{option_map_or}
@@ -11,7 +11,7 @@ use Rattle.abi_base.specs.Runs.{Chain}
 use Rattle.abi_base.proofs.StepLemmas.{option_cases, bool_cases, same_Ok}
 use Rattle.dw_units.specs.Units.{PlainUnit}
 use Rattle.dw_units.specs.Sequence.{UnitStands, unit_fault, unit_of, unit_step, units_of}
-use Rattle.dw_tree.specs.Trees.{PlainTree, IsOrdered, entry_at, entry_of, head_at, head_of, no_head, tree_of}
+use Rattle.dw_tree.specs.Trees.{IsOrdered, entry_at, entry_of, head_at, head_of, no_head, tree_of}
 use Rattle.dw_entries.specs.Addresses.{is_typed_at, typed_of}
 use Rattle.dw_entries.specs.Chains.{has_signature, signed_of}
 use Rattle.dw_entries.specs.Debug.{PlainDwarf}

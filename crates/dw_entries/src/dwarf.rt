@@ -1,13 +1,14 @@
 // The debug information of a file.
-ghost use Rattle.std.specs.Prelude.{◌≡◌, ◌<◌, ℕ, None, filter, length, All, Contains, IfOk, IfSome};
+ghost use Rattle.std.specs.Prelude.{◌≡◌, ◌<◌, None, filter, length, All, Contains, IfOk, IfSome};
 ghost use Rattle.std.specs.Option.{option_copied, ForSome};
 ghost use Rattle.abi_base.specs.Outcome.{Judges};
 ghost use Rattle.dw_tree.specs.Trees.{entry_at, own_of, entry_of, children_of, next_child_of, IsOrdered, is_tagged};
 ghost use Rattle.dw_entries.specs.Debug.{plain_sections, dwarf_of};
 ghost use Rattle.dw_entries.specs.Chains.{attribute_along, origin_of, name_of as the_name_of, signed_of, target_of};
 ghost use Rattle.dw_entries.specs.Addresses.{entry_address_of, is_declared_only as only_declares, typed_of};
-ghost use Rattle.dw_entries.specs.Pass.{dwarf_fault, entry_fault};
+ghost use Rattle.dw_entries.specs.Pass.{dwarf_fault};
 ghost use Rattle.dw_entries.specs.Said.{block_of, flag_along};
+ghost use Rattle.dw_entries.specs.Sound.{AreFaultless};
 
 use crate::addresses::{entry_address, is_declared_only, is_true, part};
 use crate::names::name;
@@ -115,7 +116,7 @@ impl<'a> Dwarf<'a> {
         ensures faultless { dwarf_fault self.now.sections ≡ None }
         ensures read { self.now ≡ dwarf_of self.now.sections }
         ensures ordered { IsOrdered self.now.tree }
-        ensures entries { (e : ℕ) → e < length self.now.tree.entries → entry_fault self.now e ≡ None }
+        ensures entries { AreFaultless self.now }
     {
         self.source.tree().known();
     }

@@ -1,10 +1,13 @@
 //! What the definitions of this crate come to. Each law is the contract of a function that does nothing.
-ghost use Rattle.std.specs.Prelude.{◌≡◌, ◌<◌, ℕ, List, Some, None, false, length};
+ghost use Rattle.std.specs.Prelude.{◌≡◌, ◌<◌, ℕ, List, Some, None, true, false, is_some, length};
 ghost use Rattle.dw_tree.specs.Trees.{PlainTree, IsOrdered, tree_of};
-ghost use Rattle.dw_entries.specs.Addresses.{is_typed_at, typed_of};
-ghost use Rattle.dw_entries.specs.Chains.{signed_of};
+ghost use Rattle.abi_base.specs.Dwarf.{dw_at_name, dw_at_type};
+ghost use Rattle.dw_entries.specs.Addresses.{is_typed_at, tag_at, typed_of};
+ghost use Rattle.dw_entries.specs.Chains.{attribute_along, is_read_tag, name_of, signed_of};
 ghost use Rattle.dw_entries.specs.Debug.{PlainDwarf};
 ghost use Rattle.dw_entries.specs.First.{IsFirstEntry, IsOfFirstUnit};
+ghost use Rattle.dw_entries.specs.Pass.{entry_fault};
+ghost use Rattle.dw_entries.specs.Sound.{AreFaultless, IsSound, RefersThere};
 
 use dw_units::laws::units_stand_one_after_another;
 
@@ -20,3 +23,16 @@ pub fn the_first_unit_has_a_signature()
 {
     units_stand_one_after_another();
 }
+
+/// Of an entry without a fault, whose tag is read, the name is a text, what it refers to is there, and the chain has no more
+/// links than are followed.
+pub fn an_entry_without_a_fault_is_sound()
+    ensures { (d : PlainDwarf) (e : ℕ) → entry_fault d e ≡ None → is_read_tag (tag_at d.tree e) ≡ true → IsSound d e }
+{}
+
+/// Where no entry has a fault, the type that an entry has along its chain is an entry, and it has a name exactly where an entry
+/// of its chain has one.
+pub fn types_and_names_are_there()
+    ensures types { (d : PlainDwarf) (e : ℕ) → AreFaultless d → e < length d.tree.entries → is_read_tag (tag_at d.tree e) ≡ true → RefersThere d.tree (attribute_along d.tree e dw_at_type) }
+    ensures names { (d : PlainDwarf) (e : ℕ) → AreFaultless d → e < length d.tree.entries → is_read_tag (tag_at d.tree e) ≡ true → is_some (attribute_along d.tree e dw_at_name) ≡ is_some (name_of d e) }
+{}
