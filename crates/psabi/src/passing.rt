@@ -56,7 +56,8 @@ impl Known {
 
     /// What has found nothing yet, and keeps what it finds for the first `len` nodes.
     pub fn of_len(alloc: Global, len: usize) -> Result<Known, NoMemory>
-        ensures { IfOk result (λ known. (k : ℕ) → slice_index_or known k None ≡ None) }
+        ensures none { IfOk result (λ known. (k : ℕ) → slice_index_or known k None ≡ None) }
+        ensures many { IfOk result (λ known. length known ≡ len) }
     {
         let mut found = Vec::new(alloc);
         for _k in 0..len {

@@ -31,7 +31,7 @@ loop-k-preserved g t c =
     elim c.match-inner.branch [
       | in-Some w ↦
           let e : inner_of (part_at c.view-view.result.now c.loop-k.k) ≡ Some (g.Ix.Index.number_of w.in-Some.to) = rw (← c.part.ensures) (sym w.in-Some.ensures) in
-          greatest-part_some c.args.graph.now c.view-view.result.now c.loop-k.k (g.Ix.Index.number_of w.in-Some.to) c.loop-k.greatest w.align-inner.result c.match-inner.greatest (omega arith) e c.loop-k.invariant w.align-inner.ensures (w.greatest-is ∙ w.max-greatest.ensures)
+          greatest-part_some c.args.graph.now c.view-view.result.now c.loop-k.k (g.Ix.Index.number_of w.in-Some.to) c.loop-k.greatest w.align-inner.result c.match-inner.greatest (omega arith) e c.loop-k.invariant w.align-inner.ensures (rw w.greatest-is w.max-greatest.ensures)
       | in_default w ↦
           let e : inner_of (part_at c.view-view.result.now c.loop-k.k) ≡ None = rw (← c.part.ensures) (sym w.in_default.ensures) in
           rw w.greatest-is (greatest-part_none c.args.graph.now c.view-view.result.now c.loop-k.k c.loop-k.greatest (omega arith) e c.loop-k.invariant)

@@ -7,7 +7,7 @@ use Rattle.psabi.proofs.calling.call_shapes.Goals as goal
 
 pub loop-i-init : goal.loop-i-init
 loop-i-init g c = record {
-  right = IsRight-none c.args.graph.now c.in_ok-known.known c.in_ok-known.ensures;
+  right = IsRight-none c.args.graph.now c.in_ok-known.known c.in_ok-known.ensures.none;
   shapes = c.new-shapes.ensures;
 }
 
