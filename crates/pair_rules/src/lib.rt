@@ -13,7 +13,7 @@ mod triple;
 
 pub use comparison::{Comparison, breaks};
 pub use exports::export_breaks;
-pub use matching::{after, partner, partner_at};
+pub use matching::{after, match_of, number_of, partner, partner_at};
 pub use rules::{Broken, holds};
 pub use steps::Steps;
 pub use triple::Triple;
