@@ -1,2 +1,3 @@
+pub mod SeenLemmas
 pub mod Telling
 pub mod TextLemmas

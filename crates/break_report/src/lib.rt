@@ -4,6 +4,7 @@
 #![tactic(auto)]
 
 mod detail;
+pub mod laws;
 mod listener;
 mod listeners;
 mod place;
