@@ -1,4 +1,5 @@
--- The leaves of objects: the scalars, pointers, enumerations and vectors that they are made of, each where it stands.
+-- The leaves of objects: the scalars, pointers, enumerations and vectors that they are made of, each where it stands. The
+-- eightbytes of an object are classified by them (System V psABI for x86-64, section 3.2.3 "Parameter Passing").
 use Rattle.std.specs.Prelude.{ℕ, ◌==◌, ◌+◌, if◌then◌else◌, List, [], ◌∷◌, Option, Some, None}
 use Rattle.std.specs.List.{flat_map, range_with_len}
 use Rattle.abi_types.specs.Types.{PlainView, PlainNode}

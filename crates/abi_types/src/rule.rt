@@ -54,28 +54,7 @@ impl RuleName {
     pub fn place(self) -> u8
         ensures { result ≡ rule_place self }
     {
-        match self {
-            RuleName::X1 => 0,
-            RuleName::X2 => 1,
-            RuleName::X3 => 2,
-            RuleName::X4 => 3,
-            RuleName::X5 => 4,
-            RuleName::X6 => 5,
-            RuleName::L1 => 6,
-            RuleName::L2 => 7,
-            RuleName::L3 => 8,
-            RuleName::L4 => 9,
-            RuleName::L5 => 10,
-            RuleName::L6 => 11,
-            RuleName::L7 => 12,
-            RuleName::L8 => 13,
-            RuleName::L9 => 14,
-            RuleName::L10 => 15,
-            RuleName::L11 => 16,
-            RuleName::L12 => 17,
-            RuleName::L13 => 18,
-            RuleName::L14 => 19,
-        }
+        self as u8
     }
 
     /// The word for it in a text.

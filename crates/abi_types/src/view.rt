@@ -12,6 +12,7 @@ use std::marker::Model;
 /// What a type looks like. Fields that a kind does not use hold 0, `false`, `Group::Bool` or nothing.
 #[derive(Drop)]
 pub struct View<'a, Ix: Index> {
+    /// What sort of type it is.
     pub kind: Kind,
     /// Whether the type is declared here, and its parts are told nowhere in this unit.
     pub declared_only: bool,
@@ -27,6 +28,7 @@ pub struct View<'a, Ix: Index> {
     pub count: u64,
     /// Whether a function takes further arguments after its parameters.
     pub variadic: bool,
+    /// Its members, enumerators, target, element type, or result and parameters.
     pub parts: Parts<'a, Ix>,
     /// Where a function's result and arguments are.
     pub call: CallShape,
@@ -86,7 +88,9 @@ impl<'a, Ix: Index> View<'a, Ix> {
 /// A name by which rules speak of a type.
 #[derive(Clone, Copy, Debug)]
 pub struct Label<'a> {
+    /// What kind of name it is.
     pub kind: LabelKind,
+    /// Its bytes.
     pub name: &'a [u8],
 }
 
@@ -95,9 +99,11 @@ pub struct Label<'a> {
 pub struct Node<'a, Ix: Index> {
     /// The offset of the debugging information entry that it stands for. 0 is void.
     pub entry: u64,
-    /// It falls from a node to what its parts name by value.
+    /// It falls from a node to what its parts name by value, and is 512 at most.
     pub rank: u32,
+    /// What the type looks like.
     pub view: View<'a, Ix>,
+    /// The names by which rules speak of it.
     pub labels: List<Label<'a>>,
 }
 

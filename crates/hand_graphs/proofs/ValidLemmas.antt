@@ -1,16 +1,13 @@
--- Nodes that are tested one by one are a graph.
-use Rattle.std.proofs.Common.{◌≡◌, ◌<◌, ◌≤◌, ℕ, List, length, get_or, Some, None, refl, sym, ap, ◌∙◌, subst, arith, inl, inr}
-use Rattle.std.proofs.lemmas.Bool.{cases_lt, cases_order}
-use Rattle.std.proofs.lemmas.List.{get_or_past, get_or_read}
+-- Nodes that each keep what those of a graph keep are a graph, and the other way round.
+use Rattle.std.proofs.Common.{◌≡◌, ◌<◌, ◌≤◌, ◌*◌, ℕ, Bool, true, List, length, Some, None, refl, sym, ap, subst, arith, inl, inr}
+use Rattle.std.specs.Prelude.{◌↔◌, IsTrue, IfOk, Result, Ok, Err}
+use Rattle.std.proofs.lemmas.Bool.{cases_lt}
+use Rattle.std.proofs.lemmas.List.{get_or_past}
 use Rattle.abi_base.specs.Limits.{depth_limit}
 use Rattle.abi_types.specs.Types.{PlainView, PlainNode}
-use Rattle.abi_types.specs.Forms.{HasForm}
+use Rattle.abi_types.specs.Forms.{has_elements, HasForm}
 use Rattle.abi_types.specs.Graphs.{IsGraph, KeepsLimits, IsWhole, node_at, view_at, part_at, void_node, void_view, to_of, inner_of}
-use Rattle.abi_types.specs.Valid.{IsVoidFirst, IsNewEntry, NamesNodes}
-
--- a view that was read is that of the node
-pub view_here : (nodes : List PlainNode) (i : ℕ) (node : PlainNode) (v : PlainView) → i < length nodes → node ≡ get_or nodes i node → v ≡ node.view → v ≡ view_at nodes i
-view_here nodes i node v inside is of = of ∙ ap (λ (n : PlainNode). n.view) (get_or_read nodes i node inside is void_node)
+use Rattle.hand_graphs.specs.Valid.{IsVoidFirst, HaveOwnEntries, NamesNodes, KeepsNode}
 
 -- ---- past the last node there is void
 
@@ -48,39 +45,53 @@ void_limits nodes = record {
 
 -- ---- all nodes
 
-pub IsGraph-all : (nodes : List PlainNode) (n : ℕ) → length nodes ≤ n → IsVoidFirst nodes → ((i : ℕ) → i < n → IsNewEntry nodes i) → ((i : ℕ) → i < n → NamesNodes nodes i) → ((i : ℕ) → i < n → (node_at nodes i).rank ≤ depth_limit)
-    → ((i : ℕ) → i < n → HasForm (view_at nodes i)) → ((i : ℕ) → i < n → KeepsLimits nodes (view_at nodes i)) → ((i : ℕ) → i < n → IsWhole nodes (view_at nodes i)) → IsGraph nodes
-IsGraph-all nodes n past void new names shallow forms limits whole = record {
+pub KeepsNode-from : (nodes : List PlainNode) (i : ℕ) → IsGraph nodes → KeepsNode nodes i
+KeepsNode-from nodes i graph = record {
+  shallow = graph.shallow i;
+  names = record { inside = graph.inside i; falls = graph.falls i };
+  form = graph.forms i;
+  limits = graph.limits i;
+  whole = graph.whole i;
+}
+
+pub IsGraph-from : (nodes : List PlainNode) → IsVoidFirst nodes → ((i : ℕ) → i < length nodes → KeepsNode nodes i) → HaveOwnEntries nodes → IsGraph nodes
+IsGraph-from nodes void keeps own = record {
   void_first = void.first;
   void_kind = void.kind;
   void_entry = void.entry;
   inside = λ i k to e. elim (cases_lt i (length nodes)) [
-    | inl below ↦ (names i (omega arith)).inside k to e
+    | inl below ↦ (keeps i below).names.inside k to e
     | inr over ↦ absurd (no_to_past nodes i k to over e)
   ];
-  apart = λ i j lt_i lt_j e. elim (cases_order i j) [
-    | inl same ↦ same
-    | inr (inl below) ↦ absurd (new j (omega arith) i below e)
-    | inr (inr above) ↦ absurd (new i (omega arith) j above (sym e))
-  ];
+  apart = own;
   falls = λ i k to e. elim (cases_lt i (length nodes)) [
-    | inl below ↦ (names i (omega arith)).falls k to e
+    | inl below ↦ (keeps i below).names.falls k to e
     | inr over ↦ absurd (no_inner_past nodes i k to over e)
   ];
   shallow = λ i. elim (cases_lt i (length nodes)) [
-    | inl below ↦ shallow i (omega arith)
+    | inl below ↦ (keeps i below).shallow
     | inr over ↦ subst (λ (m : PlainNode). m.rank ≤ depth_limit) (sym (void_past nodes i over)) (omega arith)
   ];
   forms = λ i. elim (cases_lt i (length nodes)) [
-    | inl below ↦ forms i (omega arith)
+    | inl below ↦ (keeps i below).form
     | inr over ↦ subst (λ (m : PlainNode). HasForm m.view) (sym (void_past nodes i over)) void_form
   ];
   limits = λ i. elim (cases_lt i (length nodes)) [
-    | inl below ↦ limits i (omega arith)
+    | inl below ↦ (keeps i below).limits
     | inr over ↦ subst (λ (m : PlainNode). KeepsLimits nodes m.view) (sym (void_past nodes i over)) (void_limits nodes)
   ];
   whole = λ i to elements e. elim (cases_lt i (length nodes)) [
-    | inl below ↦ whole i (omega arith) to elements e
+    | inl below ↦ (keeps i below).whole to elements e
     | inr over ↦ absurd (no_to_past nodes i 0 to over e)
   ];
 }
+
+pub IsGraph-exactly : {E : Type 0} (nodes : List PlainNode) (r : Result Bool E) → IsVoidFirst nodes → ((i : ℕ) → i < length nodes → KeepsNode nodes i) → IfOk r (λ have. IsTrue have ↔ HaveOwnEntries nodes) → IfOk r (λ is. IsTrue is ↔ IsGraph nodes)
+IsGraph-exactly nodes (Ok have) void keeps own = (λ passes. IsGraph-from nodes void keeps (own.0 passes), λ graph. own.1 graph.apart)
+IsGraph-exactly nodes (Err e) void keeps own = tt
+
+-- ---- arrays and vectors
+
+pub IsWhole-exactly : (nodes : List PlainNode) (v : PlainView) (to : ℕ) (b : Bool) → has_elements v.kind ≡ true → to_of (part_at v 0) ≡ Some to → IsTrue b ↔ (v.size ≡ v.count * (view_at nodes to).size) → IsTrue b ↔ IsWhole nodes v
+IsWhole-exactly nodes v to b holds named exactly =
+    (λ passes other elements e. let same : to ≡ other = cc in subst (λ (n : ℕ). v.size ≡ v.count * (view_at nodes n).size) same (exactly.0 passes), λ whole. exactly.1 (whole to holds named))

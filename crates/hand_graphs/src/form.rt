@@ -1,14 +1,10 @@
 // The test whether a view has the form of its kind.
-ghost use Rattle.std.specs.Prelude.{◌≡◌, false, true, [], map, IsTrue, IfSome};
+ghost use Rattle.std.specs.Prelude.{◌≡◌, ◌↔◌, false, true, [], map, IsTrue, IfSome};
 ghost use Rattle.std.specs.List.{list_all};
 ghost use Rattle.abi_types.specs.Parts.{plain_part};
 ghost use Rattle.abi_types.specs.Forms.{has_tag as the_kind_has_tag, has_elements as the_kind_has_elements, is_scalar, is_function, size_of_kind as the_size_of_kind, is_member as the_part_is_member, is_enumerator as the_part_is_enumerator, is_param as the_part_is_param, is_one_target as they_are_one_target, is_one_element as they_are_one_element, are_of_function as they_are_of_function, parts_fit as they_fit, no_call, HasForm};
 
-use crate::index::Index;
-use crate::kind::{Group, Kind};
-use crate::part::Part;
-use crate::place::{CallShape, Place};
-use crate::view::View;
+use abi_types::{CallShape, Group, Index, Kind, Part, Place, View};
 
 // Whether the types of a kind have tags.
 fn has_tag(kind: Kind) -> bool
@@ -128,7 +124,7 @@ fn parts_fit<Ix: Index>(kind: Kind, parts: &[Part<Ix>]) -> bool
 
 // Whether the shape has no places.
 fn is_no_call(call: &CallShape) -> bool
-    ensures { IsTrue result → call.now ≡ no_call }
+    ensures { IsTrue result ↔ (call.now ≡ no_call) }
 {
     match call.outcome {
         Place::Nothing => call.params.as_slice().is_empty(),
@@ -138,7 +134,7 @@ fn is_no_call(call: &CallShape) -> bool
 
 // Whether only a type whose kind has tags has one, or is declared only.
 fn tag_fits<Ix: Index>(view: &View<Ix>) -> bool
-    ensures { IsTrue result → the_kind_has_tag view.now.kind ≡ false → (view.now.tag ≡ []) × (view.now.declared_only ≡ false) }
+    ensures { IsTrue result ↔ (the_kind_has_tag view.now.kind ≡ false → (view.now.tag ≡ []) × (view.now.declared_only ≡ false)) }
 {
     if has_tag(view.kind) {
         return true;
@@ -151,7 +147,7 @@ fn tag_fits<Ix: Index>(view: &View<Ix>) -> bool
 
 // Whether the size is that of the kind, where the kind has one.
 fn size_fits<Ix: Index>(view: &View<Ix>) -> bool
-    ensures { IsTrue result → IfSome (the_size_of_kind view.now.kind) (λ size. view.now.size ≡ size) }
+    ensures { IsTrue result ↔ IfSome (the_size_of_kind view.now.kind) (λ size. view.now.size ≡ size) }
 {
     match size_of_kind(view.kind) {
         Some(size) => view.size == size,
@@ -161,7 +157,7 @@ fn size_fits<Ix: Index>(view: &View<Ix>) -> bool
 
 // Whether only a scalar has a group.
 fn group_fits<Ix: Index>(view: &View<Ix>) -> bool
-    ensures { IsTrue result → is_scalar view.now.kind ≡ false → view.now.group ≡ Group.Bool }
+    ensures { IsTrue result ↔ (is_scalar view.now.kind ≡ false → view.now.group ≡ Group.Bool) }
 {
     match view.kind {
         Kind::Scalar => true,
@@ -171,7 +167,7 @@ fn group_fits<Ix: Index>(view: &View<Ix>) -> bool
 
 // Whether only an array or a vector has a count.
 fn count_fits<Ix: Index>(view: &View<Ix>) -> bool
-    ensures { IsTrue result → the_kind_has_elements view.now.kind ≡ false → view.now.count ≡ 0 }
+    ensures { IsTrue result ↔ (the_kind_has_elements view.now.kind ≡ false → view.now.count ≡ 0) }
 {
     if has_elements(view.kind) {
         return true;
@@ -181,7 +177,7 @@ fn count_fits<Ix: Index>(view: &View<Ix>) -> bool
 
 // Whether only a function takes further arguments and has places of a call.
 fn call_fits<Ix: Index>(view: &View<Ix>) -> bool
-    ensures { IsTrue result → is_function view.now.kind ≡ false → (view.now.variadic ≡ false) × (view.now.call ≡ no_call) }
+    ensures { IsTrue result ↔ (is_function view.now.kind ≡ false → (view.now.variadic ≡ false) × (view.now.call ≡ no_call)) }
 {
     match view.kind {
         Kind::Function => true,
@@ -196,7 +192,7 @@ fn call_fits<Ix: Index>(view: &View<Ix>) -> bool
 
 // Whether a type that is declared only has no size and no parts.
 fn declaration_fits<Ix: Index>(view: &View<Ix>) -> bool
-    ensures { IsTrue result → view.now.declared_only ≡ true → (view.now.size ≡ 0) × (view.now.parts ≡ []) }
+    ensures { IsTrue result ↔ (view.now.declared_only ≡ true → (view.now.size ≡ 0) × (view.now.parts ≡ [])) }
 {
     if !view.declared_only {
         return true;
@@ -209,7 +205,7 @@ fn declaration_fits<Ix: Index>(view: &View<Ix>) -> bool
 
 /// Whether the view has the form of its kind.
 pub fn has_form<Ix: Index>(view: &View<Ix>) -> bool
-    ensures { IsTrue result → HasForm view.now }
+    ensures { IsTrue result ↔ HasForm view.now }
 {
     if !tag_fits(view) {
         return false;

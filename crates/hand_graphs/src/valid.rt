@@ -1,26 +1,27 @@
 // The tests whether a list of nodes is a graph, and whether exports and a graph are those of a library.
-ghost use Rattle.std.specs.Prelude.{◌≡◌, ◌<◌, ◌≤◌, length, map, count_by, All, IsSome, IsTrue};
+ghost use Rattle.std.specs.Prelude.{◌≡◌, ◌<◌, ◌≤◌, ◌↔◌, ℕ, length, map, count_by, All, IsSome, IsTrue, IfOk};
 ghost use Rattle.abi_base.specs.Limits.{depth_limit};
 ghost use Rattle.abi_types.specs.Exports.{PlainExport};
 ghost use Rattle.abi_types.specs.Forms.{is_param as the_part_is_param};
-ghost use Rattle.abi_types.specs.Graphs.{IsGraph, node_at, node_of};
+ghost use Rattle.abi_types.specs.Graphs.{IsGraph, node_at, view_at, node_of};
 ghost use Rattle.abi_types.specs.Libraries.{AreNumbered, HasPlaces, IsLibrary};
 ghost use Rattle.abi_types.specs.Parts.{plain_part};
 ghost use Rattle.abi_types.specs.Plain.{plain_exports};
-ghost use Rattle.abi_types.specs.Valid.{IsVoidFirst, IsNewEntry, NamesNodes};
+ghost use Rattle.hand_graphs.specs.Valid.{IsVoidFirst, NamesNodes, KeepsNode};
 
-use crate::export::Export;
+use crate::entries::have_own_entries;
 use crate::form::{has_form, is_param};
-use crate::graph::Graph;
-use crate::index::Index;
-use crate::kind::Kind;
 use crate::limits::{is_whole, keeps_limits};
-use crate::part::Part;
-use crate::view::{Node, View};
+use abi_base::NoMemory;
+use abi_types::{Export, Graph, Index, Kind, Node, Part, View};
+use std::alloc::Global;
+
+// The highest rank of a node.
+const RANK_LIMIT: u32 = 512;
 
 // Whether the first node is void.
 fn is_void_first<Ix: Index>(nodes: &[Node<Ix>]) -> bool
-    ensures { IsTrue result → IsVoidFirst nodes.now }
+    ensures { IsTrue result ↔ IsVoidFirst nodes.now }
 {
     if nodes.is_empty() {
         return false;
@@ -30,25 +31,22 @@ fn is_void_first<Ix: Index>(nodes: &[Node<Ix>]) -> bool
     first.entry == 0 && view.kind == Kind::Void
 }
 
-// Whether no node before the number stands for the entry of the node there.
-fn is_new_entry<Ix: Index>(nodes: &[Node<Ix>], i: usize) -> bool
-    requires { i < length nodes.now }
-    ensures { IsTrue result → IsNewEntry nodes.now i }
+// The rank of a node, 0 past the last one.
+fn rank_at<Ix: Index>(nodes: &[Node<Ix>], at: Ix) -> u32
+    ensures { result ≡ (node_at nodes.now (Ix.number_of at)).rank }
 {
-    let node = &nodes[i];
-    for j in 0..i {
-        let other = &nodes[j];
-        if other.entry == node.entry {
-            return false;
-        }
+    let number = at.number();
+    if number >= nodes.len() {
+        return 0;
     }
-    true
+    let node = &nodes[number];
+    node.rank
 }
 
 // Whether the parts of the node name nodes, and nodes of a lower rank where they name them by value.
 fn names_nodes<Ix: Index>(nodes: &[Node<Ix>], i: usize) -> bool
     requires { i < length nodes.now }
-    ensures { IsTrue result → NamesNodes nodes.now i }
+    ensures { IsTrue result ↔ NamesNodes nodes.now i }
 {
     let node = &nodes[i];
     let view = &node.view;
@@ -60,11 +58,7 @@ fn names_nodes<Ix: Index>(nodes: &[Node<Ix>], i: usize) -> bool
             }
         }
         if let Some(inner) = part.inner() {
-            if inner.number() >= nodes.len() {
-                return false;
-            }
-            let lower = &nodes[inner.number()];
-            if lower.rank >= node.rank {
+            if rank_at(nodes, inner) >= node.rank {
                 return false;
             }
         }
@@ -72,66 +66,63 @@ fn names_nodes<Ix: Index>(nodes: &[Node<Ix>], i: usize) -> bool
     true
 }
 
-// The highest rank.
-const RANK_LIMIT: u32 = 512;
-
-// Whether the rank of the node is not above the limit.
-fn is_shallow<Ix: Index>(nodes: &[Node<Ix>], i: usize) -> bool
+// Whether the node keeps what those of a graph keep, each for itself.
+fn keeps_node<Ix: Index>(nodes: &[Node<Ix>], i: usize) -> bool
     requires { i < length nodes.now }
-    ensures { IsTrue result → (node_at nodes.now i).rank ≤ depth_limit }
+    ensures { IsTrue result ↔ KeepsNode nodes.now i }
 {
     let node = &nodes[i];
-    node.rank <= RANK_LIMIT
-}
-
-/// Whether the nodes are a graph. It is for tests alone: it compares each node's entry with those of all before it, so its time
-/// grows with the square of their number. What makes graphs proves that its nodes are one.
-pub fn is_graph<Ix: Index>(nodes: &[Node<Ix>]) -> bool
-    ensures { IsTrue result → IsGraph nodes.now }
-{
-    if !is_void_first(nodes) {
+    if node.rank > RANK_LIMIT {
         return false;
     }
+    if !names_nodes(nodes, i) {
+        return false;
+    }
+    if !has_form(&node.view) {
+        return false;
+    }
+    if !keeps_limits(nodes, &node.view) {
+        return false;
+    }
+    is_whole(nodes, &node.view)
+}
+
+// Whether all nodes keep what those of a graph keep, each for itself.
+fn keep_nodes<Ix: Index>(nodes: &[Node<Ix>]) -> bool
+    ensures { IsTrue result ↔ ((i : ℕ) → i < length nodes.now → KeepsNode nodes.now i) }
+{
     for i in 0..nodes.len() {
-        if !is_new_entry(nodes, i) {
-            return false;
-        }
-        if !names_nodes(nodes, i) {
-            return false;
-        }
-        if !is_shallow(nodes, i) {
-            return false;
-        }
-        let node = &nodes[i];
-        if !has_form(&node.view) {
-            return false;
-        }
-        if !keeps_limits(nodes, &node.view) {
-            return false;
-        }
-        if !is_whole(nodes, &node.view) {
+        if !keeps_node(nodes, i) {
             return false;
         }
     }
     true
+}
+
+/// Whether the nodes are a graph, so that `Graph::of_nodes` takes them. It sorts their entries, and goes over the nodes and
+/// their parts once.
+pub fn is_graph<Ix: Index>(alloc: Global, nodes: &[Node<Ix>]) -> Result<bool, NoMemory>
+    ensures { IfOk result (λ is. IsTrue is ↔ IsGraph nodes.now) }
+{
+    if !is_void_first(nodes) {
+        return Ok(false);
+    }
+    if !keep_nodes(nodes) {
+        return Ok(false);
+    }
+    have_own_entries(alloc, nodes)
 }
 
 // How many of the parts are parameters.
 fn count_params<Ix: Index>(parts: &[Part<Ix>]) -> usize
     ensures { result ≡ count_by the_part_is_param (map (plain_part Ix.number_of) parts.now) }
 {
-    let mut count = 0;
-    for i in 0..parts.len() {
-        if is_param(&parts[i]) {
-            count += 1;
-        }
-    }
-    count
+    parts.iter().filter(|part| is_param(part)).count()
 }
 
 // Whether the call of a function has a place for each of its parameters.
 fn has_places<Ix: Index>(view: &View<Ix>) -> bool
-    ensures { IsTrue result → HasPlaces view.now }
+    ensures { IsTrue result ↔ HasPlaces view.now }
 {
     match view.kind {
         Kind::Function => {
@@ -141,9 +132,21 @@ fn has_places<Ix: Index>(view: &View<Ix>) -> bool
     }
 }
 
+// Whether the calls of all functions have their places.
+fn have_places<Ix: Index>(graph: &Graph<Ix>) -> bool
+    ensures { IsTrue result ↔ ((i : ℕ) → HasPlaces (view_at graph.now i)) }
+{
+    for i in 0..graph.len() {
+        if !has_places(graph.view(Ix::of(i))) {
+            return false;
+        }
+    }
+    true
+}
+
 // Whether the entries of all exports are those of nodes.
 fn have_nodes<Ix: Index>(exports: &[Export], graph: &Graph<Ix>) -> bool
-    ensures { IsTrue result → All (λ (e : PlainExport). IsSome (node_of graph.now e.entry)) (plain_exports exports.now) }
+    ensures { IsTrue result ↔ All (λ (e : PlainExport). IsSome (node_of graph.now e.entry)) (plain_exports exports.now) }
 {
     for i in 0..exports.len() {
         if graph.find(exports[i].entry).is_none() {
@@ -153,21 +156,31 @@ fn have_nodes<Ix: Index>(exports: &[Export], graph: &Graph<Ix>) -> bool
     true
 }
 
+fn symbol_of(export: &Export) -> u32
+    ensures { result ≡ export.now.symbol }
+{
+    export.symbol
+}
+
 // Whether the exports stand in order of the numbers of their symbols.
 fn are_numbered(exports: &[Export]) -> bool
-    ensures { IsTrue result → AreNumbered (plain_exports exports.now) }
+    ensures { IsTrue result ↔ AreNumbered (plain_exports exports.now) }
 {
-    for i in 1..exports.len() {
-        if exports[i - 1].symbol >= exports[i].symbol {
+    // The least number that the next symbol may have.
+    let mut least: u64 = 0;
+    for i in 0..exports.len() {
+        let symbol = u64::from(symbol_of(&exports[i]));
+        if symbol < least {
             return false;
         }
+        least = symbol + 1;
     }
     true
 }
 
-/// Whether the exports and the graph are those of a library. It is for tests alone, which make libraries by hand.
+/// Whether the exports and the graph are those of a library, so that `Library::new` takes them.
 pub fn is_library<Ix: Index>(exports: &[Export], graph: &Graph<Ix>) -> bool
-    ensures { IsTrue result → IsLibrary (plain_exports exports.now) graph.now }
+    ensures { IsTrue result ↔ IsLibrary (plain_exports exports.now) graph.now }
 {
     if !have_nodes(exports, graph) {
         return false;
@@ -175,10 +188,5 @@ pub fn is_library<Ix: Index>(exports: &[Export], graph: &Graph<Ix>) -> bool
     if !are_numbered(exports) {
         return false;
     }
-    for i in 0..graph.len() {
-        if !has_places(graph.view(Ix::of(i))) {
-            return false;
-        }
-    }
-    true
+    have_places(graph)
 }

@@ -1,5 +1,5 @@
 -- No call is left.
-use Rattle.std.proofs.Common.{◌≡◌, ◌≤◌, length, arith, rules}
+use Rattle.std.proofs.Common.{◌≡◌, length, arith, rules}
 use Rattle.abi_types.proofs.ShapedLemmas.{shaped-all}
 use Rattle.abi_types.proofs.graph.with_each_call.Goals as goal
 

@@ -1,5 +1,5 @@
 -- The rule at a place undoes the place of a rule.
-use Rattle.std.proofs.Common.{◌≡◌, ◌∙◌, ℕ, List, [], ◌∷◌, get_or, refl, sym, ap}
+use Rattle.std.proofs.Common.{◌≡◌, ◌∙◌, ℕ, [], ◌∷◌, get_or, refl, sym, ap}
 use Rattle.abi_types.specs.declared.rule.RuleName.{RuleName}
 use Rattle.abi_types.specs.declared.rule.RuleName.TheVariants.{X1, X2, X3, X4, X5, X6, L1, L2, L3, L4, L5, L6, L7, L8, L9, L10, L11, L12, L13, L14}
 use Rattle.abi_types.specs.Rules.{rule_place}

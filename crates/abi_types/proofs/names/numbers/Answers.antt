@@ -1,4 +1,4 @@
-use Rattle.std.proofs.Common.{◌≡◌, ◌∙◌, ◌++◌, ◌∷◌, [], ℕ, List, sym, ap, arith}
+use Rattle.std.proofs.Common.{◌∙◌, ◌++◌, ◌∷◌, [], ℕ, List, sym, ap, arith}
 use Rattle.abi_types.proofs.LeafLemmas.{range-more}
 use Rattle.abi_types.proofs.names.numbers.Goals as goal
 

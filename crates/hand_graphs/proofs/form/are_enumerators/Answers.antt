@@ -4,7 +4,7 @@ use Rattle.std.proofs.lemmas.Iterator.Search.{all_from_yields_List}
 use Rattle.std.proofs.lemmas.List.Folds.{list_all-map}
 use Rattle.abi_types.specs.Forms.{is_enumerator}
 use Rattle.abi_types.specs.Parts.{plain_part}
-use Rattle.abi_types.proofs.form.are_enumerators.Goals as goal
+use Rattle.hand_graphs.proofs.form.are_enumerators.Goals as goal
 
 pub returns : goal.returns
 returns g c =

@@ -1,9 +1,10 @@
-use Rattle.abi_types.proofs.LibraryLemmas.{HaveNodesBelow-more, HaveNodesBelow-all}
-use Rattle.abi_types.proofs.valid.have_nodes.Goals as goal
+use Rattle.std.proofs.Common.{refl}
+use Rattle.hand_graphs.proofs.ExportLemmas.{all_have_nodes, node_there, no_node}
+use Rattle.hand_graphs.proofs.valid.have_nodes.Goals as goal
 
-pub loop-i-preserved : goal.loop-i-preserved
-loop-i-preserved g c =
-    HaveNodesBelow-more g.Ix.Index.number_of c.args.graph.now c.args.exports.now c.loop-i.i _ c.find.result c.loop-i-test.true c.loop-i.invariant c.find.ensures.node c.if-is_none.ensures
+pub returns-then-is_none : goal.returns-then-is_none
+returns-then-is_none g c =
+    (λ f. absurd cc, λ all. absurd (no_node g.Ix.Index.number_of c.find.result _ c.find.ensures.node c.if-is_none.ensures (node_there c.args.graph.now c.args.exports.now c.loop-i.i _ c.loop-i-test.true all)))
 
 pub returns : goal.returns
-returns g c = λ _. HaveNodesBelow-all c.args.graph.now c.args.exports.now c.loop-i.i c.loop-i-test.false c.loop-i.invariant
+returns g c = (λ t. all_have_nodes c.args.graph.now c.args.exports.now c.loop-i.i c.loop-i-test.false c.loop-i.invariant, λ all. refl)

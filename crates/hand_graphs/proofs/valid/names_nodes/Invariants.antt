@@ -1,7 +1,7 @@
 -- The parts before this one name nodes.
 use Rattle.std.proofs.Common.{◌≡◌, ◌<◌, ℕ, length, Some}
 use Rattle.abi_types.specs.Graphs.{node_at, view_at, part_at, to_of, inner_of}
-use Rattle.abi_types.proofs.valid.names_nodes.Given as goal
+use Rattle.hand_graphs.proofs.valid.names_nodes.Given as goal
 
 abbrev pub invariant-loop-k : goal.invariant-loop-k
 invariant-loop-k g l = record {
