@@ -119,7 +119,7 @@ like_before-seen f ps p i =
     ap (λ qs. count_by (like (part_seen f p)) qs) (take-map (part_seen f) i ps)
     ∙ count_by-map (part_seen f) (like (part_seen f p)) (like p) (λ q. like-seen f f p q) (take i ps)
 
-number_of-seen : (f : ℕ → ℕ) (v : PlainView) (i : ℕ) → number_of (view_seen f v) i ≡ number_of v i
+pub number_of-seen : (f : ℕ → ℕ) (v : PlainView) (i : ℕ) → number_of (view_seen f v) i ≡ number_of v i
 unfolding view_seen
 number_of-seen f v i =
     ap (λ p. like_before (map (part_seen f) v.parts) p i) (get_or-seen f v.parts i)
@@ -195,7 +195,7 @@ next_of-seen f g v w way i =
 
 -- ---- rules
 
-params_of-seen : (f : ℕ → ℕ) (v : PlainView) → params_of (view_seen f v) ≡ params_of v
+pub params_of-seen : (f : ℕ → ℕ) (v : PlainView) → params_of (view_seen f v) ≡ params_of v
 unfolding view_seen
 params_of-seen f v = count_by-map (part_seen f) is_param is_param (is_param-seen f) v.parts
 
@@ -209,17 +209,17 @@ breaks_whole-seen f g r v w = refl
 and_same : (a b c d : Bool) → a ≡ b → c ≡ d → (a && c) ≡ (b && d)
 and_same a b c d p q = ap (λ x. x && c) p ∙ ap (λ y. b && y) q
 
-bit_at-seen : (f : ℕ → ℕ) (v : PlainView) (i : ℕ) → bit_at (view_seen f v) i ≡ bit_at v i
+pub bit_at-seen : (f : ℕ → ℕ) (v : PlainView) (i : ℕ) → bit_at (view_seen f v) i ≡ bit_at v i
 bit_at-seen = said-seen bit_of bit_of-seen
 
-width_at-seen : (f : ℕ → ℕ) (v : PlainView) (i : ℕ) → width_at (view_seen f v) i ≡ width_at v i
+pub width_at-seen : (f : ℕ → ℕ) (v : PlainView) (i : ℕ) → width_at (view_seen f v) i ≡ width_at v i
 width_at-seen = said-seen width_of width_of-seen
 
 size-seen : (f : ℕ → ℕ) (v : PlainView) → (view_seen f v).size ≡ v.size
 unfolding view_seen
 size-seen f v = refl
 
-value_at-seen : (f : ℕ → ℕ) (v : PlainView) (i : ℕ) → value_at (view_seen f v) i ≡ value_at v i
+pub value_at-seen : (f : ℕ → ℕ) (v : PlainView) (i : ℕ) → value_at (view_seen f v) i ≡ value_at v i
 value_at-seen f v i =
     ap (λ n. in_bytes n (value_of (part_at (view_seen f v) i))) (size-seen f v)
     ∙ ap (λ n. in_bytes v.size n) (said-seen value_of value_of-seen f v i)

@@ -9,12 +9,12 @@ ghost use Rattle.abi_types.specs.declared.place.Place.{Place};
 ghost use Rattle.abi_types.specs.Types.{PlainView};
 ghost use Rattle.abi_types.specs.Graphs.{part_at, view_at, IsGraph};
 ghost use Rattle.abi_types.specs.Parts.{like};
-ghost use Rattle.abi_types.specs.Seen.{view_seen};
+ghost use Rattle.abi_types.specs.Seen.{part_seen, view_seen};
 ghost use Rattle.pair_rules.specs.declared.rules.Broken.{Broken};
 ghost use Rattle.pair_rules.specs.BreakOrder.{IsBrokenBefore};
 ghost use Rattle.pair_rules.specs.Same.{same_kind, same_group, same_place};
-ghost use Rattle.pair_rules.specs.Matching.{match_of, IsMatch};
-ghost use Rattle.pair_rules.specs.TypeRules.{rules_asked, breaks, IsBroken};
+ghost use Rattle.pair_rules.specs.Matching.{match_of, number_of, IsMatch};
+ghost use Rattle.pair_rules.specs.TypeRules.{bit_at, params_of, value_at, width_at, rules_asked, breaks, IsBroken};
 ghost use Rattle.pair_rules.specs.Partners.{partner_at, IsPartner};
 ghost use Rattle.pair_rules.specs.Steps.{PlainRoot, Task, Triple, is_marked, breaks_of, next_of, step, IsStep};
 ghost use Rattle.pair_rules.specs.Stable.{AreClasses, StandsFor, IsInside, LeadsLike, classed, related};
@@ -87,6 +87,17 @@ pub fn rules_see_no_nodes()
     ensures partners { (f g : ℕ → ℕ) (v w : PlainView) (i : ℕ) → partner_at (view_seen f v) (view_seen g w) i ≡ partner_at v w i }
     ensures steps { (f g : ℕ → ℕ) (v w : PlainView) (way : Way) (i : ℕ) →
         next_of (view_seen f v) (view_seen g w) way i ≡ option_map (classed f g) (next_of v w way i) }
+{}
+
+/// What parts say, which one of its name a part is, and which part matches it do not depend on the nodes that parts name.
+pub fn parts_see_no_nodes()
+    ensures parts { (f : ℕ → ℕ) (v : PlainView) (i : ℕ) → part_at (view_seen f v) i ≡ part_seen f (part_at v i) }
+    ensures numbers { (f : ℕ → ℕ) (v : PlainView) (i : ℕ) → number_of (view_seen f v) i ≡ number_of v i }
+    ensures matches { (f g : ℕ → ℕ) (v w : PlainView) (i : ℕ) → match_of (view_seen f v) (view_seen g w) i ≡ match_of v w i }
+    ensures bits { (f : ℕ → ℕ) (v : PlainView) (i : ℕ) → bit_at (view_seen f v) i ≡ bit_at v i }
+    ensures widths { (f : ℕ → ℕ) (v : PlainView) (i : ℕ) → width_at (view_seen f v) i ≡ width_at v i }
+    ensures values { (f : ℕ → ℕ) (v : PlainView) (i : ℕ) → value_at (view_seen f v) i ≡ value_at v i }
+    ensures params { (f : ℕ → ℕ) (v : PlainView) → params_of (view_seen f v) ≡ params_of v }
 {}
 
 /// Over stable classes and even marks, triples of the same classes are marked alike, break the same rules, and lead to triples

@@ -13,8 +13,8 @@ mod triple;
 
 pub use comparison::{Comparison, breaks};
 pub use exports::export_breaks;
-pub use matching::{after, partner, partner_at};
-pub use rules::{Broken, holds};
+pub use matching::{after, match_of, number_of, partner, partner_at};
+pub use rules::{Broken, bit_at, holds, params_of, value_at, width_at};
 pub use steps::Steps;
 pub use triple::Triple;
 

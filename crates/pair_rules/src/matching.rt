@@ -9,17 +9,18 @@ ghost use Rattle.pair_rules.specs.Ways.{after as the_way_after};
 
 use abi_types::{Index, Kind, NewIx, OldIx, Part, View, Way};
 
-// How many old parts before part `i` are like it.
-pub(crate) fn number_of(old: &View<OldIx>, i: usize) -> usize
-    requires { i < length old.now.parts }
-    ensures { result ≡ the_number_of old.now i }
+/// How many parts before part `i` are like it: of its sort, and of its name where that sort has names.
+pub fn number_of<Ix: Index>(view: &View<Ix>, i: usize) -> usize
+    requires { i < length view.now.parts }
+    ensures number { result ≡ the_number_of view.now i }
+    ensures few { result < length view.now.parts }
 {
-    old.parts.like_before(i)
+    view.parts.like_before(i)
 }
 
-// The position of the new part that matches the old part `i`.
+/// The position of the new part that matches the old part `i`: the k-th of a sort and name matches the k-th of them.
 #[tactic(auto, unfolding(crate::specs::Matching::match_of))]
-pub(crate) fn match_of(old: &View<OldIx>, new: &View<NewIx>, i: usize) -> Option<usize>
+pub fn match_of(old: &View<OldIx>, new: &View<NewIx>, i: usize) -> Option<usize>
     requires { i < length old.now.parts }
     ensures place { result ≡ the_match_of old.now new.now i }
     ensures inside { IfSome result (λ j. j < length new.now.parts) }

@@ -105,8 +105,8 @@ fn same_place(old: Place, new: Place) -> bool
     old == new
 }
 
-// How many parameters a type has.
-fn params_of<Ix: Index>(view: &View<Ix>) -> usize
+/// How many parameters a type has.
+pub fn params_of<Ix: Index>(view: &View<Ix>) -> usize
     ensures { result ≡ the_params_of view.now }
 {
     let mut count = 0;
@@ -154,36 +154,36 @@ fn in_bytes(size: u64, value: u64) -> u64
     }
 }
 
-// The bit at which a member stands.
-fn bit_at(new: &View<NewIx>, j: usize) -> u64
-    requires { j < length new.now.parts }
-    ensures { result ≡ the_bit_at new.now j }
+/// The bit at which the member at a position stands, counted from the first bit of its type; 0 of what is no member.
+pub fn bit_at<Ix: Index>(view: &View<Ix>, j: usize) -> u64
+    requires { j < length view.now.parts }
+    ensures { result ≡ the_bit_at view.now j }
 {
-    match new.part(j) {
+    match view.part(j) {
         Part::Member { bit, .. } => *bit,
         _ => 0,
     }
 }
 
-// The width of a member where it is a bit field, else 0.
-fn width_at(new: &View<NewIx>, j: usize) -> u64
-    requires { j < length new.now.parts }
-    ensures { result ≡ the_width_at new.now j }
+/// The width in bits of the member at a position where it is a bit field, else 0.
+pub fn width_at<Ix: Index>(view: &View<Ix>, j: usize) -> u64
+    requires { j < length view.now.parts }
+    ensures { result ≡ the_width_at view.now j }
 {
-    match new.part(j) {
+    match view.part(j) {
         Part::Member { width, .. } => *width,
         _ => 0,
     }
 }
 
-// The value of an enumerator, in the bytes of its enumeration.
-fn value_at(new: &View<NewIx>, j: usize) -> u64
-    requires { j < length new.now.parts }
-    ensures { result ≡ the_value_at new.now j }
+/// The value of the enumerator at a position, in the bytes of its enumeration; 0 of what is no enumerator.
+pub fn value_at<Ix: Index>(view: &View<Ix>, j: usize) -> u64
+    requires { j < length view.now.parts }
+    ensures { result ≡ the_value_at view.now j }
 {
-    match new.part(j) {
-        Part::Enumerator { value, .. } => in_bytes(new.size, *value),
-        _ => in_bytes(new.size, 0),
+    match view.part(j) {
+        Part::Enumerator { value, .. } => in_bytes(view.size, *value),
+        _ => in_bytes(view.size, 0),
     }
 }
 

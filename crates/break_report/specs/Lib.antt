@@ -1,0 +1,6 @@
+pub mod Details
+pub mod Listening
+pub mod Places
+pub mod Render
+pub mod Steps
+pub mod Words

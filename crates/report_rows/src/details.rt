@@ -1,0 +1,311 @@
+// A row for each rule: what it says of the old side and of the new one.
+ghost use Rattle.std.specs.Prelude.{◌≡◌, false};
+ghost use Rattle.pair_rules.specs.TypeRules.{speaks_of_parts};
+
+use abi_base::{List, NoMemory};
+use abi_types::{
+    CallShape, Export, Group, Index, Kind, NewIx, OldIx, Part, Parts, Place, RuleName, Slot,
+    SymbolKind, View,
+};
+use break_report::{Row, export_row, soname_row, type_row};
+use pair_rules::Broken;
+use std::alloc::Global;
+use std::process::Abort;
+use std::test::Fail;
+
+// A type of four bytes, with these parts.
+fn made<'a, Ix: Index>(
+    alloc: Global,
+    kind: Kind,
+    tag: &'a [u8],
+    parts: Vec<Part<'a, Ix>>,
+) -> Result<View<'a, Ix>, NoMemory> {
+    Ok(View {
+        kind,
+        declared_only: false,
+        tag,
+        size: 4,
+        group: Group::Signed,
+        align: 0,
+        count: 2,
+        variadic: false,
+        parts: Parts::of(alloc, parts)?,
+        call: CallShape {
+            outcome: Place::Nothing,
+            params: List::new(alloc),
+        },
+    })
+}
+
+// A scalar of four bytes.
+fn scalar<'a, Ix: Index>(alloc: Global, tag: &'a [u8]) -> Result<View<'a, Ix>, NoMemory> {
+    made(alloc, Kind::Scalar, tag, Vec::new(alloc))
+}
+
+// The row of a rule that two types break as a whole.
+fn whole(
+    alloc: Global,
+    rule: RuleName,
+    old: &View<OldIx>,
+    new: &View<NewIx>,
+) -> Result<Row, NoMemory>
+    requires { speaks_of_parts rule ≡ false }
+{
+    let broken = Broken { rule, part: 0 };
+    type_row(
+        alloc,
+        &broken,
+        String::new(alloc),
+        String::new(alloc),
+        (0, old),
+        (0, new),
+    )
+}
+
+// The row of a rule that two types break at a part of the old one.
+fn at_part(
+    rt: &impl Abort,
+    alloc: Global,
+    rule: RuleName,
+    part: usize,
+    old: &View<OldIx>,
+    new: &View<NewIx>,
+) -> Result<Row, NoMemory> {
+    assert!(rt; part < old.parts_len());
+    let broken = Broken { rule, part };
+    type_row(
+        alloc,
+        &broken,
+        String::new(alloc),
+        String::new(alloc),
+        (0, old),
+        (0, new),
+    )
+}
+
+// What a row says is this.
+fn says(rt: &impl Abort, row: &Row, wanted: &str) {
+    assert_eq!(rt; row.detail.as_slice(), wanted.as_bytes());
+}
+
+#[test]
+fn whole_types(rt: HostRuntime) -> Result<(), Fail> {
+    let alloc = rt.alloc();
+    let old = scalar(alloc, b"")?;
+    let mut new = scalar(alloc, b"a b")?;
+    new.kind = Kind::Structure;
+    new.size = 8;
+    new.group = Group::Unsigned;
+    new.align = 16;
+    new.count = 3;
+    new.variadic = true;
+    says(
+        &rt,
+        &whole(alloc, RuleName::L1, &old, &new)?,
+        "kind scalar, now struct",
+    );
+    says(
+        &rt,
+        &whole(alloc, RuleName::L2, &old, &new)?,
+        "size 4, now 8",
+    );
+    says(
+        &rt,
+        &whole(alloc, RuleName::L3, &old, &new)?,
+        "scalar signed, now unsigned",
+    );
+    says(
+        &rt,
+        &whole(alloc, RuleName::L4, &old, &new)?,
+        "alignment 0, now 16",
+    );
+    says(
+        &rt,
+        &whole(alloc, RuleName::L5, &old, &new)?,
+        "tag none, now a\\x20b",
+    );
+    says(
+        &rt,
+        &whole(alloc, RuleName::L11, &old, &new)?,
+        "count 2, now 3",
+    );
+    says(
+        &rt,
+        &whole(alloc, RuleName::L12, &old, &new)?,
+        "parameters 0, now 0",
+    );
+    says(
+        &rt,
+        &whole(alloc, RuleName::L13, &old, &new)?,
+        "variadic no, now yes",
+    );
+    Ok(())
+}
+
+// A member of type 0.
+fn member<'a, Ix: Index>(name: &'a [u8], bit: u64, width: u64) -> Part<'a, Ix> {
+    Part::Member {
+        name,
+        bit,
+        width,
+        to: Ix::of(0),
+    }
+}
+
+// A structure with a member `v`, and another of this name at a bit and of a width.
+fn pair_of<'a, Ix: Index>(
+    alloc: Global,
+    name: &'a [u8],
+    bit: u64,
+    width: u64,
+) -> Result<View<'a, Ix>, NoMemory> {
+    let mut parts = Vec::new(alloc);
+    parts.push(member(name, 0, 0))?;
+    parts.push(member(name, bit, width))?;
+    made(alloc, Kind::Structure, name, parts)
+}
+
+#[test]
+fn members(rt: HostRuntime) -> Result<(), Fail> {
+    let alloc = rt.alloc();
+    let old = pair_of(alloc, b"v", 32, 0)?;
+    let new = pair_of(alloc, b"v", 40, 3)?;
+    says(
+        &rt,
+        &at_part(&rt, alloc, RuleName::L6, 0, &old, &new)?,
+        "member v gone",
+    );
+    says(
+        &rt,
+        &at_part(&rt, alloc, RuleName::L6, 1, &old, &new)?,
+        "member v#2 gone",
+    );
+    says(
+        &rt,
+        &at_part(&rt, alloc, RuleName::L7, 1, &old, &new)?,
+        "member v#2 at bit 32, now 40",
+    );
+    says(
+        &rt,
+        &at_part(&rt, alloc, RuleName::L8, 1, &old, &new)?,
+        "member v#2 width 0, now 3",
+    );
+    Ok(())
+}
+
+// An enumeration of one enumerator, `A` of this value, in so many bytes.
+fn enumeration<'a, Ix: Index>(
+    alloc: Global,
+    name: &'a [u8],
+    size: u64,
+    value: u64,
+) -> Result<View<'a, Ix>, NoMemory> {
+    let mut parts = Vec::new(alloc);
+    parts.push(Part::Enumerator { name, value })?;
+    let mut view = made(alloc, Kind::Enumeration, name, parts)?;
+    view.size = size;
+    Ok(view)
+}
+
+#[test]
+fn enumerators(rt: HostRuntime) -> Result<(), Fail> {
+    let alloc = rt.alloc();
+    let old = enumeration(alloc, b"A", 1, u64::MAX)?;
+    let new = enumeration(alloc, b"A", 1, 258)?;
+    says(
+        &rt,
+        &at_part(&rt, alloc, RuleName::L9, 0, &old, &new)?,
+        "enumerator A gone",
+    );
+    says(
+        &rt,
+        &at_part(&rt, alloc, RuleName::L10, 0, &old, &new)?,
+        "enumerator A 255, now 2",
+    );
+    Ok(())
+}
+
+// The general register of a number.
+fn register(number: u8) -> Place {
+    let mut eightbytes = [Slot::Unused; 8];
+    eightbytes[0] = Slot::General(number);
+    Place::Registers { eightbytes }
+}
+
+// A function of one parameter, with these places.
+fn function<'a, Ix: Index>(
+    alloc: Global,
+    tag: &'a [u8],
+    outcome: Place,
+    param: Place,
+) -> Result<View<'a, Ix>, NoMemory> {
+    let mut parts = Vec::new(alloc);
+    parts.push(Part::Outcome { to: Ix::of(0) })?;
+    parts.push(Part::Param { to: Ix::of(0) })?;
+    let mut view = made(alloc, Kind::Function, tag, parts)?;
+    view.call.outcome = outcome;
+    view.call.params.push(param)?;
+    Ok(view)
+}
+
+#[test]
+fn places(rt: HostRuntime) -> Result<(), Fail> {
+    let alloc = rt.alloc();
+    let old = function(alloc, b"", register(6), register(0))?;
+    let stack = Place::Stack {
+        offset: 0,
+        size: 24,
+    };
+    let new = function(alloc, b"", Place::Hidden, stack)?;
+    says(
+        &rt,
+        &at_part(&rt, alloc, RuleName::L14, 0, &old, &new)?,
+        "result in rax, now memory",
+    );
+    says(
+        &rt,
+        &at_part(&rt, alloc, RuleName::L14, 1, &old, &new)?,
+        "param 1 in rdi, now stack+0:24",
+    );
+    Ok(())
+}
+
+// An export of a version.
+fn export<'a>(name: &'a [u8], version: &'a [u8], kind: SymbolKind, size: u64) -> Export<'a> {
+    Export {
+        symbol: 1,
+        name,
+        version: Some(version),
+        index: 2,
+        hidden: true,
+        kind,
+        absolute: false,
+        value: 0,
+        size,
+        declared: name,
+        entry: 0,
+    }
+}
+
+#[test]
+fn exports(rt: HostRuntime) -> Result<(), Fail> {
+    let alloc = rt.alloc();
+    let old = export(b"f", b"V1", SymbolKind::Func, 4);
+    let new = export(b"f", b"V1", SymbolKind::Tls, 8);
+    let rows = [
+        (RuleName::X2, "gone"),
+        (RuleName::X3, "version gone"),
+        (RuleName::X4, "kind FUNC, now TLS"),
+        (RuleName::X5, "object size 4, now 8"),
+        (RuleName::X6, "type gone"),
+    ];
+    for (rule, wanted) in &rows {
+        let row = export_row(alloc, *rule, &old, &new)?;
+        assert_eq!(rt; row.export.as_slice(), b"f@V1".as_slice());
+        says(&rt, &row, wanted);
+    }
+    let row = soname_row(alloc, Some(b"libx.so.1"), None)?;
+    assert_eq!(rt; row.export.as_slice(), b"-".as_slice());
+    says(&rt, &row, "SONAME libx.so.1, now none");
+    Ok(())
+}

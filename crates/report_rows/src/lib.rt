@@ -1,0 +1,7 @@
+//! What rows say of each rule, and listeners that are written outside the crate of reports. All of it is tests.
+#![tactic(auto)]
+
+#[cfg(test)]
+mod details;
+#[cfg(test)]
+mod listeners;
