@@ -5,7 +5,8 @@
 # `abi entries`, which reads the same entries one by one and keeps none, readelf --debug-dump=info, and llvm-dwarfdump where it is
 # there. Prints seconds of processor time, the least of nine runs, ratios, and peak memory. Of the first library, compiled with
 # its exports, it prints also the bytes of memory for each entry that are resident while the tree is there, without those of the
-# file: the program is looked at while nobody takes what it prints.
+# file: the program is looked at while nobody takes what it prints. Then it measures two files that are made to ask for much: one
+# of 8,300 entries of one byte, each with 8,300 attributes that take no bytes, and one of 4,200,000 entries of one byte.
 #
 # usage: bench/tree.sh [ABI [TYPED_EXPORTS]]   (default: the programs that `rt run` built in their crates' out)
 set -eu
@@ -43,6 +44,18 @@ measured() {
     if command -v llvm-dwarfdump >/dev/null; then beside "$ours" llvm-dwarfdump --debug-info "$2"; fi
 }
 
+# alone NAME LIBRARY: a line of typed_exports and one of `abi entries`, with the peak memory as a multiple of the file.
+alone() {
+    local entries ours memory size
+    entries=$("$abi" entries "$2" | wc -l)
+    ours=$(least 3 "$typed" "$2")
+    memory=$(peak_memory "$typed" "$2")
+    size=$(stat -c %s "$2")
+    echo "$1: $entries entries, $size bytes of file, load $(cut -d ' ' -f 1 /proc/loadavg)"
+    echo "  typed_exports $ours s, peak $memory MB, $(ratio "$(awk -v m="$memory" 'BEGIN { print 1048576 * m }')" "$size") times the file"
+    beside "$ours" "$abi" entries "$2"
+}
+
 # beside OURS COMMAND..: the seconds and the peak memory of another command, and the ratio to it.
 beside() {
     local ours=$1 theirs
@@ -56,6 +69,28 @@ built() {
     local name=$1
     shift
     [ -e "$name" ] || "$@" -shared -fPIC -w -g -O1 -o "$name"
+}
+
+# assembled NAME ATTRIBUTES ENTRIES: a library of one unit, whose root has so many entries below it, each of one byte, with so many
+# attributes that take no bytes. DW_FORM_flag_present is 0x19.
+assembled() {
+    [ -e "$1" ] || gcc -shared -nostdlib -x assembler -o "$1" - <<END
+.section .debug_abbrev, "", @progbits
+.byte 1, 0x11, 1, 0x13, 0x0b, 0, 0
+.byte 2, 0x0d, 0
+.rept $2
+.byte 0x3c, 0x19
+.endr
+.byte 0, 0, 0
+.section .debug_info, "", @progbits
+.long 11 + $3
+.short 5
+.byte 1, 8
+.long 0
+.byte 1, 0x0c
+.fill $3, 1, 2
+.byte 0
+END
 }
 
 awk -v first=1 -v last=6500 -f "$source" >groups.c
@@ -76,3 +111,7 @@ if command -v clang >/dev/null; then
 fi
 entries=$("$abi" entries gcc_exports.so | wc -l)
 echo "gcc, DWARF 5, one unit, with exports: $entries entries, $(resident "$entries" gcc_exports.so) bytes an entry resident beside the file"
+assembled flags.so 8300 8300
+assembled leaves.so 0 4200000
+alone "entries with 8,300 flags each" flags.so
+alone "entries of one byte" leaves.so
