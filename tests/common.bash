@@ -1,6 +1,8 @@
-# What the scripts beside this one share: how they skip, fail and count, which program they take, and what an answer must
-# be by sha256sum and readelf. A script sets `title` and the `tools` that it needs, and then takes this file in. One that runs
-# another program than `abi` sets its `crate`, the path that it is `given`, and the `usage_status` of a run without words.
+# What the scripts beside this one share: which tools they need, which program they run, how they fail and count, and what an
+# answer must be by sha256sum and readelf. A script sets `title` and the `tools` that it needs, and then takes this file in. One
+# that runs another program than `abi` sets its `crate`, the path that it is `given`, and the `usage_status` of a run without words.
+#
+# A missing tool is a failure. Where SKIP_MISSING_TOOLS is set, what needs it is left out, and the last line names the tool.
 export LC_ALL=C
 crate=${crate:-abi_cli}
 given=${given-${ABI:-}}
@@ -8,41 +10,60 @@ usage_status=${usage_status:-64}
 
 root=$(cd "$(dirname "$0")/.." && pwd)
 sources=$root/tests/c
-
-skip() {
-    echo "$title: skipped, since $1"
-    exit 0
-}
+left_out=
 
 fail() {
     echo "$title: FAILED: $1" >&2
     exit 1
 }
 
+# told LINE: the last line of a script, which the gate lists once more at its end.
+told() {
+    echo "$title: $1"
+    [ -z "${TEST_SUMMARY:-}" ] || echo "$title: $1" >>"$TEST_SUMMARY"
+}
+
+# there TOOL: whether the tool is there. Where it is missing, that is a failure, unless it may be left out.
+there() {
+    command -v "$1" >/dev/null && return
+    [ -n "${SKIP_MISSING_TOOLS:-}" ] || fail "there is no $1 (with SKIP_MISSING_TOOLS=1 what needs it is left out)"
+    case " $left_out " in
+    *" $1 "*) ;;
+    *) left_out="$left_out $1" ;;
+    esac
+    return 1
+}
+
 for tool in $tools; do
-    command -v "$tool" >/dev/null || skip "there is no $tool"
+    there "$tool" || { told "nothing ran, since there is no $tool"; exit 0; }
 done
 
-# The program, which only rt builds, and only where it is proved. A run without words ends with the status of wrong words.
+# The program, which only rt builds, and only where it is proved: a run without words ends with the status of wrong words. One
+# that is given must not be older than the sources beside this script.
 if [ -n "$given" ]; then
     program=$(cd "$(dirname "$given")" && pwd)/$(basename "$given")
+    [ -x "$program" ] || fail "there is no program at $program"
+    newer=$(find "$root/crates" "$root/crates.txt" -name out -prune -o \( -name '*.rt' -o -name '*.antt' -o -name crates.txt \) \
+        -newer "$program" -print -quit)
+    [ -z "$newer" ] || fail "the program at $program is older than $newer"
 else
+    there rt || { told "nothing ran, since there is no rt"; exit 0; }
     program=$root/crates/$crate/out/$crate
-    if [ ! -x "$program" ]; then
-        command -v rt >/dev/null || skip "the program is not built, and there is no rt to build it with"
-        echo "building the program"
-        built=0
-        (cd "$root/crates/$crate" && rt run) || built=$?
-        [ "$built" -eq "$usage_status" ] || fail "rt run ended with status $built, not $usage_status"
-    fi
+    built=0
+    (cd "$root/crates/$crate" && rt run) >/dev/null 2>&1 || built=$?
+    [ "$built" -eq "$usage_status" ] || fail "rt run ended with status $built, not $usage_status"
 fi
-[ -x "$program" ] || fail "there is no program at $program"
 
 work=$(mktemp -d)
 trap 'rm -rf "$work"' EXIT
 cd "$work"
 
 checks=0
+
+# finished: the last line: how many checks agreed, with which tools, and what was left out.
+finished() {
+    told "$checks checks agree; tools:$(printf ' %s' $tools ${ran:-}); left out:${left_out:- nothing}"
+}
 
 # passed NAME: counts a check.
 passed() {

@@ -1,9 +1,8 @@
 #!/usr/bin/env bash
 # Builds libraries with gcc and clang, with debug information of DWARF 5 and of DWARF 4, with type units and with partial
-# units, and holds the entries that the proved program prints against those that readelf prints, line by line. It skips
-# where a tool is missing; clang and dwz may be missing alone.
+# units, and holds the entries that the proved program prints against those that readelf prints, line by line.
 #
-#   tests/debug_entries.sh                 takes the program of this repository, and builds it where it is missing
+#   tests/debug_entries.sh                 builds the program of this repository
 #   ABI=/path/of/abi tests/debug_entries.sh    takes another one
 set -eu
 title="debug entries"
@@ -58,7 +57,7 @@ done
 awk -v first=1 -v last=400 -f "$sources/entries.awk" >many.c
 
 compilers=gcc
-if command -v clang >/dev/null; then compilers="gcc clang"; fi
+if there clang; then compilers="gcc clang"; ran="clang"; fi
 for compiler in $compilers; do
     for options in "-gdwarf-5" "-gdwarf-4" "-fdebug-types-section -gdwarf-5"; do
         for level in -O0 -O2; do
@@ -77,13 +76,26 @@ for compiler in $compilers; do
     listed "$compiler, no debug information" stripped.so 0
 done
 
-if command -v dwz >/dev/null; then
+if there dwz; then
+    ran="${ran:-} dwz"
     for version in 4 5; do
         gcc -shared -fPIC -w -g -gdwarf-$version -O2 -o twice.so part_1.c part_2.c part_3.c part_1.c -Wl,--allow-multiple-definition
-        dwz -o partial.so twice.so 2>dwz_errors || { echo "dwz does nothing: $(head -n 1 dwz_errors)"; continue; }
+        dwz -o partial.so twice.so 2>dwz_errors || fail "dwz does nothing: $(head -n 1 dwz_errors)"
         readelf --debug-dump=info partial.so | grep -q DW_TAG_partial_unit || fail "dwz makes no partial unit"
         listed "partial units of version $version" partial.so 2000
     done
+fi
+
+# A library of the system, joined with the debug information that its package ships apart.
+if there eu-unstrip && there objcopy; then
+    library=/lib/x86_64-linux-gnu/libc.so.6
+    if "$root/tools/join-debug" "$library" joined.so 2>join_errors; then
+        ran="${ran:-} eu-unstrip objcopy"
+        listed "$library with its debug information" joined.so 100000
+    else
+        [ -n "${SKIP_MISSING_TOOLS:-}" ] || fail "$(cat join_errors) (with SKIP_MISSING_TOOLS=1 this is left out)"
+        left_out="$left_out libc6-dbg"
+    fi
 fi
 
 # What has a fault is refused, whatever it is.
@@ -93,4 +105,4 @@ expect "an empty file has a fault" 2 entries empty.so
 printf 'read fault library\n' >want
 expect "a missing library cannot be read" 3 entries missing.so
 
-echo "$title: $checks checks agree"
+finished

@@ -1,8 +1,8 @@
 #!/usr/bin/env bash
 # Builds pairs of small libraries with gcc, with versions and without, and holds what the proved program says of them
-# against what sha256sum and readelf say. It skips where a tool is missing.
+# against what sha256sum and readelf say.
 #
-#   tests/real_libraries.sh                 takes the program of this repository, and builds it where it is missing
+#   tests/real_libraries.sh                 builds the program of this repository
 #   ABI=/path/of/abi tests/real_libraries.sh    takes another one
 set -eu
 title="real libraries"
@@ -205,4 +205,4 @@ else
     echo "left out, since there is no /dev/full: a text that cannot be written"
 fi
 
-echo "real libraries: $checks checks passed"
+finished

@@ -1,9 +1,8 @@
 #!/usr/bin/env bash
 # Builds libraries with gcc and clang, and holds the entry of debug information that the proved readers find for each exported
-# function and variable, and its name, against what readelf lists. It skips where a tool is missing; clang may be missing
-# alone.
+# function and variable, and its name, against what readelf lists.
 #
-#   tests/typed_exports.sh                 takes the program of this repository, and builds it where it is missing
+#   tests/typed_exports.sh                 builds the program of this repository
 #   TYPED_EXPORTS=/path/of/typed_exports tests/typed_exports.sh    takes another one
 set -eu
 title="typed exports"
@@ -174,7 +173,7 @@ listed() {
 units="$sources/shapes_1.c $sources/shapes_2.c $sources/shapes_3.c"
 versions="-DVERSIONS -Wl,--version-script=$sources/shapes.map"
 compilers=gcc
-if command -v clang >/dev/null; then compilers="gcc clang"; fi
+if there clang; then compilers="gcc clang"; ran="clang"; fi
 for compiler in $compilers; do
     for version in 4 5; do
         # gcc puts type units of version 4 into .debug_types, which is not read.
@@ -202,7 +201,9 @@ for version in 4 5; do
     gcc -shared -fPIC -w -g -gdwarf-$version -O2 -flto -o lto.so $units
     listed "gcc -gdwarf-$version -O2 -flto" lto.so 20
 done
-if command -v clang >/dev/null && clang -shared -fPIC -w -g -O2 -flto -fuse-ld=lld -o lto.so $units 2>/dev/null; then
+if there clang && there ld.lld; then
+    clang -shared -fPIC -w -g -O2 -flto -fuse-ld=lld -o lto.so $units
+    ran="$ran ld.lld"
     listed "clang -O2 -flto" lto.so 20
 fi
 
@@ -221,4 +222,4 @@ printf 'unreadable 1 0\n' >want
 : >empty.so
 expect "an empty file has a fault" 1 empty.so
 
-echo "$title: $checks checks agree"
+finished

@@ -2,7 +2,7 @@
 use Rattle.std.proofs.Common.{◌≡◌, ◌≢◌, ◌⊎◌, ◌≤◌, ◌<◌, ℕ, Bool, true, false, List, [], ◌∷◌, length, Option, Some, None, refl, sym, ◌∙◌, ap, subst, inl, inr, IfSome}
 use Rattle.std.proofs.Math.Dec.{ltb}
 use Rattle.std.proofs.lemmas.Bool.{lt-ltb, le-ltb}
-use Rattle.abi_base.specs.declared.TheConstants.{INPUT_LIMIT}
+use Rattle.abi_base.specs.Limits.{input_limit}
 use Rattle.abi_base.specs.declared.fault.Fault.{Fault}
 use Rattle.abi_base.specs.declared.fault.FaultKind.TheVariants.{TooLong}
 use Rattle.abi_top.specs.declared.judge.Verdict.{Verdict}
@@ -24,10 +24,10 @@ use Rattle.abi_top.specs.Report.{breaks_of, report_of}
 use Rattle.abi_top.specs.Text.{usage_text, unreadable_text}
 
 abbrev too_long : Fault
-too_long = record { kind = TooLong; at = INPUT_LIMIT }
+too_long = record { kind = TooLong; at = input_limit }
 
 abbrev is_long : List ℕ → Bool
-is_long bytes = ltb INPUT_LIMIT (length bytes)
+is_long bytes = ltb input_limit (length bytes)
 
 -- the first of two lengths and of two faults
 abbrev first_of : Bool → Bool → Option Fault → Option Fault → Option (Input × Fault)
@@ -89,8 +89,8 @@ module _ (call : Call) where
   told_bytes : (name bytes given : List ℕ) → call.told name ≡ Some bytes → IfSome (call.told name) (λ t. given ≡ t) → given ≡ bytes
   told_bytes name bytes given told gives = subst (λ o. IfSome o (λ t. given ≡ t)) told gives
 
-  is_short : (bytes : List ℕ) → length bytes ≤ INPUT_LIMIT → is_long bytes ≡ false
-  is_short bytes short = le-ltb INPUT_LIMIT (length bytes) short
+  is_short : (bytes : List ℕ) → length bytes ≤ input_limit → is_long bytes ≡ false
+  is_short bytes short = le-ltb input_limit (length bytes) short
 
   module _ (name library : List ℕ) (is : asked_by call.words ≡ Some (entries name)) (told : call.told name ≡ Some library) where
     abbrev asked_one : Asked
@@ -111,7 +111,7 @@ module _ (call : Call) where
     faulty_one : (which : Input) (fault : Fault) → IsFaulty call which fault asked_one → one_stop library ≡ Some (which, fault)
     faulty_one which fault (inl (same, (given, inl here, _, long))) =
         let is_told : call.told given ≡ Some library = ap call.told (sym here.1) ∙ told in
-        let over : is_long library ≡ true = lt-ltb INPUT_LIMIT (length library) (subst (λ o. IfSome o (λ t. INPUT_LIMIT < length t)) is_told long) in
+        let over : is_long library ≡ true = lt-ltb input_limit (length library) (subst (λ o. IfSome o (λ t. input_limit < length t)) is_told long) in
         let which_is = here.0 in
         ap (λ l. stop_of l (listing_fault library)) over ∙ cc
     faulty_one which fault (inl (same, (given, inr past, _, long))) = absurd past.1
@@ -164,13 +164,13 @@ module _ (call : Call) where
     faulty : (which : Input) (fault : Fault) → IsFaulty call which fault asked → first_stop old new ≡ Some (which, fault)
     faulty which fault (inl (same, (name, inl here, _, long))) =
         let told : call.told name ≡ Some old = ap call.told (sym here.1) ∙ old_told in
-        let over : is_long old ≡ true = lt-ltb INPUT_LIMIT (length old) (subst (λ o. IfSome o (λ t. INPUT_LIMIT < length t)) told long) in
+        let over : is_long old ≡ true = lt-ltb input_limit (length old) (subst (λ o. IfSome o (λ t. input_limit < length t)) told long) in
         let which_is = here.0 in
         ap (λ long. first_of long (is_long new) (library_fault old) (library_fault new)) over ∙ cc
     faulty which fault (inl (same, (name, inr (within, inl here), _, long))) =
         let told : call.told name ≡ Some new = ap call.told (sym here.1) ∙ new_told in
-        let over : is_long new ≡ true = lt-ltb INPUT_LIMIT (length new) (subst (λ o. IfSome o (λ t. INPUT_LIMIT < length t)) told long) in
-        let short : is_long old ≡ false = is_short old (subst (λ o. IfSome o (λ t. length t ≤ INPUT_LIMIT)) old_told within) in
+        let over : is_long new ≡ true = lt-ltb input_limit (length new) (subst (λ o. IfSome o (λ t. input_limit < length t)) told long) in
+        let short : is_long old ≡ false = is_short old (subst (λ o. IfSome o (λ t. length t ≤ input_limit)) old_told within) in
         let which_is = here.0 in
         ap (λ long. first_of long (is_long new) (library_fault old) (library_fault new)) short
         ∙ ap (λ long. first_of false long (library_fault old) (library_fault new)) over ∙ cc

@@ -2,7 +2,7 @@
 use Rattle.std.specs.Prelude.{◌≡◌, ◌⊎◌, ◌<◌, ℕ, List, [], ◌∷◌, length, map, Option, Some, None, IfSome}
 use Rattle.std.specs.Borrow.{Bor}
 use Rattle.abi_base.specs.Causes.{Rose}
-use Rattle.abi_base.specs.declared.TheConstants.{INPUT_LIMIT}
+use Rattle.abi_base.specs.Limits.{input_limit}
 use Rattle.abi_base.specs.declared.fault.Fault.{Fault}
 use Rattle.abi_base.specs.declared.fault.FaultKind.TheVariants.{TooLong}
 use Rattle.abi_top.specs.declared.judge.Verdict.{Verdict}
@@ -52,7 +52,7 @@ FailsToRead call which asked = (name : List ℕ) × Reaches call.told (wanted_by
 -- an input gave more bytes than the limit, and is told to have more where it is told, and no input before it is
 abbrev pub IsTooLong : Call → Input → Asked → Type 0
 IsTooLong call which asked =
-    (name : List ℕ) × Reaches call.told (wanted_by asked) which name × (INPUT_LIMIT < call.given) × IfSome (call.told name) (λ t. INPUT_LIMIT < length t)
+    (name : List ℕ) × Reaches call.told (wanted_by asked) which name × (input_limit < call.given) × IfSome (call.told name) (λ t. input_limit < length t)
 
 -- the inputs gave bytes of which P holds
 abbrev pub OnBytes : Call → (List (List ℕ) → Type 0) → Asked → Type 0
@@ -65,7 +65,7 @@ IsJudged call v text = Asks call (λ asked. OnBytes call (λ all. AreReadable (i
 -- an input has this fault, by its length or by its bytes, and none before it has one; a length goes before all bytes
 abbrev pub IsFaulty : Call → Input → Fault → Asked → Type 0
 IsFaulty call which fault asked =
-    ((fault ≡ record { kind = TooLong; at = INPUT_LIMIT }) × IsTooLong call which asked)
+    ((fault ≡ record { kind = TooLong; at = input_limit }) × IsTooLong call which asked)
     ⊎ OnBytes call (λ all. FirstFault (inputs_of asked) all which fault) asked
 
 -- The text with which a status comes. `NoMemory` and `WriteFault` have none.

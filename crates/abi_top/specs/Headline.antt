@@ -1,7 +1,7 @@
 -- The words of the clauses of `run`: libraries that the words name and the inputs give, and a verdict on them.
 use Rattle.std.specs.Prelude.{◌≡◌, ◌⊎◌, ◌≤◌, ℕ, List, length, Some, None, IfSome}
 use Rattle.abi_base.specs.Causes.{Rose}
-use Rattle.abi_base.specs.declared.TheConstants.{INPUT_LIMIT}
+use Rattle.abi_base.specs.Limits.{input_limit}
 use Rattle.abi_top.specs.declared.status.Input.{Input}
 use Rattle.abi_top.specs.declared.status.Input.TheVariants.{Old, New, Library}
 use Rattle.abi_top.specs.declared.status.Status.{Status}
@@ -15,7 +15,7 @@ use Rattle.abi_top.specs.Faults.{fault_of}
 -- those that are asked of this input
 pub record IsReadable (call : Call) (which : Input) (name bytes : List ℕ) : Type 0 where
   pub given : IfSome (call.told name) (λ told. bytes ≡ told)
-  pub short : length bytes ≤ INPUT_LIMIT
+  pub short : length bytes ≤ input_limit
   pub faultless : fault_of which bytes ≡ None
 
 -- the words are `check` and two names, and P holds of the readable libraries of these names
@@ -31,7 +31,7 @@ OnLibrary call P = (name bytes : List ℕ) × (asked_by call.words ≡ Some (ent
 -- an input tells these bytes, they are readable, and reading under its name did not fail in the call
 pub record IsServed (call : Call) (which : Input) (name bytes : List ℕ) : Type 0 where
   pub told : call.told name ≡ Some bytes
-  pub short : length bytes ≤ INPUT_LIMIT
+  pub short : length bytes ≤ input_limit
   pub faultless : fault_of which bytes ≡ None
   pub unfailed : Rose (call.before name) (call.after name) → ⊥
 

@@ -3,7 +3,7 @@ use Rattle.std.specs.Prelude.{◌≡◌, ◌⊎◌, ◌<◌, ◌≤◌, ℕ, Lis
 use Rattle.std.specs.Borrow.{Bor}
 use Rattle.std.specs.declared.alloc.Global.{Global}
 use Rattle.abi_base.specs.Causes.{Rose}
-use Rattle.abi_base.specs.declared.TheConstants.{INPUT_LIMIT}
+use Rattle.abi_base.specs.Limits.{input_limit}
 use Rattle.abi_top.specs.declared.status.Input.{Input}
 use Rattle.abi_top.specs.declared.reading.Unread.{Unread}
 use Rattle.abi_top.specs.declared.reading.Unread.TheVariants.{NoMemory, Failed, TooLong}
@@ -21,12 +21,12 @@ abbrev pub Gives : (List ℕ → Option (List ℕ)) → List (Input × List ℕ)
 Gives told [] [] = Unit {0}
 Gives told [] (bytes ∷ all) = ⊥
 Gives told (input ∷ wanted) [] = ⊥
-Gives told (input ∷ wanted) (bytes ∷ all) = IfSome (told input.1) (λ t. bytes ≡ t) × (length bytes ≤ INPUT_LIMIT) × Gives told wanted all
+Gives told (input ∷ wanted) (bytes ∷ all) = IfSome (told input.1) (λ t. bytes ≡ t) × (length bytes ≤ input_limit) × Gives told wanted all
 
 -- An input is reached: none before it is told to be longer than the limit.
 abbrev pub Reaches : (List ℕ → Option (List ℕ)) → List (Input × List ℕ) → Input → List ℕ → Type 0
 Reaches told [] which name = ⊥
-Reaches told (input ∷ wanted) which name = ((input.0 ≡ which) × (input.1 ≡ name)) ⊎ (IfSome (told input.1) (λ t. length t ≤ INPUT_LIMIT) × Reaches told wanted which name)
+Reaches told (input ∷ wanted) which name = ((input.0 ≡ which) × (input.1 ≡ name)) ⊎ (IfSome (told input.1) (λ t. length t ≤ input_limit) × Reaches told wanted which name)
 
 -- Reading stops at an input whose count of faults rose, or which gave more bytes than the limit: `given` counts the bytes
 -- that the input read last has given.
@@ -34,4 +34,4 @@ abbrev pub StopsReading : (List ℕ → Option (List ℕ)) → (List ℕ → ℕ
 StopsReading told before after given wanted NoMemory = Unit {0}
 StopsReading told before after given wanted (Failed which) = (name : List ℕ) × Reaches told wanted which name × Rose (before name) (after name)
 StopsReading told before after given wanted (TooLong which) =
-    (name : List ℕ) × Reaches told wanted which name × (INPUT_LIMIT < given) × IfSome (told name) (λ t. INPUT_LIMIT < length t)
+    (name : List ℕ) × Reaches told wanted which name × (input_limit < given) × IfSome (told name) (λ t. input_limit < length t)

@@ -2,6 +2,7 @@
 ghost use Rattle.std.specs.Prelude.{◌≡◌, ◌≤◌, [], ◌∷◌, ◌++◌, None, codes, length, OnOk, OnErr, IfOk, IfErr, string_bytes};
 ghost use Rattle.std.specs.Bool.{Decides};
 ghost use Rattle.std.specs.Option.{option_copied};
+ghost use Rattle.abi_base.specs.Limits.{input_limit};
 ghost use Rattle.abi_types.specs.Plain.{plain_exports};
 ghost use Rattle.elf_syms.specs.Dynamic.{soname_of};
 ghost use Rattle.abi_top.specs.Check.{CheckJudges};
@@ -14,13 +15,13 @@ use crate::certificate::certificate;
 use crate::judge::{Judgement, Stop, Verdict};
 use crate::library::{Library, read_library};
 use crate::report::break_rows;
-use abi_base::{INPUT_LIMIT, Refusal};
+use abi_base::Refusal;
 use std::alloc::{AllocError, Global};
 use vers_bind::bind_all;
 
 // One of the two libraries.
 fn read_input<'a>(alloc: Global, which: Input, bytes: &'a [u8]) -> Result<Library<'a>, Stop>
-    requires { length bytes.now ≤ INPUT_LIMIT }
+    requires { length bytes.now ≤ input_limit }
     ensures readable { OnOk result (library_fault bytes.now ≡ None) }
     ensures stops { IfErr result (IsStopFor which (library_fault bytes.now)) }
     ensures soname { IfOk result (λ library. option_copied library.soname ≡ soname_of bytes.now) }
@@ -50,8 +51,8 @@ fn report(alloc: Global, rows: &str) -> Result<String, AllocError>
 /// The judgement of `check` on the bytes of an old and of a new library: yes with the certificate where the sonames agree
 /// and every old export binds to one that agrees with it, else no with every break. The old library's fault goes before the new one's.
 pub fn check(alloc: Global, old: &[u8], new: &[u8]) -> Result<Judgement, Stop>
-    requires old_short { length old.now ≤ INPUT_LIMIT }
-    requires new_short { length new.now ≤ INPUT_LIMIT }
+    requires old_short { length old.now ≤ input_limit }
+    requires new_short { length new.now ≤ input_limit }
     ensures readable { OnOk result (AreReadable (Input.Old ∷ Input.New ∷ []) (old.now ∷ new.now ∷ [])) }
     ensures judged { IfOk result (λ j. CheckJudges old.now new.now j.verdict (string_bytes j.text)) }
     ensures stops { IfErr result (StopsAt (Input.Old ∷ Input.New ∷ []) (old.now ∷ new.now ∷ [])) }

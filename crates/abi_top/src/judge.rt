@@ -1,5 +1,6 @@
 // What each command says of the bytes of its inputs.
 ghost use Rattle.std.specs.Prelude.{◌≡◌, ◌≤◌, ℕ, List, length, map, All, OnOk, IfOk, IfErr, string_bytes};
+ghost use Rattle.abi_base.specs.Limits.{input_limit};
 ghost use Rattle.abi_top.specs.Answer.{Judges, inputs_of};
 ghost use Rattle.abi_top.specs.Asked.{wanted_by};
 ghost use Rattle.abi_top.specs.Faults.{AreReadable, StopsAt};
@@ -12,7 +13,7 @@ use crate::check::check;
 use crate::listing::list_entries;
 use crate::words::Request;
 use crate::{Input, Status};
-use abi_base::{Fault, INPUT_LIMIT, NoMemory};
+use abi_base::{Fault, NoMemory};
 use std::alloc::{AllocError, Global};
 
 /// What a command says where all its inputs are readable.
@@ -70,7 +71,7 @@ impl From<NoMemory> for Stop {
 /// The judgement of a request on the bytes of its inputs.
 pub fn judge(alloc: Global, request: &Request, all: &[Vec<u8>]) -> Result<Judgement, Stop>
     requires each { length all.now ≡ length (wanted_by (plain_request request.now)) }
-    requires short { All (λ (bytes : List ℕ). length bytes ≤ INPUT_LIMIT) (map items_of all.now) }
+    requires short { All (λ (bytes : List ℕ). length bytes ≤ input_limit) (map items_of all.now) }
     ensures readable { OnOk result (AreReadable (inputs_of (plain_request request.now)) (map items_of all.now)) }
     ensures judged { IfOk result (λ j. Judges (plain_request request.now) (map items_of all.now) j.verdict (string_bytes j.text)) }
     ensures stops { IfErr result (StopsAt (inputs_of (plain_request request.now)) (map items_of all.now)) }

@@ -2,6 +2,7 @@
 ghost use Rattle.std.specs.Prelude.{◌≡◌, ◌≤◌, [], ◌∷◌, length, map, IfOk};
 ghost use Rattle.std.specs.List.{range_with_len};
 ghost use Rattle.std.specs.Option.{option_copied};
+ghost use Rattle.abi_base.specs.Limits.{input_limit};
 ghost use Rattle.abi_base.specs.Outcome.{Judges, first};
 ghost use Rattle.abi_types.specs.Plain.{plain_exports};
 ghost use Rattle.elf_syms.specs.Dynamic.{dynamic_fault, soname_of};
@@ -11,7 +12,7 @@ ghost use Rattle.elf_vers.specs.Versions.{version_fault};
 ghost use Rattle.vers_bind.specs.Exports.{export_fault};
 ghost use Rattle.abi_top.specs.Library.{exports_of, library_fault, not_built_fault, symbol_versions};
 
-use abi_base::{Fault, FaultKind, INPUT_LIMIT, Refusal};
+use abi_base::{Fault, FaultKind, Refusal};
 use abi_types::Export;
 use elf_file::{ElfFile, read_elf};
 use elf_syms::{Symbol, soname, symbols};
@@ -63,7 +64,7 @@ fn exports_among<'a>(
 /// its dynamic table, of its versions and of its exports, or `NotBuilt` where it has debug information.
 #[tactic(auto, unfolding(crate::specs::Library::library_fault))]
 pub fn read_library<'a>(alloc: Global, bytes: &'a [u8]) -> Result<Library<'a>, Refusal>
-    requires { length bytes.now ≤ INPUT_LIMIT }
+    requires { length bytes.now ≤ input_limit }
     ensures judged { Judges result (library_fault bytes.now) }
     ensures soname { IfOk result (λ library. option_copied library.soname ≡ soname_of bytes.now) }
     ensures exports { IfOk result (λ library. plain_exports library.exports.items ≡ exports_of bytes.now) }

@@ -1,5 +1,6 @@
 // Prints the debugging information entries of a library.
 ghost use Rattle.std.specs.Prelude.{◌≡◌, ◌≤◌, [], ◌∷◌, ◌++◌, None, flat_map, length, OnOk, IfOk, IfErr, string_bytes};
+ghost use Rattle.abi_base.specs.Limits.{input_limit};
 ghost use Rattle.abi_base.specs.Outcome.{Judges};
 ghost use Rattle.dw_units.specs.Plain.{plain_unit};
 ghost use Rattle.dw_units.specs.Sequence.{all_entries, entries_fault};
@@ -9,7 +10,7 @@ ghost use Rattle.abi_top.specs.Listing.{ListingJudges, entry_line, line_of, list
 
 use crate::Input;
 use crate::judge::{Judgement, Stop, Verdict};
-use abi_base::{INPUT_LIMIT, Refusal};
+use abi_base::Refusal;
 use dw_forms::Sections;
 use dw_units::{Entry, Unit, entries, units};
 use elf_debug::debug_sections;
@@ -62,7 +63,7 @@ fn lines_of(alloc: Global, sections: &Sections<'_>) -> Result<String, Refusal>
 // The lines of a library, or its first fault.
 #[tactic(auto, unfolding(crate::specs::Listing::listing_fault, crate::specs::Listing::listing_of))]
 fn listing(alloc: Global, library: &[u8]) -> Result<String, Refusal>
-    requires { length library.now ≤ INPUT_LIMIT }
+    requires { length library.now ≤ input_limit }
     ensures judged { Judges result (listing_fault library.now) }
     ensures lines { IfOk result (λ text. string_bytes text ≡ listing_of library.now) }
 {
@@ -74,7 +75,7 @@ fn listing(alloc: Global, library: &[u8]) -> Result<String, Refusal>
 /// The judgement of `entries` on the bytes of a library: a line for each debugging information entry, in order of offset.
 /// Only the faults of the header, the sections, the units and the entries are asked.
 pub fn list_entries(alloc: Global, library: &[u8]) -> Result<Judgement, Stop>
-    requires { length library.now ≤ INPUT_LIMIT }
+    requires { length library.now ≤ input_limit }
     ensures readable { OnOk result (AreReadable (Input.Library ∷ []) (library.now ∷ [])) }
     ensures judged { IfOk result (λ j. ListingJudges library.now j.verdict (string_bytes j.text)) }
     ensures stops { IfErr result (StopsAt (Input.Library ∷ []) (library.now ∷ [])) }

@@ -1,5 +1,6 @@
 // Reads the inputs of a request whole, in order.
 ghost use Rattle.std.specs.Prelude.{◌≡◌, ◌≤◌, List, ℕ, length, map, All, IfOk, IfErr};
+ghost use Rattle.abi_base.specs.Limits.{input_limit};
 ghost use Rattle.abi_base.specs.Causes.{NeverFall};
 ghost use Rattle.abi_top.specs.Reading.{Gives, StopsReading, named, items_of};
 ghost use Rattle.abi_top.specs.declared.reading.Unread.TheVariants.{NoMemory as OutOfMemory};
@@ -33,7 +34,7 @@ pub fn read_all<I: Inputs>(
     ensures told { (name : List ℕ) → I.told inputs.new name ≡ I.told inputs.old name }
     ensures later { NeverFall (I.faults inputs.old) (I.faults inputs.new) }
     ensures given { IfOk result (λ all. Gives (I.told inputs.old) (map named wanted.now) (map items_of all.items)) }
-    ensures short { IfOk result (λ all. All (λ (bytes : List ℕ). length bytes ≤ INPUT_LIMIT) (map items_of all.items)) }
+    ensures short { IfOk result (λ all. All (λ (bytes : List ℕ). length bytes ≤ input_limit) (map items_of all.items)) }
     ensures unread { IfErr result (StopsReading (I.told inputs.old) (I.faults inputs.old) (I.faults inputs.new) (I.given inputs.new) (map named wanted.now)) }
 {
     let mut all = Vec::new(alloc);

@@ -1,0 +1,74 @@
+#!/usr/bin/env bash
+# Runs each command under limits of memory (ulimit -v), from the least under which the program starts upwards: each time it must
+# give the right answer, or end with status 4 and write nothing, and nothing else. From some limit on the answer is the right one.
+#
+#   tests/memory_limits.sh                 builds the program of this repository
+#   ABI=/path/of/abi tests/memory_limits.sh    takes another one
+set -eu
+title="memory limits"
+tools="gcc awk"
+. "$(dirname "$0")/common.bash"
+
+# limited KILOBYTES WORD..: the program, given the words, under a limit of memory; its status is that of this.
+limited() {
+    local limit=$1
+    shift
+    (
+        ulimit -v "$limit"
+        exec "$program" "$@"
+    ) >got 2>errors
+}
+
+# The least limit, in steps of 64 kilobytes, under which the program starts: without words it then says how it is used.
+least=64
+until limited "$least"; [ $? -eq 64 ]; do
+    least=$((least + 64))
+    [ "$least" -le 262144 ] || fail "the program does not start in 256 megabytes"
+done
+
+# under_limits NAME STATUS STEP WORD..: the command under limits from the least on, in steps of so many kilobytes, until it gave
+# the right answer, which the file `want` holds, ten times in a row.
+under_limits() {
+    local name=$1 status=$2 step=$3 limit=$least right=0 refused=0 ended
+    shift 3
+    while [ "$right" -lt 10 ]; do
+        ended=0
+        limited "$limit" "$@" || ended=$?
+        if [ "$ended" -eq "$status" ] && cmp -s want got; then
+            right=$((right + 1))
+        elif [ "$ended" -eq 4 ] && [ ! -s got ]; then
+            right=0
+            refused=$((refused + 1))
+        else
+            fail "$name: status $ended under $limit kilobytes: $(head -c 100 got) $(head -n 1 errors)"
+        fi
+        limit=$((limit + step))
+        [ "$limit" -le 4194304 ] || fail "$name: no answer in 4 gigabytes"
+    done
+    [ "$refused" -gt 0 ] || fail "$name: no limit was too narrow"
+    passed "$name: out of memory under $refused limits, the answer from there on"
+}
+
+gcc -shared -nostdlib -fPIC -o old.so "$sources/old.c"
+gcc -shared -nostdlib -fPIC -o less.so "$sources/less.c"
+for i in $(seq 5000); do echo "int exported_$i(void) { return $i; }"; done >many.c
+gcc -shared -nostdlib -fPIC -w -o many.so many.c
+awk -v first=1 -v last=200 -f "$sources/entries.awk" >entries.c
+gcc -shared -fPIC -w -g -O1 -o entries.so entries.c
+
+# answered NAME STATUS STEP WORD..: what the program answers without a limit must come under limits too.
+answered() {
+    local name=$1 status=$2 step=$3 ended=0
+    shift 3
+    "$program" "$@" >want || ended=$?
+    [ "$ended" -eq "$status" ] || fail "$name: status $ended, not $status, without a limit"
+    under_limits "$name" "$status" "$step" "$@"
+}
+
+answered "a yes" 0 16 check old.so old.so
+answered "a no" 1 16 check old.so less.so
+answered "5,000 exports" 0 128 check many.so many.so
+answered "entries" 0 128 entries entries.so
+answered "an unreadable library" 2 16 check old.so "$sources/old.c"
+
+finished
