@@ -2,8 +2,8 @@
 use Rattle.std.proofs.Common.{◌≡◌, ◌<◌, ◌≤◌, ◌+◌, ℕ, suc, List, [], ◌∷◌, ◌++◌, length, get_or, take, Option, Some, None, refl, ap, arith}
 use Rattle.std.proofs.lemmas.List.{take_more, take_all}
 use Rattle.std.specs.Prelude.{max, true, false}
-use Rattle.abi_types.specs.Types.{PlainPart, Member, Enumerator, Target, Element, Outcome, Param, PlainView, PlainNode}
-use Rattle.abi_types.specs.Graphs.{IsGraph, view_at, part_at, no_part, to_of, inner_of}
+use Rattle.abi_types.specs.Types.{PlainPart, PlainView, PlainNode}
+use Rattle.abi_types.specs.Graphs.{IsGraph, view_at, part_at, no_part, inner_of}
 use Rattle.abi_types.specs.ByValue.{AsksInside}
 use Rattle.abi_types.specs.Forms.{is_aggregate}
 use Rattle.psabi.specs.Alignment.{natural_align, greatest, named_or, inner_align, own_align, align_step, align_of}

@@ -1,26 +1,22 @@
 -- The leaves of a node are its step.
-use Rattle.std.proofs.Common.{◌≡◌, ◌<◌, ◌≤◌, ◌+◌, ◌*◌, ◌∙◌, ℕ, zero, suc, List, [], ◌∷◌, ◌++◌, length, get_or, Option, Some, None, ◌≢◌, refl, ap, subst, append-nil, arith}
+use Rattle.std.proofs.Common.{◌≡◌, ◌<◌, ◌≤◌, ◌+◌, ◌*◌, ℕ, List, [], ◌∷◌, length, get_or, Option, Some, None, ◌≢◌, refl, ap, subst, arith}
 use Rattle.std.specs.Prelude.{Bool, true, false, ◌||◌, ◌==◌, nat_lt}
-use Rattle.std.specs.List.{flat_map, range_with_len, list_any}
-use Rattle.std.proofs.lemmas.List.Concat.{flat_map-append}
+use Rattle.std.specs.List.{list_any}
 use Rattle.abi_types.specs.declared.kind.Kind.TheVariants as kind
 use Rattle.abi_types.specs.Types.{PlainPart, Member, Enumerator, Target, Element, Outcome, Param, PlainView, PlainNode}
 use Rattle.abi_types.specs.declared.kind.Kind.{Kind}
 use Rattle.abi_types.specs.Forms.{HasForm, is_one_element, is_aggregate, is_leaf, is_array}
 use Rattle.abi_types.proofs.LeafLemmas.{to_from_inner, leaves_of-step, leaves_of_all-more, is_zero}
 use Rattle.abi_types.specs.Graphs.{IsGraph, view_at, part_at, no_part, inner_of}
-use Rattle.abi_types.specs.declared.leaf.Leaf.{Leaf}
 use Rattle.psabi.specs.declared.eightbytes.Eightbytes.{Eightbytes}
 use Rattle.psabi.specs.Merging.{MergesLeaves}
 use Rattle.psabi.proofs.Merges.{MergesLeaves-none, MergesLeaves-append}
-use Rattle.abi_types.specs.ByValue.{AsksInside}
 use Rattle.std.proofs.lemmas.List.Folds.{list_any_at}
 use Rattle.std.proofs.lemmas.Bool.{ltb-false}
 use Rattle.psabi.proofs.PastLemmas.{ends_past-step, element-room}
 use Rattle.abi_types.specs.Inside.{Inside, member_inside, element_inside, inside_at, count_inside}
-use Rattle.abi_types.specs.Leaves.{leaf_of, leaves_inside, leaves_of_all, leaves_step, no_leaves, leaves_of}
+use Rattle.abi_types.specs.Leaves.{leaf_of, leaves_of_all, leaves_of}
 use Rattle.psabi.specs.Past.{extent, ends_past, part_past}
-use Rattle.abi_types.proofs.Recursion.{by_value-step}
 
 same_Some_Inside : (x y : Inside) → Some x ≡ Some y → x ≡ y
 same_Some_Inside x y e = cc

@@ -1,24 +1,20 @@
 -- Calls do not change with the places of calls that nodes hold.
-use Rattle.std.proofs.Common.{◌≡◌, ◌<◌, ◌≤◌, ◌+◌, ◌∙◌, ℕ, zero, suc, List, [], ◌∷◌, length, get_or, map, Option, Some, None, refl, ap, sym, arith, inl, inr}
-use Rattle.std.specs.Prelude.{Bool, true, false, ◌&&◌, ◌||◌, cond}
+use Rattle.std.proofs.Common.{◌≡◌, ◌<◌, ◌≤◌, ◌∙◌, ℕ, List, [], ◌∷◌, length, map, Option, Some, None, refl, ap, arith, inl, inr}
+use Rattle.std.specs.Prelude.{Bool, true, false}
 use Rattle.std.specs.List.{flat_map, fold, list_any, range_with_len}
 use Rattle.std.proofs.lemmas.Bool.{cases_lt}
 use Rattle.std.proofs.lemmas.List.{get_or_past}
 use Rattle.std.proofs.lemmas.List.FromFn.{get_or-map-range_with_len}
-use Rattle.abi_types.specs.declared.kind.Kind.{Kind}
-use Rattle.abi_types.specs.declared.kind.Group.{Group}
 use Rattle.abi_types.specs.declared.leaf.Leaf.{Leaf}
-use Rattle.abi_types.specs.declared.place.Place.{Place}
 use Rattle.abi_types.specs.declared.place.Place.TheVariants as place
 use Rattle.abi_types.specs.declared.place.CallShape.{CallShape}
-use Rattle.abi_types.specs.Types.{PlainPart, Member, Enumerator, Target, Element, Outcome, Param, PlainView, PlainNode}
+use Rattle.abi_types.specs.Types.{PlainPart, Member, Enumerator, Target, Element, Outcome, Param, PlainNode}
 use Rattle.abi_types.specs.Calls.{IsSameButCall}
-use Rattle.abi_types.specs.Forms.{is_array, is_function, no_call}
+use Rattle.abi_types.specs.Forms.{is_function, no_call}
 use Rattle.abi_types.specs.Graphs.{IsGraph, node_at, view_at, part_at, void_node, call_at, shaped_node, shaped, to_of, inner_of, params_of}
-use Rattle.abi_types.specs.Inside.{Inside, element_inside, member_inside, inside_at, count_inside}
+use Rattle.abi_types.specs.Inside.{element_inside, inside_at, count_inside}
 use Rattle.abi_types.specs.Leaves.{leaves_inside, leaves_step, no_leaves, leaves_of}
 use Rattle.abi_types.proofs.Recursion.{by_value-same}
-use Rattle.psabi.specs.declared.class.Class.{Class}
 use Rattle.psabi.specs.declared.class.Class.TheVariants.{NoClass}
 use Rattle.psabi.specs.declared.taken.Taken.{Taken}
 use Rattle.psabi.specs.Alignment.{align_step, align_of, named_or}

@@ -1,6 +1,6 @@
 -- Where arguments are, one after another (psABI, section 3.2.3 "Parameter Passing", "Passing"). That an argument without bytes
 -- or classes has no place, and that offsets and sizes on the stack are rounded up as here, is this project's own.
-use Rattle.std.specs.Prelude.{ℕ, ◌+◌, ◌-◌, ◌*◌, ◌/◌, ◌^◌, ◌||◌, nat_lt, Bool, true, false, if◌then◌else◌, List, [], ◌∷◌, map, take}
+use Rattle.std.specs.Prelude.{ℕ, ◌+◌, ◌-◌, ◌*◌, ◌/◌, ◌||◌, nat_lt, Bool, true, false, if◌then◌else◌, List, [], ◌∷◌, map, take}
 use Rattle.std.specs.List.{fold, list_any, range_with_len}
 use Rattle.abi_types.specs.declared.place.Slot.{Slot}
 use Rattle.abi_types.specs.declared.place.Slot.TheVariants as slot

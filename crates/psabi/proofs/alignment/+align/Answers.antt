@@ -1,5 +1,5 @@
 -- The parts hold nodes of lower rank.
-use Rattle.std.proofs.Common.{◌≡◌, sym, ◌∙◌, Some, None, arith, rules}
+use Rattle.std.proofs.Common.{◌≡◌, sym, Some, None, arith, rules}
 use Rattle.std.specs.Prelude.{max, true, false, []}
 use Rattle.abi_types.specs.Graphs.{view_at, part_at, inner_of}
 use Rattle.psabi.specs.Alignment.{natural_align, inner_align, align_of}

@@ -1,5 +1,5 @@
 -- What is kept is right, and what is found anew is.
-use Rattle.std.proofs.Common.{◌≡◌, ◌<◌, ◌∙◌, None, length, ap, sym, arith}
+use Rattle.std.proofs.Common.{◌<◌, ◌∙◌, None, length, ap, sym, arith}
 use Rattle.std.proofs.lemmas.List.{get_or_read}
 use Rattle.psabi.specs.Passing.{passing_of, IsRight}
 use Rattle.psabi.proofs.PassingLemmas.{IsRight-set}
