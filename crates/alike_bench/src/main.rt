@@ -7,9 +7,10 @@ ghost use Rattle.std.specs.Prelude.{◌<◌};
 
 use abi_base::{List, NoMemory};
 use abi_types::{
-    CallShape, Graph, Group, Index, Kind, Node, OldIx, Part, Parts, Place, View, is_graph,
+    CallShape, Graph, Group, Index, Kind, Node, OldIx, Part, Parts, Place, View,
 };
 use graph_alike::alike;
+use hand_graphs::is_graph;
 use std::alloc::{AllocError, Global};
 use std::fmt::Write;
 use std::{env, io};
@@ -225,7 +226,7 @@ fn measured(
     rounds: u32,
 ) -> Result<(usize, usize), NoMemory> {
     let nodes = nodes::<OldIx>(alloc, pattern, names, count)?;
-    if !is_graph(nodes.as_slice()) {
+    if !is_graph(alloc, nodes.as_slice())? {
         return Ok((0, 0));
     }
     let graph = Graph::of_nodes(alloc, nodes)?;
