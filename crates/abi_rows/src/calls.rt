@@ -39,9 +39,6 @@ fn sections_are_found(rt: HostRuntime) -> Result<(), Fail> {
     assert_eq!(rt; file.section(b".comment"), Some(b"first".as_slice()));
     assert_eq!(rt; file.section(b".dynstr"), Some(b"\0f\0data\0".as_slice()));
     assert_eq!(rt; file.section(b".comm"), None);
-    assert_eq!(rt; file.section_with_prefix(b".dyn"), Some(1));
-    assert_eq!(rt; file.section_with_prefix(b".dynamic."), Some(5));
-    assert_eq!(rt; file.section_with_prefix(b".text"), None);
     assert_eq!(rt; file.section_name(0), Some(b"".as_slice()));
     assert_eq!(rt; file.section_name(6), Some(b".comment".as_slice()));
     assert_eq!(rt; file.section_name(8), None);

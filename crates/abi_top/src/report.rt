@@ -5,7 +5,6 @@ ghost use Rattle.std.specs.Option.{option_copied};
 ghost use Rattle.abi_types.specs.Plain.{plain_export, plain_exports};
 ghost use Rattle.abi_types.specs.Shown.{label};
 ghost use Rattle.vers_bind.specs.Binding.{bind_each};
-ghost use Rattle.vers_bind.specs.Exports.{same_name};
 ghost use Rattle.abi_top.specs.Held.{is_name_of};
 ghost use Rattle.abi_top.specs.Report.{break_if, breaks_between, breaks_for, kind_differs, row, rows_of, size_differs, type_gone, shown_soname, soname_breaks, soname_differs};
 ghost use Rattle.abi_top.specs.Text.{newline};
@@ -17,6 +16,7 @@ use pair_rules::export_breaks;
 use std::alloc::{AllocError, Global};
 use std::collections::HashSet;
 use std::fmt::Write;
+use vers_bind::same_name;
 
 // The printed form of a soname.
 fn soname_text(alloc: Global, soname: Option<&[u8]>) -> Result<String, AllocError>
@@ -39,22 +39,11 @@ fn soname_row(alloc: Global, old: Option<&[u8]>, new: Option<&[u8]>) -> Result<S
     format!(in alloc; "X1 -: SONAME {old}, now {new}\n")
 }
 
-// Whether two sonames are equal, or there is none on either side.
-fn same_soname(old: Option<&[u8]>, new: Option<&[u8]>) -> bool
-    ensures { result ≡ same_name (option_copied old.entry) (option_copied new.entry) }
-{
-    match (old, new) {
-        (None, None) => true,
-        (Some(old), Some(new)) => old == new,
-        _ => false,
-    }
-}
-
 // The line of the sonames, where they differ.
 fn soname_rows(alloc: Global, old: Option<&[u8]>, new: Option<&[u8]>) -> Result<String, AllocError>
     ensures { IfOk result (λ lines. string_bytes lines ≡ rows_of (soname_breaks (option_copied old.entry) (option_copied new.entry))) }
 {
-    if same_soname(old, new) {
+    if same_name(old, new) {
         Ok(String::new(alloc))
     } else {
         soname_row(alloc, old, new)

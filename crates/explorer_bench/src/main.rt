@@ -8,9 +8,9 @@ ghost use Rattle.std.specs.Prelude.{◌≡◌, ◌<◌};
 use abi_base::{List, NoMemory};
 use abi_types::{
     CallShape, Graph, Group, Index, Kind, Marks, NewIx, Node, OldIx, Part, Parts, Place, View,
-    is_graph,
 };
 use graph_alike::plain;
+use hand_graphs::is_graph;
 use pair_explorer::{Root, explore, is_scope};
 use pair_rules::Steps;
 use std::alloc::Global;
@@ -127,7 +127,7 @@ fn ring<'a, Ix: Index>(alloc: Global, count: u32) -> Result<List<Node<'a, Ix>>, 
 
 fn graph<'a, Ix: Index>(alloc: Global, count: u32) -> Result<Option<Graph<'a, Ix>>, NoMemory> {
     let nodes = ring(alloc, count)?;
-    if !is_graph(nodes.as_slice()) {
+    if !is_graph(alloc, nodes.as_slice())? {
         return Ok(None);
     }
     let graph = Graph::of_nodes(alloc, nodes)?;
