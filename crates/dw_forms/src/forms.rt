@@ -107,6 +107,8 @@ fn indirect(implicit: i64, source: &Source, at: usize) -> Result<(Value, usize),
 /// The fault is `Form` where the form is unknown, or stands behind `DW_FORM_indirect` and is that form again or
 /// `DW_FORM_implicit_const`, `Supplementary` where the form leads to another file, `Cut` where the value does not end in
 /// the unit or has a number of more than 64 bits; each is at the entry.
+// Its result is large: in line it is not copied, which a third of the time of a reader of all entries goes to.
+#[inline(always)]
 pub fn value(
     form: u64,
     implicit: i64,
