@@ -1,0 +1,13 @@
+pub mod ByValue
+pub mod Facts
+pub mod Faults
+pub mod Flat
+pub mod Numbers
+pub mod Placement
+pub mod Reached
+pub mod ReachedList
+pub mod References
+pub mod Shapes
+pub mod Sizes
+pub mod Values
+pub mod Views

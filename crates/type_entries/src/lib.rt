@@ -1,0 +1,18 @@
+//! Debugging information entries as types: which are reached from functions and variables, and what is made of a type from
+//! the types that it holds by value. Contracts speak of entries by their positions in the plain tree, and of no graph.
+#![tactic(auto)]
+
+mod asking;
+pub mod constants;
+mod facts;
+mod found;
+mod references;
+mod role;
+mod values;
+mod walking;
+
+pub use facts::{Facts, Span};
+pub use found::Found;
+pub use references::{body_of, members_among, parts_of, steps_of, type_of, types_of};
+pub use role::{Role, is_signed, role_of};
+pub use walking::walk;
