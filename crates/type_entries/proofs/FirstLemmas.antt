@@ -1,5 +1,5 @@
 -- The first fault of a row over the reached entries.
-use Rattle.std.proofs.Common.{◌≡◌, ◌<◌, ◌≤◌, ◌+◌, ℕ, zero, suc, Bool, true, List, length, map, Option, Some, None, refl, ◌∙◌, ap, arith, inl, inr}
+use Rattle.std.proofs.Common.{◌≡◌, ◌<◌, ◌≤◌, ◌+◌, ℕ, zero, suc, Bool, true, List, length, map, Option, Some, None, refl, sym, ◌∙◌, ap, arith, inl, inr}
 use Rattle.std.specs.Prelude.{Contains, filter}
 use Rattle.std.specs.List.{range_with_len}
 use Rattle.std.proofs.lemmas.Bool.{cases_lt}
@@ -9,10 +9,11 @@ use Rattle.abi_base.specs.Outcome.{first}
 use Rattle.abi_base.proofs.StepLemmas.{bool_cases}
 use Rattle.dw_tree.specs.Trees.{PlainTree}
 use Rattle.abi_base.specs.Limits.{depth_limit}
-use Rattle.type_entries.specs.Reached.{IsReached}
+use Rattle.type_entries.specs.Reached.{IsReached, IsWalk}
 use Rattle.type_entries.specs.ReachedList.{is_reached, reached_of}
 use Rattle.type_entries.specs.ByValue.{IsTooDeep}
-use Rattle.type_entries.specs.Faults.{steps_on, deep_fault, at_entry}
+use Rattle.type_entries.specs.Facts.{IsFirstTooDeep}
+use Rattle.type_entries.specs.Faults.{steps_on, deep_fault, depth_fault, at_entry}
 use Rattle.type_entries.proofs.ReachedLemmas.{is_reached-is}
 use Rattle.type_entries.proofs.OrderLemmas.{steps_on-is}
 
@@ -56,3 +57,16 @@ first-deep-is t roots e inside below reached deep before =
 pub none-deep-is : (t : PlainTree) (roots : List ℕ) → ((r : ℕ) → Contains roots r → r < length t.entries) → ((f : ℕ) → IsReached t roots f → IsTooDeep t (Some f) → ⊥) → first (map (deep_fault t) (reached_of t roots)) ≡ None
 unfolding reached_of
 none-deep-is t roots inside none = none-filtered (is_reached t roots) (deep_fault t) 0 (length t.entries) (λ i kept. deep_fault-none t i (none i ((is_reached-is t roots inside i).0 kept)))
+
+-- ---- by what a walk found
+
+pub depth-some : (t : PlainTree) (roots found : List ℕ) (e at : ℕ) → ((r : ℕ) → Contains roots r → r < length t.entries) → IsWalk t roots found → e < length t.entries → IsFirstTooDeep t found e → at ≡ at_entry t e
+    → depth_fault t roots ≡ Some (record { kind = fault.TooDeep; at = at })
+unfolding depth_fault
+depth-some t roots found e at inside walk below first is =
+    first-deep-is t roots e inside below ((walk.exact e).0 first.there) first.deep (λ f reached lt. first.first f ((walk.exact f).1 reached) lt)
+    ∙ ap (λ a. Some (record { kind = fault.TooDeep; at = a })) (sym is)
+
+pub depth-none : (t : PlainTree) (roots found : List ℕ) → ((r : ℕ) → Contains roots r → r < length t.entries) → IsWalk t roots found → ((e : ℕ) → Contains found e → IsTooDeep t (Some e) → ⊥) → depth_fault t roots ≡ None
+unfolding depth_fault
+depth-none t roots found inside walk none = none-deep-is t roots inside (λ f reached. none f ((walk.exact f).1 reached))

@@ -1,8 +1,14 @@
 mod ByValueLemmas
 mod ChildLemmas
 mod FirstLemmas
+mod FactLemmas
 mod GrowLemmas
+mod LearnLemmas
+mod LoopLemmas
+mod NearLemmas
 mod OrderLemmas
+mod RankLemmas
 mod ReachedLemmas
 mod ReferLemmas
 mod WalkLemmas
+mod ZipLemmas

@@ -1,6 +1,6 @@
 -- What is made of a type from the same of the types that it holds by value: its depth, size, weight, core, explicit alignment,
 -- and what the limits of types ask. Numbers that may grow beyond 64 bits stop at 2^64 - 1, which is above every limit.
-use Rattle.std.specs.Prelude.{length, Contains, ◌<◌, ◌≤◌, ◌≡◌, ◌+◌, ◌-◌, ◌*◌, ◌%◌, ◌^◌, ◌==◌, ◌&&◌, ◌||◌, ℕ, ℤ, Bool, true, false, if◌then◌else◌, min, max, List, [], ◌∷◌, map, zip, drop, fold, slice_index_or, slice_get, Option, Some, None, IfSome, pos, neg_ℤ, ◌+ℤ◌, ◌≤ℤ◌}
+use Rattle.std.specs.Prelude.{length, Contains, ◌<◌, ◌≤◌, ◌≡◌, ◌+◌, ◌-◌, ◌*◌, ◌%◌, ◌^◌, ◌==◌, ◌&&◌, ◌||◌, ℕ, ℤ, Bool, true, false, if◌then◌else◌, min, max, List, [], ◌∷◌, map, zip, drop, slice_index_or, slice_get, Option, Some, None, IfSome, ◌+ℤ◌}
 use Rattle.std.specs.List.{list_any}
 use Rattle.std.specs.Int.{int_min, int_max}
 use Rattle.abi_base.specs.Dwarf.{dw_tag_subrange_type, dw_at_byte_size, dw_at_upper_bound, dw_at_count, dw_at_alignment}
@@ -14,7 +14,7 @@ use Rattle.type_entries.specs.declared.role.Role.{Role}
 use Rattle.type_entries.specs.declared.role.Role.TheVariants as role
 use Rattle.type_entries.specs.Values.{natural_of, wrapped_of, number_at}
 use Rattle.type_entries.specs.References.{Type_, tagged_children, role_of, members_of}
-use Rattle.type_entries.specs.Placement.{bit_of, is_beyond, is_nameless}
+use Rattle.type_entries.specs.Placement.{bit_of, is_beyond, is_nameless, IsNear}
 use Rattle.type_entries.specs.ByValue.{by_value, IsTooDeep}
 
 -- a number that stops at the end of 64 bits
@@ -135,8 +135,10 @@ is_replaced d member = is_nameless d member.0 && member.1.aggregate
 unfoldable pub own_align : PlainTree → ℕ → ℕ
 own_align t e = number_at t e dw_at_alignment
 
-abbrev pub most : List ℕ → ℕ
-most = fold max 0
+-- the greatest of these
+unfoldable pub most : List ℕ → ℕ
+most [] = 0
+most (n ∷ ns) = max n (most ns)
 
 -- a member's own, and that of its type where it is replaced
 unfoldable pub member_align : PlainDwarf → ℕ × Facts → ℕ
@@ -219,14 +221,6 @@ unfoldable pub facts_of : PlainDwarf → Type_ → Facts
 facts_of d r = by_value d.tree (facts_from d) nothing r
 
 -- ---- facts that are known
-
--- a bit is near 0: no further than so many limits of one member
-abbrev pub member_reach : ℕ
-member_reach = 2 ^ 69
-
-pub record IsNear (n : ℕ) (bit : ℤ) : Type 0 where
-  pub below : neg_ℤ (pos (n * member_reach)) ≤ℤ bit
-  pub above_ : bit ≤ℤ pos (n * member_reach)
 
 -- what is held by value moves bits by no more than its depth allows
 pub record IsSpanNear (x : Facts) : Type 0 where

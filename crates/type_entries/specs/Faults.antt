@@ -30,6 +30,10 @@ deep_fault t e = fault_if (steps_on t (depth_limit + 1) (Some e)) fault.TooDeep 
 unfoldable pub large_fault : PlainDwarf → ℕ → Option Fault
 large_fault d e = fault_if (is_too_large d e) fault.TooLarge (at_entry d.tree e)
 
+-- the first entry from which too many steps lead on
+unfoldable pub depth_fault : PlainTree → List ℕ → Option Fault
+depth_fault t roots = first (map (deep_fault t) (reached_of t roots))
+
 abbrev pub reached_faults : PlainDwarf → List ℕ → List (Option Fault)
 reached_faults d reached = map (shape_fault d) reached ++ (map (deep_fault d.tree) reached ++ map (large_fault d) reached)
 

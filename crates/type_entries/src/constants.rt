@@ -16,3 +16,12 @@ pub const DW_OP_plus_uconst: u8 = 0x23;
 
 /// The most steps by value that may lead on from an entry.
 pub const DEPTH_LIMIT: u32 = 512;
+
+/// The bit at which no member may begin, nor one after it.
+pub const BIT_LIMIT: i128 = 0x8000_0000_0000_0000;
+
+/// Room that is counted for the alignment of a parameter.
+pub const ALIGN_ROOM: u64 = 0x2_0000_0000;
+
+/// The size of an address of x86-64, in bytes.
+pub const POINTER_SIZE: u64 = 8;

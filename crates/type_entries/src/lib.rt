@@ -2,17 +2,23 @@
 //! the types that it holds by value. Contracts speak of entries by their positions in the plain tree, and of no graph.
 #![tactic(auto)]
 
+mod arrays;
 mod asking;
 pub mod constants;
 mod facts;
 mod found;
+mod held;
+mod learning;
+mod placement;
 mod references;
 mod role;
 mod values;
 mod walking;
 
-pub use facts::{Facts, Span};
+pub use facts::{Facts, Span, VOID};
 pub use found::Found;
+pub use learning::{in_order, learn_all};
+pub use placement::{bit_of, is_beyond, is_nameless, width_of};
 pub use references::{body_of, members_among, parts_of, steps_of, type_of, types_of};
 pub use role::{Role, is_signed, role_of};
 pub use walking::walk;

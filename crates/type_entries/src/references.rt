@@ -62,7 +62,9 @@ pub fn parts_of(alloc: Global, dwarf: &Dwarf, e: usize) -> Result<Vec<usize>, No
 pub fn members_among<'p>(dwarf: &Dwarf, e: usize, parts: &'p [usize]) -> &'p [usize]
     requires inside { e < length dwarf.now.tree.entries }
     requires parts { parts.now ≡ the_parts_of dwarf.now.tree e }
-    ensures { result.now ≡ the_members_of dwarf.now.tree e }
+    requires parts_inside { All (λ c. c < length dwarf.now.tree.entries) parts.now }
+    ensures members { result.now ≡ the_members_of dwarf.now.tree e }
+    ensures inside { All (λ c. c < length dwarf.now.tree.entries) result.now }
 {
     match role_of(dwarf, e) {
         Role::Aggregate => {

@@ -2,6 +2,7 @@
 ghost use Rattle.std.specs.Prelude.{◌≡◌, ◌<◌, length, map, All, Some, IfOk, OnOk};
 ghost use Rattle.type_entries.specs.References.{types_of as the_types_of};
 ghost use Rattle.type_entries.specs.Reached.{with_types, IsWalk};
+ghost use Rattle.type_entries.specs.ByValue.{IsClosed};
 
 use crate::found::Found;
 use crate::references::{parts_of, types_of};
@@ -35,7 +36,8 @@ fn add_roots(found: &mut Found, roots: &[usize]) -> Result<(), NoMemory>
 /// Exactly the entries that are reached from the roots, in the order of their discovery.
 pub fn walk(alloc: Global, dwarf: &Dwarf, roots: &[usize]) -> Result<Found, NoMemory>
     requires { All (λ root. root < length dwarf.now.tree.entries) roots.now }
-    ensures { IfOk result (λ found. IsWalk dwarf.now.tree roots.now found) }
+    ensures walk { IfOk result (λ found. IsWalk dwarf.now.tree roots.now found) }
+    ensures closed { IfOk result (λ found. IsClosed dwarf.now.tree found) }
 {
     let mut found = Found::new(alloc);
     add_roots(&mut found, roots)?;

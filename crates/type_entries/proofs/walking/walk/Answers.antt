@@ -4,7 +4,7 @@ use Rattle.std.proofs.lemmas.List.Elements.{All-contains}
 use Rattle.std.proofs.lemmas.Option.{slice_get_within}
 use Rattle.type_entries.specs.References.{types_of}
 use Rattle.type_entries.proofs.GrowLemmas.{Grew-types}
-use Rattle.type_entries.proofs.WalkLemmas.{IsWalking-start, IsWalking-more, IsWalk-end, lead_inside, found-le, slice_get_contains}
+use Rattle.type_entries.proofs.WalkLemmas.{IsWalking-start, IsWalking-more, IsWalk-end, IsClosed-end, lead_inside, found-le, slice_get_contains}
 use Rattle.type_entries.proofs.walking.walk.Goals as goal
 
 pub walk-init : goal.walk-init
@@ -26,7 +26,12 @@ walk-preserved c =
     let t = c.args.dwarf.now.tree in
     IsWalking-more t c.args.roots.now (lead_inside t) c.walk.found c.walk.number c.at-e.result c.expand.new.found c.walk.invariant c.at-e.ensures (rw c.in_ok-expand.ensures (Grew-types c.walk.found (types_of t c.at-e.result)))
 
-pub returns : goal.returns
-returns c =
+pub returns-clause-walk : goal.returns-clause-walk
+returns-clause-walk c =
     let t = c.args.dwarf.now.tree in
     IsWalk-end t c.args.roots.now (lead_inside t) c.walk.found c.walk.number c.walk.invariant (omega (arith, c.walk-test.false, c.len.ensures)) c.known-2.ensures
+
+pub returns-clause-closed : goal.returns-clause-closed
+returns-clause-closed c =
+    let t = c.args.dwarf.now.tree in
+    IsClosed-end t c.args.roots.now (lead_inside t) c.walk.found c.walk.number c.walk.invariant (omega (arith, c.walk-test.false, c.len.ensures))
