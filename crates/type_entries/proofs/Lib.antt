@@ -9,6 +9,8 @@ mod NearLemmas
 mod OrderLemmas
 mod RankLemmas
 mod ReachedLemmas
+mod CoreLemmas
 mod ReferLemmas
+mod StepLemmas
 mod WalkLemmas
 mod ZipLemmas

@@ -1,4 +1,5 @@
 pub mod ByValue
+pub mod Cores
 pub mod Facts
 pub mod Faults
 pub mod Flat

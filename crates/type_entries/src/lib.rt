@@ -8,6 +8,7 @@ pub mod constants;
 mod facts;
 mod found;
 mod held;
+pub mod laws;
 mod learning;
 mod placement;
 mod references;
