@@ -1,22 +1,23 @@
 -- Types and their cores.
-use Rattle.std.proofs.Common.{◌≡◌, ◌<◌, ◌≤◌, ◌+◌, ℕ, zero, suc, List, [], ◌∷◌, map, Some, None, refl, sym, ◌∙◌, ap, subst, arith, ◌⊎◌, inl, inr}
+use Rattle.std.proofs.Common.{◌≡◌, ◌<◌, ◌≤◌, ◌+◌, ◌*◌, ℕ, zero, suc, List, [], ◌∷◌, map, Some, None, refl, sym, ◌∙◌, ap, subst, arith, ◌⊎◌, inl, inr}
 use Rattle.std.specs.Prelude.{Contains, IfSome, zip, flat_map}
 use Rattle.dw_tree.specs.Trees.{PlainTree}
 use Rattle.dw_entries.specs.Debug.{PlainDwarf}
 use Rattle.abi_base.specs.Limits.{depth_limit}
+use Rattle.abi_types.specs.Graphs.{size_limit}
 use Rattle.abi_types.specs.Types.{PlainLabel}
 use Rattle.type_entries.specs.declared.facts.Facts.{Facts}
 use Rattle.type_entries.specs.declared.role.Role.{Role}
 use Rattle.type_entries.specs.declared.role.Role.TheVariants as role
 use Rattle.type_entries.specs.References.{Type_, role_of, type_of, members_of, steps_of}
 use Rattle.type_entries.specs.ByValue.{steps_from, StepsOn, IsTooDeep, IsClosed}
-use Rattle.type_entries.specs.Facts.{void_facts, size_for, count_for, rooms_for, span_for, beyond_for, core_for, aggregate_for, facts_from, facts_of}
+use Rattle.type_entries.specs.Facts.{cut, array_count, void_facts, size_for, count_for, rooms_for, span_for, beyond_for, core_for, aggregate_for, facts_from, facts_of}
 use Rattle.type_entries.specs.Flat.{Flat, core_of, labels_made, labels_of, given, flat_for, flat_made, flat_of}
 use Rattle.type_entries.specs.Cores.{ShareCore, StandsForNone, IsCore, IsFound}
 use Rattle.type_entries.proofs.GrowLemmas.{first_of_all, not_in_none}
 use Rattle.type_entries.proofs.ByValueLemmas.{StepsOn-none, StepsOn-more, by_value-is}
 use Rattle.type_entries.proofs.FactLemmas.{rank_of, rank-falls, facts_of-is, facts_of-void, shallow-step, step_there, void_ends}
-use Rattle.type_entries.proofs.StepLemmas.{passed-steps, members-beside}
+use Rattle.type_entries.proofs.StepLemmas.{passed-steps, array-steps}
 
 -- ---- the equations
 
@@ -34,10 +35,10 @@ void_shallow t deep = void_ends t (depth_limit + 1) None (omega arith) refl deep
 -- ---- what is passed
 
 -- the facts of an entry whose one step leads to its type
-one-step : (d : PlainDwarf) (e : ℕ) (ty : Type_) → (IsTooDeep d.tree (Some e) → ⊥) → steps_of d.tree e ≡ ty ∷ [] → facts_of d (Some e) ≡ facts_from d (Some e) (facts_of d ty ∷ [])
+pub one-step : (d : PlainDwarf) (e : ℕ) (ty : Type_) → (IsTooDeep d.tree (Some e) → ⊥) → steps_of d.tree e ≡ ty ∷ [] → facts_of d (Some e) ≡ facts_from d (Some e) (facts_of d ty ∷ [])
 one-step d e ty shallow steps = facts_of-is d (Some e) shallow ∙ ap (λ ss. facts_from d (Some e) (map (facts_of d) ss)) steps
 
-passed-facts : (d : PlainDwarf) (e : ℕ) (x : Facts) (a : Facts) → role_of d.tree e ≡ role.Passed → a ≡ facts_from d (Some e) (x ∷ []) → ShareCore a x
+pub passed-facts : (d : PlainDwarf) (e : ℕ) (x : Facts) (a : Facts) → role_of d.tree e ≡ role.Passed → a ≡ facts_from d (Some e) (x ∷ []) → ShareCore a x
 unfolding facts_from
 passed-facts d e x a passed is = record {
   size = ap (λ (y : Facts). y.size) is ∙ ap (λ k. size_for k d.tree e (x ∷ [])) passed;
@@ -49,16 +50,16 @@ passed-facts d e x a passed is = record {
   aggregate = ap (λ (y : Facts). y.aggregate) is ∙ ap (λ k. aggregate_for k (x ∷ [])) passed;
 }
 
-passed-shares : (d : PlainDwarf) (e : ℕ) → (IsTooDeep d.tree (Some e) → ⊥) → role_of d.tree e ≡ role.Passed → ShareCore (facts_of d (Some e)) (facts_of d (type_of d.tree e))
+pub passed-shares : (d : PlainDwarf) (e : ℕ) → (IsTooDeep d.tree (Some e) → ⊥) → role_of d.tree e ≡ role.Passed → ShareCore (facts_of d (Some e)) (facts_of d (type_of d.tree e))
 passed-shares d e shallow passed = passed-facts d e (facts_of d (type_of d.tree e)) (facts_of d (Some e)) passed (one-step d e (type_of d.tree e) shallow (passed-steps d.tree e passed))
 
-passed-flat : (d : PlainDwarf) (e : ℕ) → (IsTooDeep d.tree (Some e) → ⊥) → role_of d.tree e ≡ role.Passed → flat_of d (Some e) ≡ flat_of d (type_of d.tree e)
+pub passed-flat : (d : PlainDwarf) (e : ℕ) → (IsTooDeep d.tree (Some e) → ⊥) → role_of d.tree e ≡ role.Passed → flat_of d (Some e) ≡ flat_of d (type_of d.tree e)
 passed-flat d e shallow passed =
     flat_of-is d (Some e) shallow
     ∙ ap (λ k. flat_for k d e (map (flat_of d) (steps_of d.tree e))) passed
     ∙ ap (λ ss. flat_for role.Passed d e (map (flat_of d) ss)) (passed-steps d.tree e passed)
 
-passed-step : (t : PlainTree) (e : ℕ) → role_of t e ≡ role.Passed → Contains (steps_of t e) (type_of t e)
+pub passed-step : (t : PlainTree) (e : ℕ) → role_of t e ≡ role.Passed → Contains (steps_of t e) (type_of t e)
 passed-step t e passed = subst (λ ss. Contains ss (type_of t e)) (sym (passed-steps t e passed)) (first_of_all (type_of t e) [])
 
 -- ---- what is its own core
@@ -149,6 +150,23 @@ core-found d found r closed shallow there = core-found-within d found closed (de
 
 -- ---- arrays
 
-array-facts : (d : PlainDwarf) (e : ℕ) (x a : Facts) → role_of d.tree e ≡ role.Array → a ≡ facts_from d (Some e) (x ∷ []) → a.size ≡ size_for role.Array d.tree e (x ∷ [])
+pub array-facts : (d : PlainDwarf) (e : ℕ) (x a : Facts) → role_of d.tree e ≡ role.Array → a ≡ facts_from d (Some e) (x ∷ []) → a.size ≡ size_for role.Array d.tree e (x ∷ [])
 unfolding facts_from
 array-facts d e x a array is = ap (λ (y : Facts). y.size) is ∙ ap (λ k. size_for k d.tree e (x ∷ [])) array
+
+array-count : (d : PlainDwarf) (e : ℕ) (x a : Facts) → role_of d.tree e ≡ role.Array → a ≡ facts_from d (Some e) (x ∷ []) → a.count ≡ array_count d.tree e
+unfolding facts_from
+array-count d e x a array is = ap (λ (y : Facts). y.count) is ∙ ap (λ k. count_for k d.tree e (x ∷ [])) array
+
+cut-small : (n : ℕ) → cut n ≤ size_limit → cut n ≡ n
+cut-small n le = omega arith
+
+-- an array that keeps the limit has the size of its elements together
+pub array-whole : (d : PlainDwarf) (e : ℕ) → (IsTooDeep d.tree (Some e) → ⊥) → role_of d.tree e ≡ role.Array → (facts_of d (Some e)).size ≤ size_limit
+    → (facts_of d (Some e)).size ≡ (facts_of d (Some e)).count * (facts_of d (type_of d.tree e)).size
+array-whole d e shallow array le =
+    let x : Facts = facts_of d (type_of d.tree e) in
+    let is = one-step d e (type_of d.tree e) shallow (array-steps d.tree e array) in
+    let size = array-facts d e x (facts_of d (Some e)) array is in
+    let count = array-count d e x (facts_of d (Some e)) array is in
+    size ∙ cut-small (array_count d.tree e * x.size) (subst (λ n. n ≤ size_limit) size le) ∙ ap (λ n. n * x.size) (sym count)

@@ -2,7 +2,9 @@ mod ByValueLemmas
 mod ChildLemmas
 mod FirstLemmas
 mod FactLemmas
+mod FlatLemmas
 mod GrowLemmas
+mod HullLemmas
 mod LearnLemmas
 mod LoopLemmas
 mod NearLemmas

@@ -1,15 +1,19 @@
 //! What the definitions come to. Each law is the contract of a function that does nothing.
-ghost use Rattle.std.specs.Prelude.{◌≡◌, ◌↔◌, ◌<◌, ℕ, List, true, Some, map, length, Contains, IsPermutation};
+ghost use Rattle.std.specs.Prelude.{◌≡◌, ◌↔◌, ◌<◌, ◌≤◌, ◌*◌, ◌||◌, ℕ, List, true, Some, map, length, Contains, IsPermutation};
+ghost use Rattle.std.specs.List.{list_any};
 ghost use Rattle.std.specs.List.Sorted.{IsNonDecreasing};
 ghost use Rattle.dw_tree.specs.Trees.{PlainTree};
 ghost use Rattle.dw_entries.specs.Debug.{PlainDwarf};
-ghost use Rattle.type_entries.specs.References.{Type_, types_of};
+ghost use Rattle.type_entries.specs.References.{Type_, types_of, type_of, role_of};
 ghost use Rattle.type_entries.specs.Reached.{IsReached, IsWalk};
 ghost use Rattle.type_entries.specs.ReachedList.{is_reached, reached_of};
 ghost use Rattle.type_entries.specs.ByValue.{steps_from, StepsOn, IsTooDeep, IsClosed};
 ghost use Rattle.type_entries.specs.Facts.{facts_from, facts_of};
-ghost use Rattle.type_entries.specs.Flat.{core_of, labels_made, labels_of, flat_made, flat_of};
-ghost use Rattle.type_entries.specs.Cores.{IsCore, IsFound};
+ghost use Rattle.type_entries.specs.Flat.{Flat, core_of, labels_made, labels_of, flat_made, flat_of};
+ghost use Rattle.type_entries.specs.Cores.{IsCore, IsFound, IsLower};
+ghost use Rattle.abi_types.specs.Graphs.{size_limit};
+ghost use Rattle.type_entries.specs.declared.role.Role.TheVariants as role;
+ghost use Rattle.type_entries.specs.Sizes.{begins_beyond, has_member_beyond};
 ghost use Rattle.type_entries.specs.Faults.{steps_on};
 
 /// What an entry leads to is reached where the entry is.
@@ -61,4 +65,19 @@ pub fn cores_are_last()
 /// The core of what was found was found, too, where all was found to which entries lead.
 pub fn cores_are_found()
     ensures { (d : PlainDwarf) (found : List ℕ) (r : Type_) → IsClosed d.tree found → (IsTooDeep d.tree r → ⊥) → IsFound found r → IsFound found (core_of d r) }
+{}
+
+/// The type of a flat member was found where the whole was, and fewer steps by value lead on from it.
+pub fn flat_members_are_lower()
+    ensures { (d : PlainDwarf) (found : List ℕ) → IsClosed d.tree found → (r : Type_) → (IsTooDeep d.tree r → ⊥) → IsFound found r → (m : Flat) → Contains (flat_of d r) m → IsLower d found r m }
+{}
+
+/// An array that keeps the limit of sizes has the size of its elements together.
+pub fn arrays_are_whole()
+    ensures { (d : PlainDwarf) (e : ℕ) → (IsTooDeep d.tree (Some e) → ⊥) → role_of d.tree e ≡ role.Array → (facts_of d (Some e)).size ≤ size_limit → (facts_of d (Some e)).size ≡ (facts_of d (Some e)).count * (facts_of d (type_of d.tree e)).size }
+{}
+
+/// The facts of a type say exactly whether a member of its core, as it stands or as a flat member, begins out of range.
+pub fn facts_tell_bits_beyond()
+    ensures { (d : PlainDwarf) (r : Type_) → (IsTooDeep d.tree r → ⊥) → (facts_of d r).beyond ≡ (has_member_beyond d (core_of d r) || list_any begins_beyond (flat_of d r)) }
 {}
