@@ -33,3 +33,8 @@ pub record IsWalk (t : PlainTree) (roots found : List ℕ) : Type 0 where
   pub exact : (e : ℕ) → Contains found e ↔ IsReached t roots e
   pub once : IsDistinct nat_eq found
   pub inside : All (λ (e : ℕ). e < length t.entries) found
+
+-- a type is void, which is always reached, or an entry that is
+abbrev pub IsMet : PlainTree → List ℕ → Type_ → Type 0
+IsMet t roots None = Unit {0}
+IsMet t roots (Some e) = IsReached t roots e
