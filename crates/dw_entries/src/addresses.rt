@@ -2,7 +2,7 @@
 ghost use Rattle.std.specs.Prelude.{◌≡◌, ◌<◌, ◌-◌, ◌^◌, length, take, drop, Some, None, Ok};
 ghost use Rattle.std.specs.Option.{option_copied};
 ghost use Rattle.dw_tree.specs.Trees.{own_of};
-ghost use Rattle.abi_base.specs.declared.dwarf.TheConstants.{DW_AT_low_pc, DW_AT_ranges, DW_AT_entry_pc, DW_AT_location};
+ghost use Rattle.abi_base.specs.Dwarf.{dw_at_low_pc, dw_at_ranges, dw_at_entry_pc, dw_at_location};
 ghost use Rattle.dw_entries.specs.Debug.{address_at_entry};
 ghost use Rattle.dw_entries.specs.Addresses.{where_there, low_pc_of, list_of as the_list_of, first_of_list as the_first_of_list, first_range_of, base_address_of, moved_by, entered_at, indexed_by, operand_of, location_of, variable_address_of, address_of_entry, or_none, entry_address_of, is_true as the_flag_is_true, is_declared_only as only_declares, is_defined as defines};
 
@@ -22,13 +22,13 @@ use dw_units::constants::DWARF_4;
 pub(crate) fn address_where_there(
     source: &Source,
     e: usize,
-    value: Option<&Value>,
+    value: Option<Value>,
 ) -> Result<Option<u64>, Fault>
     requires { e < length source.now.tree.entries }
-    ensures { result ≡ where_there (address_at_entry source.now e) (option_copied value.entry) }
+    ensures { result ≡ where_there (address_at_entry source.now e) value }
 {
     match value {
-        Some(value) => match source.address(e, value) {
+        Some(value) => match source.address(e, &value) {
             Ok(address) => Ok(Some(address)),
             Err(fault) => Err(fault),
         },
@@ -46,18 +46,18 @@ pub(crate) fn low_pc(source: &Source, e: usize) -> Result<Option<u64>, Fault>
 }
 
 // The list of ranges that a value says.
-fn list_of(version: u16, value: Option<&Value>) -> Option<ListAt>
-    ensures { result ≡ the_list_of version (option_copied value.entry) }
+fn list_of(version: u16, value: Option<Value>) -> Option<ListAt>
+    ensures { result ≡ the_list_of version value }
 {
     match value {
         Some(Value::SectionOffset(place)) => {
             if version == DWARF_4 {
-                Some(ListAt::Pairs(*place))
+                Some(ListAt::Pairs(place))
             } else {
-                Some(ListAt::Offset(*place))
+                Some(ListAt::Offset(place))
             }
         }
-        Some(Value::RangeIndex(index)) => Some(ListAt::Index(*index)),
+        Some(Value::RangeIndex(index)) => Some(ListAt::Index(index)),
         _ => None,
     }
 }
@@ -69,15 +69,10 @@ fn first_of_list(source: &Source, e: usize, list: ListAt) -> Result<Option<u64>,
     ensures { result ≡ the_first_of_list source.now e (Some list) }
 {
     let said = source.told(e);
-    let sections = source.sections();
     first_address(
         list,
-        sections.rnglists,
-        said.bases.rnglists,
-        sections.ranges,
-        sections.addr,
-        said.bases.addr,
-        said.bases.low,
+        &said.bases,
+        &source.sections(),
         source.tree().offset(e),
     )
 }
@@ -118,14 +113,14 @@ fn behind_base(source: &Source, e: usize, distance: u64) -> Result<Option<u64>, 
 }
 
 // The address at which a function is entered, by its `DW_AT_entry_pc`.
-fn entry_by(source: &Source, e: usize, entry_pc: Option<&Value>) -> Result<Option<u64>, Fault>
+fn entry_by(source: &Source, e: usize, entry_pc: Option<Value>) -> Result<Option<u64>, Fault>
     requires { e < length source.now.tree.entries }
-    ensures { result ≡ entered_at source.now e (option_copied entry_pc.entry) }
+    ensures { result ≡ entered_at source.now e entry_pc }
 {
     match entry_pc {
         Some(Value::Address(_)) => address_where_there(source, e, entry_pc),
         Some(Value::AddressIndex(_)) => address_where_there(source, e, entry_pc),
-        Some(Value::Unsigned(distance)) => behind_base(source, e, *distance),
+        Some(Value::Unsigned(distance)) => behind_base(source, e, distance),
         Some(Value::Signed(distance)) => behind_base(source, e, distance.cast_unsigned()),
         _ => base_address(source, e),
     }
@@ -165,7 +160,7 @@ fn operand(bytes: &[u8]) -> Option<Value>
 }
 
 // The bytes from a place on and before another one, as far as they are there.
-fn part(bytes: &[u8], from: u64, to: u64) -> &[u8]
+pub(crate) fn part(bytes: &[u8], from: u64, to: u64) -> &[u8]
     ensures { result.now ≡ take (to - from) (drop from bytes.now) }
 {
     if from > bytes.len() as u64 {
@@ -181,11 +176,11 @@ fn part(bytes: &[u8], from: u64, to: u64) -> &[u8]
 }
 
 // The address that a location says.
-fn location(info: &[u8], value: Option<&Value>) -> Option<Value>
-    ensures { result ≡ location_of info.now (option_copied value.entry) }
+fn location(info: &[u8], value: Option<Value>) -> Option<Value>
+    ensures { result ≡ location_of info.now value }
 {
     match value {
-        Some(Value::Block { from, to }) => operand(part(info, *from, *to)),
+        Some(Value::Block { from, to }) => operand(part(info, from, to)),
         _ => None,
     }
 }
@@ -197,7 +192,7 @@ pub(crate) fn variable_address(source: &Source, e: usize) -> Result<Option<u64>,
     ensures { result ≡ variable_address_of source.now e }
 {
     let said = location(source.sections().info, source.tree().own(e, DW_AT_location));
-    address_where_there(source, e, said.as_ref())
+    address_where_there(source, e, said)
 }
 
 // The address of a function's entry or of a variable.
@@ -228,18 +223,26 @@ pub(crate) fn entry_address(source: &Source, e: usize) -> Option<u64>
 }
 
 // Whether a flag is there and holds.
-fn is_true(value: Option<&Value>) -> bool
-    ensures { result ≡ the_flag_is_true (option_copied value.entry) }
+pub(crate) fn is_true(value: Option<Value>) -> bool
+    ensures { result ≡ the_flag_is_true value }
 {
     match value {
-        Some(Value::Flag(holds)) => *holds,
-        _ => false,
+        Some(value) => value.holds(),
+        None => false,
     }
+}
+
+// Whether an entry says of itself that it is a declaration.
+pub(crate) fn is_declared_only(tree: &Tree<'_>, e: usize) -> bool
+    requires { e < length tree.now.entries }
+    ensures { result ≡ only_declares tree.now e }
+{
+    is_true(tree.own(e, DW_AT_declaration))
 }
 
 // Whether an entry is a function or a variable of its unit itself, and no declaration.
 #[tactic(auto, unfolding(crate::specs::Addresses::is_defined))]
-pub(crate) fn is_defined(tree: &Tree, e: usize) -> bool
+pub(crate) fn is_defined(tree: &Tree<'_>, e: usize) -> bool
     requires { e < length tree.now.entries }
     ensures { result ≡ defines tree.now e }
 {
@@ -250,5 +253,5 @@ pub(crate) fn is_defined(tree: &Tree, e: usize) -> bool
     if tag != DW_TAG_subprogram && tag != DW_TAG_variable {
         return false;
     }
-    !is_true(tree.own(e, DW_AT_declaration))
+    !is_declared_only(tree, e)
 }

@@ -1,21 +1,24 @@
 // The debug information of a file.
-ghost use Rattle.std.specs.Prelude.{◌≡◌, ◌<◌, length, Contains, IfOk, IfSome};
+ghost use Rattle.std.specs.Prelude.{◌≡◌, ◌<◌, None, filter, length, All, Contains, IfOk, IfSome};
 ghost use Rattle.std.specs.Option.{option_copied, ForSome};
 ghost use Rattle.abi_base.specs.Outcome.{Judges};
-ghost use Rattle.dw_tree.specs.Trees.{entry_at, own_of, entry_of, children_of, next_child_of, IsOrdered};
+ghost use Rattle.dw_tree.specs.Trees.{entry_at, own_of, entry_of, children_of, next_child_of, IsOrdered, is_tagged};
 ghost use Rattle.dw_entries.specs.Debug.{plain_sections, dwarf_of};
-ghost use Rattle.dw_entries.specs.Chains.{attribute_along, origin_of, name_of as the_name_of, signed_of};
-ghost use Rattle.dw_entries.specs.Addresses.{entry_address_of, typed_of};
+ghost use Rattle.dw_entries.specs.Chains.{attribute_along, origin_of, name_of as the_name_of, signed_of, target_of};
+ghost use Rattle.dw_entries.specs.Addresses.{entry_address_of, is_declared_only as only_declares, typed_of};
 ghost use Rattle.dw_entries.specs.Pass.{dwarf_fault};
+ghost use Rattle.dw_entries.specs.Said.{block_of, flag_along};
+ghost use Rattle.dw_entries.specs.Sound.{AreFaultless};
 
-use crate::addresses::entry_address;
+use crate::addresses::{entry_address, is_declared_only, is_true, part};
 use crate::names::name;
 use crate::pass::own_fault;
 use crate::places::place_of;
 use crate::source::Source;
 use crate::typed::entries_by_address;
-use abi_base::Refusal;
+use abi_base::{NoMemory, Refusal};
 use dw_forms::{Sections, Value};
+use dw_tree::laws::children_stand_one_deeper;
 use dw_tree::read_tree;
 use std::alloc::Global;
 use std::collections::HashMap;
@@ -35,11 +38,11 @@ impl<'a> Model for Dwarf<'a> {
 
     ghost Value = { PlainDwarf };
 
-    ghost use Rattle.dw_entries.specs.Places.{HoldEntries};
+    ghost use Rattle.dw_entries.specs.Whole.{IsWhole};
 
     ghost view = { λ d. d.source };
 
-    ghost invariant = { λ d. HoldEntries d.typed d.source };
+    ghost invariant = { λ d. IsWhole d.typed d.source };
 }
 
 /// The debug information of a file: all entries of all units, in order of offset. The fault is the first one of units and
@@ -86,10 +89,9 @@ impl<'a> Dwarf<'a> {
         self.source.tree().tag(e)
     }
 
-    /// The first child of an entry, or the next one after a child. None exactly where there is no other.
+    /// The first child of an entry, or the first one after a position. None exactly where there is no other.
     pub fn next_child(&self, e: usize, after: Option<usize>) -> Option<usize>
-        requires inside { e < length self.now.tree.entries }
-        requires child { ForSome after (λ child. Contains (children_of self.now.tree e) child) }
+        requires { e < length self.now.tree.entries }
         ensures next { result ≡ next_child_of self.now.tree e after }
         ensures child { IfSome result (λ next. Contains (children_of self.now.tree e) next) }
         ensures inside { IfSome result (λ next. next < length self.now.tree.entries) }
@@ -98,35 +100,86 @@ impl<'a> Dwarf<'a> {
         self.source.tree().next_child(e, after)
     }
 
-    /// Does nothing. It tells what holds of each tree.
+    /// The children of an entry that have a tag, in order.
+    pub fn tagged(&self, alloc: Global, e: usize, tag: u64) -> Result<Vec<usize>, NoMemory>
+        requires { e < length self.now.tree.entries }
+        ensures children { IfOk result (λ list. list.items ≡ filter (is_tagged self.now.tree tag) (children_of self.now.tree e)) }
+        ensures inside { IfOk result (λ list. All (λ child. child < length self.now.tree.entries) list.items) }
+    {
+        children_stand_one_deeper();
+        self.source.tree().tagged(alloc, e, tag)
+    }
+
+    /// Does nothing. It tells what holds of all debug information that was read: its sections have no fault, and it is what
+    /// they say; its entries stand in order, none at 0, they are fewer than 2^32, and none has a fault.
     pub fn known(&self)
-        ensures { IsOrdered self.now.tree }
+        ensures faultless { dwarf_fault self.now.sections ≡ None }
+        ensures read { self.now ≡ dwarf_of self.now.sections }
+        ensures ordered { IsOrdered self.now.tree }
+        ensures entries { AreFaultless self.now }
     {
         self.source.tree().known();
     }
 
     /// The first value that an entry itself has of an attribute, and none where it has none.
-    pub fn own(&self, e: usize, name: u64) -> Option<&Value>
+    pub fn own(&self, e: usize, name: u64) -> Option<Value>
         requires { e < length self.now.tree.entries }
-        ensures { option_copied result ≡ own_of self.now.tree e name }
+        ensures { result ≡ own_of self.now.tree e name }
     {
         self.source.tree().own(e, name)
     }
 
     /// The position of the entry that begins at an offset. None exactly where no entry begins there.
     pub fn find(&self, offset: u64) -> Option<usize>
-        ensures { result ≡ entry_of self.now.tree offset }
+        ensures found { result ≡ entry_of self.now.tree offset }
+        ensures inside { IfSome result (λ e. e < length self.now.tree.entries) }
     {
         self.source.tree().find(offset)
     }
 
+    /// The entry that a value refers to: the one that begins at its place, or the one of the type of the first type unit that
+    /// has its signature. None exactly where there is no such entry, and where the value is no reference.
+    pub fn target(&self, value: &Value) -> Option<usize>
+        ensures found { result ≡ target_of self.now.tree value.now }
+        ensures inside { IfSome result (λ e. e < length self.now.tree.entries) }
+    {
+        self.source.links().target(value)
+    }
+
     /// The value that an entry has of an attribute, itself or along the chain of entries that it stands for: by
-    /// `DW_AT_abstract_origin`, else by `DW_AT_specification`.
-    pub fn attr(&self, e: usize, name: u64) -> Option<&Value>
+    /// `DW_AT_abstract_origin`, else by `DW_AT_specification`. `DW_AT_low_pc`, `DW_AT_ranges`, `DW_AT_entry_pc`,
+    /// `DW_AT_location` and `DW_AT_declaration` speak of the entry itself, and are not looked for along the chain.
+    pub fn attr(&self, e: usize, name: u64) -> Option<Value>
         requires { e < length self.now.tree.entries }
-        ensures { option_copied result ≡ attribute_along self.now.tree e name }
+        ensures { result ≡ attribute_along self.now.tree e name }
     {
         self.source.links().attr(e, name)
+    }
+
+    /// Whether an entry has a flag that holds, itself or along the chain. A value of another class counts as none.
+    pub fn flag(&self, e: usize, name: u64) -> bool
+        requires { e < length self.now.tree.entries }
+        ensures { result ≡ flag_along self.now.tree e name }
+    {
+        is_true(self.attr(e, name))
+    }
+
+    /// Whether an entry says of itself that it is a declaration. A value that is no flag counts as none.
+    pub fn is_declaration(&self, e: usize) -> bool
+        requires { e < length self.now.tree.entries }
+        ensures { result ≡ only_declares self.now.tree e }
+    {
+        is_declared_only(self.source.tree(), e)
+    }
+
+    /// The bytes of a block or an expression, which are a part of the file. None exactly where the value is neither.
+    pub fn block(&self, value: &Value) -> Option<&'a [u8]>
+        ensures { option_copied result ≡ block_of self.now.sections.info value.now }
+    {
+        match *value {
+            Value::Block { from, to } => Some(part(self.info(), from, to)),
+            _ => None,
+        }
     }
 
     /// The last entry of the chain of an entry, which is the entry itself where it has none.

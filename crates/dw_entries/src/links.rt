@@ -1,10 +1,10 @@
 // The tree of entries, and how its entries refer to one another.
 ghost use Rattle.std.specs.Prelude.{◌≡◌, ◌<◌, length, is_some, IfSome, IfOk};
-ghost use Rattle.std.specs.Option.{option_copied};
 ghost use Rattle.dw_tree.specs.Trees.{PlainTree, entry_at, head_at, own_of, entry_of};
 ghost use Rattle.dw_entries.specs.Places.{HoldUnits};
 ghost use Rattle.dw_entries.specs.Chains.{signed_of, target_of, link_by as the_link_by, link_of, is_too_deep as leads_too_deep, holder_of, attribute_along, origin_of};
 
+use crate::attributes::is_own_attribute;
 use crate::constants::{CHAIN_ENTRIES, CHAIN_LINKS};
 use crate::places::{keep_first, place_of};
 use crate::tags::is_read_tag;
@@ -18,12 +18,12 @@ use std::marker::Model;
 
 // A tree, with the first unit of each signature. Contracts see it as the tree.
 #[derive(Drop)]
-pub(crate) struct Links {
-    tree: Tree,
+pub(crate) struct Links<'a> {
+    tree: Tree<'a>,
     signed: HashMap<u64, usize>,
 }
 
-impl Model for Links {
+impl<'a> Model for Links<'a> {
     ghost use Rattle.dw_tree.specs.Trees.{PlainTree};
 
     ghost Value = { PlainTree };
@@ -35,26 +35,26 @@ impl Model for Links {
     ghost invariant = { λ l. HoldUnits l.signed l.tree };
 }
 
-impl Links {
+impl<'a> Links<'a> {
     // The links of a tree.
-    pub(crate) fn of(alloc: Global, tree: Tree) -> Result<Links, NoMemory>
-        ensures { IfOk result (λ l. l ≡ tree) }
+    pub(crate) fn of(alloc: Global, tree: Tree<'a>) -> Result<Links<'a>, NoMemory>
+        ensures { IfOk result (λ l. l ≡ tree.entry) }
     {
         let signed = units_by_signature(alloc, &tree)?;
         Ok(Links { tree, signed })
     }
 
     // The tree itself.
-    pub(crate) fn tree(&self) -> &Tree
+    pub(crate) fn tree(&self) -> &Tree<'a>
         ensures { result.now ≡ self.now }
     {
         &self.tree
     }
 
     // The first value that an entry itself has of an attribute.
-    pub(crate) fn own(&self, e: usize, name: u64) -> Option<&Value>
+    pub(crate) fn own(&self, e: usize, name: u64) -> Option<Value>
         requires { e < length self.now.entries }
-        ensures { option_copied result ≡ own_of self.now e name }
+        ensures { result ≡ own_of self.now e name }
     {
         self.tree.own(e, name)
     }
@@ -90,7 +90,7 @@ impl Links {
         ensures inside { IfSome result (λ to. IfSome to (λ f. f < length self.now.entries)) }
     {
         match self.tree.own(e, name) {
-            Some(value) => match self.target(value) {
+            Some(value) => match self.target(&value) {
                 Some(to) => {
                     if is_read_tag(self.tree.tag(to)) {
                         Some(Some(to))
@@ -152,7 +152,6 @@ impl Links {
     }
 
     // Whether an entry has an attribute itself.
-    #[tactic(auto, using(crate::proofs::ReferLemmas::copied_is_some))]
     pub(crate) fn has(&self, e: usize, name: u64) -> bool
         requires { e < length self.now.entries }
         ensures { result ≡ is_some (own_of self.now e name) }
@@ -179,11 +178,15 @@ impl Links {
         None
     }
 
-    // The value that an entry has of an attribute, itself or along the chain.
-    pub(crate) fn attr(&self, e: usize, name: u64) -> Option<&Value>
+    // The value that an entry has of an attribute: its own, where the attribute speaks of the entry itself, else along the
+    // chain.
+    pub(crate) fn attr(&self, e: usize, name: u64) -> Option<Value>
         requires { e < length self.now.entries }
-        ensures { option_copied result ≡ attribute_along self.now e name }
+        ensures { result ≡ attribute_along self.now e name }
     {
+        if is_own_attribute(name) {
+            return self.tree.own(e, name);
+        }
         match self.holder(e, name) {
             Some(holder) => self.tree.own(holder, name),
             None => None,
@@ -192,7 +195,7 @@ impl Links {
 }
 
 // The first unit of each signature.
-fn units_by_signature(alloc: Global, tree: &Tree) -> Result<HashMap<u64, usize>, NoMemory>
+fn units_by_signature(alloc: Global, tree: &Tree<'_>) -> Result<HashMap<u64, usize>, NoMemory>
     ensures { IfOk result (λ places. HoldUnits places tree.now) }
 {
     let mut places = HashMap::new(alloc);

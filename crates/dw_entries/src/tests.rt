@@ -1,7 +1,7 @@
 ghost use Rattle.std.specs.Prelude.{◌≤◌, length};
+ghost use Rattle.abi_base.specs.Limits.{input_limit};
 
 use super::*;
-use abi_base::dwarf::DW_AT_low_pc;
 use abi_base::{Fault, FaultKind, INPUT_LIMIT, Refusal};
 use dw_forms::{Sections, Value};
 use std::alloc::{AllocError, Global};
@@ -68,7 +68,7 @@ const RANGELESS: &[u8] =
 
 // The bytes, or none where they are more than an input may have.
 fn within_limit(bytes: &[u8]) -> &[u8]
-    ensures { length result.now ≤ INPUT_LIMIT }
+    ensures { length result.now ≤ input_limit }
 {
     if bytes.len() > INPUT_LIMIT {
         &[]
@@ -242,22 +242,35 @@ fn entries_stand_for_addresses_and_signatures(rt: HostRuntime) -> Result<(), Fai
     Ok(())
 }
 
+// A function takes its name from the one that it stands for, and no address.
 #[test]
-fn an_address_is_an_attribute_along_the_chain(rt: HostRuntime) -> Result<(), Fail> {
+fn a_name_is_taken_along_the_chain_and_an_address_is_not(rt: HostRuntime) -> Result<(), Fail> {
     match tree(rt.alloc(), sections(CHAIN_ABBREVS, CHAIN)) {
         Ok(dwarf) => {
             assert_eq!(rt; dwarf.len(), 8);
-            assert_eq!(rt;
-                dwarf.attr(7, DW_AT_low_pc).copied(),
-                Some(Value::Address(0x1000))
-            );
-            assert_eq!(rt; dwarf.own(7, DW_AT_low_pc).copied(), None);
-            assert_eq!(rt; dwarf.next_child(0, None), Some(1));
-            assert_eq!(rt;
-                (dwarf.offset(5), dwarf.tag(5), dwarf.find(37)),
-                (37, 0x2e, Some(5))
-            );
+            assert_eq!(rt; dwarf.own(7, 0x03), None);
+            assert_eq!(rt; dwarf.attr(7, 0x03), Some(Value::Inline { from: 47 }));
+            assert_eq!(rt; dwarf.attr(6, 0x11), Some(Value::Address(0x1000)));
+            assert_eq!(rt; dwarf.attr(7, 0x11), None);
             assert_eq!(rt; dwarf.info(), CHAIN);
+        }
+        Err(refused) => assert!(rt; false, "{refused:?}"),
+    }
+    Ok(())
+}
+
+// The functions below the root stand at 15, 18, 21, 37, 46 and 57, and the lexical block between them.
+#[test]
+fn children_of_a_tag_are_listed(rt: HostRuntime) -> Result<(), Fail> {
+    match tree(rt.alloc(), sections(CHAIN_ABBREVS, CHAIN)) {
+        Ok(dwarf) => {
+            assert_eq!(rt; dwarf.len(), 8);
+            let functions = dwarf.tagged(rt.alloc(), 0, 0x2e)?;
+            assert_eq!(rt; functions.as_slice(), [1, 2, 3, 5, 6, 7].as_slice());
+            assert_eq!(rt; dwarf.next_child(0, None), Some(1));
+            assert_eq!(rt; dwarf.find(37), Some(5));
+            assert_eq!(rt; dwarf.target(&Value::Reference(30)), Some(4));
+            assert!(rt; dwarf.is_declaration(1));
         }
         Err(refused) => assert!(rt; false, "{refused:?}"),
     }

@@ -9,7 +9,7 @@ use Rattle.std.proofs.lemmas.Option.{same_Some}
 use Rattle.abi_base.specs.Numbers.{number}
 use Rattle.abi_base.proofs.NumbersLemmas.{number_of-nil, number_of-cons}
 use Rattle.abi_base.proofs.StepLemmas.{bool_cases}
-use Rattle.abi_base.specs.declared.dwarf.TheConstants.{DW_FORM_indirect, DW_FORM_implicit_const, DW_FORM_ref_addr, DW_FORM_ref1, DW_FORM_ref2, DW_FORM_ref4, DW_FORM_ref8, DW_FORM_ref_udata}
+use Rattle.abi_base.specs.Dwarf.{dw_form_indirect, dw_form_implicit_const, dw_form_ref_addr, dw_form_ref1, dw_form_ref2, dw_form_ref4, dw_form_ref8, dw_form_ref_udata}
 use Rattle.dw_forms.specs.Values.{Shape, implicit_const, indirect, forms, shape_of, named_shape, value_of, value_at, direct_at, indirect_at, Refers, RefersByUleb, absolute, from_unit}
 
 -- the number in one byte is the byte
@@ -43,16 +43,16 @@ is_implicit : Shape → Bool
 is_implicit implicit_const = true
 is_implicit other = false
 
-only_indirect : (form : ℕ) → shape_of form ≡ Some indirect → form ≡ DW_FORM_indirect
+only_indirect : (form : ℕ) → shape_of form ≡ Some indirect → form ≡ dw_form_indirect
 unfolding shape_of forms is_indirect
-only_indirect form h = eqb-true form DW_FORM_indirect (row_found (only is_indirect DW_FORM_indirect) form forms indirect refl h)
+only_indirect form h = eqb-true form dw_form_indirect (row_found (only is_indirect dw_form_indirect) form forms indirect refl h)
 
-only_implicit : (form : ℕ) → shape_of form ≡ Some implicit_const → form ≡ DW_FORM_implicit_const
+only_implicit : (form : ℕ) → shape_of form ≡ Some implicit_const → form ≡ dw_form_implicit_const
 unfolding shape_of forms is_implicit
-only_implicit form h = eqb-true form DW_FORM_implicit_const (row_found (only is_implicit DW_FORM_implicit_const) form forms implicit_const refl h)
+only_implicit form h = eqb-true form dw_form_implicit_const (row_found (only is_implicit dw_form_implicit_const) form forms implicit_const refl h)
 
 -- a form that may stand behind its own is named as it is
-pub named_shape_is : (form : ℕ) → form ≢ DW_FORM_indirect → form ≢ DW_FORM_implicit_const → named_shape (shape_of form) ≡ shape_of form
+pub named_shape_is : (form : ℕ) → form ≢ dw_form_indirect → form ≢ dw_form_implicit_const → named_shape (shape_of form) ≡ shape_of form
 named_shape_is form n1 n2 = cases (shape_of form) refl
   where
     cases : (o : Option Shape) → shape_of form ≡ o → named_shape o ≡ o
@@ -62,7 +62,7 @@ named_shape_is form n1 n2 = cases (shape_of form) refl
     cases (Some other) is = refl
 
 -- a form that stands for itself
-pub value_at_is : (form : ℕ) (implicit : ℤ) (unit end entry : ℕ) (bytes : List ℕ) (at : ℕ) → form ≢ DW_FORM_indirect → value_at form implicit unit end entry bytes at ≡ direct_at form implicit unit entry (take end bytes) at
+pub value_at_is : (form : ℕ) (implicit : ℤ) (unit end entry : ℕ) (bytes : List ℕ) (at : ℕ) → form ≢ dw_form_indirect → value_at form implicit unit end entry bytes at ≡ direct_at form implicit unit entry (take end bytes) at
 unfolding value_at value_of
 value_at_is form implicit unit end entry bytes at n1 = cases (shape_of form) refl
   where
@@ -71,41 +71,41 @@ value_at_is form implicit unit end entry bytes at n1 = cases (shape_of form) ref
     cases (Some indirect) is = absurd (n1 (only_indirect form is))
     cases (Some other) is = rw is refl
 
-pub shape_of_indirect : shape_of DW_FORM_indirect ≡ Some indirect
+pub shape_of_indirect : shape_of dw_form_indirect ≡ Some indirect
 unfolding shape_of forms
 shape_of_indirect = refl
 
 -- a form that stands before its value
-pub value_at_indirect : (form : ℕ) (implicit : ℤ) (unit end entry : ℕ) (bytes : List ℕ) (at : ℕ) → form ≡ DW_FORM_indirect → value_at form implicit unit end entry bytes at ≡ indirect_at implicit unit entry (take end bytes) at
+pub value_at_indirect : (form : ℕ) (implicit : ℤ) (unit end entry : ℕ) (bytes : List ℕ) (at : ℕ) → form ≡ dw_form_indirect → value_at form implicit unit end entry bytes at ≡ indirect_at implicit unit entry (take end bytes) at
 unfolding value_at value_of shape_of forms
 value_at_indirect form implicit unit end entry bytes at is = rw is refl
 
-pub shape_of_implicit : shape_of DW_FORM_implicit_const ≡ Some implicit_const
+pub shape_of_implicit : shape_of dw_form_implicit_const ≡ Some implicit_const
 unfolding shape_of forms
 shape_of_implicit = refl
 
 -- ---- what references count from
 
-pub refers_absolute : Refers DW_FORM_ref_addr 4 absolute
+pub refers_absolute : Refers dw_form_ref_addr 4 absolute
 unfolding value_at value_of shape_of forms
 refers_absolute implicit unit end entry bytes at n h = rw h refl
 
-pub refers1 : Refers DW_FORM_ref1 1 from_unit
+pub refers1 : Refers dw_form_ref1 1 from_unit
 unfolding value_at value_of shape_of forms
 refers1 implicit unit end entry bytes at n h = rw h refl
 
-pub refers2 : Refers DW_FORM_ref2 2 from_unit
+pub refers2 : Refers dw_form_ref2 2 from_unit
 unfolding value_at value_of shape_of forms
 refers2 implicit unit end entry bytes at n h = rw h refl
 
-pub refers4 : Refers DW_FORM_ref4 4 from_unit
+pub refers4 : Refers dw_form_ref4 4 from_unit
 unfolding value_at value_of shape_of forms
 refers4 implicit unit end entry bytes at n h = rw h refl
 
-pub refers8 : Refers DW_FORM_ref8 8 from_unit
+pub refers8 : Refers dw_form_ref8 8 from_unit
 unfolding value_at value_of shape_of forms
 refers8 implicit unit end entry bytes at n h = rw h refl
 
-pub refers_by_uleb : RefersByUleb DW_FORM_ref_udata from_unit
+pub refers_by_uleb : RefersByUleb dw_form_ref_udata from_unit
 unfolding value_at value_of shape_of forms
 refers_by_uleb implicit unit end entry bytes at n h = rw h refl

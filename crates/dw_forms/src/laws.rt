@@ -1,6 +1,6 @@
 //! What follows from the definition of an attribute's value. Each law is the contract of a function that does nothing.
 ghost use Rattle.std.specs.Prelude.{◌≡◌, ◌≤◌, ℕ, ℤ, List, Ok};
-ghost use Rattle.abi_base.specs.declared.dwarf.TheConstants.{DW_FORM_ref_addr, DW_FORM_ref1, DW_FORM_ref2, DW_FORM_ref4, DW_FORM_ref8, DW_FORM_ref_udata};
+ghost use Rattle.abi_base.specs.Dwarf.{dw_form_ref_addr, dw_form_ref1, dw_form_ref2, dw_form_ref4, dw_form_ref8, dw_form_ref_udata};
 ghost use Rattle.dw_forms.specs.declared.values.Value.{Value};
 ghost use Rattle.dw_forms.specs.Values.{value_at, Refers, RefersByUleb, absolute, from_unit};
 
@@ -13,10 +13,10 @@ pub fn reading_moves_on_inside_the_unit()
 /// `DW_FORM_ref_addr` counts from the start of `.debug_info`, and adds nothing. The other references count from the start of
 /// their unit: its offset is added, modulo 2^64 (DWARF 5, section 7.5.5 "Classes and Forms", class reference).
 pub fn references_count_from_their_unit()
-    ensures ref_addr { Refers DW_FORM_ref_addr 4 absolute }
-    ensures ref1 { Refers DW_FORM_ref1 1 from_unit }
-    ensures ref2 { Refers DW_FORM_ref2 2 from_unit }
-    ensures ref4 { Refers DW_FORM_ref4 4 from_unit }
-    ensures ref8 { Refers DW_FORM_ref8 8 from_unit }
-    ensures ref_udata { RefersByUleb DW_FORM_ref_udata from_unit }
+    ensures ref_addr { Refers dw_form_ref_addr 4 absolute }
+    ensures ref1 { Refers dw_form_ref1 1 from_unit }
+    ensures ref2 { Refers dw_form_ref2 2 from_unit }
+    ensures ref4 { Refers dw_form_ref4 4 from_unit }
+    ensures ref8 { Refers dw_form_ref8 8 from_unit }
+    ensures ref_udata { RefersByUleb dw_form_ref_udata from_unit }
 {}

@@ -1,6 +1,6 @@
 // The sections of debug information.
 ghost use Rattle.std.specs.Prelude.{◌≤◌, length};
-ghost use Rattle.abi_base.specs.declared.TheConstants.{INPUT_LIMIT};
+ghost use Rattle.abi_base.specs.Limits.{input_limit};
 
 /// What the sections of debug information of a file hold (DWARF 5, section 7.3 "Executable Objects and Shared Objects";
 /// `.debug_ranges` is of DWARF 4). A section that is missing is empty. None is longer than the limit of an input.
@@ -22,12 +22,12 @@ pub struct Sections<'a> {
     pub rnglists: &'a [u8],
     /// `.debug_ranges`
     pub ranges: &'a [u8],
-    pub ghost info_small: { length info.now ≤ INPUT_LIMIT },
-    pub ghost abbrev_small: { length abbrev.now ≤ INPUT_LIMIT },
-    pub ghost str_small: { length str.now ≤ INPUT_LIMIT },
-    pub ghost line_str_small: { length line_str.now ≤ INPUT_LIMIT },
-    pub ghost str_offsets_small: { length str_offsets.now ≤ INPUT_LIMIT },
-    pub ghost addr_small: { length addr.now ≤ INPUT_LIMIT },
-    pub ghost rnglists_small: { length rnglists.now ≤ INPUT_LIMIT },
-    pub ghost ranges_small: { length ranges.now ≤ INPUT_LIMIT },
+    pub ghost info_small: { length info.now ≤ input_limit },
+    pub ghost abbrev_small: { length abbrev.now ≤ input_limit },
+    pub ghost str_small: { length str.now ≤ input_limit },
+    pub ghost line_str_small: { length line_str.now ≤ input_limit },
+    pub ghost str_offsets_small: { length str_offsets.now ≤ input_limit },
+    pub ghost addr_small: { length addr.now ≤ input_limit },
+    pub ghost rnglists_small: { length rnglists.now ≤ input_limit },
+    pub ghost ranges_small: { length ranges.now ≤ input_limit },
 }

@@ -13,7 +13,7 @@ use Rattle.abi_base.proofs.StepLemmas.{option_cases, bool_cases, result_cases, s
 use Rattle.dw_ranges.specs.declared.layout.Field.{Field}
 use Rattle.dw_ranges.specs.declared.layout.Field.TheVariants as field
 use Rattle.dw_ranges.specs.declared.layout.Layout.{Layout}
-use Rattle.dw_ranges.specs.declared.constants.TheConstants.{DW_RLE_end_of_list}
+use Rattle.abi_base.specs.Dwarf.{dw_rle_end_of_list}
 use Rattle.dw_ranges.specs.RangeLists.{State, Entry, field_at, fields_step, layout_of, meant, kind_step, list_step, pair_means, pair_step, list_run, pair_run, first_or_end, first_start}
 
 -- ---- any list whose steps move on
@@ -67,7 +67,7 @@ fields_after addr addr_base entry bytes layout s x next h =
 kind_after : (addr : List ℕ) (addr_base : Option ℕ) (entry : ℕ) (bytes : List ℕ) (code : ℕ) (s : State) (x : Entry) (next : State) → kind_step addr addr_base entry bytes code s ≡ Ok (x, next) → s.0 ≤ next.0
 unfolding kind_step
 kind_after addr addr_base entry bytes code s x next h =
-    bool_cases (code == DW_RLE_end_of_list) (λ is. absurd (let g = rw is at h in cc)) (λ is.
+    bool_cases (code == dw_rle_end_of_list) (λ is. absurd (let g = rw is at h in cc)) (λ is.
     let h1 = rw is at h in
     option_cases (layout_of code) (λ no. absurd (let g = rw no at h1 in cc)) (λ layout so.
     let h2 = rw so at h1 in

@@ -10,7 +10,7 @@ use Rattle.abi_base.specs.Leb.{uleb_at}
 use Rattle.abi_base.specs.Outcome.{◌>>=◌, or_end}
 use Rattle.abi_base.specs.Tables.{entry_of_table}
 use Rattle.abi_base.specs.Runs.{Run, run, given}
-use Rattle.dw_ranges.specs.declared.constants.TheConstants.{DW_RLE_end_of_list, DW_RLE_base_addressx, DW_RLE_startx_endx, DW_RLE_startx_length, DW_RLE_offset_pair, DW_RLE_base_address, DW_RLE_start_end, DW_RLE_start_length, BASE_SELECTION}
+use Rattle.abi_base.specs.Dwarf.{dw_rle_end_of_list, dw_rle_base_addressx, dw_rle_startx_endx, dw_rle_startx_length, dw_rle_offset_pair, dw_rle_base_address, dw_rle_start_end, dw_rle_start_length, base_selection}
 use Rattle.dw_ranges.specs.declared.layout.Field.{Field}
 use Rattle.dw_ranges.specs.declared.layout.Field.TheVariants as field
 use Rattle.dw_ranges.specs.declared.layout.Role.{Role}
@@ -30,13 +30,13 @@ laid_out role first second = record { role = role; first = first; second = secon
 -- each kind of entry but the end, with what its first field is, and its two fields
 unfoldable pub kinds : List (ℕ × Layout)
 kinds =
-    (DW_RLE_base_addressx, laid_out role.Base field.Index field.Absent)
-    ∷ (DW_RLE_startx_endx, laid_out role.Start field.Index field.Index)
-    ∷ (DW_RLE_startx_length, laid_out role.Start field.Index field.Number)
-    ∷ (DW_RLE_offset_pair, laid_out role.Offset field.Number field.Number)
-    ∷ (DW_RLE_base_address, laid_out role.Base field.Address field.Absent)
-    ∷ (DW_RLE_start_end, laid_out role.Start field.Address field.Address)
-    ∷ (DW_RLE_start_length, laid_out role.Start field.Address field.Number)
+    (dw_rle_base_addressx, laid_out role.Base field.Index field.Absent)
+    ∷ (dw_rle_startx_endx, laid_out role.Start field.Index field.Index)
+    ∷ (dw_rle_startx_length, laid_out role.Start field.Index field.Number)
+    ∷ (dw_rle_offset_pair, laid_out role.Offset field.Number field.Number)
+    ∷ (dw_rle_base_address, laid_out role.Base field.Address field.Absent)
+    ∷ (dw_rle_start_end, laid_out role.Start field.Address field.Address)
+    ∷ (dw_rle_start_length, laid_out role.Start field.Address field.Number)
     ∷ []
 
 unfoldable pub layout_of : ℕ → Option Layout
@@ -84,7 +84,7 @@ fields_step addr addr_base entry bytes layout s = do
 -- the entry of this kind, whose fields begin at a place, or the end of the list
 unfoldable pub kind_step : List ℕ → Option ℕ → ℕ → List ℕ → ℕ → State → Result (Entry × State) (Option Fault)
 kind_step addr addr_base entry bytes code s =
-    if code == DW_RLE_end_of_list
+    if code == dw_rle_end_of_list
     then Err None
     else (do
       layout ← or_end (layout_of code) (Some (fault kind.Ranges entry))
@@ -98,7 +98,7 @@ list_step addr addr_base entry bytes s = do
 
 -- what a pair means, and the base after it
 abbrev pub pair_means : ℕ → ℕ → ℕ → Entry × ℕ
-pair_means base first second = if first == BASE_SELECTION then (None, second) else (Some ((base + first) % 2 ^ 64), base)
+pair_means base first second = if first == base_selection then (None, second) else (Some ((base + first) % 2 ^ 64), base)
 
 -- the pair at a place of `.debug_ranges`
 unfoldable pub pair_step : ℕ → List ℕ → State → Result (Entry × State) (Option Fault)

@@ -6,6 +6,8 @@ ghost use Rattle.dw_ranges.specs.RangeLists.{first_start, list_run, pair_run, pl
 use crate::entry::Source;
 use crate::lists::ListAt;
 use abi_base::{Fault, FaultKind, table_offset};
+use dw_forms::Sections;
+use dw_text::Bases;
 
 // The place of the list of a number. It counts from where the unit's part begins.
 fn place_of(rnglists: &[u8], base: Option<u64>, index: u64) -> Option<u64>
@@ -65,35 +67,30 @@ fn first_in_pairs(source: &Source, place: u64, low: u64) -> Result<Option<u64>, 
 }
 
 /// Where the first range of a list begins, an empty range too, and none exactly where the list has no range (DWARF 5, sections
-/// 2.17.3 "Non-Contiguous Address Ranges" and 7.25; for pairs DWARF 4, section 2.17.3). `rnglists`, `ranges` and `addr` are what
-/// the sections `.debug_rnglists`, `.debug_ranges` and `.debug_addr` hold, the bases are where the unit's parts of them begin,
-/// and `low` is the first base of its ranges. Sums of addresses are modulo 2^64.
+/// 2.17.3 "Non-Contiguous Address Ranges" and 7.25; for pairs DWARF 4, section 2.17.3). `bases` are where the unit's parts of
+/// `.debug_rnglists` and `.debug_addr` begin, with the first base of its ranges. Sums of addresses are modulo 2^64.
 /// What stands after the first range is not read. Up to and with it, the fault is `Ranges` where the list does not lie in its
 /// section, or has a number that does not fit 64 bits or an entry of an unknown kind, and `Index` where the number of the list
 /// or of an address has no base or lies outside its section. Both are at the entry, and the first one counts as the fields are
 /// read.
 pub fn first_address(
     list: ListAt,
-    rnglists: &[u8],
-    rnglists_base: Option<u64>,
-    ranges: &[u8],
-    addr: &[u8],
-    addr_base: Option<u64>,
-    low: u64,
+    bases: &Bases,
+    sections: &Sections,
     entry: u64,
 ) -> Result<Option<u64>, Fault>
-    ensures { result ≡ first_address_of rnglists.now rnglists_base ranges.now addr.now addr_base low entry list }
+    ensures { result ≡ first_address_of sections.now.rnglists.now bases.now.rnglists sections.now.ranges.now sections.now.addr.now bases.now.addr bases.now.low entry list }
 {
     let lists = Source {
-        bytes: rnglists,
-        addr,
-        addr_base,
+        bytes: sections.rnglists,
+        addr: sections.addr,
+        addr_base: bases.addr,
         entry,
     };
     match list {
-        ListAt::Offset(place) => first_in_list(&lists, place, low),
-        ListAt::Index(index) => match place_of(rnglists, rnglists_base, index) {
-            Some(place) => first_in_list(&lists, place, low),
+        ListAt::Offset(place) => first_in_list(&lists, place, bases.low),
+        ListAt::Index(index) => match place_of(sections.rnglists, bases.rnglists, index) {
+            Some(place) => first_in_list(&lists, place, bases.low),
             None => Err(Fault {
                 kind: FaultKind::Index,
                 at: entry,
@@ -101,11 +98,11 @@ pub fn first_address(
         },
         ListAt::Pairs(place) => first_in_pairs(
             &Source {
-                bytes: ranges,
+                bytes: sections.ranges,
                 ..lists
             },
             place,
-            low,
+            bases.low,
         ),
     }
 }

@@ -1,5 +1,10 @@
+ghost use Rattle.std.specs.Prelude.{◌≤◌, length};
+ghost use Rattle.abi_base.specs.Limits.{input_limit};
+
 use super::*;
-use abi_base::{Fault, FaultKind};
+use abi_base::{Fault, FaultKind, INPUT_LIMIT};
+use dw_forms::Sections;
+use dw_text::Bases;
 use std::test::*;
 
 // Where the debug entry begins that has the lists.
@@ -9,6 +14,36 @@ const LOW: u64 = 0x2000;
 
 // Two addresses, 0x1000 and 0x3000.
 const ADDRESSES: [u8; 16] = [0, 0x10, 0, 0, 0, 0, 0, 0, 0, 0x30, 0, 0, 0, 0, 0, 0];
+
+const BASES: Bases = Bases {
+    str_offsets: None,
+    addr: Some(0),
+    rnglists: Some(0),
+    low: LOW,
+};
+
+const NO_BASES: Bases = Bases {
+    str_offsets: None,
+    addr: None,
+    rnglists: None,
+    low: LOW,
+};
+
+// Sections whose lists of ranges and pairs are these bytes.
+fn sections(lists: &[u8]) -> Sections<'_>
+    requires { length lists.now ≤ input_limit }
+{
+    Sections {
+        info: &[],
+        abbrev: &[],
+        str: &[],
+        line_str: &[],
+        str_offsets: &[],
+        addr: &ADDRESSES,
+        rnglists: lists,
+        ranges: lists,
+    }
+}
 
 fn fault(kind: FaultKind) -> Result<Option<u64>, Fault> {
     Err(Fault { kind, at: ENTRY })
@@ -87,26 +122,14 @@ fn each_list_begins_where_its_first_range_does(rt: HostRuntime) {
         pairs(&[0; 16], Ok(None)),
     ];
     for row in &rows {
-        let found = first_address(
-            row.list,
-            row.bytes,
-            Some(0),
-            row.bytes,
-            &ADDRESSES,
-            Some(0),
-            LOW,
-            ENTRY,
-        );
+        assert!(rt; row.bytes.len() <= INPUT_LIMIT);
+        let found = first_address(row.list, &BASES, &sections(row.bytes), ENTRY);
         assert_eq!(rt; found, row.want, "at {:?} of {:?}", row.list, row.bytes);
     }
     let without_bases = first_address(
         ListAt::Index(0),
-        &[4, 0, 0, 0, 0],
-        None,
-        &[],
-        &[],
-        None,
-        LOW,
+        &NO_BASES,
+        &sections(&[4, 0, 0, 0, 0]),
         ENTRY,
     );
     assert_eq!(rt; without_bases, fault(FaultKind::Index));
