@@ -2,7 +2,9 @@
 use Rattle.std.proofs.Common.{◌≡◌, ◌<◌, ◌≤◌, ◌+◌, ℕ, zero, suc, Bool, true, false, List, [], ◌∷◌, ◌++◌, map, Option, Some, None, refl, sym, ◌∙◌, ap, subst, arith, ◌⊎◌, inl, inr}
 use Rattle.std.specs.Prelude.{Contains, IfSome, zip, flat_map, ◌||◌}
 use Rattle.std.specs.List.{list_any}
+use Rattle.std.proofs.lemmas.List.{append-nil}
 use Rattle.std.proofs.lemmas.List.Elements.{Contains-append_cases}
+use Rattle.abi_types.specs.Types.{PlainLabel}
 use Rattle.abi_base.proofs.StepLemmas.{bool_cases}
 use Rattle.abi_base.specs.Limits.{depth_limit}
 use Rattle.dw_tree.specs.Trees.{PlainTree}
@@ -15,14 +17,14 @@ use Rattle.type_entries.specs.declared.role.Role.TheVariants as role
 use Rattle.type_entries.specs.References.{Type_, role_of, type_of, parts_of, members_for, members_of, steps_of}
 use Rattle.type_entries.specs.ByValue.{steps_from, StepsOn, IsTooDeep, IsClosed}
 use Rattle.type_entries.specs.Facts.{members_with, member_beyond, own_span, span_for, span_beyond, beyond_for, facts_of}
-use Rattle.type_entries.specs.Flat.{Flat, moved, declared_bit, given_by, given, flat_for, flat_of}
-use Rattle.type_entries.specs.Cores.{IsFound, IsLower}
+use Rattle.type_entries.specs.Flat.{Flat, own_label, passed_labels, labels_of, moved, declared_bit, given_by, given, flat_for, flat_of, member_gives}
+use Rattle.type_entries.specs.Cores.{StandsForNone, IsFound, IsLower}
 use Rattle.type_entries.proofs.GrowLemmas.{in_front, first_of_all, behind_first, not_in_none}
 use Rattle.type_entries.proofs.ByValueLemmas.{StepsOn-none, StepsOn-more}
 use Rattle.type_entries.proofs.WalkLemmas.{from_map, Contains-map}
 use Rattle.type_entries.proofs.FactLemmas.{rank_of, rank-falls, shallow-step}
-use Rattle.type_entries.proofs.StepLemmas.{aggregate-steps, members-beside}
-use Rattle.type_entries.proofs.CoreLemmas.{flat_of-is, void_shallow, passed-flat, passed-step, step_found}
+use Rattle.type_entries.proofs.StepLemmas.{passed-steps, aggregate-steps, members-beside}
+use Rattle.type_entries.proofs.CoreLemmas.{flat_of-is, labels_of-is, void_shallow, passed-flat, passed-step, step_found}
 
 -- ---- the roles of cores
 
@@ -43,10 +45,6 @@ passed_or_last role.Base = inr (record { flat = λ d e x. refl; span = λ d e x.
 passed_or_last role.Unknown = inr (record { flat = λ d e x. refl; span = λ d e x. refl; beyond = λ d e x. refl })
 
 -- ---- members, one after the other
-
--- what a member gives
-abbrev pub member_gives : PlainDwarf → ℕ → List Flat
-member_gives d m = given d (m, flat_of d (type_of d.tree m))
 
 flat_map-map : {X Y Z : Type 0} (g : Y → List Z) (f : X → Y) (xs : List X) → flat_map g (map f xs) ≡ flat_map (λ x. g (f x)) xs
 flat_map-map g f [] = refl
@@ -122,3 +120,36 @@ module _ (d : PlainDwarf) (found : List ℕ) (closed : IsClosed d.tree found) wh
 
   pub flat-lower : (r : Type_) → (IsTooDeep d.tree r → ⊥) → IsFound found r → (m : Flat) → Contains (flat_of d r) m → IsLower d found r m
   flat-lower r shallow there = lower-within (depth_limit + 1) r shallow shallow there
+
+-- ---- by what stands for none
+
+pub members-of-last : (d : PlainDwarf) (e : ℕ) → (IsTooDeep d.tree (Some e) → ⊥) → StandsForNone d e → flat_of d (Some e) ≡ flat_map (member_gives d) (members_of d.tree e)
+members-of-last d e shallow last = elim (passed_or_last (role_of d.tree e)) [ inl passed ↦ absurd (last passed) | inr is ↦ members-flat d e shallow is ]
+
+-- ---- labels
+
+pub labels-void : (d : PlainDwarf) → labels_of d None ≡ []
+labels-void d = labels_of-is d None (void_shallow d.tree)
+
+pub labels-passed : (d : PlainDwarf) (e : ℕ) → (IsTooDeep d.tree (Some e) → ⊥) → role_of d.tree e ≡ role.Passed → labels_of d (Some e) ≡ own_label d e ++ labels_of d (type_of d.tree e)
+labels-passed d e shallow passed =
+    labels_of-is d (Some e) shallow
+    ∙ ap (λ k. own_label d e ++ passed_labels k (map (labels_of d) (steps_of d.tree e))) passed
+    ∙ ap (λ ss. own_label d e ++ passed_labels role.Passed (map (labels_of d) ss)) (passed-steps d.tree e passed)
+
+no-labels : (k : Role) (labels : List (List PlainLabel)) → (k ≡ role.Passed → ⊥) → passed_labels k labels ≡ []
+no-labels role.Passed labels last = absurd (last refl)
+no-labels role.Aggregate labels last = refl
+no-labels role.Function labels last = refl
+no-labels role.Part labels last = refl
+no-labels role.Pointer labels last = refl
+no-labels role.Array labels last = refl
+no-labels role.Enumeration labels last = refl
+no-labels role.Base labels last = refl
+no-labels role.Unknown labels last = refl
+
+pub labels-last : (d : PlainDwarf) (e : ℕ) → (IsTooDeep d.tree (Some e) → ⊥) → StandsForNone d e → labels_of d (Some e) ≡ own_label d e
+labels-last d e shallow last =
+    labels_of-is d (Some e) shallow
+    ∙ ap (λ ls. own_label d e ++ ls) (no-labels (role_of d.tree e) (map (labels_of d) (steps_of d.tree e)) last)
+    ∙ append-nil (own_label d e)

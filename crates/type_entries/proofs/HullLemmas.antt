@@ -18,7 +18,7 @@ use Rattle.type_entries.specs.References.{Type_, role_of, type_of, members_of, s
 use Rattle.type_entries.specs.ByValue.{StepsOn, IsTooDeep}
 use Rattle.type_entries.specs.Placement.{is_beyond, is_nameless}
 use Rattle.type_entries.specs.Facts.{facts_from, facts_of, moved_span, joined, spread, bit_span, member_span, own_span, span_beyond, member_beyond}
-use Rattle.type_entries.specs.Flat.{Flat, moved, declared_bit, given_by, given, core_of, flat_of}
+use Rattle.type_entries.specs.Flat.{Flat, moved, declared_bit, given_by, given, core_of, flat_of, member_gives}
 use Rattle.type_entries.specs.Cores.{IsCore}
 use Rattle.type_entries.specs.Sizes.{begins_beyond, has_member_beyond}
 use Rattle.type_entries.proofs.GrowLemmas.{in_front, first_of_all, behind_first, not_in_none}
@@ -27,7 +27,7 @@ use Rattle.type_entries.proofs.WalkLemmas.{from_map, Contains-map}
 use Rattle.type_entries.proofs.FactLemmas.{facts_of-is, facts_of-void, shallow-step}
 use Rattle.type_entries.proofs.StepLemmas.{members-beside}
 use Rattle.type_entries.proofs.CoreLemmas.{void_shallow, passed-step, passed-shares, passed-flat, core-is}
-use Rattle.type_entries.proofs.FlatLemmas.{IsLast, passed_or_last, member_gives, members-flat, member-step, flat-void}
+use Rattle.type_entries.proofs.FlatLemmas.{IsLast, passed_or_last, members-flat, member-step, flat-void}
 
 -- no member begins before the low end or after the high one, and some member begins at each
 record IsHullOf (s : Span) (xs : List Flat) : Type 0 where

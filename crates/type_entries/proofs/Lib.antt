@@ -1,5 +1,4 @@
 mod ByValueLemmas
-mod ChildLemmas
 mod FirstLemmas
 mod FactLemmas
 mod FlatLemmas

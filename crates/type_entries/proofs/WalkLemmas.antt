@@ -1,6 +1,6 @@
 -- The walk finds exactly what is reached.
-use Rattle.std.proofs.Common.{◌≡◌, ◌<◌, ◌≤◌, ◌+◌, ℕ, zero, suc, Bool, true, false, cond, List, [], ◌∷◌, ◌++◌, length, map, get_or, slice_get, Some, refl, sym, ◌∙◌, ap, subst, arith, inl, inr}
-use Rattle.std.specs.Prelude.{Contains, nat_eq}
+use Rattle.std.proofs.Common.{◌≡◌, ◌<◌, ◌≤◌, ◌+◌, ℕ, zero, suc, Bool, true, false, cond, List, [], ◌∷◌, ◌++◌, length, map, get_or, slice_get, Some, None, refl, sym, ◌∙◌, ap, subst, arith, inl, inr}
+use Rattle.std.specs.Prelude.{All, Contains, nat_eq}
 use Rattle.std.specs.List.{IsDistinct}
 use Rattle.std.proofs.lemmas.Bool.{cases_order, cases_lt, eqb-true}
 use Rattle.std.proofs.lemmas.List.{length-append}
@@ -9,7 +9,7 @@ use Rattle.std.proofs.lemmas.Map.Steps.{length-le_from_distinct_below}
 use Rattle.std.proofs.lemmas.Map.Views.{Contains-from_any}
 use Rattle.std.proofs.lemmas.Option.{same_Some, slice_get_within, get_or_from_slice_get}
 use Rattle.dw_tree.specs.Trees.{PlainTree}
-use Rattle.type_entries.specs.References.{types_of, own_types, type_of, parts_of, has_type, role_of}
+use Rattle.type_entries.specs.References.{Type_, types_of, own_types, type_of, parts_of, has_type, role_of}
 use Rattle.type_entries.specs.Reached.{Leads, IsWalk}
 use Rattle.type_entries.specs.ByValue.{IsClosed}
 use Rattle.type_entries.proofs.GrowLemmas.{Grew, in_front, first_of_all, behind_first, not_in_none}
@@ -78,6 +78,12 @@ lead_inside t e f h =
       | inl own ↦ own_led t (has_type (role_of t e)) e f own
       | inr part ↦ let r = from_map (type_of t) (parts_of t e) (Some f) part in subst (Inside t) r.2 (type_inside t r.0)
     ]
+
+pub types-inside : (t : PlainTree) (e : ℕ) → All (Inside t) (types_of t e)
+types-inside t e k d lt = go (get_or (types_of t e) k d) (Contains-get_or (types_of t e) k d lt) where
+  go : (ty : Type_) → Contains (types_of t e) ty → Inside t ty
+  go None has = tt
+  go (Some f) has = lead_inside t e f has
 
 module _ (t : PlainTree) (roots : List ℕ) (inside : LeadInside t) where
   pub IsWalking-start : (found : List ℕ) → ((f : ℕ) → Contains roots f → f < length t.entries) → Grew [] (map (λ e. Some e) roots) found → IsWalking t roots found 0

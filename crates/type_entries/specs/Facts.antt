@@ -12,7 +12,7 @@ use Rattle.type_entries.specs.declared.facts.Facts.{Facts}
 use Rattle.type_entries.specs.declared.facts.Span.{Span}
 use Rattle.type_entries.specs.declared.role.Role.{Role}
 use Rattle.type_entries.specs.declared.role.Role.TheVariants as role
-use Rattle.type_entries.specs.Values.{natural_of, wrapped_of, number_at}
+use Rattle.type_entries.specs.Values.{natural_of, counted_to, number_at}
 use Rattle.type_entries.specs.References.{Type_, tagged_children, role_of, members_of}
 use Rattle.type_entries.specs.Placement.{bit_of, is_beyond, is_nameless, IsNear}
 use Rattle.type_entries.specs.ByValue.{by_value, IsTooDeep}
@@ -39,13 +39,13 @@ product (n ∷ ns) = cut (n * product ns)
 -- ---- how many elements an array has (DWARF 5, sections 5.5 "Array Type Entries" and 5.13 "Subrange Type Entries")
 
 abbrev pub count_by : Option ℕ → Option ℕ → ℕ
-count_by (Some count) upper_bound = count
-count_by None (Some upper_bound) = (upper_bound + 1) % (2 ^ 64)
+count_by (Some count) counted = count
+count_by None (Some counted) = counted
 count_by None None = 0
 
 -- its count, else one more than its upper bound, modulo 2^64; without either it is open and counts 0
 unfoldable pub subrange_count : PlainTree → ℕ → ℕ
-subrange_count t s = count_by (natural_of (attribute_along t s dw_at_count)) (wrapped_of (attribute_along t s dw_at_upper_bound))
+subrange_count t s = count_by (natural_of (attribute_along t s dw_at_count)) (counted_to (attribute_along t s dw_at_upper_bound))
 
 abbrev pub product_or_none : List ℕ → ℕ
 product_or_none [] = 0

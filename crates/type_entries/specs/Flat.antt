@@ -91,3 +91,7 @@ flat_made d (Some e) flats = flat_for (role_of d.tree e) d e flats
 -- the members of the core, in their order, each nameless structure or union replaced by its own
 unfoldable pub flat_of : PlainDwarf → Type_ → List Flat
 flat_of d r = by_value d.tree (flat_made d) [] r
+
+-- what a member gives, with the flat members of its type
+abbrev pub member_gives : PlainDwarf → ℕ → List Flat
+member_gives d m = given d (m, flat_of d (type_of d.tree m))

@@ -10,5 +10,6 @@ pub mod ReachedList
 pub mod References
 pub mod Shapes
 pub mod Sizes
+pub mod TypeLaws
 pub mod Values
 pub mod Views

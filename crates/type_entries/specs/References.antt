@@ -4,7 +4,7 @@ use Rattle.std.specs.Option.{option_map_or}
 use Rattle.abi_base.specs.Dwarf.{dw_tag_array_type, dw_tag_enumeration_type, dw_tag_formal_parameter, dw_tag_member, dw_tag_pointer_type, dw_tag_structure_type, dw_tag_subroutine_type, dw_tag_typedef, dw_tag_union_type, dw_tag_base_type, dw_tag_const_type, dw_tag_subprogram, dw_tag_variable, dw_tag_volatile_type, dw_tag_restrict_type, dw_tag_atomic_type, dw_at_type, dw_at_signature}
 use Rattle.dw_forms.specs.declared.values.Value.{Value}
 use Rattle.dw_forms.specs.declared.values.Value.TheVariants as value
-use Rattle.dw_tree.specs.Trees.{PlainTree, children_of}
+use Rattle.dw_tree.specs.Trees.{PlainTree, children_of, is_tagged}
 use Rattle.dw_entries.specs.Addresses.{tag_at, is_declared_only}
 use Rattle.dw_entries.specs.Chains.{target_of, attribute_along, origin_of}
 use Rattle.type_entries.specs.declared.role.Role.{Role}
@@ -72,9 +72,6 @@ unfoldable pub role_of : PlainTree → ℕ → Role
 role_of t e = if is_signed t e then role.Passed else tag_role (tag_at t e)
 
 -- ---- parts
-
-abbrev pub is_tagged : PlainTree → ℕ → ℕ → Bool
-is_tagged t tag c = tag_at t c == tag
 
 -- the children of an entry that have a tag, in their order
 unfoldable pub tagged_children : PlainTree → ℕ → ℕ → List ℕ

@@ -1,6 +1,6 @@
 -- What the shape of an entry must be for it to be read as a type.
 use Rattle.std.specs.Prelude.{ℕ, ◌==◌, ◌&&◌, ◌||◌, not, Bool, true, false, is_none, is_some, List, [], ◌∷◌, Option, Some, None, if◌then◌else◌}
-use Rattle.std.specs.List.{list_any}
+use Rattle.std.specs.List.{list_any, list_all}
 use Rattle.abi_base.specs.Dwarf.{dw_tag_array_type, dw_tag_enumeration_type, dw_tag_enumerator, dw_tag_pointer_type, dw_tag_structure_type, dw_tag_subroutine_type, dw_tag_typedef, dw_tag_union_type, dw_tag_base_type, dw_tag_const_type, dw_tag_volatile_type, dw_tag_restrict_type, dw_tag_atomic_type, dw_at_byte_size, dw_at_bit_offset, dw_at_bit_size, dw_at_const_value, dw_at_data_member_location, dw_at_encoding, dw_at_data_bit_offset, dw_at_alignment}
 use Rattle.dw_forms.specs.declared.values.Value.{Value}
 use Rattle.dw_tree.specs.Trees.{PlainTree}
@@ -114,12 +114,12 @@ abbrev pub has_shape_for : Role → PlainDwarf → ℕ → Bool
 has_shape_for role.Base d e = has_size d.tree e && is_some (encoding_group d.tree e)
 has_shape_for role.Pointer d e = has_pointer_size d.tree e
 has_shape_for role.Enumeration d e =
-    has_size_unless_declared d.tree e && not (list_any (λ c. not (is_good_enumerator d.tree c)) (tagged_children d.tree e dw_tag_enumerator))
-has_shape_for role.Aggregate d e = has_size_unless_declared d.tree e && not (list_any (λ m. not (is_good_member d m)) (parts_of d.tree e))
+    has_size_unless_declared d.tree e && list_all (is_good_enumerator d.tree) (tagged_children d.tree e dw_tag_enumerator)
+has_shape_for role.Aggregate d e = has_size_unless_declared d.tree e && list_all (is_good_member d) (parts_of d.tree e)
 has_shape_for _ d e = true
 
 -- All types that it leads to are types, what it says as one of its role can be read, and so can its alignment.
 unfoldable pub has_shape : PlainDwarf → ℕ → Bool
 has_shape d e =
-    not (list_any (λ r. not (is_type d.tree r)) (types_of d.tree e))
+    list_all (is_type d.tree) (types_of d.tree e)
     && (has_shape_for (role_of d.tree e) d e && is_natural_small d.tree e dw_at_alignment)

@@ -4,9 +4,10 @@ use Rattle.std.specs.Option.{unwrap_or}
 use Rattle.std.specs.Str.{bytes_eq}
 use Rattle.abi_base.specs.Dwarf.{dw_tag_enumerator, dw_tag_unspecified_parameters, dw_tag_structure_type, dw_at_const_value, dw_at_gnu_vector}
 use Rattle.dw_tree.specs.Trees.{PlainTree, entry_at}
-use Rattle.dw_entries.specs.Addresses.{tag_at, is_declared_only, is_true}
+use Rattle.dw_entries.specs.Addresses.{tag_at, is_declared_only}
 use Rattle.dw_entries.specs.Chains.{attribute_along, name_of}
 use Rattle.dw_entries.specs.Debug.{PlainDwarf}
+use Rattle.dw_entries.specs.Said.{flag_along}
 use Rattle.abi_types.specs.declared.kind.Kind.{Kind}
 use Rattle.abi_types.specs.declared.kind.Kind.TheVariants as kind
 use Rattle.abi_types.specs.declared.kind.Group.{Group}
@@ -31,7 +32,7 @@ offset_of t (Some e) = (entry_at t e).offset
 
 -- a vector of the machine says so by a flag of GNU's
 unfoldable pub is_vector : PlainTree → ℕ → Bool
-is_vector t e = is_true (attribute_along t e dw_at_gnu_vector)
+is_vector t e = flag_along t e dw_at_gnu_vector
 
 abbrev pub kind_for : Role → PlainTree → ℕ → Kind
 kind_for role.Aggregate t c = if tag_at t c == dw_tag_structure_type then kind.Structure else kind.Union

@@ -2,8 +2,7 @@
 ghost use Rattle.std.specs.Prelude.{◌≡◌, ◌<◌, length, map, All, IfOk};
 ghost use Rattle.type_entries.specs.Facts.{subrange_count as the_subrange_count, product as the_product, array_count as the_array_count};
 
-use crate::asking::{attr, tagged};
-use crate::values::{natural_of, wrapped_of};
+use crate::values::{counted_to, natural_of};
 use abi_base::NoMemory;
 use abi_base::dwarf::{DW_AT_count, DW_AT_upper_bound, DW_TAG_subrange_type};
 use dw_entries::Dwarf;
@@ -15,12 +14,9 @@ fn subrange_count(dwarf: &Dwarf, subrange: usize) -> u64
     requires { subrange < length dwarf.now.tree.entries }
     ensures { result ≡ the_subrange_count dwarf.now.tree subrange }
 {
-    match natural_of(attr(dwarf, subrange, DW_AT_count)) {
+    match natural_of(dwarf.attr(subrange, DW_AT_count)) {
         Some(count) => count,
-        None => match wrapped_of(attr(dwarf, subrange, DW_AT_upper_bound)) {
-            Some(upper_bound) => upper_bound.wrapping_add(1),
-            None => 0,
-        },
+        None => counted_to(dwarf.attr(subrange, DW_AT_upper_bound)).unwrap_or(0),
     }
 }
 
@@ -40,12 +36,12 @@ fn product(dwarf: &Dwarf, subranges: &[usize]) -> u64
 }
 
 /// How many elements an array has, at most 2^64 - 1; without a dimension it has none.
-#[tactic(auto, unfolding(crate::specs::Facts::array_count))]
+#[tactic(auto, unfolding(crate::specs::Facts::array_count, crate::specs::References::tagged_children))]
 pub(crate) fn array_count(alloc: Global, dwarf: &Dwarf, e: usize) -> Result<u64, NoMemory>
     requires { e < length dwarf.now.tree.entries }
     ensures { IfOk result (λ count. count ≡ the_array_count dwarf.now.tree e) }
 {
-    let subranges = tagged(alloc, dwarf, e, DW_TAG_subrange_type)?;
+    let subranges = dwarf.tagged(alloc, e, DW_TAG_subrange_type)?;
     if subranges.is_empty() {
         return Ok(0);
     }

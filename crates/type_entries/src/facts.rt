@@ -8,7 +8,6 @@ ghost use Rattle.type_entries.specs.Facts.{above as the_above, total as the_tota
 use crate::arrays::array_count;
 use crate::constants::{ALIGN_ROOM, POINTER_SIZE};
 use crate::held::{any_beyond, greatest_align, own_align, span_beyond, spread};
-use crate::asking::is_declaration;
 use crate::references::members_among;
 use crate::role::{Role, role_of};
 use crate::values::number_at;
@@ -139,7 +138,7 @@ fn own_size(dwarf: &Dwarf, e: usize) -> u64
     requires { e < length dwarf.now.tree.entries }
     ensures { result ≡ the_own_size dwarf.now.tree e }
 {
-    if is_declaration(dwarf, e) {
+    if dwarf.is_declaration(e) {
         0
     } else {
         number_at(dwarf, e, DW_AT_byte_size)
@@ -165,7 +164,13 @@ fn size(dwarf: &Dwarf, e: usize, role: Role, facts: &[Facts], count: u64) -> u64
 }
 
 // How many elements the core has.
-fn count(alloc: Global, dwarf: &Dwarf, e: usize, role: Role, facts: &[Facts]) -> Result<u64, NoMemory>
+fn count(
+    alloc: Global,
+    dwarf: &Dwarf,
+    e: usize,
+    role: Role,
+    facts: &[Facts],
+) -> Result<u64, NoMemory>
     requires { e < length dwarf.now.tree.entries }
     ensures { IfOk result (λ count. count ≡ count_for role dwarf.now.tree e facts.now) }
 {

@@ -1,5 +1,5 @@
 // Entries that were found, numbered in the order in which they were.
-ghost use Rattle.std.specs.Prelude.{◌≡◌, ◌<◌, [], length, nat_eq, slice_get, Some, OnOk, IfSome};
+ghost use Rattle.std.specs.Prelude.{◌≡◌, ◌<◌, [], length, nat_eq, slice_get, Contains, Some, OnOk, IfSome, IfNone};
 ghost use Rattle.std.specs.List.{IsDistinct};
 ghost use Rattle.std.specs.Prelude.{position};
 ghost use Rattle.type_entries.specs.Reached.{with_entry, with_type};
@@ -53,12 +53,22 @@ impl Found {
         }
     }
 
-    /// The number of an entry.
-    pub fn number(&self, e: usize) -> Option<usize>
-        ensures number { result ≡ position (nat_eq e) self.now }
+    // Where an entry stands.
+    fn place(&self, e: usize) -> Option<usize>
+        ensures place { result ≡ position (nat_eq e) self.now }
         ensures inside { IfSome result (λ i. i < length self.now) }
     {
         self.entries.get_index_of(&e)
+    }
+
+    /// The number of an entry. None exactly where it was not found.
+    pub fn number(&self, e: usize) -> Option<usize>
+        ensures number { result ≡ position (nat_eq e) self.now }
+        ensures inside { IfSome result (λ i. i < length self.now) }
+        ensures at { IfSome result (λ i. slice_get self.now i ≡ Some e) }
+        ensures none { IfNone result (Contains self.now e → ⊥) }
+    {
+        self.place(e)
     }
 
     /// No entry stands twice.

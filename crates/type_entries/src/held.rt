@@ -16,7 +16,11 @@ fn is_replaced(dwarf: &Dwarf, m: usize, of_type: &Facts) -> bool
     requires { m < length dwarf.now.tree.entries }
     ensures { result ≡ the_member_is_replaced dwarf.now (m, of_type.now) }
 {
-    if is_nameless(dwarf, m) { of_type.aggregate } else { false }
+    if is_nameless(dwarf, m) {
+        of_type.aggregate
+    } else {
+        false
+    }
 }
 
 // The explicit alignment that an entry says itself.
@@ -128,7 +132,12 @@ fn member_span(dwarf: &Dwarf, m: usize, of_type: &Facts) -> Option<Span>
 }
 
 // Where members begin, or those that replace them.
-pub(crate) fn spread(dwarf: &Dwarf, members: &[usize], of_types: &[Facts], rank: u32) -> Option<Span>
+pub(crate) fn spread(
+    dwarf: &Dwarf,
+    members: &[usize],
+    of_types: &[Facts],
+    rank: u32,
+) -> Option<Span>
     requires inside { All (λ m. m < length dwarf.now.tree.entries) members.now }
     requires near { All IsSpanNear of_types.now }
     requires ranks { All (λ x. x.rank < rank) of_types.now }

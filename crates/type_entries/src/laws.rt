@@ -14,6 +14,7 @@ ghost use Rattle.type_entries.specs.Cores.{IsCore, IsFound, IsLower};
 ghost use Rattle.abi_types.specs.Graphs.{size_limit};
 ghost use Rattle.type_entries.specs.declared.role.Role.TheVariants as role;
 ghost use Rattle.type_entries.specs.Sizes.{begins_beyond, has_member_beyond};
+ghost use Rattle.type_entries.specs.TypeLaws.{TypeLaws};
 ghost use Rattle.type_entries.specs.Faults.{steps_on};
 
 /// What an entry leads to is reached where the entry is.
@@ -80,4 +81,9 @@ pub fn arrays_are_whole()
 /// The facts of a type say exactly whether a member of its core, as it stands or as a flat member, begins out of range.
 pub fn facts_tell_bits_beyond()
     ensures { (d : PlainDwarf) (r : Type_) → (IsTooDeep d.tree r → ⊥) → (facts_of d r).beyond ≡ (has_member_beyond d (core_of d r) || list_any begins_beyond (flat_of d r)) }
+{}
+
+/// All laws of types in one.
+pub fn laws_of_types()
+    ensures { (d : PlainDwarf) → TypeLaws d }
 {}

@@ -153,3 +153,19 @@ pub fn learn_all(alloc: Global, dwarf: &Dwarf, found: &Found) -> Result<Vec<Fact
     }
     Ok(collect(alloc, dwarf, found, &mut known)?)
 }
+
+/// The facts of a type that was found, of those of all that was.
+pub fn facts_at(dwarf: &Dwarf, found: &Found, facts: &[Facts], ty: Option<usize>) -> Facts
+    requires facts { AreAllFacts dwarf.now found.now facts.now }
+    requires there { IfSome ty (λ e. Contains found.now e) }
+    ensures { result ≡ facts_of dwarf.now ty }
+{
+    let e = match ty {
+        None => return VOID,
+        Some(e) => e,
+    };
+    match found.number(e) {
+        Some(number) => facts[number],
+        None => unreachable!(),
+    }
+}

@@ -3,7 +3,6 @@
 #![tactic(auto)]
 
 mod arrays;
-mod asking;
 pub mod constants;
 mod facts;
 mod found;
@@ -18,8 +17,12 @@ mod walking;
 
 pub use facts::{Facts, Span, VOID};
 pub use found::Found;
-pub use learning::{in_order, learn_all};
+pub use learning::{facts_at, in_order, learn_all};
 pub use placement::{bit_of, is_beyond, is_nameless, width_of};
 pub use references::{body_of, members_among, parts_of, steps_of, type_of, types_of};
 pub use role::{Role, is_signed, role_of};
+pub use values::{counted_to, is_there, natural_of, number_at, place_of, wrapped_of};
 pub use walking::walk;
+
+#[cfg(test)]
+mod tests;

@@ -2,7 +2,6 @@
 ghost use Rattle.std.specs.Prelude.{◌≡◌, ◌<◌, length};
 ghost use Rattle.type_entries.specs.Placement.{byte_of as the_byte_of, storage_of as the_storage_of, width_of as the_width_of, bit_of as the_bit_of, is_beyond as the_bit_is_beyond, is_nameless as the_member_is_nameless, IsNear};
 
-use crate::asking::attr;
 use crate::constants::BIT_LIMIT;
 use crate::values::{is_there, number_at, place_of};
 use abi_base::dwarf::{
@@ -17,7 +16,7 @@ fn byte_of(dwarf: &Dwarf, m: usize) -> u64
     requires { m < length dwarf.now.tree.entries }
     ensures { result ≡ the_byte_of dwarf.now m }
 {
-    place_of(dwarf.info(), attr(dwarf, m, DW_AT_data_member_location)).unwrap_or(0)
+    place_of(dwarf, dwarf.attr(m, DW_AT_data_member_location)).unwrap_or(0)
 }
 
 // The size of what a bit field is stored in, where its type has a size.
@@ -55,7 +54,8 @@ pub fn bit_of(dwarf: &Dwarf, m: usize, size: u64) -> i128
     let bit = 8 * i128::from(byte_of(dwarf, m));
     if is_there(dwarf, m, DW_AT_bit_offset) {
         let end = bit + 8 * i128::from(storage_of(dwarf, m, size));
-        let behind = i128::from(number_at(dwarf, m, DW_AT_bit_offset)) + i128::from(width_of(dwarf, m));
+        let behind = i128::from(number_at(dwarf, m, DW_AT_bit_offset))
+            + i128::from(width_of(dwarf, m));
         end - behind
     } else {
         bit

@@ -2,7 +2,6 @@
 ghost use Rattle.std.specs.Prelude.{◌≡◌, ◌<◌, ◌++◌, length, map, All, IfOk, OnOk, IfSome};
 ghost use Rattle.type_entries.specs.References.{type_of as the_type_of, body_of as the_body_of, parts_of as the_parts_of, members_of as the_members_of, has_type as the_role_has_a_type, holds_none as the_role_holds_none, own_types, types_of as the_types_of, steps_of as the_steps_of};
 
-use crate::asking::{attr, is_declaration, tagged, target};
 use crate::role::{Role, is_signed, role_of};
 use abi_base::NoMemory;
 use abi_base::dwarf::{
@@ -23,8 +22,8 @@ pub fn type_of(dwarf: &Dwarf, e: usize) -> Option<usize>
     } else {
         DW_AT_type
     };
-    match attr(dwarf, e, name) {
-        Some(value) => target(dwarf, &value),
+    match dwarf.attr(e, name) {
+        Some(value) => dwarf.target(&value),
         None => None,
     }
 }
@@ -44,15 +43,15 @@ pub fn body_of(dwarf: &Dwarf, e: usize) -> usize
 }
 
 /// The members of a structure or a union, those of a declaration too, or the parameters of a function, in their order.
-#[tactic(auto, unfolding(crate::specs::References::parts_of))]
+#[tactic(auto, unfolding(crate::specs::References::parts_of, crate::specs::References::tagged_children))]
 pub fn parts_of(alloc: Global, dwarf: &Dwarf, e: usize) -> Result<Vec<usize>, NoMemory>
     requires { e < length dwarf.now.tree.entries }
     ensures parts { IfOk result (λ list. list.items ≡ the_parts_of dwarf.now.tree e) }
     ensures inside { IfOk result (λ list. All (λ c. c < length dwarf.now.tree.entries) list.items) }
 {
     match role_of(dwarf, e) {
-        Role::Aggregate => tagged(alloc, dwarf, e, DW_TAG_member),
-        Role::Function => tagged(alloc, dwarf, body_of(dwarf, e), DW_TAG_formal_parameter),
+        Role::Aggregate => dwarf.tagged(alloc, e, DW_TAG_member),
+        Role::Function => dwarf.tagged(alloc, body_of(dwarf, e), DW_TAG_formal_parameter),
         _ => Ok(Vec::new(alloc)),
     }
 }
@@ -67,13 +66,7 @@ pub fn members_among<'p>(dwarf: &Dwarf, e: usize, parts: &'p [usize]) -> &'p [us
     ensures inside { All (λ c. c < length dwarf.now.tree.entries) result.now }
 {
     match role_of(dwarf, e) {
-        Role::Aggregate => {
-            if is_declaration(dwarf, e) {
-                &[]
-            } else {
-                parts
-            }
-        }
+        Role::Aggregate => { if dwarf.is_declaration(e) { &[] } else { parts } }
         _ => &[],
     }
 }
@@ -107,9 +100,9 @@ fn push_own(dwarf: &Dwarf, types: &mut Vec<Option<usize>>, e: usize) -> Result<(
     Ok(())
 }
 
-/// The types to which an entry leads: its own, and those of its parts.
+// The types to which an entry leads, one after the other.
 #[tactic(auto, unfolding(crate::specs::References::types_of))]
-pub fn types_of(
+fn all_types(
     alloc: Global,
     dwarf: &Dwarf,
     e: usize,
@@ -125,6 +118,23 @@ pub fn types_of(
     'parts: for k in 0..parts.len() {
         types.push(type_of(dwarf, parts[k]))?;
     }
+    Ok(types)
+}
+
+/// The types to which an entry leads: its own, and those of its parts.
+pub fn types_of(
+    alloc: Global,
+    dwarf: &Dwarf,
+    e: usize,
+    parts: &[usize],
+) -> Result<Vec<Option<usize>>, NoMemory>
+    requires inside { e < length dwarf.now.tree.entries }
+    requires parts { parts.now ≡ the_parts_of dwarf.now.tree e }
+    requires parts_inside { All (λ c. c < length dwarf.now.tree.entries) parts.now }
+    ensures types { IfOk result (λ types. types.items ≡ the_types_of dwarf.now.tree e) }
+    ensures inside { IfOk result (λ types. All (λ ty. IfSome ty (λ f. f < length dwarf.now.tree.entries)) types.items) }
+{
+    let types = all_types(alloc, dwarf, e, parts)?;
     Ok(types)
 }
 

@@ -2,7 +2,6 @@
 ghost use Rattle.std.specs.Prelude.{◌≡◌, ◌<◌, length};
 ghost use Rattle.type_entries.specs.References.{may_be_signed as the_type_may_be_signed, is_signature as the_value_is_a_signature, is_signed as the_entry_is_signed, is_passed_tag as the_tag_is_passed, is_aggregate_tag as the_tag_is_of_an_aggregate, is_function_tag as the_tag_is_of_a_function, is_part_tag as the_tag_is_of_a_part, tag_role as the_tag_role, role_of as the_role_of};
 
-use crate::asking::attr;
 use abi_base::dwarf::{
     DW_AT_signature, DW_TAG_array_type, DW_TAG_atomic_type, DW_TAG_base_type, DW_TAG_const_type,
     DW_TAG_enumeration_type, DW_TAG_formal_parameter, DW_TAG_member, DW_TAG_pointer_type,
@@ -39,7 +38,10 @@ pub enum Role {
 fn may_be_signed(tag: u64) -> bool
     ensures { result ≡ the_type_may_be_signed tag }
 {
-    matches!(tag, DW_TAG_structure_type | DW_TAG_union_type | DW_TAG_enumeration_type)
+    matches!(
+        tag,
+        DW_TAG_structure_type | DW_TAG_union_type | DW_TAG_enumeration_type
+    )
 }
 
 #[tactic(auto, unfolding(crate::specs::References::is_passed_tag))]
@@ -119,7 +121,7 @@ pub fn is_signed(dwarf: &Dwarf, e: usize) -> bool
     ensures { result ≡ the_entry_is_signed dwarf.now.tree e }
 {
     if may_be_signed(dwarf.tag(e)) {
-        is_signature(attr(dwarf, e, DW_AT_signature))
+        is_signature(dwarf.attr(e, DW_AT_signature))
     } else {
         false
     }

@@ -6,7 +6,7 @@ use Rattle.type_entries.proofs.GrowLemmas.{with_types-next, with_types-past}
 use Rattle.type_entries.proofs.walking.expand.Goals as goal
 
 pub types-init : goal.types-init
-types-init c = ap (with_types c.args.found.now) c.in_ok-types.ensures
+types-init c = ap (with_types c.args.found.now) c.in_ok-types.ensures.types
 
 pub types-preserved : goal.types-preserved
 types-preserved c =
