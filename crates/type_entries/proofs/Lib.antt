@@ -1,0 +1,17 @@
+mod ByValueLemmas
+mod FirstLemmas
+mod FactLemmas
+mod FlatLemmas
+mod GrowLemmas
+mod HullLemmas
+mod LearnLemmas
+mod LoopLemmas
+mod NearLemmas
+mod OrderLemmas
+mod RankLemmas
+mod ReachedLemmas
+mod CoreLemmas
+mod ReferLemmas
+mod StepLemmas
+mod WalkLemmas
+mod ZipLemmas

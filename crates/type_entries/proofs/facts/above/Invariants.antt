@@ -1,0 +1,15 @@
+use Rattle.std.proofs.Common.{◌≡◌, ◌≤◌, ◌<◌, ℕ, map, drop, length, get_or}
+use Rattle.abi_base.specs.Limits.{depth_limit}
+use Rattle.type_entries.specs.declared.facts.Facts.{Facts}
+use Rattle.type_entries.specs.Facts.{above as the_above, rank_in, nothing}
+use Rattle.type_entries.proofs.facts.above.Given as goal
+
+abbrev pub invariant-down : goal.invariant-down
+invariant-down l = record {
+  is : l.most ≡ the_above (map rank_in (drop l.k l.facts));
+  bound : l.most ≤ depth_limit;
+  place : l.k ≤ length l.facts;
+}
+
+abbrev pub decreases-down : goal.decreases-down
+decreases-down l = l.k

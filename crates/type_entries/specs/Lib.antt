@@ -1,0 +1,15 @@
+pub mod ByValue
+pub mod Cores
+pub mod Facts
+pub mod Faults
+pub mod Flat
+pub mod Numbers
+pub mod Placement
+pub mod Reached
+pub mod ReachedList
+pub mod References
+pub mod Shapes
+pub mod Sizes
+pub mod TypeLaws
+pub mod Values
+pub mod Views

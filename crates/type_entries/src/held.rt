@@ -1,0 +1,193 @@
+// What the members of an aggregate come to, each beside the facts of its type.
+ghost use Rattle.std.specs.Prelude.{◌≡◌, ◌<◌, ◌≤◌, ◌+◌, length, map, zip, All, IfSome, ◌+ℤ◌};
+ghost use Rattle.std.specs.List.{list_any};
+ghost use Rattle.type_entries.specs.Placement.{IsNear};
+ghost use Rattle.type_entries.specs.Facts.{is_replaced as the_member_is_replaced, own_align as the_own_align, member_align as the_member_align, most as the_most, moved_span as the_moved_span, joined as the_joined, member_span as the_member_span, spread as the_spread, span_beyond as the_span_is_beyond, member_beyond as the_member_is_beyond, IsSpanNear};
+
+use crate::facts::{Facts, Span};
+use crate::placement::{bit_of, is_beyond, is_nameless};
+use crate::values::number_at;
+use abi_base::dwarf::DW_AT_alignment;
+use dw_entries::Dwarf;
+
+// Whether the members of its type replace a member.
+#[tactic(auto, unfolding(crate::specs::Facts::is_replaced))]
+fn is_replaced(dwarf: &Dwarf, m: usize, of_type: &Facts) -> bool
+    requires { m < length dwarf.now.tree.entries }
+    ensures { result ≡ the_member_is_replaced dwarf.now (m, of_type.now) }
+{
+    if is_nameless(dwarf, m) {
+        of_type.aggregate
+    } else {
+        false
+    }
+}
+
+// The explicit alignment that an entry says itself.
+#[tactic(auto, unfolding(crate::specs::Facts::own_align))]
+pub(crate) fn own_align(dwarf: &Dwarf, e: usize) -> u64
+    requires { e < length dwarf.now.tree.entries }
+    ensures { result ≡ the_own_align dwarf.now.tree e }
+{
+    number_at(dwarf, e, DW_AT_alignment)
+}
+
+// The explicit alignment that a member brings.
+#[tactic(auto, unfolding(crate::specs::Facts::member_align))]
+fn member_align(dwarf: &Dwarf, m: usize, of_type: &Facts) -> u64
+    requires { m < length dwarf.now.tree.entries }
+    ensures { result ≡ the_member_align dwarf.now (m, of_type.now) }
+{
+    if is_replaced(dwarf, m, of_type) {
+        own_align(dwarf, m).max(of_type.align)
+    } else {
+        own_align(dwarf, m)
+    }
+}
+
+// The greatest explicit alignment that members bring.
+pub(crate) fn greatest_align(dwarf: &Dwarf, members: &[usize], of_types: &[Facts]) -> u64
+    requires { All (λ m. m < length dwarf.now.tree.entries) members.now }
+    ensures { result ≡ the_most (map (the_member_align dwarf.now) (zip members.now of_types.now)) }
+{
+    let mut greatest: u64 = 0;
+    let mut k = members.len().min(of_types.len());
+    'down: while k > 0 {
+        k -= 1;
+        let m = members[k];
+        let of_type = of_types[k];
+        greatest = member_align(dwarf, m, &of_type).max(greatest);
+    }
+    greatest
+}
+
+// A bit so much later.
+fn later(by: i128, bit: i128, rank: u32) -> i128
+    requires by { IsNear 1 by }
+    requires bit { IsNear (rank + 1) bit }
+    requires rank { rank < 1000 }
+    ensures is { result ≡ by +ℤ bit }
+    ensures near { IsNear (rank + 2) result }
+{
+    by + bit
+}
+
+// Bits that begin so much later.
+fn moved_span(by: i128, span: Option<Span>, rank: u32) -> Option<Span>
+    requires by { IsNear 1 by }
+    requires low { IfSome span (λ s. IsNear (rank + 1) s.low) }
+    requires high { IfSome span (λ s. IsNear (rank + 1) s.high) }
+    requires rank { rank < 1000 }
+    ensures is { result ≡ the_moved_span by span }
+    ensures low { IfSome result (λ s. IsNear (rank + 2) s.low) }
+    ensures high { IfSome result (λ s. IsNear (rank + 2) s.high) }
+{
+    match span {
+        Some(span) => Some(Span {
+            low: later(by, span.low, rank),
+            high: later(by, span.high, rank),
+        }),
+        None => None,
+    }
+}
+
+// The bits of both.
+fn joined(a: Option<Span>, b: Option<Span>) -> Option<Span>
+    ensures { result ≡ the_joined a b }
+{
+    match a {
+        None => b,
+        Some(one) => match b {
+            None => Some(one),
+            Some(other) => Some(Span {
+                low: one.low.min(other.low),
+                high: one.high.max(other.high),
+            }),
+        },
+    }
+}
+
+// Where a member begins, or the members that replace it.
+#[tactic(auto, unfolding(crate::specs::Facts::member_span))]
+fn member_span(dwarf: &Dwarf, m: usize, of_type: &Facts) -> Option<Span>
+    requires inside { m < length dwarf.now.tree.entries }
+    requires near { IsSpanNear of_type.now }
+    requires rank { of_type.now.rank < 1000 }
+    ensures is { result ≡ the_member_span dwarf.now (m, of_type.now) }
+    ensures low { IfSome result (λ s. IsNear (of_type.now.rank + 2) s.low) }
+    ensures high { IfSome result (λ s. IsNear (of_type.now.rank + 2) s.high) }
+{
+    let bit = bit_of(dwarf, m, of_type.size);
+    if !is_nameless(dwarf, m) {
+        return Some(Span {
+            low: bit,
+            high: bit,
+        });
+    }
+    if of_type.aggregate {
+        moved_span(bit, of_type.span, of_type.rank)
+    } else {
+        None
+    }
+}
+
+// Where members begin, or those that replace them.
+pub(crate) fn spread(
+    dwarf: &Dwarf,
+    members: &[usize],
+    of_types: &[Facts],
+    rank: u32,
+) -> Option<Span>
+    requires inside { All (λ m. m < length dwarf.now.tree.entries) members.now }
+    requires near { All IsSpanNear of_types.now }
+    requires ranks { All (λ x. x.rank < rank) of_types.now }
+    requires rank { rank ≤ 1000 }
+    ensures is { result ≡ the_spread (map (the_member_span dwarf.now) (zip members.now of_types.now)) }
+    ensures low { IfSome result (λ s. IsNear (rank + 1) s.low) }
+    ensures high { IfSome result (λ s. IsNear (rank + 1) s.high) }
+{
+    let mut all = None;
+    let mut k = members.len().min(of_types.len());
+    'down: while k > 0 {
+        k -= 1;
+        let m = members[k];
+        let of_type = of_types[k];
+        all = joined(member_span(dwarf, m, &of_type), all);
+    }
+    all
+}
+
+// Whether bits are out of range.
+pub(crate) fn span_beyond(span: Option<Span>) -> bool
+    ensures { result ≡ the_span_is_beyond span }
+{
+    match span {
+        Some(span) => is_beyond(span.low) || is_beyond(span.high),
+        None => false,
+    }
+}
+
+// Whether a member begins out of range, as it stands.
+#[tactic(auto, unfolding(crate::specs::Facts::member_beyond))]
+fn member_beyond(dwarf: &Dwarf, m: usize, of_type: &Facts) -> bool
+    requires { m < length dwarf.now.tree.entries }
+    ensures { result ≡ the_member_is_beyond dwarf.now (m, of_type.now) }
+{
+    is_beyond(bit_of(dwarf, m, of_type.size))
+}
+
+// Whether a member begins out of range.
+pub(crate) fn any_beyond(dwarf: &Dwarf, members: &[usize], of_types: &[Facts]) -> bool
+    requires { All (λ m. m < length dwarf.now.tree.entries) members.now }
+    ensures { result ≡ list_any (the_member_is_beyond dwarf.now) (zip members.now of_types.now) }
+{
+    let mut any = false;
+    let mut k = members.len().min(of_types.len());
+    'down: while k > 0 {
+        k -= 1;
+        let m = members[k];
+        let of_type = of_types[k];
+        any = member_beyond(dwarf, m, &of_type) || any;
+    }
+    any
+}

@@ -1,0 +1,28 @@
+//! Debugging information entries as types: which are reached from functions and variables, and what is made of a type from
+//! the types that it holds by value. Contracts speak of entries by their positions in the plain tree, and of no graph.
+#![tactic(auto)]
+
+mod arrays;
+pub mod constants;
+mod facts;
+mod found;
+mod held;
+pub mod laws;
+mod learning;
+mod placement;
+mod references;
+mod role;
+mod values;
+mod walking;
+
+pub use facts::{Facts, Span, VOID};
+pub use found::Found;
+pub use learning::{facts_at, in_order, learn_all};
+pub use placement::{bit_of, is_beyond, is_nameless, width_of};
+pub use references::{body_of, members_among, parts_of, steps_of, type_of, types_of};
+pub use role::{Role, is_signed, role_of};
+pub use values::{counted_to, is_there, natural_of, number_at, place_of, wrapped_of};
+pub use walking::walk;
+
+#[cfg(test)]
+mod tests;

@@ -1,0 +1,158 @@
+// The types to which entries lead, and their parts.
+ghost use Rattle.std.specs.Prelude.{◌≡◌, ◌<◌, ◌++◌, length, map, All, IfOk, OnOk, IfSome};
+ghost use Rattle.type_entries.specs.References.{type_of as the_type_of, body_of as the_body_of, parts_of as the_parts_of, members_of as the_members_of, has_type as the_role_has_a_type, holds_none as the_role_holds_none, own_types, types_of as the_types_of, steps_of as the_steps_of};
+
+use crate::role::{Role, is_signed, role_of};
+use abi_base::NoMemory;
+use abi_base::dwarf::{
+    DW_AT_signature, DW_AT_type, DW_TAG_formal_parameter, DW_TAG_member, DW_TAG_subprogram,
+};
+use dw_entries::Dwarf;
+use std::alloc::Global;
+
+/// The type that an entry has, itself or along its chain; none for void.
+#[tactic(auto, unfolding(crate::specs::References::type_of))]
+pub fn type_of(dwarf: &Dwarf, e: usize) -> Option<usize>
+    requires { e < length dwarf.now.tree.entries }
+    ensures found { result ≡ the_type_of dwarf.now.tree e }
+    ensures inside { IfSome result (λ f. f < length dwarf.now.tree.entries) }
+{
+    let name = if is_signed(dwarf, e) {
+        DW_AT_signature
+    } else {
+        DW_AT_type
+    };
+    match dwarf.attr(e, name) {
+        Some(value) => dwarf.target(&value),
+        None => None,
+    }
+}
+
+/// The entry whose children are the parameters of a function: of a subprogram the last of its chain.
+#[tactic(auto, unfolding(crate::specs::References::body_of))]
+pub fn body_of(dwarf: &Dwarf, e: usize) -> usize
+    requires { e < length dwarf.now.tree.entries }
+    ensures found { result ≡ the_body_of dwarf.now.tree e }
+    ensures inside { result < length dwarf.now.tree.entries }
+{
+    if dwarf.tag(e) == DW_TAG_subprogram {
+        dwarf.origin(e)
+    } else {
+        e
+    }
+}
+
+/// The members of a structure or a union, those of a declaration too, or the parameters of a function, in their order.
+#[tactic(auto, unfolding(crate::specs::References::parts_of, crate::specs::References::tagged_children))]
+pub fn parts_of(alloc: Global, dwarf: &Dwarf, e: usize) -> Result<Vec<usize>, NoMemory>
+    requires { e < length dwarf.now.tree.entries }
+    ensures parts { IfOk result (λ list. list.items ≡ the_parts_of dwarf.now.tree e) }
+    ensures inside { IfOk result (λ list. All (λ c. c < length dwarf.now.tree.entries) list.items) }
+{
+    match role_of(dwarf, e) {
+        Role::Aggregate => dwarf.tagged(alloc, e, DW_TAG_member),
+        Role::Function => dwarf.tagged(alloc, body_of(dwarf, e), DW_TAG_formal_parameter),
+        _ => Ok(Vec::new(alloc)),
+    }
+}
+
+/// Those of an entry's parts that are its members, of which a declaration has none.
+#[tactic(auto, unfolding(crate::specs::References::members_of))]
+pub fn members_among<'p>(dwarf: &Dwarf, e: usize, parts: &'p [usize]) -> &'p [usize]
+    requires inside { e < length dwarf.now.tree.entries }
+    requires parts { parts.now ≡ the_parts_of dwarf.now.tree e }
+    requires parts_inside { All (λ c. c < length dwarf.now.tree.entries) parts.now }
+    ensures members { result.now ≡ the_members_of dwarf.now.tree e }
+    ensures inside { All (λ c. c < length dwarf.now.tree.entries) result.now }
+{
+    match role_of(dwarf, e) {
+        Role::Aggregate => { if dwarf.is_declaration(e) { &[] } else { parts } }
+        _ => &[],
+    }
+}
+
+// Whether an entry of a role has a type itself.
+fn has_type(role: Role) -> bool
+    ensures { result ≡ the_role_has_a_type role }
+{
+    matches!(
+        role,
+        Role::Passed | Role::Function | Role::Part | Role::Pointer | Role::Array
+    )
+}
+
+// Whether an entry of a role holds none of its types by value.
+fn holds_none(role: Role) -> bool
+    ensures { result ≡ the_role_holds_none role }
+{
+    matches!(role, Role::Pointer | Role::Part)
+}
+
+// Puts the type last that an entry has itself.
+#[tactic(auto, unfolding(crate::specs::References::own_types))]
+fn push_own(dwarf: &Dwarf, types: &mut Vec<Option<usize>>, e: usize) -> Result<(), NoMemory>
+    requires { e < length dwarf.now.tree.entries }
+    ensures { OnOk result (types.new.items ≡ types.old.items ++ own_types dwarf.now.tree e) }
+{
+    if has_type(role_of(dwarf, e)) {
+        types.push(type_of(dwarf, e))?;
+    }
+    Ok(())
+}
+
+// The types to which an entry leads, one after the other.
+#[tactic(auto, unfolding(crate::specs::References::types_of))]
+fn all_types(
+    alloc: Global,
+    dwarf: &Dwarf,
+    e: usize,
+    parts: &[usize],
+) -> Result<Vec<Option<usize>>, NoMemory>
+    requires inside { e < length dwarf.now.tree.entries }
+    requires parts { parts.now ≡ the_parts_of dwarf.now.tree e }
+    requires parts_inside { All (λ c. c < length dwarf.now.tree.entries) parts.now }
+    ensures { IfOk result (λ types. types.items ≡ the_types_of dwarf.now.tree e) }
+{
+    let mut types = Vec::new(alloc);
+    push_own(dwarf, &mut types, e)?;
+    'parts: for k in 0..parts.len() {
+        types.push(type_of(dwarf, parts[k]))?;
+    }
+    Ok(types)
+}
+
+/// The types to which an entry leads: its own, and those of its parts.
+pub fn types_of(
+    alloc: Global,
+    dwarf: &Dwarf,
+    e: usize,
+    parts: &[usize],
+) -> Result<Vec<Option<usize>>, NoMemory>
+    requires inside { e < length dwarf.now.tree.entries }
+    requires parts { parts.now ≡ the_parts_of dwarf.now.tree e }
+    requires parts_inside { All (λ c. c < length dwarf.now.tree.entries) parts.now }
+    ensures types { IfOk result (λ types. types.items ≡ the_types_of dwarf.now.tree e) }
+    ensures inside { IfOk result (λ types. All (λ ty. IfSome ty (λ f. f < length dwarf.now.tree.entries)) types.items) }
+{
+    let types = all_types(alloc, dwarf, e, parts)?;
+    Ok(types)
+}
+
+/// The types that an entry holds by value.
+#[tactic(auto, unfolding(crate::specs::References::steps_of))]
+pub fn steps_of(
+    alloc: Global,
+    dwarf: &Dwarf,
+    e: usize,
+    parts: &[usize],
+) -> Result<Vec<Option<usize>>, NoMemory>
+    requires inside { e < length dwarf.now.tree.entries }
+    requires parts { parts.now ≡ the_parts_of dwarf.now.tree e }
+    requires parts_inside { All (λ c. c < length dwarf.now.tree.entries) parts.now }
+    ensures { IfOk result (λ steps. steps.items ≡ the_steps_of dwarf.now.tree e) }
+{
+    if holds_none(role_of(dwarf, e)) {
+        return Ok(Vec::new(alloc));
+    }
+    types_of(alloc, dwarf, e, parts)
+}

@@ -1,0 +1,53 @@
+// The walk over all that is reached.
+ghost use Rattle.std.specs.Prelude.{◌≡◌, ◌<◌, length, map, All, Some, IfOk, OnOk};
+ghost use Rattle.type_entries.specs.References.{types_of as the_types_of};
+ghost use Rattle.type_entries.specs.Reached.{with_types, IsWalk};
+ghost use Rattle.type_entries.specs.ByValue.{IsClosed};
+
+use crate::found::Found;
+use crate::references::{parts_of, types_of};
+use abi_base::NoMemory;
+use dw_entries::Dwarf;
+use std::alloc::Global;
+
+// Adds all to which an entry leads.
+fn expand(alloc: Global, dwarf: &Dwarf, found: &mut Found, e: usize) -> Result<(), NoMemory>
+    requires { e < length dwarf.now.tree.entries }
+    ensures { OnOk result (found.new ≡ with_types found.old (the_types_of dwarf.now.tree e)) }
+{
+    let parts = parts_of(alloc, dwarf, e)?;
+    let types = types_of(alloc, dwarf, e, parts.as_slice())?;
+    'types: for k in 0..types.len() {
+        found.add_type(types[k])?;
+    }
+    Ok(())
+}
+
+// Adds the roots.
+fn add_roots(found: &mut Found, roots: &[usize]) -> Result<(), NoMemory>
+    ensures { OnOk result (found.new ≡ with_types found.old (map (λ e. Some e) roots.now)) }
+{
+    'roots: for k in 0..roots.len() {
+        found.add(roots[k])?;
+    }
+    Ok(())
+}
+
+/// Exactly the entries that are reached from the roots, in the order of their discovery.
+pub fn walk(alloc: Global, dwarf: &Dwarf, roots: &[usize]) -> Result<Found, NoMemory>
+    requires { All (λ root. root < length dwarf.now.tree.entries) roots.now }
+    ensures walk { IfOk result (λ found. IsWalk dwarf.now.tree roots.now found) }
+    ensures closed { IfOk result (λ found. IsClosed dwarf.now.tree found) }
+{
+    let mut found = Found::new(alloc);
+    add_roots(&mut found, roots)?;
+    let mut number = 0;
+    'walk: while number < found.len() {
+        found.known();
+        let e = found.at(number);
+        expand(alloc, dwarf, &mut found, e)?;
+        number += 1;
+    }
+    found.known();
+    Ok(found)
+}
