@@ -6,10 +6,18 @@ made=$top/bench/made
 mkdir -p "$made"
 cd "$made"
 
+# failed COMMAND..: a measured command failed, so there is nothing to measure: the whole script ends, also where it asked from
+# within a substitution.
+failed() {
+    echo "bench: failed: $*: $(head -n 1 errors)" >&2
+    kill -TERM $$
+    exit 1
+}
+
 # Peak memory of a command in megabytes, to standard output.
 peak_memory() {
     if [ -x /usr/bin/time ]; then
-        /usr/bin/time -f '%M' -o memory "$@" >/dev/null 2>&1
+        /usr/bin/time -f '%M' -o memory "$@" >/dev/null 2>errors || failed "$@"
         awk '{ printf "%.1f", $1 / 1024 }' memory
     else
         printf 'unknown'
@@ -19,7 +27,7 @@ peak_memory() {
 # seconds COMMAND..: adds the seconds of processor time of a run to the file `times`.
 seconds() {
     TIMEFORMAT='%U %S'
-    { time "$@" >/dev/null 2>errors; } 2>>times
+    { time "$@" >/dev/null 2>errors; } 2>>times || failed "$@"
 }
 
 # least RUNS COMMAND..: the least seconds of processor time of so many runs.

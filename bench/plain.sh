@@ -7,14 +7,6 @@
 set -eu
 . "$(dirname "$0")/common.bash"
 
-# Seconds of processor time of a command, the least of five runs, to standard output.
-least_time() {
-    for _ in 1 2 3 4 5; do
-        TIMEFORMAT='%U %S'
-        { time "$@" > /dev/null 2>&1; } 2>&1 | awk '{ print $1 + $2 }'
-    done | sort -g | head -n 1
-}
-
 if [ ! -e large.so ]; then
     head -c 200000000 /dev/urandom > large.bin
     echo 'asm(".section .rodata\n.incbin \"large.bin\"\n"); int f(void) { return 1; }' > large.c
@@ -29,17 +21,17 @@ fi
 "$abi" check large.so large.so | head -n 1 | grep -qx 'yes 2'
 "$abi" check many.so many.so | head -n 1 | grep -qx 'yes 2'
 
-check=$(least_time "$abi" check large.so large.so)
-hash=$(least_time sha256sum large.so large.so)
+check=$(least 5 "$abi" check large.so large.so)
+hash=$(least 5 sha256sum large.so large.so)
 echo "large.so, $(stat -c %s large.so) bytes, against itself:"
 echo "  abi check $check s, sha256sum of both $hash s, ratio $(ratio "$check" "$hash"), peak $(peak_memory "$abi" check large.so large.so) MB"
 
-check=$(least_time "$abi" check many.so many.so)
-hash=$(least_time sha256sum many.so many.so)
-symbols=$(least_time readelf --wide --dyn-syms many.so many.so)
+check=$(least 5 "$abi" check many.so many.so)
+hash=$(least 5 sha256sum many.so many.so)
+symbols=$(least 5 readelf --wide --dyn-syms many.so many.so)
 echo "many.so, 50000 exports, $(stat -c %s many.so) bytes, against itself:"
 echo "  abi check $check s, sha256sum of both $hash s, readelf --dyn-syms of both $symbols s, ratio to readelf $(ratio "$check" "$symbols"), peak $(peak_memory "$abi" check many.so many.so) MB"
 if command -v abidiff > /dev/null 2>&1; then
-    peer=$(least_time abidiff many.so many.so)
+    peer=$(least 5 abidiff many.so many.so)
     echo "  abidiff $peer s, ratio of abi check to it $(ratio "$check" "$peer")"
 fi

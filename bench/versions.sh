@@ -22,7 +22,7 @@ measure() {
     local name=$1
     shift
     TIMEFORMAT='%U %S %R'
-    { time repeat "$@" > /dev/null 2> errors; } 2>> "time_$name"
+    { time repeat "$@" > /dev/null 2> errors; } 2>> "time_$name" || failed "$@"
 }
 
 # least_time NAME TIMES: seconds of one run, of the processor and of the clock, each by the least of its measurements.
