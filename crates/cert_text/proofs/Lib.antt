@@ -1,0 +1,10 @@
+pub mod NumberLemmas
+pub mod FeedLemmas
+pub mod HeadLemmas
+pub mod ReadHead
+pub mod FormLemmas
+pub mod OrderLemmas
+pub mod BodyLemmas
+pub mod ReadingLemmas
+pub mod EndLemmas
+pub mod WritingLemmas

@@ -1,0 +1,17 @@
+//! Certificates: their text, which has one spelling, and what a text says.
+#![tactic(auto)]
+
+mod cert;
+mod first;
+mod forms;
+mod draft;
+mod head;
+mod line;
+mod reading;
+mod words;
+mod writing;
+
+pub use cert::Cert;
+pub use first::{Cert1, read_cert_1};
+pub use reading::read_cert;
+pub use writing::write_cert;
