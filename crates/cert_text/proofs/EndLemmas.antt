@@ -180,8 +180,8 @@ finished v bytes at number before c short reading none =
       kept = certified v bytes at number before c short reading;
       lines = reading.numbers;
       is = reading.is
-      ∙ ap (λ (xs : List ℕ). (front ++ lined (map (spelling v) (said before c))) ++ xs) past
-      ∙ ap (λ (xs : List Line). (front ++ lined (map (spelling v) (body c ++ xs))) ++ []) over
-      ∙ ap (λ (xs : List ℕ). (front ++ xs) ++ []) (lined-map v (body c) End)
-      ∙ whole_text v c front lines;
+          ∙ ap (λ (xs : List ℕ). (front ++ lined (map (spelling v) (said before c))) ++ xs) past
+          ∙ ap (λ (xs : List Line). (front ++ lined (map (spelling v) (body c ++ xs))) ++ []) over
+          ∙ ap (λ (xs : List ℕ). (front ++ xs) ++ []) (lined-map v (body c) End)
+          ∙ whole_text v c front lines;
     }

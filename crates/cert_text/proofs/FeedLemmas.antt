@@ -66,11 +66,13 @@ stands bytes at found le is =
     let line : text_at bytes at (at + found) ≡ take found (drop at bytes) = ap (λ (n : ℕ). take n (drop at bytes)) same in
     let back : drop (found + 1) (drop at bytes) ≡ drop (at + found + 1) bytes = drop-drop (found + 1) at bytes ∙ ap (λ (n : ℕ). drop n bytes) (let e : at + (found + 1) ≡ at + found + 1 = omega arith in e) in
     let split : drop at bytes ≡ take found (drop at bytes) ++ 10 ∷ drop (at + found + 1) bytes = parted (drop at bytes) found is ∙ ap (λ (xs : List ℕ). take found (drop at bytes) ++ 10 ∷ xs) back in
-    let e = ap parts split ∙ parts-line (take found (drop at bytes)) (drop (at + found + 1) bytes) (no_feed_before (drop at bytes) found is) in
-    (omega arith, record {
-      later = omega arith;
-      inside = omega (arith, first.0, length-drop at bytes, le);
-      is = split ∙ ap (λ (xs : List ℕ). xs ++ 10 ∷ drop (at + found + 1) bytes) (sym line);
-      lines = ap (λ (p : Parts). p.lines) e ∙ ap (λ (xs : List ℕ). xs ∷ (parts (drop (at + found + 1) bytes)).lines) (sym line);
-      rest = ap (λ (p : Parts). p.rest) e;
-    })
+    let e = ap parts split ∙ parts-line (take found (drop at bytes)) (drop (at + found + 1) bytes) (no_feed_before (drop at bytes) found is) in (
+      omega arith,
+      record {
+        later = omega arith;
+        inside = omega (arith, first.0, length-drop at bytes, le);
+        is = split ∙ ap (λ (xs : List ℕ). xs ++ 10 ∷ drop (at + found + 1) bytes) (sym line);
+        lines = ap (λ (p : Parts). p.lines) e ∙ ap (λ (xs : List ℕ). xs ∷ (parts (drop (at + found + 1) bytes)).lines) (sym line);
+        rest = ap (λ (p : Parts). p.rest) e;
+      },
+    )

@@ -25,9 +25,9 @@ unfolding head_fault
 passes v number test bytes at next text stands right = record {
   stands = stands;
   same = λ tests.
-    ap (λ (lines : List (List ℕ)). head_fault v number (test ∷ tests) lines (parts (drop at bytes)).rest) stands.lines
-    ∙ ap (λ (rest : List ℕ). head_fault v number (test ∷ tests) (text ∷ (parts (drop next bytes)).lines) rest) stands.rest
-    ∙ rw right refl;
+      ap (λ (lines : List (List ℕ)). head_fault v number (test ∷ tests) lines (parts (drop at bytes)).rest) stands.lines
+      ∙ ap (λ (rest : List ℕ). head_fault v number (test ∷ tests) (text ∷ (parts (drop next bytes)).lines) rest) stands.rest
+      ∙ rw right refl;
 }
 
 stands_as : (bytes : List ℕ) (at next : ℕ) (text other : List ℕ) → text ≡ other → StandsAt bytes at next text → StandsAt bytes at next other

@@ -8,3 +8,4 @@ pub mod BodyLemmas
 pub mod ReadingLemmas
 pub mod EndLemmas
 pub mod WritingLemmas
+pub mod FirstLemmas

@@ -234,7 +234,6 @@ pub behind_is : (word text rest : List ℕ) → behind word text ≡ Some rest �
 unfolding behind
 behind_is word text rest is = behind_with word text rest _ refl is
 
-
 -- ---- digests
 
 pub record IsDigestIn (word text digest : List ℕ) : Type 0 where

@@ -207,7 +207,7 @@ went_on v bytes at next number before c text line reading stands accepts =
     let none : said before c ≡ body c = ap (λ (xs : List Line). body c ++ xs) (not_ended before accepts.going) ∙ append-nil (body c) in
     let lines = lined (map (spelling v) (body c)) in
     let went : bytes ≡ (front ++ lines) ++ (spelling v line ++ 10 ∷ drop next bytes) =
-        reading.is ∙ ap (λ (xs : List Line). (front ++ lined (map (spelling v) xs)) ++ drop at bytes) none ∙ ap (λ (xs : List ℕ). (front ++ lines) ++ xs) (stands.is ∙ ap (λ (xs : List ℕ). xs ++ 10 ∷ drop next bytes) here.is) in
+    reading.is ∙ ap (λ (xs : List Line). (front ++ lined (map (spelling v) xs)) ++ drop at bytes) none ∙ ap (λ (xs : List ℕ). (front ++ lines) ++ xs) (stands.is ∙ ap (λ (xs : List ℕ). xs ++ 10 ∷ drop next bytes) here.is) in
     let told : lined (map (spelling v) (said (Some line) (with_line c line))) ≡ lines ++ (spelling v line ++ 10 ∷ []) = ap (λ (xs : List Line). lined (map (spelling v) xs)) more.lines ∙ lined-map v (body c) line in
     record {
       inside = stands.inside;

@@ -60,6 +60,6 @@ written c t0 t1 t2 t3 t4 t5 t6 t7 t8 kept e0 e1 e2 e3 e4 e5 e6 e7 e8 =
     record {
       kept = kept;
       is = e8 ∙ ap (λ (t : List ℕ). t ++ e) (e7 ∙ ap (λ (t : List ℕ). t ++ p) (e6 ∙ ap (λ (t : List ℕ). t ++ n) (e5 ∙ ap (λ (t : List ℕ). t ++ o) (e4 ∙ ap (λ (t : List ℕ). t ++ b) (written_head c t0 t1 t2 t3 e0 e1 e2 e3)))))
-      ∙ in_line h b o n p e
-      ∙ ap (λ (xs : List ℕ). h ++ (xs ++ e)) (sym (lined-groups c));
+          ∙ in_line h b o n p e
+          ∙ ap (λ (xs : List ℕ). h ++ (xs ++ e)) (sym (lined-groups c));
     }

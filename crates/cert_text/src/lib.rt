@@ -2,9 +2,9 @@
 #![tactic(auto)]
 
 mod cert;
+mod draft;
 mod first;
 mod forms;
-mod draft;
 mod head;
 mod line;
 mod reading;
@@ -15,3 +15,6 @@ pub use cert::Cert;
 pub use first::{Cert1, read_cert_1};
 pub use reading::read_cert;
 pub use writing::write_cert;
+
+#[cfg(test)]
+mod tests;
