@@ -54,7 +54,8 @@ impl<'a, Ix: Index> Model for View<'a, Ix> {
 impl<'a, Ix: Index> View<'a, Ix> {
     ghost use Rattle.std.specs.Prelude.{◌≡◌, ◌<◌, length};
     ghost use Rattle.abi_types.specs.Parts.{plain_part};
-    ghost use Rattle.abi_types.specs.Graphs.{part_at};
+    ghost use Rattle.std.specs.Option.{option_map};
+    ghost use Rattle.abi_types.specs.Graphs.{part_at, inner_of};
 
     /// How many parts there are.
     pub fn parts_len(&self) -> usize
@@ -69,6 +70,16 @@ impl<'a, Ix: Index> View<'a, Ix> {
         ensures { plain_part Ix.number_of result.now ≡ part_at self.now k }
     {
         self.parts.at(k)
+    }
+
+    /// The type of the elements of an array or a vector: the node that the first part names by value, where there is one.
+    pub fn element(&self) -> Option<Ix>
+        ensures { option_map Ix.number_of result ≡ inner_of (part_at self.now 0) }
+    {
+        if self.parts_len() == 0 {
+            return None;
+        }
+        self.part(0).inner()
     }
 }
 
