@@ -9,3 +9,7 @@ pub mod ReadingLemmas
 pub mod EndLemmas
 pub mod WritingLemmas
 pub mod FirstLemmas
+pub mod CompleteLemmas
+pub mod LinedLemmas
+pub mod RunLemmas
+pub mod WholeLemmas

@@ -6,6 +6,7 @@ mod draft;
 mod first;
 mod forms;
 mod head;
+pub mod laws;
 mod line;
 mod reading;
 mod words;
