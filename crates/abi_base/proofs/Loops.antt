@@ -1,10 +1,11 @@
 -- What the loops over inputs and sinks keep.
-use Rattle.std.proofs.Common.{◌≡◌, ◌≤◌, ◌<◌, ◌+◌, ◌-◌, ℕ, List, length, take, drop, Option, arith, subst, sym, length-drop}
+use Rattle.std.proofs.Common.{◌≡◌, ◌≤◌, ◌<◌, ◌+◌, ◌-◌, eqb, ℕ, List, length, take, drop, Option, Some, None, arith, subst, sym, ap, ◌∙◌, length-drop}
 use Rattle.std.proofs.Math.Seq.{take-add}
 use Rattle.std.proofs.lemmas.Slice.{between_to_end}
-use Rattle.std.proofs.KnownBytes.{Appends-trans}
-use Rattle.std.specs.Io.KnownBytes.{Appends, Consumes}
-use Rattle.abi_base.specs.Causes.{NeverFall, count_after}
+use Rattle.std.proofs.KnownBytes.{Appends-trans, Keeps-refl, Keeps-trans}
+use Rattle.std.specs.List.{list_any}
+use Rattle.std.specs.Io.KnownBytes.{Appends, Consumes, Keeps}
+use Rattle.abi_base.specs.Causes.{NeverFall, count_after, is_listed}
 
 pub record WrittenSoFar {S : Type 0} (held : S → Option (List ℕ)) (faults : S → ℕ) (first now : S) (bytes : List ℕ) (done : ℕ) : Type 0 where
   pub within : done ≤ length bytes
@@ -32,3 +33,18 @@ pub record ReadSoFar {I : Type 0} (told : I → List ℕ → Option (List ℕ)) 
   pub consumed : Consumes (told first name) (left now) bytes
   pub counted : given now ≡ count_after 0 (length bytes)
   pub room : 0 < length piece
+
+-- a read after one that gave nothing
+pub kept_read : (a b c : Option (List ℕ)) (bs : List ℕ) → Keeps a b → Consumes b c bs → Consumes a c bs
+kept_read None b c bs kept read = tt
+kept_read (Some xs) None c bs kept read = absurd kept
+kept_read (Some xs) (Some ys) None bs kept read = absurd read
+kept_read (Some xs) (Some ys) (Some zs) bs kept read = sym kept ∙ read
+
+pub ruleset kept = (kept_read, Keeps-refl, Keeps-trans)
+
+-- which calls are listed, one call later
+pub listed_later : (failing : List ℕ) (calls k : ℕ) → is_listed failing (count_after calls 1) k ≡ is_listed failing calls (k + 1)
+listed_later failing calls k =
+    let same : count_after (count_after calls 1) (k + 1) ≡ count_after calls (k + 1 + 1) = omega arith in
+    ap (λ (n : ℕ). list_any (λ call. eqb call n) failing) same

@@ -1,5 +1,7 @@
 -- A run goes on as its step does, whatever the fuel, where a measure falls.
 use Rattle.std.proofs.Common.{◌≡◌, ℕ, zero, suc, ◌<◌, ◌≤◌, List, [], ◌∷◌, ◌++◌, length, Result, Ok, Err, refl, sym, ap, ◌∙◌, arith, append_assoc}
+use Rattle.std.specs.Prelude.{All}
+use Rattle.std.proofs.lemmas.List.Elements.{All-nil, All-cons}
 use Rattle.std.proofs.lemmas.List.{append-nil}
 use Rattle.abi_base.specs.Runs.{Run, ended, put_front, continue, run, Chain}
 
@@ -86,3 +88,16 @@ unfolding run
 chain_run step late zero s xs e lt h = absurd (omega arith)
 chain_run step late (suc n) s [] e lt h = rw h refl
 chain_run {X = X} {E = E} step late (suc n) s (x ∷ xs) e lt h = rw h.1 (ap (λ (q : Run X E). put_front x q) (chain_run step late n h.0 xs e (omega arith) h.2))
+
+-- ---- what holds of all of a run
+
+-- what holds of each item that a step gives, holds of all of a run
+pub run_all : {S X E : Type 0} (P : X → Type 0) (step : S → Result (X × S) E) (late : E) → ((s : S) (x : X) (next : S) → step s ≡ Ok (x, next) → P x)
+    → (n : ℕ) (s : S) → All P (run step late n s).items
+unfolding run
+run_all P step late each zero s = All-nil P
+run_all {S = S} {X = X} {E = E} P step late each (suc n) s = cases (step s) (λ x next is. each s x next is) (λ next. run_all P step late each n next)
+  where
+    cases : (r : Result (X × S) E) → ((x : X) (next : S) → r ≡ Ok (x, next) → P x) → ((next : S) → All P (run step late n next).items) → All P (continue r (run step late n)).items
+    cases (Ok (x, next)) here others = All-cons P x (run step late n next).items (here x next refl) (others next)
+    cases (Err e) here others = All-nil P

@@ -1,5 +1,6 @@
 -- Counts of faults and of bytes, and what is told of inputs and sinks.
-use Rattle.std.specs.Prelude.{◌≡◌, ◌≤◌, ◌+◌, ◌-◌, ◌^◌, ◌↔◌, ℕ, min, List, length, take, Option, Some, Result, OnErr, IfSome}
+use Rattle.std.specs.Prelude.{◌≡◌, ◌≤◌, ◌+◌, ◌-◌, ◌^◌, ◌==◌, ◌↔◌, ℕ, Bool, min, List, length, take, Option, Some, Result, OnErr, IfSome, MatchResult}
+use Rattle.std.specs.List.{list_any}
 use Rattle.std.specs.Io.KnownBytes.{Appends}
 
 -- a count that rises by so much, and stands still at the end of its type
@@ -30,3 +31,11 @@ OnTold told left = IfSome told (λ bytes. left ≡ Some bytes)
 -- known bytes grow by a front of these
 abbrev pub AppendsFront : Option (List ℕ) → Option (List ℕ) → List ℕ → Type 0
 AppendsFront old new text = (n : ℕ) × (n ≤ length text) × Appends old new (take n text)
+
+-- where the room is known, it is less by what was taken, and the same where nothing was
+abbrev pub TakesRoom : {E : Type 0} → Option ℕ → Option ℕ → Result ℕ E → Type 0
+TakesRoom old new result = IfSome old (λ room. MatchResult result (λ count. new ≡ Some (room - count)) (λ _. new ≡ Some room))
+
+-- whether the call k calls after this many is listed, where calls are counted from 1
+abbrev pub is_listed : List ℕ → ℕ → ℕ → Bool
+is_listed failing calls k = list_any (λ call. call == count_after calls (k + 1)) failing

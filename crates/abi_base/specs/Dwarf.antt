@@ -323,7 +323,7 @@ dw_children_no = 0x00
 abbrev pub dw_children_yes : ℕ
 dw_children_yes = 0x01
 
--- ---- unit headers (DWARF 5, section 7.5.1; DWARF 4, section 7.5.1.1), in the 32-bit form
+-- ---- unit headers (section 7.5.1 "Unit Headers"; DWARF 4, section 7.5.1.1 "Compilation Unit Header"), in the 32-bit form
 
 -- the versions of DWARF that are read
 abbrev pub dwarf_4 : ℕ
@@ -386,17 +386,17 @@ type_offset_at = 20
 abbrev pub x86_64_address_size : ℕ
 x86_64_address_size = 8
 
--- ---- operations (section 7.7.1 "Operation Encodings")
+-- ---- operations (section 7.7.1 "DWARF Expressions")
 
 -- the operation whose operand is an address
 abbrev pub dw_op_addr : ℕ
 dw_op_addr = 0x03
 
--- the operation whose operand is the index of an address (DWARF 5, section 7.7.1 "Operation Encodings")
+-- the operation whose operand is the index of an address
 abbrev pub dw_op_addrx : ℕ
 dw_op_addrx = 0xa1
 
--- ---- range lists (section 7.25 "Non-Contiguous Address Ranges"; DWARF 4, section 2.17.3)
+-- ---- range lists (section 7.25 "Non-Contiguous Address Ranges"; DWARF 4, section 2.17.3 of the same name)
 
 abbrev pub dw_rle_end_of_list : ℕ
 dw_rle_end_of_list = 0x00
@@ -422,6 +422,6 @@ dw_rle_start_end = 0x06
 abbrev pub dw_rle_start_length : ℕ
 dw_rle_start_length = 0x07
 
--- the largest address, which opens a pair that selects a base (DWARF 4, section 2.17.3 "Non-Contiguous Address Ranges")
+-- the largest address, which opens a pair that selects a base (DWARF 4, section 2.17.3)
 abbrev pub base_selection : ℕ
 base_selection = 0xffffffffffffffff

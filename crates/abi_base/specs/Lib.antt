@@ -6,6 +6,7 @@ pub mod Files
 pub mod GnuVersions
 pub mod Leb
 pub mod Limits
+pub mod Lists
 pub mod Numbers
 pub mod Outcome
 pub mod Runs

@@ -16,3 +16,7 @@ depth_limit = 512
 -- the greatest weight of a type
 abbrev pub weight_limit : ℕ
 weight_limit = 1048576
+
+-- how many bytes a sink in memory has room for
+abbrev pub sink_room : ℕ
+sink_room = 1048576

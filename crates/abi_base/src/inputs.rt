@@ -1,5 +1,5 @@
 // Named inputs, each read from its start to its end.
-ghost use Rattle.std.specs.Prelude.{◌≡◌, ◌≤◌, ◌<◌, List, ℕ, length, Option, Some, OnOk, OnErr, IfOk, IfSome, IsErrOf};
+ghost use Rattle.std.specs.Prelude.{◌≡◌, ◌+◌, ◌≤◌, ◌<◌, ◌||◌, List, ℕ, Bool, length, Option, Some, None, OnOk, OnErr, IfOk, IfSome, IsErrOf, is_err, is_none};
 ghost use Rattle.std.specs.Io.{ReadsAtMost};
 ghost use Rattle.std.specs.Io.KnownBytes.{ReadConsumes};
 ghost use Rattle.abi_base.specs.Causes.{Rose, NeverFall, SameNames, OnTold, count_after};
@@ -21,8 +21,12 @@ pub trait Inputs {
     /// What is left of the current input, where it is told.
     ghost left: { Self → Option (List ℕ) };
 
-    /// How many bytes the current input has given since it was started. The count stands still at the end of `u64`.
+    /// How many bytes were given since the last call of `start`. The count stands still at the end of `u64`.
     ghost given: { Self → ℕ };
+
+    /// Whether the call k calls from here on is made to fail, the next one being 0, where that is known. Nothing is known
+    /// of a real file.
+    ghost is_made_to_fail: { Self → ℕ → Option Bool } = { λ inputs k. None };
 
     /// Makes the input of that name the current one, at its start. After `Failed` the current input is as before.
     fn start(&mut self, name: &str) -> Result<(), Failed>
@@ -31,15 +35,18 @@ pub trait Inputs {
 
         ensures current { OnOk result (answers_to self.new name.now) }
         ensures left { OnOk result (OnTold (told self.old name.now) (left self.new)) }
-        ensures given { OnOk result (given self.new ≡ 0) }
+        ensures given { given self.new ≡ 0 }
 
         ensures cause { OnErr result (Rose (faults self.old name.now) (faults self.new name.now)) }
         ensures kept { OnErr result (left self.new ≡ left self.old) }
-        ensures kept_given { OnErr result (given self.new ≡ given self.old) }
-        ensures kept_names { OnErr result (SameNames (answers_to self.old) (answers_to self.new)) };
+        ensures kept_names { OnErr result (SameNames (answers_to self.old) (answers_to self.new)) }
+
+        // Where it is known which calls are made to fail, those fail and each other one whose name is not told.
+        ensures fails { IfSome (is_made_to_fail self.old 0) (λ fails. is_err result ≡ (fails || is_none (told self.old name.now))) }
+        ensures next { (k : ℕ) → is_made_to_fail self.new k ≡ is_made_to_fail self.old (k + 1) };
 
     /// Gives the next bytes of the current input at the front of `into`, and how many they are: none only at its end,
-    /// or where `into` has no room. After `Failed` what is left is as before.
+    /// or where `into` has no room. After `Failed` what is left is as before, which `bytes` says too.
     fn read(&mut self, into: &mut [u8]) -> Result<usize, Failed>
         ensures told { (other : List ℕ) → told self.new other ≡ told self.old other }
         ensures later { NeverFall (faults self.old) (faults self.new) }
@@ -50,8 +57,18 @@ pub trait Inputs {
         ensures given { IfOk result (λ count. given self.new ≡ count_after (given self.old) count) }
 
         ensures cause { OnErr result ((name : List ℕ) → answers_to self.old name → Rose (faults self.old name) (faults self.new name)) }
-        ensures kept { OnErr result (left self.new ≡ left self.old) }
-        ensures kept_given { OnErr result (given self.new ≡ given self.old) };
+        ensures kept_given { OnErr result (given self.new ≡ given self.old) }
+
+        // Where it is known which calls are made to fail, those fail and no other.
+        ensures fails { IfSome (is_made_to_fail self.old 0) (λ fails. is_err result ≡ fails) }
+        ensures next { (k : ℕ) → is_made_to_fail self.new k ≡ is_made_to_fail self.old (k + 1) };
+}
+
+// A count of bytes that were given, after so many more.
+pub(crate) fn given_after(given: u64, count: usize) -> u64
+    ensures { result ≡ count_after given count }
+{
+    given.saturating_add(count as u64)
 }
 
 // How many bytes are asked for in one call of `read`.
@@ -65,8 +82,8 @@ fn piece_of(alloc: Global) -> Result<Vec<u8>, AllocError>
 }
 
 /// All bytes of the input of that name, read to its end. `TooLong` comes exactly where reading gave more than `limit`
-/// bytes, `Failed` only where the count of faults of that name rose, and `NoMemory` where memory ran out. The input
-/// stays the current one, so a later call starts it again.
+/// bytes, `Failed` only where the count of faults of that name rose and `limit` bytes were given at most, and `NoMemory`
+/// where memory ran out. The input stays the current one, so a later call starts it again.
 pub fn read_whole<I: Inputs>(
     alloc: Global,
     inputs: &mut I,
@@ -84,18 +101,22 @@ pub fn read_whole<I: Inputs>(
     // More bytes than the limit were given, and are told where any are.
     ensures too_long { IsErrOf result Take.TooLong → limit < I.given inputs.new }
     ensures told_too_long { IsErrOf result Take.TooLong → IfSome (I.told inputs.old name.now) (λ all. limit < length all) }
+    ensures given_more { limit < I.given inputs.new → IsErrOf result Take.TooLong }
 
     ensures failed { IsErrOf result Take.Failed → Rose (I.faults inputs.old name.now) (I.faults inputs.new name.now) }
+    ensures failed_within { IsErrOf result Take.Failed → I.given inputs.new ≤ limit }
 {
-    let mut piece = piece_of(alloc)?;
     inputs.start(name)?;
+    let mut piece = piece_of(alloc)?;
     let mut bytes = Vec::new(alloc);
-    while bytes.len() <= limit {
+    'pieces: loop {
         let count = inputs.read(&mut piece)?;
         if count == 0 {
             return Ok(bytes);
         }
+        if count > limit - bytes.len() {
+            return Err(Take::TooLong);
+        }
         bytes.extend_from_slice(&piece[..count])?;
     }
-    Err(Take::TooLong)
 }

@@ -5,6 +5,7 @@
 pub mod dwarf;
 mod fault;
 mod inputs;
+pub mod laws;
 mod leb;
 mod list;
 mod memory;

@@ -1,9 +1,31 @@
 // Inputs and a sink in memory, some of whose calls fail.
-ghost use Rattle.std.specs.Prelude.{◌≡◌, ◌+◌, ◌≤◌, ◌<◌, ℕ, List, [], length, drop, Some, None, if◌then◌else◌, option_and_then, MatchOption, IfOk, is_some, vec_capacity, vec_len, string_bytes};
+ghost use Rattle.std.specs.Prelude.{◌≡◌, ◌+◌, ◌-◌, ◌^◌, ◌≤◌, ◌<◌, ℕ, List, [], length, drop, Some, None, if◌then◌else◌, option_and_then, MatchOption, IfOk, is_some, vec_capacity, vec_len, string_bytes};
+ghost use Rattle.abi_base.specs.Causes.{count_after, is_listed};
+ghost use Rattle.abi_base.specs.Limits.{sink_room};
 ghost use Rattle.abi_base.specs.Files.{file_of, IsFileAt, rest_at, name_at, CopiesFront};
 
+use crate::inputs::given_after;
 use crate::{Failed, Inputs, NoMemory, Sink};
 use std::alloc::Global;
+
+// The calls that are made to fail, counted from 1, and how many calls there were.
+#[derive(Drop)]
+struct Calls {
+    failing: Vec<u64>,
+    so_far: u64,
+}
+
+impl Calls {
+    // Whether the next call is made to fail: the call is counted.
+    #[tactic(auto, using(crate::proofs::Loops::listed_later))]
+    fn next_fails(&mut self) -> bool
+        ensures listed { result ≡ is_listed self.old.failing.items self.old.so_far 0 }
+        ensures later { (k : ℕ) → is_listed self.new.failing.items self.new.so_far k ≡ is_listed self.old.failing.items self.old.so_far (k + 1) }
+    {
+        self.so_far = self.so_far.saturating_add(1);
+        self.failing.contains(&self.so_far)
+    }
+}
 
 /// Named files in memory, some of whose calls fail. The first file of a name counts.
 ///
@@ -12,12 +34,12 @@ use std::alloc::Global;
 #[derive(Drop)]
 pub struct MemInputs {
     files: Vec<(String, Vec<u8>)>,
-    failing: Vec<u64>,
-    calls: u64,
+    calls: Calls,
     failed: u64,
     missing: u64,
     current: Option<usize>,
     at: usize,
+    given: u64,
 }
 
 impl MemInputs {
@@ -30,23 +52,19 @@ impl MemInputs {
         // Nothing is left before a first start.
         ensures left { ⟦<MemInputs as Inputs>⟧.left result ≡ Some [] }
         ensures given { ⟦<MemInputs as Inputs>⟧.given result ≡ 0 }
+
+        ensures calls { (k : ℕ) → ⟦<MemInputs as Inputs>⟧.is_made_to_fail result k ≡ Some (is_listed failing.items 0 k) }
     {
         MemInputs {
             files,
-            failing,
-            calls: 0,
+            calls: Calls { failing, so_far: 0 },
             failed: 0,
             missing: 0,
             current: None,
             at: 0,
+            given: 0,
         }
     }
-}
-
-// Whether a call is to fail: it counts the call.
-fn is_failing(failing: &[u64], calls: &mut u64) -> bool {
-    *calls = calls.saturating_add(1);
-    failing.contains(calls)
 }
 
 // The place of the first file of a name.
@@ -70,10 +88,13 @@ impl Inputs for MemInputs {
 
     ghost left = { λ m. Some (rest_at m.files.items m.current m.at) };
 
-    ghost given = { λ m. m.at };
+    ghost given = { λ m. m.given };
+
+    ghost is_made_to_fail = { λ m k. Some (is_listed m.calls.failing.items m.calls.so_far k) };
 
     fn start(&mut self, name: &str) -> Result<(), Failed> {
-        if is_failing(&self.failing, &mut self.calls) {
+        self.given = 0;
+        if self.calls.next_fails() {
             self.failed = self.failed.saturating_add(1);
             return Err(Failed);
         }
@@ -91,12 +112,13 @@ impl Inputs for MemInputs {
     }
 
     fn read(&mut self, into: &mut [u8]) -> Result<usize, Failed> {
-        if is_failing(&self.failing, &mut self.calls) {
+        if self.calls.next_fails() {
             self.failed = self.failed.saturating_add(1);
             return Err(Failed);
         }
         let count = copy_rest(&self.files, self.current, self.at, into);
-        self.at = self.at.saturating_add(count);
+        self.at += count;
+        self.given = given_after(self.given, count);
         Ok(count)
     }
 }
@@ -108,7 +130,8 @@ fn copy_rest(
     at: usize,
     into: &mut [u8],
 ) -> usize
-    ensures { CopiesFront (rest_at files.now current at) into.old into.new result }
+    ensures copied { CopiesFront (rest_at files.now current at) into.old into.new result }
+    ensures fits { at + result < 2 ^ 64 }
 {
     match current {
         None => 0,
@@ -120,7 +143,8 @@ fn copy_rest(
 }
 
 fn copy_front(bytes: &[u8], at: usize, into: &mut [u8]) -> usize
-    ensures { CopiesFront (drop at bytes.now) into.old into.new result }
+    ensures copied { CopiesFront (drop at bytes.now) into.old into.new result }
+    ensures fits { at + result < 2 ^ 64 }
 {
     if at >= bytes.len() {
         return 0;
@@ -139,10 +163,11 @@ const ROOM: usize = 1_048_576;
 pub struct MemSink {
     bytes: Vec<u8>,
     take: usize,
-    failing: Vec<u64>,
-    calls: u64,
+    calls: Calls,
     failed: u64,
     ghost takes_some: { 0 < take },
+    ghost room_taken: { sink_room ≤ vec_capacity bytes },
+    ghost within: { vec_len bytes ≤ sink_room },
 }
 
 impl MemSink {
@@ -152,12 +177,13 @@ impl MemSink {
         requires { 0 < take }
         ensures held { IfOk result (λ sink. ⟦<MemSink as Sink>⟧.held sink ≡ Some []) }
         ensures faults { IfOk result (λ sink. ⟦<MemSink as Sink>⟧.faults sink ≡ 0) }
+        ensures room { IfOk result (λ sink. ⟦<MemSink as Sink>⟧.room sink ≡ Some sink_room) }
+        ensures calls { IfOk result (λ sink. (k : ℕ) → ⟦<MemSink as Sink>⟧.is_made_to_fail sink k ≡ Some (is_listed failing.items 0 k)) }
     {
         Ok(MemSink {
             bytes: Vec::with_capacity(alloc, ROOM)?,
             take,
-            failing,
-            calls: 0,
+            calls: Calls { failing, so_far: 0 },
             failed: 0,
         })
     }
@@ -175,9 +201,13 @@ impl Sink for MemSink {
 
     ghost faults = { λ s. s.failed };
 
+    ghost room = { λ s. Some (sink_room - vec_len s.bytes) };
+
+    ghost is_made_to_fail = { λ s k. Some (is_listed s.calls.failing.items s.calls.so_far k) };
+
     fn write(&mut self, bytes: &[u8]) -> Result<usize, Failed> {
-        let fails = is_failing(&self.failing, &mut self.calls);
-        let room = self.bytes.capacity() - self.bytes.len();
+        let fails = self.calls.next_fails();
+        let room = ROOM - self.bytes.len();
         let count = bytes.len().min(self.take).min(room);
         if fails || (count == 0 && !bytes.is_empty()) {
             self.failed = self.failed.saturating_add(1);

@@ -1,13 +1,53 @@
-// Real files and standard output. No contract can say what they hold, so they tell nothing.
-ghost use Rattle.std.specs.Prelude.{◌≡◌, List, ℕ, Option, None};
+// Real files and standard output. No contract of the runtime says which bytes a path has or what a terminal holds, so
+// nothing is told of them, and what is left of a file is as far known as the file's own type says it.
+ghost use Rattle.std.specs.Prelude.{◌≡◌, ◌<◌, List, [], ℕ, length, Option, Some, None, OnErr, IfOk};
+ghost use Rattle.std.specs.Option.{option_map_or};
+ghost use Rattle.std.specs.Io.{ReadsAtMost, WritesAtMost};
+ghost use Rattle.std.specs.Io.KnownBytes.{ReadConsumes};
 
+use crate::inputs::given_after;
 use crate::{Failed, Inputs, Sink};
 use std::fs;
-use std::io::Read;
+use std::io::{ErrorKind, Read};
 use std::rt::Files;
 
+// A call that a signal interrupts is made again, at most so often.
+const TRIES: u64 = u64::MAX;
+
+// What one read gives. A read that is interrupted gives nothing and is tried again.
+#[tactic(auto, using(crate::proofs::Loops::kept))]
+pub(crate) fn read_some<F: Read>(file: &mut F, into: &mut [u8]) -> Result<usize, Failed>
+    ensures bound { ReadsAtMost result into.new }
+    ensures bytes { ReadConsumes (F.remaining file.old) (F.remaining file.new) result into.new }
+{
+    for _ in 0..TRIES {
+        match file.read(into) {
+            Ok(count) => return Ok(count),
+            Err(e) if e.kind() == ErrorKind::Interrupted => {}
+            Err(_) => return Err(Failed),
+        }
+    }
+    Err(Failed)
+}
+
+// What one write takes, some of the bytes where there are any. A write that is interrupted takes nothing and is tried
+// again.
+fn write_some<P: Print>(rt: &P, bytes: &[u8]) -> Result<usize, Failed>
+    ensures bound { WritesAtMost result bytes.now }
+    ensures progress { IfOk result (λ count. 0 < length bytes.now → 0 < count) }
+{
+    for _ in 0..TRIES {
+        match rt.write_some(bytes) {
+            Ok(count) if count > 0 || bytes.is_empty() => return Ok(count),
+            Err(e) if e.kind() == ErrorKind::Interrupted => {}
+            _ => return Err(Failed),
+        }
+    }
+    Err(Failed)
+}
+
 /// Files by their paths. One count of faults, which each call that fails raises, serves for every name, and the
-/// current input answers to every name, since one file may have several.
+/// current input answers to every name, since one file may have several. A read that a signal interrupts is tried again.
 #[derive(Drop)]
 pub struct FileInputs<'a, R: Files> {
     rt: &'a R,
@@ -21,6 +61,9 @@ impl<'a, R: Files> FileInputs<'a, R> {
     pub fn new(rt: &'a R) -> Self
         ensures faults { (name : List ℕ) → ⟦<FileInputs<'a, R> as Inputs>⟧.faults result name ≡ 0 }
         ensures given { ⟦<FileInputs<'a, R> as Inputs>⟧.given result ≡ 0 }
+
+        // Nothing is left before a first start.
+        ensures left { ⟦<FileInputs<'a, R> as Inputs>⟧.left result ≡ Some [] }
     {
         FileInputs {
             rt,
@@ -38,15 +81,15 @@ impl<R: Files> Inputs for FileInputs<'_, R> {
 
     ghost answers_to = { λ s name. Unit {0} };
 
-    ghost left = { λ s. None };
+    ghost left = { λ s. option_map_or (λ file. R.File.remaining file) s.current (Some []) };
 
     ghost given = { λ s. s.given };
 
     fn start(&mut self, name: &str) -> Result<(), Failed> {
+        self.given = 0;
         match fs::open(self.rt, name) {
             Ok(file) => {
                 self.current = Some(file);
-                self.given = 0;
                 Ok(())
             }
             Err(_) => {
@@ -57,23 +100,26 @@ impl<R: Files> Inputs for FileInputs<'_, R> {
     }
 
     fn read(&mut self, into: &mut [u8]) -> Result<usize, Failed> {
-        let count = match &mut self.current {
-            None => 0,
-            Some(file) => match file.read(into) {
-                Ok(count) => count,
-                Err(_) => {
-                    self.faults = self.faults.saturating_add(1);
-                    return Err(Failed);
-                }
-            },
+        let read = match &mut self.current {
+            None => Ok(0),
+            Some(file) => read_some(file, into),
         };
-        self.given = self.given.saturating_add(count as u64);
-        Ok(count)
+        match read {
+            Ok(count) => {
+                self.given = given_after(self.given, count);
+                Ok(count)
+            }
+            Err(failed) => {
+                self.faults = self.faults.saturating_add(1);
+                Err(failed)
+            }
+        }
     }
 }
 
 /// Standard output, written without a buffer. Its count of faults rises with each call that fails, and with one that
-/// takes none of a piece that is not empty, which is answered as a failure.
+/// takes none of a piece that is not empty, which is answered as a failure. A write that a signal interrupts is tried
+/// again.
 #[derive(Drop)]
 pub struct StdSink<'a, P: Print> {
     rt: &'a P,
@@ -95,11 +141,11 @@ impl<P: Print> Sink for StdSink<'_, P> {
     ghost faults = { λ s. s.faults };
 
     fn write(&mut self, bytes: &[u8]) -> Result<usize, Failed> {
-        match self.rt.write_some(bytes) {
-            Ok(count) if count > 0 || bytes.is_empty() => Ok(count),
-            _ => {
+        match write_some(self.rt, bytes) {
+            Ok(count) => Ok(count),
+            Err(failed) => {
                 self.faults = self.faults.saturating_add(1);
-                Err(Failed)
+                Err(failed)
             }
         }
     }

@@ -1,10 +1,15 @@
-// What no clause says: real files and standard output, worked values from outside, and calls that fail in mid-stream.
+// What no clause says: real files and standard output, what is read and written a few bytes at a time, worked values from
+// outside, and calls that fail in mid-stream.
+use crate::outside::read_some;
 use crate::{
     FaultKind, FileInputs, List, MemInputs, MemSink, StdSink, Take, WriteFailed, read_whole, sleb,
     text_at, u16_at, u32_at, u64_at, uleb, write_all,
 };
 use std::alloc::{AllocError, Global};
+use std::cell::{Cell, RefCell};
+use std::fmt::Display;
 use std::fs;
+use std::io::{self, ErrorKind, Read};
 use std::test::Fail;
 
 // More bytes than one call of `read` is asked for.
@@ -34,6 +39,92 @@ fn files_are_read_whole(rt: HostRuntime) -> Result<(), Fail> {
         assert_eq!(rt; answer.err(), Some(refused), "at {name}");
     }
     fs::remove_file(&rt, "long")?;
+    Ok(())
+}
+
+// A file that gives three bytes a read at most, and interrupts every other read.
+#[derive(Drop)]
+struct Dripping<'a> {
+    left: &'a [u8],
+    interrupted: bool,
+}
+
+impl Read for Dripping<'_> {
+    fn read(&mut self, buf: &mut [u8]) -> io::Result<usize> {
+        self.interrupted = !self.interrupted;
+        if self.interrupted {
+            return Err(io::Error::from(ErrorKind::Interrupted));
+        }
+        let count = self.left.len().min(buf.len()).min(3);
+        buf[..count].copy_from_slice(&self.left[..count]);
+        self.left = &self.left[count..];
+        Ok(count)
+    }
+}
+
+#[test]
+fn a_file_is_read_in_short_pieces(rt: HostRuntime) -> Result<(), Fail> {
+    let alloc = rt.alloc();
+    let mut file = Dripping {
+        left: b"piece by piece",
+        interrupted: false,
+    };
+    let mut piece = [0u8; 8];
+    let mut all = Vec::new(alloc);
+    for _ in 0..9 {
+        let count = read_some(&mut file, &mut piece)?;
+        all.extend_from_slice(&piece[..count])?;
+    }
+    assert_eq!(rt; all.as_slice(), b"piece by piece".as_slice());
+    Ok(())
+}
+
+// An output that takes two bytes a write at most, and interrupts every other write.
+#[derive(Drop)]
+struct Narrow {
+    held: RefCell<Vec<u8>>,
+    interrupted: Cell<bool>,
+}
+
+impl Print for Narrow {
+    fn print<D: Display + Drop>(&self, _value: D) -> io::Result<()> {
+        Err(io::Error::from(ErrorKind::Unsupported))
+    }
+
+    fn println<D: Display + Drop>(&self, _value: D) -> io::Result<()> {
+        Err(io::Error::from(ErrorKind::Unsupported))
+    }
+
+    fn write_all(&self, _bytes: &[u8]) -> io::Result<()> {
+        Err(io::Error::from(ErrorKind::Unsupported))
+    }
+
+    fn write_some(&self, bytes: &[u8]) -> io::Result<usize> {
+        self.interrupted.set(!self.interrupted.get());
+        if self.interrupted.get() {
+            return Err(io::Error::from(ErrorKind::Interrupted));
+        }
+        let count = bytes.len().min(2);
+        let mut held = self
+            .held
+            .try_borrow_mut()
+            .map_err(|_| io::Error::from(ErrorKind::Other))?;
+        match held.extend_from_slice(&bytes[..count]) {
+            Ok(()) => Ok(count),
+            Err(_) => Err(io::Error::from(ErrorKind::OutOfMemory)),
+        }
+    }
+}
+
+#[test]
+fn an_output_takes_a_text_in_short_pieces(rt: HostRuntime) -> Result<(), Fail> {
+    let output = Narrow {
+        held: RefCell::new(Vec::new(rt.alloc())),
+        interrupted: Cell::new(false),
+    };
+    write_all(&mut StdSink::new(&output), b"written\n")?;
+    let held = output.held.try_borrow()?;
+    assert_eq!(rt; held.as_slice(), b"written\n".as_slice());
     Ok(())
 }
 

@@ -2,7 +2,7 @@
 #![tactic(auto)]
 
 ghost use Rattle.std.specs.Prelude.{◌≡◌, ◌≤◌, length};
-ghost use Rattle.abi_base.specs.declared.TheConstants.{INPUT_LIMIT};
+ghost use Rattle.abi_base.specs.Limits.{input_limit};
 ghost use Rattle.elf_debug.specs.DebugSections.{section_or_none, AreSectionsOf};
 
 use dw_forms::Sections;
@@ -11,7 +11,7 @@ use elf_file::ElfFile;
 // What the first section of a name holds, and nothing where there is none.
 fn section_in<'a>(file: &ElfFile<'a>, name: &[u8]) -> &'a [u8]
     ensures holds { result.now ≡ section_or_none file.now name.now }
-    ensures small { length result.now ≤ INPUT_LIMIT }
+    ensures small { length result.now ≤ input_limit }
 {
     match file.section(name) {
         Some(bytes) => bytes,

@@ -11,37 +11,37 @@ use Rattle.abi_base.specs.Numbers.{number, text_at}
 use Rattle.abi_base.specs.Outcome.{fault_if, first}
 use Rattle.elf_file.specs.declared.records.SectionHeader.{SectionHeader}
 use Rattle.elf_file.specs.declared.records.SectionTable.{SectionTable}
-use Rattle.elf_file.specs.declared.constants.TheConstants.{EHDR_SIZE, SHDR_SIZE, ELFMAG, EI_CLASS, EI_DATA, EI_VERSION, E_TYPE, E_MACHINE, E_VERSION, E_SHOFF, E_SHENTSIZE, E_SHNUM, E_SHSTRNDX, ELFCLASS64, ELFDATA2LSB, EV_CURRENT, ET_DYN, EM_X86_64, SHN_XINDEX, SH_NAME, SH_TYPE, SH_FLAGS, SH_OFFSET, SH_SIZE, SH_LINK, SH_INFO, SH_ENTSIZE, SHT_NULL, SHT_STRTAB, SHT_NOBITS, SHF_COMPRESSED, DEBUG_PREFIX, ZDEBUG_PREFIX}
+use Rattle.abi_base.specs.Elf.{ehdr_size, shdr_size, elfmag, ei_class, ei_data, ei_version, e_type, e_machine, e_version, e_shoff, e_shentsize, e_shnum, e_shstrndx, elfclass64, elfdata2lsb, ev_current, et_dyn, em_x86_64, shn_xindex, sh_name, sh_type, sh_flags, sh_offset, sh_size, sh_link, sh_info, sh_entsize, sht_null, sht_strtab, sht_nobits, shf_compressed, debug_prefix, zdebug_prefix}
 
 -- ---- the section table (gABI, "ELF Header" and "Section Header")
 
 -- the section header at a place
 unfoldable pub header_at : List ℕ → ℕ → SectionHeader
 header_at f at = record {
-  name = number 4 f (at + SH_NAME);
-  kind = number 4 f (at + SH_TYPE);
-  flags = number 8 f (at + SH_FLAGS);
-  offset = number 8 f (at + SH_OFFSET);
-  size = number 8 f (at + SH_SIZE);
-  link = number 4 f (at + SH_LINK);
-  info = number 4 f (at + SH_INFO);
-  entsize = number 8 f (at + SH_ENTSIZE);
+  name = number 4 f (at + sh_name);
+  kind = number 4 f (at + sh_type);
+  flags = number 8 f (at + sh_flags);
+  offset = number 8 f (at + sh_offset);
+  size = number 8 f (at + sh_size);
+  link = number 4 f (at + sh_link);
+  info = number 4 f (at + sh_info);
+  entsize = number 8 f (at + sh_entsize);
 }
 
--- A count of 0 in the file's header stands in the size of section 0, and an index of SHN_XINDEX in its link.
+-- A count of 0 in the file's header stands in the size of section 0, and an index of `shn_xindex` in its link.
 unfoldable pub table : List ℕ → SectionTable
 table f =
-    let at = number 8 f E_SHOFF in
+    let at = number 8 f e_shoff in
     let zeroth = header_at f at in
     record {
       at = at;
-      count = (if number 2 f E_SHNUM == 0 then zeroth.size else number 2 f E_SHNUM);
-      names = (if number 2 f E_SHSTRNDX == SHN_XINDEX then zeroth.link else number 2 f E_SHSTRNDX);
+      count = (if number 2 f e_shnum == 0 then zeroth.size else number 2 f e_shnum);
+      names = (if number 2 f e_shstrndx == shn_xindex then zeroth.link else number 2 f e_shstrndx);
     }
 
 -- the header of the section of a number
 unfoldable pub section : List ℕ → ℕ → SectionHeader
-section f i = header_at f ((table f).at + SHDR_SIZE * i)
+section f i = header_at f ((table f).at + shdr_size * i)
 
 -- the numbers of all sections
 abbrev pub all_sections : List ℕ → List ℕ
@@ -49,7 +49,7 @@ all_sections f = range_with_len 0 (table f).count
 
 -- Section 0 and those of type NULL and NOBITS hold nothing.
 abbrev pub holds_bytes : ℕ → SectionHeader → Bool
-holds_bytes i s = not (i == 0 || (s.kind == SHT_NULL || s.kind == SHT_NOBITS))
+holds_bytes i s = not (i == 0 || (s.kind == sht_null || s.kind == sht_nobits))
 
 -- what the section of a number holds
 unfoldable pub contents : List ℕ → ℕ → List ℕ
@@ -76,13 +76,6 @@ section_named f name = option_map (contents f) (section_number f name)
 abbrev pub starts : List ℕ → List ℕ → Bool
 starts name prefix = bytes_eq (take (length prefix) name) prefix
 
-abbrev pub has_prefix : List ℕ → List ℕ → ℕ → Bool
-has_prefix f prefix i = option_map_or (λ n. starts n prefix) (section_name f i) false
-
--- the number of the first section whose name begins so
-abbrev pub section_with_prefix : List ℕ → List ℕ → Option ℕ
-section_with_prefix f prefix = find (has_prefix f prefix) (all_sections f)
-
 -- a section, without where it lies in memory
 pub record SectionView : Type 0 where
   pub index : ℕ
@@ -100,7 +93,7 @@ section_of_kind f k = option_map (section_view f) (find (λ i. (section f i).kin
 
 -- what the section of a number holds, where there is one and it is a string table
 abbrev pub strings_of : List ℕ → ℕ → Option (List ℕ)
-strings_of f i = if nat_lt i (table f).count && (section f i).kind == SHT_STRTAB then Some (contents f i) else None
+strings_of f i = if nat_lt i (table f).count && (section f i).kind == sht_strtab then Some (contents f i) else None
 
 -- the name of the section of a number, where there is one
 abbrev pub name_of_section : List ℕ → ℕ → Option (List ℕ)
@@ -112,21 +105,21 @@ name_of_section f i = if nat_lt i (table f).count then section_name f i else Non
 abbrev pub is_table_bad : List ℕ → Bool
 is_table_bad f =
     let t = table f in
-    t.at == 0 || (not (number 2 f E_SHENTSIZE == SHDR_SIZE) || (t.count == 0
-    || (nat_lt (length f) (t.at + SHDR_SIZE * t.count) || (nat_le t.count t.names || not ((section f t.names).kind == SHT_STRTAB)))))
+    t.at == 0 || (not (number 2 f e_shentsize == shdr_size) || (t.count == 0
+    || (nat_lt (length f) (t.at + shdr_size * t.count) || (nat_le t.count t.names || not ((section f t.names).kind == sht_strtab)))))
 
 -- the faults of the header, in order of their numbers
 unfoldable pub header_faults : List ℕ → List (Option Fault)
 header_faults f =
-    fault_if (nat_lt (length f) EHDR_SIZE) kind.ShortFile (length f)
-    ∷ fault_if (not (bytes_eq (take 4 f) ELFMAG)) kind.NotElf 0
-    ∷ fault_if (not (slice_index f EI_CLASS == ELFCLASS64)) kind.Class EI_CLASS
-    ∷ fault_if (not (slice_index f EI_DATA == ELFDATA2LSB)) kind.Data EI_DATA
-    ∷ fault_if (not (slice_index f EI_VERSION == EV_CURRENT)) kind.Version EI_VERSION
-    ∷ fault_if (not (number 4 f E_VERSION == EV_CURRENT)) kind.Version E_VERSION
-    ∷ fault_if (not (number 2 f E_TYPE == ET_DYN)) kind.NotShared E_TYPE
-    ∷ fault_if (not (number 2 f E_MACHINE == EM_X86_64)) kind.Machine E_MACHINE
-    ∷ fault_if (is_table_bad f) kind.SectionTable E_SHOFF
+    fault_if (nat_lt (length f) ehdr_size) kind.ShortFile (length f)
+    ∷ fault_if (not (bytes_eq (take 4 f) elfmag)) kind.NotElf 0
+    ∷ fault_if (not (slice_index f ei_class == elfclass64)) kind.Class ei_class
+    ∷ fault_if (not (slice_index f ei_data == elfdata2lsb)) kind.Data ei_data
+    ∷ fault_if (not (slice_index f ei_version == ev_current)) kind.Version ei_version
+    ∷ fault_if (not (number 4 f e_version == ev_current)) kind.Version e_version
+    ∷ fault_if (not (number 2 f e_type == et_dyn)) kind.NotShared e_type
+    ∷ fault_if (not (number 2 f e_machine == em_x86_64)) kind.Machine e_machine
+    ∷ fault_if (is_table_bad f) kind.SectionTable e_shoff
     ∷ []
 
 -- A section that holds bytes lies in the file.
@@ -140,7 +133,7 @@ name_fault f i = fault_if (is_none (section_name f i)) kind.SectionName i
 
 -- a debug section with the flag of compression, or one that its name says is compressed
 abbrev pub is_compressed : List ℕ → ℕ → Bool
-is_compressed name flags = (starts name DEBUG_PREFIX && (flags / SHF_COMPRESSED) % 2 == 1) || starts name ZDEBUG_PREFIX
+is_compressed name flags = (starts name debug_prefix && (flags / shf_compressed) % 2 == 1) || starts name zdebug_prefix
 
 -- No debug section is compressed.
 unfoldable pub compressed_fault : List ℕ → ℕ → Option Fault
@@ -160,7 +153,7 @@ elf_fault f = first (elf_faults f)
 
 -- the table lies in the file, and one of its sections holds the names
 pub record HasTable (f : List ℕ) : Type 0 where
-  pub inside : (table f).at + SHDR_SIZE * (table f).count ≤ length f
+  pub inside : (table f).at + shdr_size * (table f).count ≤ length f
   pub names : (table f).names < (table f).count
 
 -- each section that holds bytes lies in the file

@@ -1,13 +1,13 @@
 -- What a file that was read keeps.
 use Rattle.std.specs.Prelude.{◌≡◌, ◌≤◌, ℕ, List, length, None}
-use Rattle.abi_base.specs.declared.TheConstants.{INPUT_LIMIT}
+use Rattle.abi_base.specs.Limits.{input_limit}
 use Rattle.elf_file.specs.declared.records.SectionTable.{SectionTable}
 use Rattle.elf_file.specs.declared.records.Section.{Section}
 use Rattle.elf_file.specs.Elf.{table, contents, elf_fault, HasTable, HasRanges, SectionView}
 
 pub record IsOpen (f : List ℕ) (sections : SectionTable) (names : List ℕ) : Type 0 where
   pub no_fault : elf_fault f ≡ None
-  pub small : length f ≤ INPUT_LIMIT
+  pub small : length f ≤ input_limit
   pub table_is : sections ≡ table f
   pub names_are : names ≡ contents f sections.names
   pub has : HasTable f

@@ -3,8 +3,9 @@ ghost use Rattle.std.specs.Prelude.{◌≡◌, ◌≢◌, ◌≤◌, ◌<◌, If
 ghost use Rattle.std.specs.Option.{option_copied, option_map, option_map_or};
 ghost use Rattle.std.specs.Str.{bytes_eq};
 ghost use Rattle.abi_base.specs.Outcome.{Judges};
-ghost use Rattle.elf_file.specs.Elf.{table, elf_fault, section_named, section_of_kind as the_section_of_kind, section_number as the_section_number, section_with_prefix as the_section_with_prefix, strings_of, name_of_section, starts};
+ghost use Rattle.elf_file.specs.Elf.{table, elf_fault, section_named, section_of_kind as the_section_of_kind, section_number as the_section_number, strings_of, name_of_section};
 ghost use Rattle.elf_file.specs.File.{viewed};
+ghost use Rattle.abi_base.specs.Limits.{input_limit};
 
 use crate::constants::SHT_STRTAB;
 use crate::header::{header_fault, section_in, table_in};
@@ -38,7 +39,7 @@ impl<'a> Model for ElfFile<'a> {
 /// memory. The answer keeps the bytes, and its look-ups read them anew.
 #[tactic(auto, using(crate::proofs::ElfLemmas::elf_fault_is))]
 pub fn read_elf<'a>(bytes: &'a [u8]) -> Result<ElfFile<'a>, Refusal>
-    requires { length bytes.now ≤ INPUT_LIMIT }
+    requires { length bytes.now ≤ input_limit }
     ensures judged { Judges result (elf_fault bytes.now) }
     ensures takes_no_memory { result ≢ Err Refusal.NoMemory }
     ensures held { IfOk result (λ file. file ≡ bytes.now) }
@@ -78,21 +79,11 @@ fn is_name(found: Option<&[u8]>, name: &[u8]) -> bool
     }
 }
 
-// Whether a name was found and begins with these bytes.
-fn begins(found: Option<&[u8]>, prefix: &[u8]) -> bool
-    ensures { result ≡ option_map_or (λ n. starts n prefix.now) (option_copied found.entry) false }
-{
-    match found {
-        Some(found) => found.starts_with(prefix),
-        None => false,
-    }
-}
-
 impl<'a> ElfFile<'a> {
     /// What the first section of a name holds, or none exactly where there is no such section.
     pub fn section(&self, name: &[u8]) -> Option<&'a [u8]>
         ensures found { option_copied result ≡ section_named self.now name.now }
-        ensures small { IfSome result (λ bytes. length bytes.now ≤ INPUT_LIMIT) }
+        ensures small { IfSome result (λ bytes. length bytes.now ≤ input_limit) }
     {
         match self.section_number(name) {
             Some(number) => Some(contents_in(self.bytes, self.sections, u64::from(number))),
@@ -114,31 +105,13 @@ impl<'a> ElfFile<'a> {
         None
     }
 
-    /// The number of the first section whose name begins with these bytes, or none exactly where there is no such
-    /// section.
-    #[tactic(auto, using(abi_base::proofs::Places::find_more, abi_base::proofs::Places::find_here, abi_base::proofs::Places::find_none))]
-    pub fn section_with_prefix(&self, prefix: &[u8]) -> Option<u32>
-        ensures found { result ≡ the_section_with_prefix self.now prefix.now }
-        ensures inside { IfSome result (λ i. i < (table self.now).count) }
-    {
-        for number in 0..self.sections.count {
-            if begins(
-                name_in(self.bytes, self.sections, self.names, number),
-                prefix,
-            ) {
-                return Some(number as u32);
-            }
-        }
-        None
-    }
-
     /// The first section of a type, or none exactly where there is no such section. Types are those of the gABI, as
     /// `SHT_DYNSYM`.
     #[tactic(auto, using(abi_base::proofs::Places::find_more, abi_base::proofs::Places::find_here, abi_base::proofs::Places::find_none))]
     pub fn section_of_kind(&self, kind: u32) -> Option<Section<'a>>
         ensures found { option_map viewed result ≡ the_section_of_kind self.now kind }
         ensures inside { IfSome result (λ s. s.index < (table self.now).count) }
-        ensures small { IfSome result (λ s. length s.bytes.now ≤ INPUT_LIMIT) }
+        ensures small { IfSome result (λ s. length s.bytes.now ≤ input_limit) }
     {
         for number in 0..self.sections.count {
             let header = section_in(self.bytes, self.sections, number);
@@ -158,7 +131,7 @@ impl<'a> ElfFile<'a> {
     /// What the section of a number holds, or none exactly where there is no such section or it is no string table.
     pub fn strings(&self, index: u32) -> Option<&'a [u8]>
         ensures held { option_copied result ≡ strings_of self.now index }
-        ensures small { IfSome result (λ bytes. length bytes.now ≤ INPUT_LIMIT) }
+        ensures small { IfSome result (λ bytes. length bytes.now ≤ input_limit) }
     {
         let number = u64::from(index);
         if number >= self.sections.count {

@@ -2,6 +2,7 @@
 ghost use Rattle.std.specs.Prelude.{◌≡◌, ◌+◌, ◌*◌, ◌<◌, ◌≤◌, Some, length, IfNone};
 ghost use Rattle.abi_base.specs.Outcome.{first};
 ghost use Rattle.elf_file.specs.Elf.{header_at, table, section, is_table_bad as the_table_is_bad, header_faults, HasTable};
+ghost use Rattle.abi_base.specs.Elf.{ehdr_size, shdr_size};
 
 use crate::constants::{
     E_MACHINE, E_SHENTSIZE, E_SHNUM, E_SHOFF, E_SHSTRNDX, E_TYPE, E_VERSION, EHDR_SIZE, EI_CLASS,
@@ -15,7 +16,7 @@ use abi_base::{Fault, FaultKind, u16_in, u32_in, u64_in};
 // The section header at a place, which lies inside.
 #[tactic(auto, unfolding(crate::specs::Elf::header_at))]
 fn header_in(bytes: &[u8], at: usize) -> SectionHeader
-    requires { at + SHDR_SIZE ≤ length bytes.now }
+    requires { at + shdr_size ≤ length bytes.now }
     ensures { result ≡ header_at bytes.now at }
 {
     SectionHeader {
@@ -34,8 +35,8 @@ fn header_in(bytes: &[u8], at: usize) -> SectionHeader
 /// stands in the size of section 0, and an index of `SHN_XINDEX` in its link.
 #[tactic(auto, unfolding(crate::specs::Elf::table))]
 pub fn table_in(bytes: &[u8]) -> SectionTable
-    requires header { EHDR_SIZE ≤ length bytes.now }
-    requires inside { (table bytes.now).at + SHDR_SIZE ≤ length bytes.now }
+    requires header { ehdr_size ≤ length bytes.now }
+    requires inside { (table bytes.now).at + shdr_size ≤ length bytes.now }
     ensures { result ≡ table bytes.now }
 {
     let at = u64_in(bytes, E_SHOFF);
@@ -72,7 +73,7 @@ pub fn section_in(bytes: &[u8], sections: SectionTable, number: u64) -> SectionH
 // names. Sizes are compared with the room that is left, since a sum could pass the end of its type.
 #[tactic(auto, unfolding(crate::specs::Elf::table, crate::specs::Elf::section))]
 fn is_table_bad(bytes: &[u8]) -> bool
-    requires { EHDR_SIZE ≤ length bytes.now }
+    requires { ehdr_size ≤ length bytes.now }
     ensures { result ≡ the_table_is_bad bytes.now }
 {
     let len = bytes.len();
@@ -104,7 +105,7 @@ fn fault(kind: FaultKind, at: usize) -> Option<Fault>
 #[tactic(auto, unfolding(crate::specs::Elf::header_faults))]
 pub fn header_fault(bytes: &[u8]) -> Option<Fault>
     ensures fault { result ≡ first (header_faults bytes.now) }
-    ensures long { IfNone result (EHDR_SIZE ≤ length bytes.now) }
+    ensures long { IfNone result (ehdr_size ≤ length bytes.now) }
     ensures table { IfNone result (HasTable bytes.now) }
 {
     if bytes.len() < EHDR_SIZE {

@@ -10,8 +10,7 @@ mod places;
 mod records;
 
 pub use constants::{
-    DEBUG_PREFIX, SHT_DYNAMIC, SHT_DYNSYM, SHT_GNU_VERDEF, SHT_GNU_VERNEED, SHT_GNU_VERSYM,
-    SHT_STRTAB,
+    SHT_DYNAMIC, SHT_DYNSYM, SHT_GNU_VERDEF, SHT_GNU_VERNEED, SHT_GNU_VERSYM, SHT_STRTAB,
 };
 pub use file::{ElfFile, read_elf};
 pub use records::{Section, SectionHeader, SectionTable};

@@ -11,10 +11,10 @@ use Rattle.abi_base.specs.Outcome.{fault_if}
 use Rattle.abi_base.proofs.OutcomeLemmas.{fault_if-none}
 use Rattle.std.specs.Option.{option_map_or}
 use Rattle.elf_file.specs.Elf.{section_of_kind}
-use Rattle.elf_file.specs.declared.constants.TheConstants.{SHT_DYNAMIC}
+use Rattle.abi_base.specs.Elf.{sht_dynamic, dyn_size}
 use Rattle.elf_syms.proofs.Numbered.{first_of_none}
-use Rattle.elf_syms.specs.declared.constants.TheConstants.{DYN_SIZE}
-use Rattle.elf_syms.specs.Dynamic.{is_used, is_soname, soname_entry, soname_of, dynamic_fault, dynamic_table, dynamic_strings, text_of_entry, soname_fault, is_dynamic_table_bad, IsFirstSoname}
+use Rattle.elf_syms.specs.Tables.{is_table_bad}
+use Rattle.elf_syms.specs.Dynamic.{is_used, is_soname, soname_entry, soname_of, dynamic_fault, dynamic_table, dynamic_strings, text_of_entry, soname_fault, IsFirstSoname}
 
 -- i is the first of the n places from a on with p, and each before it has q
 record IsFirstWith (p q : ℕ → Bool) (a n i : ℕ) : Type 0 where
@@ -53,7 +53,7 @@ first_with p q a (suc n) i found = with_one_more p q a n i (q a) (p a) refl refl
 
 pub first_soname : (table : List ℕ) (i : ℕ) → soname_entry table ≡ Some i → IsFirstSoname table i
 first_soname table i found =
-    let it : IsFirstWith (is_soname table) (is_used table) 0 (length table / DYN_SIZE) i = first_with _ _ 0 (length table / DYN_SIZE) i found in
+    let it : IsFirstWith (is_soname table) (is_used table) 0 (length table / dyn_size) i = first_with _ _ 0 (length table / dyn_size) i found in
     record {
       inside = omega (arith, it.inside);
       tagged = grind (arith, nat_tests, it.passes);
@@ -73,7 +73,7 @@ no_entry table strings (Some i) free none =
 pub missing : (f : List ℕ) → dynamic_fault f ≡ None → soname_of f ≡ None → soname_entry (dynamic_table f) ≡ None
 unfolding dynamic_fault soname_of
 missing f free none =
-    let bad = fault_if (option_map_or (is_dynamic_table_bad f) (section_of_kind f SHT_DYNAMIC) false) kind.DynamicTable 0 in
+    let bad = fault_if (option_map_or (is_table_bad dyn_size f) (section_of_kind f sht_dynamic) false) kind.DynamicTable 0 in
     let at_entry = option_and_then (soname_fault (dynamic_table f) (dynamic_strings f)) (soname_entry (dynamic_table f)) in
     let rest = (first_of_none at_entry [] (first_of_none bad (at_entry ∷ []) free).1).0 in
     no_entry (dynamic_table f) (dynamic_strings f) (soname_entry (dynamic_table f)) rest none

@@ -10,11 +10,11 @@ use Rattle.abi_base.specs.declared.fault.FaultKind.TheVariants as kind
 use Rattle.abi_base.specs.Outcome.{first, fault_if}
 use Rattle.abi_base.proofs.OutcomeLemmas.{none_at, fault_if-none}
 use Rattle.elf_file.specs.Elf.{SectionView, section_of_kind}
-use Rattle.elf_file.specs.declared.constants.TheConstants.{SHT_DYNSYM}
-use Rattle.elf_syms.specs.declared.constants.TheConstants.{SYM_SIZE}
+use Rattle.abi_base.specs.Elf.{sht_dynsym, sym_size}
+use Rattle.elf_syms.specs.Tables.{is_table_bad}
 use Rattle.elf_syms.specs.declared.symbol.Symbol.{Symbol}
 use Rattle.elf_syms.specs.Plain.{plain_symbols}
-use Rattle.elf_syms.specs.Symbols.{name_in, symbol_in, symbols_in, symbols_of, symbol_table, symbol_strings, symbol_numbers, symbol_name_fault, symbol_fault, is_symbol_table_bad}
+use Rattle.elf_syms.specs.Symbols.{name_in, symbol_in, symbols_in, symbols_of, symbol_table, symbol_strings, symbol_numbers, symbol_name_fault, symbol_fault}
 
 numbers_from : (table strings : List ℕ) (a n : ℕ) → map (λ s. s.number) (map (symbol_in table strings) (range_with_len a n)) ≡ range_with_len a n
 unfolding symbol_in
@@ -22,7 +22,7 @@ numbers_from table strings a zero = refl
 numbers_from table strings a (suc n) = ap (λ (l : List ℕ). a ∷ l) (numbers_from table strings (a + 1) n)
 
 pub numbered_in : (table strings : List ℕ) → map (λ s. s.number) (symbols_in table strings) ≡ range_with_len 0 (length (symbols_in table strings))
-numbered_in table strings = rw (length-map-range_with_len (symbol_in table strings) 0 (length table / SYM_SIZE)) (numbers_from table strings 0 (length table / SYM_SIZE))
+numbered_in table strings = rw (length-map-range_with_len (symbol_in table strings) 0 (length table / sym_size)) (numbers_from table strings 0 (length table / sym_size))
 
 length_plain : (symbols : List Symbol) → length (plain_symbols symbols) ≡ length symbols
 length_plain [] = refl
@@ -44,27 +44,27 @@ first_of_none None os h = (refl, h)
 first_of_none (Some fault) os h = absurd cc
 
 record Faultless (f : List ℕ) : Type 0 where
-  pub table : option_map_or (is_symbol_table_bad f) (section_of_kind f SHT_DYNSYM) false ≡ false
+  pub table : option_map_or (is_table_bad sym_size f) (section_of_kind f sht_dynsym) false ≡ false
   pub names : first (map (symbol_name_fault (symbol_table f) (symbol_strings f)) (symbol_numbers (symbol_table f))) ≡ None
 
 faultless : (f : List ℕ) → symbol_fault f ≡ None → Faultless f
 unfolding symbol_fault
 faultless f none =
-    let bad = option_map_or (is_symbol_table_bad f) (section_of_kind f SHT_DYNSYM) false in
+    let bad = option_map_or (is_table_bad sym_size f) (section_of_kind f sht_dynsym) false in
     let names = map (symbol_name_fault (symbol_table f) (symbol_strings f)) (symbol_numbers (symbol_table f)) in
-    let rest = (first_of_none (fault_if (is_none (section_of_kind f SHT_DYNSYM)) kind.NoDynamicSymbols 0) (fault_if bad kind.SymbolTable 0 ∷ names) none).1 in
+    let rest = (first_of_none (fault_if (is_none (section_of_kind f sht_dynsym)) kind.NoDynamicSymbols 0) (fault_if bad kind.SymbolTable 0 ∷ names) none).1 in
     let each = first_of_none (fault_if bad kind.SymbolTable 0) names rest in
     record { table = fault_if-none bad kind.SymbolTable 0 each.0; names = each.1 }
 
-whole_entries : (f : List ℕ) (o : Option SectionView) → option_map_or (is_symbol_table_bad f) o false ≡ false → length (option_map_or (λ s. s.bytes) o []) % SYM_SIZE ≡ 0
+whole_entries : (f : List ℕ) (o : Option SectionView) → option_map_or (is_table_bad sym_size f) o false ≡ false → length (option_map_or (λ s. s.bytes) o []) % sym_size ≡ 0
 whole_entries f None good = refl
 whole_entries f (Some s) good = grind (arith, nat_tests, good)
 
-pub whole : (f : List ℕ) → symbol_fault f ≡ None → SYM_SIZE * length (symbols_of f) ≡ length (symbol_table f)
+pub whole : (f : List ℕ) → symbol_fault f ≡ None → sym_size * length (symbols_of f) ≡ length (symbol_table f)
 unfolding symbols_of
 whole f none =
-    let entries : length (symbol_table f) % SYM_SIZE ≡ 0 = whole_entries f (section_of_kind f SHT_DYNSYM) (faultless f none).table in
-    rw (length-map-range_with_len (symbol_in (symbol_table f) (symbol_strings f)) 0 (length (symbol_table f) / SYM_SIZE)) (omega (arith, entries))
+    let entries : length (symbol_table f) % sym_size ≡ 0 = whole_entries f (section_of_kind f sht_dynsym) (faultless f none).table in
+    rw (length-map-range_with_len (symbol_in (symbol_table f) (symbol_strings f)) 0 (length (symbol_table f) / sym_size)) (omega (arith, entries))
 
 some_of : (o : Option (List ℕ)) → is_none o ≡ false → o ≡ Some (unwrap_or o [])
 some_of None h = absurd cc
@@ -74,6 +74,6 @@ pub named : (f : List ℕ) (i : ℕ) → symbol_fault f ≡ None → i < length 
     → name_in (symbol_table f) (symbol_strings f) i ≡ Some (symbol_in (symbol_table f) (symbol_strings f) i).name
 unfolding symbols_of symbol_name_fault symbol_in
 named f i none lt =
-    let within : i < length (symbol_table f) / SYM_SIZE = rw (length-map-range_with_len (symbol_in (symbol_table f) (symbol_strings f)) 0 (length (symbol_table f) / SYM_SIZE)) at lt in
-    let free : symbol_name_fault (symbol_table f) (symbol_strings f) i ≡ None = none_at (symbol_name_fault (symbol_table f) (symbol_strings f)) (length (symbol_table f) / SYM_SIZE) i (faultless f none).names within in
+    let within : i < length (symbol_table f) / sym_size = rw (length-map-range_with_len (symbol_in (symbol_table f) (symbol_strings f)) 0 (length (symbol_table f) / sym_size)) at lt in
+    let free : symbol_name_fault (symbol_table f) (symbol_strings f) i ≡ None = none_at (symbol_name_fault (symbol_table f) (symbol_strings f)) (length (symbol_table f) / sym_size) i (faultless f none).names within in
     some_of _ (fault_if-none _ kind.SymbolTable i free)

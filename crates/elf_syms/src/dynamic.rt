@@ -2,18 +2,18 @@
 ghost use Rattle.std.specs.Prelude.{◌≡◌, ◌<◌, ◌≤◌, ◌+◌, ◌*◌, ◌/◌, ◌%◌, Some, length, IfOk, IfSome, is_none, option_and_then};
 ghost use Rattle.std.specs.Option.{option_copied};
 ghost use Rattle.abi_base.specs.Outcome.{Settles};
-ghost use Rattle.elf_file.specs.Elf.{strings_of};
-ghost use Rattle.elf_file.specs.File.{viewed};
-ghost use Rattle.elf_syms.specs.Dynamic.{tag_in, value_in, text_of_entry, soname_entry, soname_fault, soname_of, dynamic_fault, is_dynamic_table_bad};
+ghost use Rattle.elf_syms.specs.Dynamic.{tag_in, value_in, text_of_entry, soname_entry, soname_fault, soname_of, dynamic_fault};
+ghost use Rattle.abi_base.specs.Elf.{dyn_size};
 
 use crate::constants::{D_TAG, D_VAL, DT_NULL, DT_SONAME, DYN_SIZE};
+use crate::strings::strings_for;
 use abi_base::{Fault, FaultKind, INPUT_LIMIT, text_at, u64_in};
-use elf_file::{ElfFile, SHT_DYNAMIC, Section};
+use elf_file::{ElfFile, SHT_DYNAMIC};
 
 // The tag of the entry of a number.
 #[tactic(auto, unfolding(crate::specs::Dynamic::tag_in))]
 fn tag_at(table: &[u8], number: usize) -> u64
-    requires { DYN_SIZE * (number + 1) ≤ length table.now }
+    requires { dyn_size * (number + 1) ≤ length table.now }
     ensures { result ≡ tag_in table.now number }
 {
     u64_in(table, DYN_SIZE * number + D_TAG)
@@ -22,7 +22,7 @@ fn tag_at(table: &[u8], number: usize) -> u64
 // The number of the entry that gives the soname.
 fn soname_entry_in(table: &[u8]) -> Option<usize>
     ensures entry { result ≡ soname_entry table.now }
-    ensures inside { IfSome result (λ i. DYN_SIZE * (i + 1) ≤ length table.now) }
+    ensures inside { IfSome result (λ i. dyn_size * (i + 1) ≤ length table.now) }
 {
     for number in 0..table.len() / DYN_SIZE {
         let tag = tag_at(table, number);
@@ -36,17 +36,6 @@ fn soname_entry_in(table: &[u8]) -> Option<usize>
     None
 }
 
-// The string table of a dynamic table, where neither is malformed.
-fn strings_for<'a>(file: &ElfFile<'a>, section: Section<'a>) -> Option<&'a [u8]>
-    ensures bad { is_none result ≡ is_dynamic_table_bad file.now (viewed section.entry) }
-    ensures strings { IfSome result (λ s. strings_of file.now section.entry.link ≡ Some s.now) }
-{
-    if section.entsize != DYN_SIZE as u64 || section.bytes.len() % DYN_SIZE != 0 {
-        return None;
-    }
-    file.strings(section.link)
-}
-
 /// The soname of a file, or none where it has no dynamic table or the table names none. The fault is the first one of
 /// `DynamicTable`. It takes no memory.
 #[tactic(auto, unfolding(crate::specs::Dynamic::dynamic_fault, crate::specs::Dynamic::soname_of))]
@@ -56,7 +45,7 @@ pub fn soname<'a>(file: &ElfFile<'a>) -> Result<Option<&'a [u8]>, Fault>
 {
     match file.section_of_kind(SHT_DYNAMIC) {
         None => Ok(None),
-        Some(section) => match strings_for(file, section) {
+        Some(section) => match strings_for(file, section, DYN_SIZE) {
             None => Err(Fault {
                 kind: FaultKind::DynamicTable,
                 at: 0,

@@ -4,6 +4,7 @@
 mod constants;
 mod dynamic;
 pub mod laws;
+mod strings;
 mod symbol;
 mod table;
 

@@ -3,21 +3,22 @@ ghost use Rattle.std.specs.Prelude.{◌≡◌, ◌<◌, ◌≤◌, ◌+◌, ◌*
 ghost use Rattle.std.specs.List.{range_with_len};
 ghost use Rattle.std.specs.Option.{option_copied};
 ghost use Rattle.abi_base.specs.Outcome.{Judges, Settles, first};
-ghost use Rattle.elf_file.specs.Elf.{strings_of};
-ghost use Rattle.elf_file.specs.File.{viewed};
 ghost use Rattle.elf_syms.specs.Plain.{plain_symbol, plain_symbols};
-ghost use Rattle.elf_syms.specs.Symbols.{symbol_in as the_symbol_in, symbols_in as the_symbols_in, name_in, symbol_name_fault, symbol_numbers, symbol_fault, symbols_of, is_symbol_table_bad};
+ghost use Rattle.elf_syms.specs.Symbols.{symbol_in as the_symbol_in, symbols_in as the_symbols_in, name_in, symbol_name_fault, symbol_numbers, symbol_fault, symbols_of};
+ghost use Rattle.abi_base.specs.Limits.{input_limit};
+ghost use Rattle.abi_base.specs.Elf.{sym_size};
 
 use crate::constants::{ST_INFO, ST_NAME, ST_OTHER, ST_SHNDX, ST_SIZE, ST_VALUE, SYM_SIZE};
+use crate::strings::strings_for;
 use crate::symbol::Symbol;
 use abi_base::{Fault, FaultKind, INPUT_LIMIT, Refusal, text_at, u16_in, u32_in, u64_in};
-use elf_file::{ElfFile, SHT_DYNSYM, Section};
+use elf_file::{ElfFile, SHT_DYNSYM};
 use std::alloc::Global;
 
 // The symbol of a number, or the fault that its name has.
 #[tactic(auto, unfolding(crate::specs::Symbols::symbol_in, crate::specs::Symbols::name_in, crate::specs::Symbols::symbol_name_fault))]
 fn symbol_in<'a>(table: &[u8], strings: &'a [u8], number: u32) -> Result<Symbol<'a>, Fault>
-    requires { SYM_SIZE * (number + 1) ≤ length table.now }
+    requires { sym_size * (number + 1) ≤ length table.now }
     ensures judged { Settles result (symbol_name_fault table.now strings.now number) }
     ensures read { IfOk result (λ s. plain_symbol s ≡ the_symbol_in table.now strings.now number) }
 {
@@ -50,7 +51,7 @@ fn symbols_in<'a>(
     table: &[u8],
     strings: &'a [u8],
 ) -> Result<Vec<Symbol<'a>>, Refusal>
-    requires { length table.now ≤ INPUT_LIMIT }
+    requires { length table.now ≤ input_limit }
     ensures judged { Judges result (first (map (symbol_name_fault table.now strings.now) (symbol_numbers table.now))) }
     ensures read { IfOk result (λ symbols. plain_symbols symbols.items ≡ the_symbols_in table.now strings.now) }
     ensures numbered { IfOk result (λ symbols. map (λ s. s.number) (plain_symbols symbols.items) ≡ range_with_len 0 (length symbols.items)) }
@@ -67,17 +68,6 @@ fn symbols_in<'a>(
     Ok(symbols)
 }
 
-// The string table of a table of symbols, where neither is malformed.
-fn strings_for<'a>(file: &ElfFile<'a>, section: Section<'a>) -> Option<&'a [u8]>
-    ensures bad { is_none result ≡ is_symbol_table_bad file.now (viewed section.entry) }
-    ensures strings { IfSome result (λ s. strings_of file.now section.entry.link ≡ Some s.now) }
-{
-    if section.entsize != SYM_SIZE as u64 || section.bytes.len() % SYM_SIZE != 0 {
-        return None;
-    }
-    file.strings(section.link)
-}
-
 /// All dynamic symbols of a file, in order, the reserved one too: the symbol at place i has the number i. The fault is
 /// the first one of `NoDynamicSymbols` and `SymbolTable`.
 #[tactic(auto, unfolding(crate::specs::Symbols::symbol_fault, crate::specs::Symbols::symbols_of))]
@@ -92,7 +82,7 @@ pub fn symbols<'a>(alloc: Global, file: &ElfFile<'a>) -> Result<Vec<Symbol<'a>>,
             kind: FaultKind::NoDynamicSymbols,
             at: 0,
         })),
-        Some(section) => match strings_for(file, section) {
+        Some(section) => match strings_for(file, section, SYM_SIZE) {
             None => Err(Refusal::Fault(Fault {
                 kind: FaultKind::SymbolTable,
                 at: 0,

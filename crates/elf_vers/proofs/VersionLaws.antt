@@ -10,8 +10,7 @@ use Rattle.abi_base.specs.Numbers.{number}
 use Rattle.abi_base.specs.Outcome.{first}
 use Rattle.abi_base.proofs.OutcomeLemmas.{none_at, fault_if-none}
 use Rattle.elf_file.specs.Elf.{section_of_kind}
-use Rattle.elf_file.specs.declared.constants.TheConstants.{SHT_GNU_VERSYM}
-use Rattle.elf_vers.specs.declared.constants.TheConstants.{VER_NDX_GLOBAL, VERDEF_SIZE, VERDAUX_SIZE, VD_VERSION, VD_CNT, VD_NEXT, VER_DEF_CURRENT}
+use Rattle.abi_base.specs.GnuVersions.{sht_gnu_versym, ver_ndx_global, verdef_size, verdaux_size, vd_version, vd_cnt, vd_next, ver_def_current}
 use Rattle.elf_vers.specs.Definitions.{place_of, index_of, auxiliary_of, name_of, stood_before, is_malformed, is_bad, version_name, definition_fault, definition_table, definition_strings, definition_count, definition_with, strings_fault, definition_faults}
 use Rattle.elf_vers.specs.Versions.{PlainVersion, version_at, version_index, versions_of, version_in, version_fault, table_fault}
 
@@ -45,7 +44,7 @@ kept f symbols i =
       | inr le ↦ beyond (version_at f symbols) 0 symbols i le ∙ sym (past f symbols i le)
     ]
 
-pub unversioned : (f : List ℕ) (symbols i : ℕ) → section_of_kind f SHT_GNU_VERSYM ≡ None → i < symbols → version_at f symbols i ≡ Some (record { name = None; index = VER_NDX_GLOBAL; hidden = false })
+pub unversioned : (f : List ℕ) (symbols i : ℕ) → section_of_kind f sht_gnu_versym ≡ None → i < symbols → version_at f symbols i ≡ Some (record { name = None; index = ver_ndx_global; hidden = false })
 unfolding version_at version_index
 unversioned f symbols i none lt =
     let below : nat_lt i symbols ≡ true = grind (arith, nat_tests) in
@@ -75,30 +74,30 @@ sound f symbols k none lt =
     let parts = either_false _ _ (fault_if-none _ kind.VersionDefinition k here) in
     record { whole = parts.0; new = parts.1 }
 
-within : (table strings : List ℕ) (count k : ℕ) → is_malformed table strings count k ≡ false → place_of table k + VERDEF_SIZE ≤ length table
+within : (table strings : List ℕ) (count k : ℕ) → is_malformed table strings count k ≡ false → place_of table k + verdef_size ≤ length table
 unfolding is_malformed
 within table strings count k whole =
-    let outside : nat_lt (length table) (place_of table k + VERDEF_SIZE) ≡ false = (either_false _ _ whole).0 in
+    let outside : nat_lt (length table) (place_of table k + verdef_size) ≡ false = (either_false _ _ whole).0 in
     grind (arith, nat_tests)
 
-pub inside : (f : List ℕ) (symbols k : ℕ) → version_fault f symbols ≡ None → k < definition_count f → place_of (definition_table f) k + VERDEF_SIZE ≤ length (definition_table f)
+pub inside : (f : List ℕ) (symbols k : ℕ) → version_fault f symbols ≡ None → k < definition_count f → place_of (definition_table f) k + verdef_size ≤ length (definition_table f)
 inside f symbols k none lt = within (definition_table f) (definition_strings f) (definition_count f) k (sound f symbols k none lt).whole
 
 has_name : (table strings : List ℕ) (count k : ℕ) → is_malformed table strings count k ≡ false → is_none (name_of table strings k) ≡ false
 unfolding is_malformed
 has_name table strings count k whole =
     let at = place_of table k in
-    let last = nat_lt (k + 1) count && number 4 table (at + VD_NEXT) == 0 in
+    let last = nat_lt (k + 1) count && number 4 table (at + vd_next) == 0 in
     let name = is_none (name_of table strings k) || last in
-    let auxiliary = nat_lt (length table) (auxiliary_of table k + VERDAUX_SIZE) || name in
+    let auxiliary = nat_lt (length table) (auxiliary_of table k + verdaux_size) || name in
     let index = index_of table k == 0 || auxiliary in
-    let entries = number 2 table (at + VD_CNT) == 0 || index in
-    let version = not (number 2 table (at + VD_VERSION) == VER_DEF_CURRENT) || entries in
-    let h1 = (either_false (nat_lt (length table) (at + VERDEF_SIZE)) version whole).1 in
-    let h2 = (either_false (not (number 2 table (at + VD_VERSION) == VER_DEF_CURRENT)) entries h1).1 in
-    let h3 = (either_false (number 2 table (at + VD_CNT) == 0) index h2).1 in
+    let entries = number 2 table (at + vd_cnt) == 0 || index in
+    let version = not (number 2 table (at + vd_version) == ver_def_current) || entries in
+    let h1 = (either_false (nat_lt (length table) (at + verdef_size)) version whole).1 in
+    let h2 = (either_false (not (number 2 table (at + vd_version) == ver_def_current)) entries h1).1 in
+    let h3 = (either_false (number 2 table (at + vd_cnt) == 0) index h2).1 in
     let h4 = (either_false (index_of table k == 0) auxiliary h3).1 in
-    let h5 = (either_false (nat_lt (length table) (auxiliary_of table k + VERDAUX_SIZE)) name h4).1 in
+    let h5 = (either_false (nat_lt (length table) (auxiliary_of table k + verdaux_size)) name h4).1 in
     (either_false (is_none (name_of table strings k)) last h5).0
 
 pub named : (f : List ℕ) (symbols k : ℕ) → version_fault f symbols ≡ None → k < definition_count f → name_of (definition_table f) (definition_strings f) k ≢ None

@@ -6,7 +6,7 @@ use Rattle.std.specs.Option.{option_map}
 use Rattle.std.proofs.lemmas.List.{map-append}
 use Rattle.std.proofs.lemmas.List.FromFn.{map-range_with_len_more}
 use Rattle.std.proofs.lemmas.Bool.Decides.{nat_tests}
-use Rattle.elf_vers.specs.declared.constants.TheConstants.{VERSYM_HIDDEN}
+use Rattle.abi_base.specs.GnuVersions.{versym_hidden}
 use Rattle.elf_vers.specs.declared.version.Version.{Version}
 use Rattle.elf_vers.specs.Definitions.{version_name}
 use Rattle.elf_vers.specs.Names.{Names, name_under, IsNames}
@@ -34,7 +34,7 @@ unfolding version_at version_index
 version_here f symbols i names is lt =
     let inside : nat_lt i symbols ≡ true = grind (arith, nat_tests) in
     let raw = index_in (index_table f) i in
-    rw inside (same_version (name_under names) (version_name f) (raw % VERSYM_HIDDEN) (raw / VERSYM_HIDDEN == 1) (is (raw % VERSYM_HIDDEN)))
+    rw inside (same_version (name_under names) (version_name f) (raw % versym_hidden) (raw / versym_hidden == 1) (is (raw % versym_hidden)))
 
 same_along : (f g : ℕ → Option PlainVersion) (a n : ℕ) → ((i : ℕ) → i < a + n → f i ≡ g i) → map f (range_with_len a n) ≡ map g (range_with_len a n)
 same_along f g a zero same = refl

@@ -10,27 +10,26 @@ use Rattle.abi_base.specs.declared.fault.Refusal.TheVariants as refusal
 use Rattle.abi_base.specs.Numbers.{number, text_at}
 use Rattle.abi_base.specs.Outcome.{fault_if}
 use Rattle.elf_file.specs.Elf.{section_of_kind, strings_of}
-use Rattle.elf_file.specs.declared.constants.TheConstants.{SHT_GNU_VERDEF}
-use Rattle.elf_vers.specs.declared.constants.TheConstants.{VERSYM_HIDDEN, VERDEF_SIZE, VD_VERSION, VD_NDX, VD_CNT, VD_AUX, VD_NEXT, VER_DEF_CURRENT, VERDAUX_SIZE, VDA_NAME}
+use Rattle.abi_base.specs.GnuVersions.{sht_gnu_verdef, versym_hidden, verdef_size, vd_version, vd_ndx, vd_cnt, vd_aux, vd_next, ver_def_current, verdaux_size, vda_name}
 
 -- ---- one definition, by its number, in the contents of the section
 
 -- where the definition of a number begins: the first one at the beginning, and each other one where the one before it says
 unfoldable pub place_of : List ℕ → ℕ → ℕ
 place_of table zero = 0
-place_of table (suc k) = place_of table k + number 4 table (place_of table k + VD_NEXT)
+place_of table (suc k) = place_of table k + number 4 table (place_of table k + vd_next)
 
 -- its index, without the bit that says hidden
 unfoldable pub index_of : List ℕ → ℕ → ℕ
-index_of table k = number 2 table (place_of table k + VD_NDX) % VERSYM_HIDDEN
+index_of table k = number 2 table (place_of table k + vd_ndx) % versym_hidden
 
 -- where its first auxiliary entry begins
 unfoldable pub auxiliary_of : List ℕ → ℕ → ℕ
-auxiliary_of table k = place_of table k + number 4 table (place_of table k + VD_AUX)
+auxiliary_of table k = place_of table k + number 4 table (place_of table k + vd_aux)
 
 -- the name of its version, which its first auxiliary entry names
 unfoldable pub name_of : List ℕ → List ℕ → ℕ → Option (List ℕ)
-name_of table strings k = text_at strings (number 4 table (auxiliary_of table k + VDA_NAME))
+name_of table strings k = text_at strings (number 4 table (auxiliary_of table k + vda_name))
 
 -- an index is that of a definition before this one
 abbrev pub stood_before : List ℕ → ℕ → Bool
@@ -41,13 +40,13 @@ stood_before table k = list_any (λ j. index_of table j == index_of table k) (ra
 unfoldable pub is_malformed : List ℕ → List ℕ → ℕ → ℕ → Bool
 is_malformed table strings count k =
     let at = place_of table k in
-    nat_lt (length table) (at + VERDEF_SIZE)
-    || (not (number 2 table (at + VD_VERSION) == VER_DEF_CURRENT)
-    || (number 2 table (at + VD_CNT) == 0
+    nat_lt (length table) (at + verdef_size)
+    || (not (number 2 table (at + vd_version) == ver_def_current)
+    || (number 2 table (at + vd_cnt) == 0
     || (index_of table k == 0
-    || (nat_lt (length table) (auxiliary_of table k + VERDAUX_SIZE)
+    || (nat_lt (length table) (auxiliary_of table k + verdaux_size)
     || (is_none (name_of table strings k)
-    || (nat_lt (k + 1) count && number 4 table (at + VD_NEXT) == 0))))))
+    || (nat_lt (k + 1) count && number 4 table (at + vd_next) == 0))))))
 
 -- It is malformed by itself, or has the index of an earlier one.
 unfoldable pub is_bad : List ℕ → List ℕ → ℕ → ℕ → Bool
@@ -69,13 +68,13 @@ definition_with table count index = find (λ k. index_of table k == index) (rang
 
 -- what the section of definitions and its string table hold, and how many definitions there are; nothing where there is none
 abbrev pub definition_table : List ℕ → List ℕ
-definition_table f = option_map_or (λ s. s.bytes) (section_of_kind f SHT_GNU_VERDEF) []
+definition_table f = option_map_or (λ s. s.bytes) (section_of_kind f sht_gnu_verdef) []
 
 abbrev pub definition_strings : List ℕ → List ℕ
-definition_strings f = unwrap_or (option_and_then (λ s. strings_of f s.link) (section_of_kind f SHT_GNU_VERDEF)) []
+definition_strings f = unwrap_or (option_and_then (λ s. strings_of f s.link) (section_of_kind f sht_gnu_verdef)) []
 
 abbrev pub definition_count : List ℕ → ℕ
-definition_count f = option_map_or (λ s. s.info) (section_of_kind f SHT_GNU_VERDEF) 0
+definition_count f = option_map_or (λ s. s.info) (section_of_kind f sht_gnu_verdef) 0
 
 -- the name of the version with an index, where a definition has that index
 unfoldable pub version_name : List ℕ → ℕ → Option (List ℕ)
@@ -84,7 +83,7 @@ version_name f index =
 
 -- The definitions have a string table.
 abbrev pub strings_fault : List ℕ → Option Fault
-strings_fault f = fault_if (option_map_or (λ s. is_none (strings_of f s.link)) (section_of_kind f SHT_GNU_VERDEF) false) kind.VersionDefinition 0
+strings_fault f = fault_if (option_map_or (λ s. is_none (strings_of f s.link)) (section_of_kind f sht_gnu_verdef) false) kind.VersionDefinition 0
 
 -- the string table; then the definitions, one by one
 abbrev pub definition_faults : List ℕ → List (Option Fault)

@@ -5,6 +5,7 @@ ghost use Rattle.std.specs.Option.{option_copied};
 ghost use Rattle.abi_base.specs.Outcome.{Judges, first};
 ghost use Rattle.elf_vers.specs.Definitions.{place_of, index_of, auxiliary_of, name_of, is_malformed, bad_definition_at, definition_fault, definition_faults, definition_with, version_name};
 ghost use Rattle.elf_vers.specs.Names.{IsNames};
+ghost use Rattle.abi_base.specs.Limits.{input_limit};
 
 use crate::constants::{
     VD_AUX, VD_CNT, VD_NDX, VD_NEXT, VD_VERSION, VDA_NAME, VER_DEF_CURRENT, VERDAUX_SIZE,
@@ -40,7 +41,7 @@ fn definition_in<'a>(
     at: usize,
 ) -> Option<Definition<'a>>
     requires place { at ≡ place_of table.now number }
-    requires small { length table.now ≤ INPUT_LIMIT }
+    requires small { length table.now ≤ input_limit }
     ensures malformed { is_none result ≡ is_malformed table.now strings.now count number }
     ensures index { IfSome result (λ d. d.index ≡ index_of table.now number) }
     ensures name { IfSome result (λ d. name_of table.now strings.now number ≡ Some d.name.now) }
@@ -88,7 +89,7 @@ fn names_in<'a>(
     strings: &'a [u8],
     count: u32,
 ) -> Result<HashMap<u16, &'a [u8]>, Refusal>
-    requires { length table.now ≤ INPUT_LIMIT }
+    requires { length table.now ≤ input_limit }
     ensures judged { Judges result (first (map (definition_fault table.now strings.now count) (range_with_len 0 count))) }
     ensures read { IfOk result (λ names. IsNames names (λ index. option_and_then (name_of table.now strings.now) (definition_with table.now count index))) }
 {

@@ -8,6 +8,7 @@ ghost use Rattle.elf_file.specs.Elf.{section_of_kind};
 ghost use Rattle.elf_vers.specs.Names.{name_under};
 ghost use Rattle.elf_vers.specs.Plain.{plain_version};
 ghost use Rattle.elf_vers.specs.Versions.{table_fault, index_table, index_in, version_by, version_from};
+ghost use Rattle.abi_base.specs.GnuVersions.{versym_size};
 
 use crate::constants::{VER_NDX_GLOBAL, VERSYM_HIDDEN, VERSYM_SIZE};
 use crate::version::Version;
@@ -20,7 +21,7 @@ use std::collections::HashMap;
 pub fn indexes_of<'a>(file: &ElfFile<'a>, symbols: usize) -> Result<Option<&'a [u8]>, Fault>
     ensures judged { Settles result (table_fault file.now symbols) }
     ensures table { IfOk result (λ table. option_copied table ≡ index_table file.now) }
-    ensures whole { IfOk result (λ table. IfSome table (λ t. length t.now ≡ VERSYM_SIZE * symbols)) }
+    ensures whole { IfOk result (λ table. IfSome table (λ t. length t.now ≡ versym_size * symbols)) }
 {
     match file.section_of_kind(SHT_GNU_VERSYM) {
         None => Ok(None),
@@ -40,7 +41,7 @@ pub fn indexes_of<'a>(file: &ElfFile<'a>, symbols: usize) -> Result<Option<&'a [
 
 // The index of a symbol with its bit 15, where there is a table of indexes and where there is none.
 fn index_at(table: Option<&[u8]>, symbol: usize) -> u16
-    requires { IfSome table (λ t. VERSYM_SIZE * (symbol + 1) ≤ length t.now) }
+    requires { IfSome table (λ t. versym_size * (symbol + 1) ≤ length t.now) }
     ensures { result ≡ index_in (option_copied table.entry) symbol }
 {
     match table {
@@ -77,7 +78,7 @@ pub fn versions_in<'a>(
     table: Option<&[u8]>,
     symbols: usize,
 ) -> Result<Vec<Option<Version<'a>>>, NoMemory>
-    requires { IfSome table (λ t. length t.now ≡ VERSYM_SIZE * symbols) }
+    requires { IfSome table (λ t. length t.now ≡ versym_size * symbols) }
     ensures { IfOk result (λ all. map (option_map plain_version) all.items ≡ map (λ i. version_from (name_under names.now) (index_in (option_copied table.entry) i)) (range_with_len 0 symbols)) }
 {
     let mut all = Vec::new(alloc);

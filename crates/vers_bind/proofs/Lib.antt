@@ -1,6 +1,7 @@
+mod Among
 mod Filling
+mod InOrder
+mod NamedLemmas
 mod Offering
 mod Placing
-mod InOrder
-mod Among
 mod Standing

@@ -1,5 +1,5 @@
 -- Which export of a new library an export of an old one binds to: by name and version, as the dynamic loader binds.
-use Rattle.std.specs.Prelude.{ℕ, ◌==◌, Bool, not, ◌&&◌, is_some, is_none, if◌then◌else◌, List, position, map, count_by, Option, None}
+use Rattle.std.specs.Prelude.{ℕ, ◌==◌, Bool, not, ◌&&◌, is_some, if◌then◌else◌, List, position, map, count_by, Option, None}
 use Rattle.std.specs.Option.{option_or}
 use Rattle.std.specs.Str.{bytes_eq}
 use Rattle.abi_types.specs.Exports.{PlainExport}

@@ -1,5 +1,5 @@
 -- The exports of a library, by its dynamic symbols and their versions, and their first fault.
-use Rattle.std.specs.Prelude.{ℕ, ◌==◌, Bool, true, false, not, ◌&&◌, ◌||◌, is_none, if◌then◌else◌, List, [], ◌∷◌, ◌++◌, map, Option, Some, None}
+use Rattle.std.specs.Prelude.{ℕ, ◌==◌, Bool, true, false, not, ◌&&◌, is_none, if◌then◌else◌, List, [], ◌∷◌, ◌++◌, map, Option, Some, None}
 use Rattle.std.specs.List.{list_any, filter_map}
 use Rattle.std.specs.Str.{bytes_eq}
 use Rattle.abi_base.specs.declared.fault.Fault.{Fault}
@@ -9,9 +9,9 @@ use Rattle.abi_types.specs.declared.export.SymbolKind.{SymbolKind}
 use Rattle.abi_types.specs.declared.export.SymbolKind.TheVariants.{NoType, Object, Func, Common, Tls, Ifunc}
 use Rattle.abi_types.specs.Exports.{PlainExport}
 use Rattle.elf_syms.specs.Symbols.{PlainSymbol, is_exported}
-use Rattle.elf_syms.specs.declared.constants.TheConstants.{STT_OBJECT, STT_FUNC, STT_COMMON, STT_TLS, STT_GNU_IFUNC, SHN_ABS}
+use Rattle.abi_base.specs.Elf.{stt_object, stt_func, stt_common, stt_tls, stt_gnu_ifunc, shn_abs}
+use Rattle.abi_base.specs.GnuVersions.{ver_ndx_local}
 use Rattle.elf_vers.specs.Versions.{PlainVersion, version_in}
-use Rattle.elf_vers.specs.declared.constants.TheConstants.{VER_NDX_LOCAL}
 
 -- two names are equal, or there is none on either side
 abbrev pub same_name : Option (List ℕ) → Option (List ℕ) → Bool
@@ -22,16 +22,16 @@ same_name a b = false
 -- what a symbol is, by its type
 abbrev pub kind_of : ℕ → SymbolKind
 kind_of type =
-    if type == STT_OBJECT then Object
-    else if type == STT_FUNC then Func
-    else if type == STT_COMMON then Common
-    else if type == STT_TLS then Tls
-    else if type == STT_GNU_IFUNC then Ifunc
+    if type == stt_object then Object
+    else if type == stt_func then Func
+    else if type == stt_common then Common
+    else if type == stt_tls then Tls
+    else if type == stt_gnu_ifunc then Ifunc
     else NoType
 
 -- a symbol without a section whose name is its version's: it stands for the version, and is no export
 abbrev pub is_marker : PlainSymbol → PlainVersion → Bool
-is_marker s v = s.section == SHN_ABS && same_name (Some s.name) v.name
+is_marker s v = s.section == shn_abs && same_name (Some s.name) v.name
 
 abbrev pub export_with : PlainSymbol → PlainVersion → PlainExport
 export_with s v = record {
@@ -41,7 +41,7 @@ export_with s v = record {
   index = v.index;
   hidden = v.hidden;
   kind = kind_of s.kind;
-  absolute = s.section == SHN_ABS;
+  absolute = s.section == shn_abs;
   value = s.value;
   size = s.size;
   declared = s.name;
@@ -51,7 +51,7 @@ export_with s v = record {
 -- the export that a symbol of a version is, where it is one
 abbrev pub export_of : PlainSymbol → Option PlainVersion → Option PlainExport
 export_of s None = None
-export_of s (Some v) = if is_exported s && not (v.index == VER_NDX_LOCAL) && not (is_marker s v) then Some (export_with s v) else None
+export_of s (Some v) = if is_exported s && not (v.index == ver_ndx_local) && not (is_marker s v) then Some (export_with s v) else None
 
 -- the exports among some symbols, in order, by the versions of symbols of their numbers
 abbrev pub exports_with : List PlainSymbol → List (Option PlainVersion) → List PlainExport

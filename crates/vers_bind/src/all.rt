@@ -3,7 +3,7 @@ ghost use Rattle.std.specs.Prelude.{◌≡◌, IfOk};
 ghost use Rattle.abi_types.specs.Plain.{plain_exports};
 ghost use Rattle.vers_bind.specs.Binding.{bind_each};
 
-use crate::offers::{bind_in, offers_of};
+use crate::offers::{offered_place, offers_of};
 use abi_base::{List, NoMemory};
 use abi_types::Export;
 use std::alloc::Global;
@@ -20,7 +20,7 @@ pub fn bind_all(
     let offers = offers_of(alloc, offered)?;
     let mut places = List::new(alloc);
     for export in wanted {
-        places.push(bind_in(&offers, export))?;
+        places.push(offered_place(&offers, export))?;
     }
     Ok(places)
 }

@@ -79,7 +79,7 @@ fn unversioned_place(offers: &Offers, name: &[u8]) -> Option<usize>
 }
 
 /// The place that an export binds to.
-pub fn bind_in(offers: &Offers, wanted: &Export) -> Option<usize>
+pub fn offered_place(offers: &Offers, wanted: &Export) -> Option<usize>
     ensures { result ≡ bind_by offers.now (plain_export wanted.now) }
 {
     match wanted.version {

@@ -23,14 +23,14 @@ pub fn same_name(one: Option<&[u8]>, other: Option<&[u8]>) -> bool
 }
 
 // Whether an export has this name and this version, or no version.
-fn has_version(export: &Export, name: &[u8], version: Option<&[u8]>) -> bool
+pub fn has_version(export: &Export, name: &[u8], version: Option<&[u8]>) -> bool
     ensures { result ≡ it_has_version name.now (option_copied version.entry) (plain_export export.now) }
 {
     export.name == name && same_name(export.version, version)
 }
 
 // Whether an export has this name and is of the first version of its library.
-fn has_first_version(export: &Export, name: &[u8]) -> bool
+pub fn has_first_version(export: &Export, name: &[u8]) -> bool
     ensures { result ≡ it_has_first_version name.now (plain_export export.now) }
 {
     export.name == name && export.index == FIRST_VERSION

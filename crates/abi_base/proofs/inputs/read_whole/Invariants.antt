@@ -1,10 +1,13 @@
-use Rattle.std.proofs.Common.{◌+◌, ◌-◌, vec_len}
+use Rattle.std.proofs.Common.{◌-◌, ◌≤◌, vec_len}
 use Rattle.abi_base.proofs.Loops.{ReadSoFar}
 use Rattle.abi_base.proofs.inputs.read_whole.Given as goal
 
-abbrev pub invariant-loop-inputs : goal.invariant-loop-inputs
-invariant-loop-inputs g l =
-    ReadSoFar g.I.Inputs.told g.I.Inputs.faults g.I.Inputs.answers_to g.I.Inputs.left g.I.Inputs.given l.fn.inputs l.inputs l.name l.bytes.items l.piece.items
+abbrev pub invariant-pieces : goal.invariant-pieces
+invariant-pieces g l =
+    record {
+      so_far : ReadSoFar g.I.Inputs.told g.I.Inputs.faults g.I.Inputs.answers_to g.I.Inputs.left g.I.Inputs.given l.fn.inputs l.inputs l.name l.bytes.items l.piece.items;
+      within : vec_len l.bytes ≤ l.limit;
+    }
 
-abbrev pub decreases-loop-inputs : goal.decreases-loop-inputs
-decreases-loop-inputs g l = l.limit + 1 - vec_len l.bytes
+abbrev pub decreases-pieces : goal.decreases-pieces
+decreases-pieces g l = l.limit - vec_len l.bytes

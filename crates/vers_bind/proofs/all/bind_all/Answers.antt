@@ -8,7 +8,7 @@ use Rattle.vers_bind.proofs.all.bind_all.Goals as goal
 pub loop-export-preserved : goal.loop-export-preserved
 loop-export-preserved c =
     c.in_ok-push.ensures.ok
-    ∙ bound_more c.in_ok-offers.offers c.args.wanted.now c.loop-export.export-index _ c.loop-export-test.true c.loop-export.places c.bind_in.result c.loop-export.invariant c.bind_in.ensures
+    ∙ bound_more c.in_ok-offers.offers c.args.wanted.now c.loop-export.export-index _ c.loop-export-test.true c.loop-export.places c.offered_place.result c.loop-export.invariant c.offered_place.ensures
 
 pub returns : goal.returns
 returns c =
