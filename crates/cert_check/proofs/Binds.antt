@@ -1,23 +1,27 @@
 -- The least symbol number at which the bind lines are wrong, by two passes: over the exports, and over the lines.
-use Rattle.std.proofs.Common.{◌≡◌, ◌<◌, ◌+◌, ◌-◌, ℕ, suc, map, List, [], ◌∷◌, ◌++◌, slice_get, Some, refl, sym, ◌∙◌, ap, subst, arith}
+use Rattle.std.proofs.Common.{◌≡◌, ◌<◌, ◌≤◌, ◌+◌, ◌-◌, nat_lt, Bool, true, false, ℕ, suc, map, List, [], ◌∷◌, ◌++◌, length, get_or, slice_get, Option, Some, None, refl, sym, ◌∙◌, ap, subst, arith, inl, inr}
+use Rattle.std.proofs.lemmas.Bool.{cases_lt, lt-ltb, cases_Bool, ltb-true}
+use Rattle.std.proofs.lemmas.Option.{same_Some, none-some, slice_get_within, get_or_from_slice_get, slice_get-get_or}
 use Rattle.std.specs.List.{range_with_len, AllByRecursion}
 use Rattle.abi_types.specs.Exports.{PlainExport}
 use Rattle.cert_check.specs.declared.refused.Refused.{Refused}
 use Rattle.abi_types.specs.Limits.{symbol_limit}
+use Rattle.abi_types.specs.Libraries.{AreNumbered}
+use Rattle.std.specs.Ordering.{nat_cmp}
+use Rattle.std.specs.declared.cmp.Ordering.TheVariants.{Less}
+use Rattle.std.proofs.lemmas.Cmp.{ranked}
+use Rattle.cert_text.specs.Certs.{Ascend, first_cmp}
 use Rattle.cert_check.specs.Compatible.{IsCompared}
-use Rattle.cert_check.specs.Accepted.{Case, Place, Binding, Keeps, HasBinding, KeepsBinding, each, binding_places, refused}
+use Rattle.cert_check.specs.Accepted.{Case, Place, Binding, Keeps, HasBinding, KeepsBinding, each, binding_places, refused, line_of, second, Settles}
+use Rattle.cert_check.specs.Bindings.{AreBound, AreOwned, IsOwned, IsWrongAt, IsFirstUnbound, IsFirstUnowned, FindsUnbound, FindsUnowned, least}
 use Rattle.cert_check.proofs.First.{each-from}
 use Rattle.cert_check.proofs.Lines.{line_of-some}
 use Rattle.cert_check.proofs.PairLemmas.{Told, from_zero}
 
--- a line with the number of an export that is compared
-abbrev pub IsOwned : Case → ℕ → Type 0
-IsOwned c n = (k : ℕ) × (e : PlainExport) × IsCompared c.sides k e × (e.symbol ≡ n)
-
 -- below a number, each compared export has its line, and each line its export
 pub record AreKeptBelow (c : Case) (s : ℕ) : Type 0 where
-  pub exports : (k : ℕ) (e : PlainExport) → IsCompared c.sides k e → e.symbol < s → HasBinding c e.symbol e
-  pub lines : (k n m : ℕ) → slice_get c.cert.binds k ≡ Some (n, m) → n < s → IsOwned c n
+  pub exports : AreBound c s
+  pub lines : AreOwned c s
 
 pub kept_below : (c : Case) (s symbol : ℕ) → AreKeptBelow c s → symbol < s → KeepsBinding c symbol
 kept_below c s symbol below lt = record {
@@ -52,3 +56,118 @@ told_at_symbol c s answer below lt fails is =
       },
       is,
     )
+
+-- ---- the lesser of two
+
+not_less : (m n : ℕ) → n ≤ m → nat_lt m n ≡ false
+not_less m n past = elim (cases_Bool (nat_lt m n)) [
+  | inl less ↦ absurd (omega (arith, ltb-true m n less, past))
+  | inr other ↦ other
+]
+
+pub bindings_kept : (c : Case) (one other : Option ℕ) → FindsUnbound c one → FindsUnowned c other → least one other ≡ None → AllByRecursion (Keeps c) binding_places
+bindings_kept c None None unbound unowned is = all_kept c (record { exports = unbound; lines = unowned })
+bindings_kept c None (Some n) unbound unowned is = cc
+bindings_kept c (Some m) None unbound unowned is = cc
+bindings_kept c (Some m) (Some n) unbound unowned is = not_least m n (nat_lt m n) refl is where
+  not_least : (m n : ℕ) (b : Bool) → nat_lt m n ≡ b → least (Some m) (Some n) ≡ None → AllByRecursion (Keeps c) binding_places
+  not_least m n true less none = absurd (none-some m (sym none ∙ rw less refl))
+  not_least m n false past none = absurd (none-some n (sym none ∙ rw past refl))
+
+bound_below : (c : Case) (s t : ℕ) → s ≤ t → AreBound c t → AreBound c s
+bound_below c s t le all k e compared lt = all k e compared (omega (arith, lt, le))
+
+owned_below : (c : Case) (s t : ℕ) → s ≤ t → AreOwned c t → AreOwned c s
+owned_below c s t le all k n m at lt = all k n m at (omega (arith, lt, le))
+
+wrong_at : (c : Case) (s : ℕ) (answer : Refused) → AreBound c s → AreOwned c s → IsWrongAt c s → answer ≡ refused c (Binding s) → Told c binding_places answer
+wrong_at c s answer bound owned wrong is = told_at_symbol c s answer (record { exports = bound; lines = owned }) wrong.below wrong.fails is
+
+pub bindings_told : (c : Case) (one other : Option ℕ) (s : ℕ) (answer : Refused) → FindsUnbound c one → FindsUnowned c other → least one other ≡ Some s → answer ≡ refused c (Binding s) → Told c binding_places answer
+bindings_told c None None s answer unbound unowned is answered = absurd (none-some s is)
+bindings_told c None (Some n) s answer unbound unowned is answered =
+    let e : n ≡ s = same_Some n s is in
+    let here : IsFirstUnowned c s = subst (IsFirstUnowned c) e unowned in
+    wrong_at c s answer (bound_below c s symbol_limit (omega (arith, here.wrong.below)) unbound) here.before here.wrong answered
+bindings_told c (Some m) None s answer unbound unowned is answered =
+    let e : m ≡ s = same_Some m s is in
+    let here : IsFirstUnbound c s = subst (IsFirstUnbound c) e unbound in
+    wrong_at c s answer here.before (owned_below c s symbol_limit (omega (arith, here.wrong.below)) unowned) here.wrong answered
+bindings_told c (Some m) (Some n) s answer unbound unowned is answered = elim (cases_lt m n) [
+  | inl less ↦
+      let test = lt-ltb m n less in
+      let e : m ≡ s = same_Some m s (sym (let t : least (Some m) (Some n) ≡ Some m = rw test refl in t) ∙ is) in
+      let here : IsFirstUnbound c s = subst (IsFirstUnbound c) e unbound in
+      wrong_at c s answer here.before (owned_below c s n (omega (arith, less, e)) unowned.before) here.wrong answered
+  | inr past ↦
+      let test : nat_lt m n ≡ false = not_less m n past in
+      let e : n ≡ s = same_Some n s (sym (let t : least (Some m) (Some n) ≡ Some n = rw test refl in t) ∙ is) in
+      let here : IsFirstUnowned c s = subst (IsFirstUnowned c) e unowned in
+      wrong_at c s answer (bound_below c s m (omega (arith, past, e)) unbound.before) here.before here.wrong answered
+]
+
+-- ---- exports, one after the other
+
+module _ (c : Case) (numbered : AreNumbered c.sides.old.exports) where
+  -- the exports before a position keep their lines
+  abbrev pub AreBoundBefore : ℕ → Type 0
+  AreBoundBefore k = (j : ℕ) (e : PlainExport) → j < k → IsCompared c.sides j e → HasBinding c e.symbol e
+
+  pub all_bound : (n : ℕ) → length c.sides.old.exports ≤ n → AreBoundBefore n → AreBound c symbol_limit
+  all_bound n past before k e compared lt = before k e (omega (arith, past, slice_get_within c.sides.old.exports k e compared.at)) compared
+
+  earlier : (k j : ℕ) (e f : PlainExport) → slice_get c.sides.old.exports k ≡ Some e → slice_get c.sides.old.exports j ≡ Some f → f.symbol < e.symbol → j < k
+  earlier k j e f at there less = elim (cases_lt j k) [
+    | inl before ↦ before
+    | inr past ↦ elim (cases_lt k j) [
+      | inl after ↦ absurd (omega (arith, numbered.ascend k j e f after at there, less))
+      | inr same ↦
+          let i : k ≡ j = omega (arith, past, same) in
+          let g : e ≡ f = same_Some e f (sym at ∙ ap (slice_get c.sides.old.exports) i ∙ there) in
+          absurd (omega (arith, less, ap (λ (x : PlainExport). x.symbol) g))
+    ]
+  ]
+
+  pub first_unbound : (k : ℕ) (e : PlainExport) → IsCompared c.sides k e → AreBoundBefore k → (HasBinding c e.symbol e → ⊥) → IsFirstUnbound c e.symbol
+  first_unbound k e compared before fails = record {
+    before = λ j f other less. before j f (earlier k j e f compared.at other.at less) other;
+    wrong = record {
+      below = numbered.below k e compared.at;
+      fails = λ keeps. fails (keeps.bound k e compared refl);
+    };
+  }
+
+-- ---- lines, one after the other
+
+module _ (c : Case) (ascend : Ascend first_cmp c.cert.binds) where
+  abbrev pub AreOwnedBefore : ℕ → Type 0
+  AreOwnedBefore k = (j n m : ℕ) → j < k → slice_get c.cert.binds j ≡ Some (n, m) → IsOwned c n
+
+  pub all_owned : (n : ℕ) → length c.cert.binds ≤ n → AreOwnedBefore n → AreOwned c symbol_limit
+  all_owned n past before k m l at lt = before k m l (omega (arith, past, slice_get_within c.cert.binds k (m, l) at)) at
+
+  line_less : (k j : ℕ) (x y : ℕ × ℕ) → slice_get c.cert.binds k ≡ Some x → slice_get c.cert.binds j ≡ Some y → k < j → x.0 < y.0
+  line_less k j x y at there less =
+      let inside = slice_get_within c.cert.binds j y there in
+      let e = ascend k j x less inside in
+      let one : get_or c.cert.binds k x ≡ x = get_or_from_slice_get c.cert.binds k x x at in
+      let other : get_or c.cert.binds j x ≡ y = get_or_from_slice_get c.cert.binds j y x there in
+      ranked x.0 y.0 Less (sym (ap (λ (z : ℕ × ℕ). nat_cmp x.0 z.0) (sym other) ∙ ap (λ (z : ℕ × ℕ). nat_cmp z.0 (get_or c.cert.binds j x).0) (sym one) ∙ e))
+
+  line_earlier : (k j : ℕ) (x y : ℕ × ℕ) → slice_get c.cert.binds k ≡ Some x → slice_get c.cert.binds j ≡ Some y → y.0 < x.0 → j < k
+  line_earlier k j x y at there less = elim (cases_lt j k) [
+    | inl before ↦ before
+    | inr past ↦ elim (cases_lt k j) [
+      | inl after ↦ absurd (omega (arith, line_less k j x y at there after, less))
+      | inr same ↦
+          let i : k ≡ j = omega (arith, past, same) in
+          let g : x ≡ y = same_Some x y (sym at ∙ ap (slice_get c.cert.binds) i ∙ there) in
+          absurd (omega (arith, less, ap (λ (z : ℕ × ℕ). z.0) g))
+    ]
+  ]
+
+  pub first_unowned : (k n m : ℕ) → slice_get c.cert.binds k ≡ Some (n, m) → n < symbol_limit → line_of c.cert.binds n ≡ Some m → AreOwnedBefore k → (IsOwned c n → ⊥) → IsFirstUnowned c n
+  first_unowned k n m at below is before fails = record {
+    before = λ j i l there less. before j i l (line_earlier k j (n, m) (i, l) at there less) there;
+    wrong = record { below = below; fails = λ keeps. fails (keeps.owned m is) };
+  }

@@ -5,9 +5,11 @@ use Rattle.abi_types.specs.Types.{PlainNode, PlainView}
 use Rattle.abi_types.specs.Graphs.{part_at, to_of}
 use Rattle.pair_rules.specs.Steps.{Triple, next_of}
 use Rattle.pair_rules.specs.Stable.{classed}
-use Rattle.cert_check.specs.declared.pairs.Ground.{Ground}
+use Rattle.cert_check.specs.declared.ground.Ground.{Ground}
 use Rattle.cert_check.specs.Compatible.{sides}
-use Rattle.cert_check.specs.Accepted.{Case, listed, old_class, new_class}
+use Rattle.cert_check.specs.Accepted.{Case, listed, old_class, new_class, is_line, rep}
+use Rattle.abi_types.specs.declared.kind.Way.TheVariants.{Direct}
+use Rattle.abi_types.specs.Exports.{PlainExport}
 
 abbrev pub case_of : Ground → Case
 case_of g = record { sides = sides g.old.now g.new.now g.marks.now; cert = g.cert.now }
@@ -26,3 +28,7 @@ LeadsToLine c v w way i = (y : Triple) → next_of v w way i ≡ Some y → has_
 
 abbrev pub LeadsToLines : Case → PlainView → PlainView → Way → Type 0
 LeadsToLines c v w way = (i : ℕ) → LeadsToLine c v w way i
+
+-- the types of two exports have a pair line by their representatives, as reached by value
+abbrev pub has_root_line : Case → PlainExport → PlainExport → Bool
+has_root_line c e f = is_line c.cert.pairs (rep c.cert.alike_old e.entry, rep c.cert.alike_new f.entry, Direct)

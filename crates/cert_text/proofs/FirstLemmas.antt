@@ -1,10 +1,11 @@
 -- Certificates of version 1, and what they come to in version 2.
 use Rattle.std.proofs.Common.{◌≡◌, ◌<◌, ◌≤◌, ◌+◌, ◌*◌, ◌^◌, ◌⊎◌, inl, inr, ℕ, zero, suc, List, [], ◌∷◌, ◌++◌, length, get_or, map, refl, sym, ◌∙◌, ap, subst, arith}
-use Rattle.std.specs.List.{All, AllPairs, flat_map}
+use Rattle.std.specs.List.{All}
+use Rattle.std.proofs.lemmas.List.{length-map}
 use Rattle.abi_types.specs.declared.kind.Way.{Way}
 use Rattle.abi_types.specs.declared.kind.Way.TheVariants.{Direct, Pointer}
 use Rattle.cert_text.specs.declared.line.Version.TheVariants.{One}
-use Rattle.cert_text.specs.Certs.{PlainCert, PlainCert1, PairLine, IsCert, IsCert1, as_direct, with_ways, without_way}
+use Rattle.cert_text.specs.Certs.{PlainCert, PlainCert1, PairLine, IsCert, IsCert1, as_direct, with_ways, without_way, line_count}
 use Rattle.cert_text.specs.Grammar.{HasNumbers, IsSpelledIn, IsSpelled1, body, text_of, bind_of, alike_old_of, alike_new_of, pair_of}
 use Rattle.cert_text.proofs.BodyLemmas.{All-back, All-of_map, groups, body-groups}
 
@@ -52,11 +53,20 @@ ways_again c bytes pairs spelled is =
     let all = direct c (subst (All (HasNumbers One)) (body-groups c) spelled.lines) in
     ap (with_pairs c) (ap (map as_direct) is ∙ again c.pairs all)
 
-pub first_kept : (c : PlainCert) (bytes : List ℕ) (pairs : List (ℕ × ℕ)) → IsSpelledIn One bytes c → pairs ≡ map without_way c.pairs → IsCert1 (first_of c pairs)
-first_kept c bytes pairs spelled is = record { is = subst IsCert (sym (ways_again c bytes pairs spelled is)) spelled.kept }
+-- the lines before the last one are no more than the bytes
+abbrev pub IsRoomy : List ℕ → PlainCert → Type 0
+IsRoomy bytes c = line_count c ≤ length bytes
 
-pub first_spelled : (c : PlainCert) (bytes : List ℕ) (pairs : List (ℕ × ℕ)) → IsSpelledIn One bytes c → pairs ≡ map without_way c.pairs → IsSpelled1 bytes (first_of c pairs)
-first_spelled c bytes pairs spelled is = record {
-  kept = first_kept c bytes pairs spelled is;
+pub first_kept : (c : PlainCert) (bytes : List ℕ) (pairs : List (ℕ × ℕ)) → IsSpelledIn One bytes c → line_count c ≤ length bytes → length bytes < 2 ^ 63 → pairs ≡ map without_way c.pairs → IsCert1 (first_of c pairs)
+first_kept c bytes pairs spelled room short is =
+    let size : length pairs ≡ length c.pairs = ap length is ∙ length-map c.pairs without_way in
+    record {
+      is = subst IsCert (sym (ways_again c bytes pairs spelled is)) spelled.kept;
+      fits = omega (arith, size, room, short);
+    }
+
+pub first_spelled : (c : PlainCert) (bytes : List ℕ) (pairs : List (ℕ × ℕ)) → IsSpelledIn One bytes c → line_count c ≤ length bytes → length bytes < 2 ^ 63 → pairs ≡ map without_way c.pairs → IsSpelled1 bytes (first_of c pairs)
+first_spelled c bytes pairs spelled room short is = record {
+  kept = first_kept c bytes pairs spelled room short is;
   is = spelled.is ∙ sym (ap (text_of One) (ways_again c bytes pairs spelled is));
 }

@@ -13,3 +13,4 @@ pub mod CompleteLemmas
 pub mod LinedLemmas
 pub mod RunLemmas
 pub mod WholeLemmas
+pub mod MigrateLemmas

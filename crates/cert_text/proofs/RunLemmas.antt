@@ -112,12 +112,12 @@ in_order c kept =
     let ps = map pair_of c.pairs in
     let pairs = pairs_map pair_of (λ x y. pair_cmp x y ≡ Less) pair_follows c.pairs kept.pairs in
     let news = pairs_joined ns ps (pairs_map alike_new_of (λ x y. first_cmp x y ≡ Less) new_follows c.alike_new kept.alike_new) pairs
-      (across 2 ns ps (of_kind alike_new_of (IsUpTo 2) (λ x. lit≤ tt) c.alike_new) (of_kind pair_of (IsFrom 3) (λ x. lit≤ tt) c.pairs)) in
+    (across 2 ns ps (of_kind alike_new_of (IsUpTo 2) (λ x. lit≤ tt) c.alike_new) (of_kind pair_of (IsFrom 3) (λ x. lit≤ tt) c.pairs)) in
     let olds = pairs_joined os (ns ++ ps) (pairs_map alike_old_of (λ x y. first_cmp x y ≡ Less) old_follows c.alike_old kept.alike_old) news
-      (across 1 os (ns ++ ps) (of_kind alike_old_of (IsUpTo 1) (λ x. lit≤ tt) c.alike_old) (All-append (IsFrom 2) ns ps (of_kind alike_new_of (IsFrom 2) (λ x. lit≤ tt) c.alike_new) (of_kind pair_of (IsFrom 2) (λ x. lit≤ tt) c.pairs))) in
+    (across 1 os (ns ++ ps) (of_kind alike_old_of (IsUpTo 1) (λ x. lit≤ tt) c.alike_old) (All-append (IsFrom 2) ns ps (of_kind alike_new_of (IsFrom 2) (λ x. lit≤ tt) c.alike_new) (of_kind pair_of (IsFrom 2) (λ x. lit≤ tt) c.pairs))) in
     pairs_joined bs (os ++ (ns ++ ps)) (pairs_map bind_of (λ x y. first_cmp x y ≡ Less) bind_follows c.binds kept.binds) olds
-      (across 0 bs (os ++ (ns ++ ps)) (of_kind bind_of (IsUpTo 0) (λ x. lit≤ tt) c.binds)
-      (All-append (IsFrom 1) os (ns ++ ps) (of_kind alike_old_of (IsFrom 1) (λ x. lit≤ tt) c.alike_old) (All-append (IsFrom 1) ns ps (of_kind alike_new_of (IsFrom 1) (λ x. lit≤ tt) c.alike_new) (of_kind pair_of (IsFrom 1) (λ x. lit≤ tt) c.pairs))))
+    (across 0 bs (os ++ (ns ++ ps)) (of_kind bind_of (IsUpTo 0) (λ x. lit≤ tt) c.binds)
+    (All-append (IsFrom 1) os (ns ++ ps) (of_kind alike_old_of (IsFrom 1) (λ x. lit≤ tt) c.alike_old) (All-append (IsFrom 1) ns ps (of_kind alike_new_of (IsFrom 1) (λ x. lit≤ tt) c.alike_new) (of_kind pair_of (IsFrom 1) (λ x. lit≤ tt) c.pairs))))
 
 pub body_in_order : (c : PlainCert) → IsCert c → AllPairs Follows (body c)
 body_in_order c kept = subst (AllPairs Follows) (sym (body-groups c)) (in_order c kept)

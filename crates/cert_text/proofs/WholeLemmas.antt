@@ -183,7 +183,7 @@ pairs_in c =
 same_fields : (c d : PlainCert) → c.old_digest ≡ d.old_digest → c.new_digest ≡ d.new_digest → c.rules_digest ≡ d.rules_digest → c.binds ≡ d.binds → c.alike_old ≡ d.alike_old → c.alike_new ≡ d.alike_new → c.pairs ≡ d.pairs → c ≡ d
 same_fields c d a b e f g h i =
     let mk : List ℕ → List ℕ → List ℕ → List (ℕ × ℕ) → List (ℕ × ℕ) → List (ℕ × ℕ) → List PairLine → PlainCert =
-        λ o n r bs os ns ps. record { old_digest = o; new_digest = n; rules_digest = r; binds = bs; alike_old = os; alike_new = ns; pairs = ps } in
+    λ o n r bs os ns ps. record { old_digest = o; new_digest = n; rules_digest = r; binds = bs; alike_old = os; alike_new = ns; pairs = ps } in
     ap (λ o. mk o c.new_digest c.rules_digest c.binds c.alike_old c.alike_new c.pairs) a
     ∙ ap (λ n. mk d.old_digest n c.rules_digest c.binds c.alike_old c.alike_new c.pairs) b
     ∙ ap (λ r. mk d.old_digest d.new_digest r c.binds c.alike_old c.alike_new c.pairs) e

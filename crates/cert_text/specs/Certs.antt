@@ -1,5 +1,5 @@
 -- Certificates as plain data, and what they keep.
-use Rattle.std.specs.Prelude.{◌≡◌, ◌<◌, ◌+◌, ◌^◌, ℕ, Bool, true, false, List, [], ◌∷◌, length, map}
+use Rattle.std.specs.Prelude.{◌≡◌, ◌<◌, ◌+◌, ◌*◌, ◌^◌, ℕ, Bool, true, false, List, [], ◌∷◌, length, map}
 use Rattle.std.specs.Ordering.{nat_cmp, bool_cmp, ordering_then}
 use Rattle.std.specs.List.{All, AllPairs, flat_map}
 use Rattle.std.specs.declared.cmp.Ordering.{Ordering}
@@ -66,6 +66,10 @@ pub record IsInRange (c : PlainCert) : Type 0 where
   pub alike_new : All (IsBelow (2 ^ 64)) c.alike_new
   pub pairs : All (IsPairBelow (2 ^ 64)) c.pairs
 
+-- how many lines it has before its last one
+abbrev pub line_count : PlainCert → ℕ
+line_count c = 4 + length c.binds + length c.alike_old + length c.alike_new + length c.pairs
+
 pub record IsCert (c : PlainCert) : Type 0 where
   pub binds : Ascend first_cmp c.binds
   pub alike_old : Ascend first_cmp c.alike_old
@@ -103,9 +107,10 @@ with_ways c = record {
   pairs = map as_direct c.pairs;
 }
 
--- its lists ascend, and its numbers are as those of a certificate
+-- its lists ascend, its numbers are as those of a certificate, and its lines have numbers with each pair line twice
 pub record IsCert1 (c : PlainCert1) : Type 0 where
   pub is : IsCert (with_ways c)
+  pub fits : 5 + length c.binds + length c.alike_old + length c.alike_new + 2 * length c.pairs < 2 ^ 64
 
 -- ---- migration
 

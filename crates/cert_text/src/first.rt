@@ -1,5 +1,5 @@
 // Certificates of version 1, whose pair lines have no way.
-ghost use Rattle.std.specs.Prelude.{◌≡◌, map, IfOk};
+ghost use Rattle.std.specs.Prelude.{◌≡◌, map, flat_map, IfOk};
 ghost use Rattle.abi_base.specs.Outcome.{Judges};
 ghost use Rattle.cert_text.specs.declared.line.Version.TheVariants.{One};
 ghost use Rattle.cert_text.specs.Faults.{fault_of};
@@ -103,6 +103,42 @@ pub fn read_cert_1(alloc: Global, bytes: &[u8]) -> Result<Cert1, Refusal>
     } = read_text(alloc, Version::One, bytes)?;
     let pairs = without_ways(alloc, lines.as_slice())?;
     Ok(Cert1 {
+        old_digest,
+        new_digest,
+        rules_digest,
+        binds,
+        alike_old,
+        alike_new,
+        pairs,
+    })
+}
+
+// The pairs, each way.
+fn with_both_ways(alloc: Global, lines: &[(u64, u64)]) -> Result<List<(u64, u64, Way)>, NoMemory>
+    ensures { IfOk result (λ pairs. pairs ≡ flat_map both_ways lines.now) }
+{
+    let mut pairs = List::new(alloc);
+    for line in lines {
+        let (old, new) = *line;
+        pairs.push((old, new, Way::Direct))?;
+        pairs.push((old, new, Way::Pointer))?;
+    }
+    Ok(pairs)
+}
+
+/// The certificate of version 2 that says what a certificate of version 1 says: it has each pair line both ways.
+pub fn migrate(alloc: Global, cert: &Cert1) -> Result<Cert, NoMemory>
+    ensures { IfOk result (λ new. new ≡ migrated cert.now) }
+{
+    cert.known();
+    let old_digest = cert.old_digest;
+    let new_digest = cert.new_digest;
+    let rules_digest = cert.rules_digest;
+    let binds = List::copy_of(alloc, cert.binds.as_slice())?;
+    let alike_old = List::copy_of(alloc, cert.alike_old.as_slice())?;
+    let alike_new = List::copy_of(alloc, cert.alike_new.as_slice())?;
+    let pairs = with_both_ways(alloc, cert.pairs.as_slice())?;
+    Ok(Cert {
         old_digest,
         new_digest,
         rules_digest,

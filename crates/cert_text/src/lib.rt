@@ -13,7 +13,7 @@ mod words;
 mod writing;
 
 pub use cert::Cert;
-pub use first::{Cert1, read_cert_1};
+pub use first::{Cert1, migrate, read_cert_1};
 pub use reading::read_cert;
 pub use writing::write_cert;
 

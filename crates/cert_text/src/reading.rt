@@ -1,5 +1,6 @@
 // What a text says.
-ghost use Rattle.std.specs.Prelude.{◌≡◌, ◌<◌, ◌^◌, length, Some, MatchResult, IfOk};
+ghost use Rattle.std.specs.Prelude.{◌≡◌, ◌≤◌, length, MatchResult, IfOk};
+ghost use Rattle.cert_text.specs.Certs.{line_count};
 ghost use Rattle.abi_base.specs.Outcome.{Judges};
 ghost use Rattle.cert_text.specs.Faults.{is_end as it_is_end, end_fault as the_end_fault, fault_of};
 ghost use Rattle.cert_text.specs.Grammar.{IsSpelled, IsSpelledIn};
@@ -66,6 +67,7 @@ fn fault_at_end(number: u64, before: Option<Line>, rest: &[u8]) -> Option<Fault>
 /// The certificate of a version that the bytes spell. Its pair lines are those of ways, where those of version 1 are direct.
 pub fn read_text(alloc: Global, version: Version, bytes: &[u8]) -> Result<Cert, Refusal>
     ensures spelled { IfOk result (λ cert. IsSpelledIn version bytes.now cert) }
+    ensures room { IfOk result (λ cert. line_count cert ≤ length bytes.now) }
     ensures fault { Judges result (fault_of version bytes.now) }
 {
     let head = read_head(version, bytes)?;

@@ -1,4 +1,4 @@
-use crate::{read_cert, read_cert_1, write_cert};
+use crate::{migrate, read_cert, read_cert_1, write_cert};
 use abi_base::Refusal;
 use std::alloc::Global;
 use std::process::Abort;
@@ -19,6 +19,15 @@ rules e3b0c44298fc1c149afbf4c8996fb92427ae41e4649b934ca495991b7852b855
 
 // The lines of a library with an export that takes nothing and gives back an `int`, which may replace itself.
 const LINES: &str = "bind 1 1\npair 15 15 direct\npair 22 22 direct\nend\n";
+
+// The lines of version 2 that say what those of version 1 say.
+const BOTH_WAYS: &str = "bind 1 1
+pair 15 15 direct
+pair 15 15 pointer
+pair 22 22 direct
+pair 22 22 pointer
+end
+";
 
 // Lines behind the first four, and the number and the line of the fault of the text, or 0 where it has none.
 struct Row<'a> {
@@ -240,12 +249,23 @@ fn what_is_written_is_read_back(rt: HostRuntime) -> Result<(), Fail> {
 }
 
 #[test]
-fn version_1_has_no_ways(rt: HostRuntime) -> Result<(), Fail> {
+fn version_1_is_migrated(rt: HostRuntime) -> Result<(), Fail> {
     let text = format!(in rt.alloc(); "{FIRST_HEAD}bind 1 1\npair 15 15\npair 22 22\nend\n")?;
     assert_eq!(rt; fault_of(&rt, rt.alloc(), text.as_str()), (60, 1));
-    match read_cert_1(rt.alloc(), text.as_bytes()) {
-        Ok(cert) => assert_eq!(rt; cert.pairs.as_slice(), [(15, 15), (22, 22)].as_slice()),
+    let first = match read_cert_1(rt.alloc(), text.as_bytes()) {
+        Ok(cert) => cert,
         Err(_) => return Err(Fail::from("a right text is refused")),
-    }
+    };
+    assert_eq!(rt; first.pairs.as_slice(), [(15, 15), (22, 22)].as_slice());
+    let cert = match migrate(rt.alloc(), &first) {
+        Ok(cert) => cert,
+        Err(_) => return Err(Fail::from("no memory")),
+    };
+    let bytes = match write_cert(rt.alloc(), &cert) {
+        Ok(bytes) => bytes,
+        Err(_) => return Err(Fail::from("no memory")),
+    };
+    let wanted = format!(in rt.alloc(); "{HEAD}{BOTH_WAYS}")?;
+    assert!(rt; bytes.as_slice() == wanted.as_bytes());
     Ok(())
 }

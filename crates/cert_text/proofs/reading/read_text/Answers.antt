@@ -32,3 +32,8 @@ pub returns-in-None-clause-fault : goal.returns-in-None-clause-fault
 returns-in-None-clause-fault c =
     rest_fault c.args.version c.args.bytes.now c.lines.at c.lines.number c.lines.before c.lines.draft c.lines.invariant c.in_default.ensures
     ∙ ap (end_fault c.lines.number c.lines.before) (sym c.from.ensures) ∙ sym c.in-None.ensures
+
+pub returns-in-None-clause-room : goal.returns-in-None-clause-room
+returns-in-None-clause-room c =
+    let kept = c.lines.invariant in
+    rw c.finish.ensures (omega (arith, kept.size, kept.room, kept.inside))
