@@ -78,6 +78,12 @@ module _ (c : Case) (k : ℕ) (e : PlainExport) (at : slice_get c.sides.old.expo
         let both : is_typed e && is_typed f ≡ true = rw (typed, new_typed) refl in
         absurd (let bad : true ≡ false = sym both ∙ untyped in cc))
 
+    pub root_untyped_old : is_typed e ≡ false → (true ≡ true) ↔ KeepsRoot c k
+    root_untyped_old untyped = root_untyped (rw untyped refl)
+
+    pub root_untyped_new : is_typed e ≡ true → is_typed f ≡ false → (true ≡ true) ↔ KeepsRoot c k
+    root_untyped_new typed untyped = root_untyped (rw (typed, untyped) refl)
+
     pub root_bound : (r : Bool) → is_typed e ≡ true → is_typed f ≡ true → r ≡ has_root_line c e f → (r ≡ true) ↔ KeepsRoot c k
     root_bound r typed new_typed is = (
       λ right other g told told_binds one two.

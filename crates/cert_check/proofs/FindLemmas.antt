@@ -2,7 +2,8 @@
 use Rattle.std.proofs.Common.{◌≡◌, ◌<◌, ◌≤◌, ◌+◌, ◌-◌, ℕ, suc, List, [], ◌∷◌, ◌++◌, map, Option, Some, None, refl, sym, ◌∙◌, ap, subst, arith, append-nil}
 use Rattle.std.specs.List.{range_with_len, AllByRecursion}
 use Rattle.cert_check.specs.declared.refused.Refused.{Refused}
-use Rattle.cert_check.specs.Accepted.{Case, Place, Keeps, each, refused, joined}
+use Rattle.std.specs.Prelude.{Result, Ok, Err}
+use Rattle.cert_check.specs.Accepted.{Case, Place, Keeps, Settles, each, refused, joined}
 use Rattle.cert_check.specs.Finds.{IsFirst}
 use Rattle.cert_check.proofs.First.{each-from, join}
 use Rattle.cert_check.proofs.PairLemmas.{Told, from_zero, told_later}
@@ -19,7 +20,7 @@ each_told c place count k answer first is =
     let m : ℕ = count - k - 1 in
     let e : count ≡ k + suc m = omega (arith, first.inside) in
     let whole : each place count ≡ each place k ++ (place k ∷ map place (range_with_len (k + 1) m)) =
-        ap (λ (n : ℕ). each place n) e ∙ ap (map place) (from_zero k (suc m)) ∙ map_places place (range_with_len 0 k) (range_with_len k (suc m)) in
+    ap (λ (n : ℕ). each place n) e ∙ ap (map place) (from_zero k (suc m)) ∙ map_places place (range_with_len 0 k) (range_with_len k (suc m)) in
     subst (λ (ps : List Place). Told c ps answer) (sym whole) (
       place k,
       record {
@@ -44,3 +45,8 @@ group_told c [] group after answer kept told = told_later c [] group (joined aft
 group_told c (g ∷ before) group after answer kept told =
     let later = group_told c before group after answer kept.1 told in
     subst (λ (ps : List Place). Told c (g ++ ps) answer) (append-nil (joined (before ++ group ∷ after))) (told_later c g (joined (before ++ group ∷ after)) [] answer kept.0 later)
+
+-- the last group
+pub settled_last : (c : Case) (before : List (List Place)) (group : List Place) (answer : Result Unit Refused) → AllByRecursion (AllByRecursion (Keeps c)) before → Settles c group answer → Settles c (joined (before ++ group ∷ [])) answer
+settled_last c before group (Ok x) kept settles = joined-from c (before ++ group ∷ []) (join (AllByRecursion (Keeps c)) before (group ∷ []) kept (settles, tt))
+settled_last c before group (Err answer) kept told = group_told c before group [] answer kept told

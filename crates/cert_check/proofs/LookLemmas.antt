@@ -1,12 +1,12 @@
 -- Looks, field by field and part by part.
-use Rattle.std.proofs.Common.{◌≡◌, ◌<◌, ◌≤◌, ◌+◌, ◌==◌, ◌&&◌, not, ℕ, zero, suc, Bool, true, false, List, [], ◌∷◌, length, map, get_or, Option, Some, None, refl, sym, ◌∙◌, ap, subst, arith, slice_get}
+use Rattle.std.proofs.Common.{◌≡◌, ◌<◌, ◌≤◌, ◌+◌, ◌==◌, ◌&&◌, not, ℕ, zero, suc, Bool, true, false, List, [], ◌∷◌, length, map, get_or, Option, Some, None, refl, sym, ◌∙◌, ap, subst, arith, slice_get, inl, inr}
 use Rattle.std.specs.Prelude.{◌↔◌}
 use Rattle.std.specs.Bool.{beq}
 use Rattle.std.specs.Option.{option_map}
 use Rattle.std.specs.Str.{bytes_eq}
 use Rattle.std.proofs.lemmas.Bool.{and_parts, and_from, eqb-true, eq-eqb, cases_lt}
 use Rattle.std.proofs.lemmas.List.{length-map}
-use Rattle.std.proofs.lemmas.Option.{same_Some, none-some, slice_get-map, slice_get_within, slice_get_past}
+use Rattle.std.proofs.lemmas.Option.{same_Some, none-some, slice_get-map, slice_get-get_or}
 use Rattle.std.proofs.lemmas.Slice.Eq.{bytes_eq-Decides}
 use Rattle.abi_types.specs.declared.kind.Kind.{Kind}
 use Rattle.abi_types.specs.declared.kind.Group.{Group}
@@ -15,6 +15,9 @@ use Rattle.abi_types.specs.declared.kind.LabelKind.TheVariants as label
 use Rattle.abi_types.specs.declared.place.Place.{Place}
 use Rattle.abi_types.specs.declared.place.CallShape.{CallShape}
 use Rattle.abi_types.specs.Types.{PlainPart, Member, Enumerator, Target, Element, Outcome, Param, PlainView, PlainLabel, PlainNode}
+use Rattle.abi_types.specs.declared.view.Label.{Label}
+use Rattle.abi_types.specs.Plain.{plain_label}
+use Rattle.abi_types.specs.Graphs.{part_at, no_part}
 use Rattle.abi_types.specs.Seen.{part_seen, view_seen, Look, look_of}
 use Rattle.pair_rules.specs.Same.{same_kind, same_group, same_place}
 use Rattle.cert_check.specs.Looks.{same_label_kind, same_label, same_part, same_heads}
@@ -202,7 +205,7 @@ looks_from class n m same =
     let w = m.view in
     let h = same.heads in
     let mk : List PlainLabel → Kind → Bool → List ℕ → ℕ → Group → ℕ → ℕ → Bool → List PlainPart → CallShape → Look =
-        λ labels kind declared tag size group align count variadic parts call. record { labels = labels; view = record { kind = kind; declared_only = declared; tag = tag; size = size; group = group; align = align; count = count; variadic = variadic; parts = parts; call = call } } in
+    λ labels kind declared tag size group align count variadic parts call. record { labels = labels; view = record { kind = kind; declared_only = declared; tag = tag; size = size; group = group; align = align; count = count; variadic = variadic; parts = parts; call = call } } in
     let ps = map (part_seen class) v.parts in
     let qs = map (part_seen class) w.parts in
     ap (λ x. mk x v.kind v.declared_only v.tag v.size v.group v.align v.count v.variadic ps v.call) same.labels
@@ -279,3 +282,34 @@ calls_same a b p r one other = (
       ap (λ o. mk o a.params) (one.0 both.0) ∙ ap (mk b.outcome) (other.0 both.1),
   λ e. and_from _ _ (one.1 (ap (λ (c : CallShape). c.outcome) e)) (other.1 (ap (λ (c : CallShape). c.params) e)),
 )
+
+-- ---- the loops of the code
+
+pub labels_other : (one other : List Label) (k : ℕ) (d e : Label) → k < length one → length one ≡ length other → same_label (plain_label (get_or one k d)) (plain_label (get_or other k e)) ≡ false → (false ≡ true) ↔ (map plain_label one ≡ map plain_label other)
+labels_other one other k d e lt size is =
+    loop_other plain_label one other k (get_or one k d) (get_or other k e) (slice_get-get_or one k d lt) (slice_get-get_or other k e (omega (arith, lt, size)))
+    (λ same. let bad : true ≡ false = sym (label_itself (plain_label (get_or one k d)) (plain_label (get_or other k e)) same) ∙ is in cc)
+
+pub labels_more : (one other : List Label) (k : ℕ) (d e : Label) → k < length one → length one ≡ length other → ((j : ℕ) → j < k → slice_get (map plain_label one) j ≡ slice_get (map plain_label other) j) → same_label (plain_label (get_or one k d)) (plain_label (get_or other k e)) ≡ true → (j : ℕ) → j < k + 1 → slice_get (map plain_label one) j ≡ slice_get (map plain_label other) j
+labels_more one other k d e lt size before is =
+    next_item (map plain_label one) (map plain_label other) k before
+    (item_same plain_label one other k (get_or one k d) (get_or other k e) (slice_get-get_or one k d lt) (slice_get-get_or other k e (omega (arith, lt, size))) (labels_same (plain_label (get_or one k d)) (plain_label (get_or other k e)) is))
+
+module _ (class : ℕ → ℕ) (v w : PlainView) (k : ℕ) (p q : PlainPart) (is_p : p ≡ part_at v k) (is_q : q ≡ part_at w k) (lt : k < length v.parts) (size : length v.parts ≡ length w.parts) where
+  at_p : slice_get v.parts k ≡ Some p
+  at_p = slice_get-get_or v.parts k no_part lt ∙ ap (λ (x : PlainPart). Some x) (sym is_p)
+
+  at_q : slice_get w.parts k ≡ Some q
+  at_q = slice_get-get_or w.parts k no_part (omega (arith, lt, size)) ∙ ap (λ (x : PlainPart). Some x) (sym is_q)
+
+  pub parts_other : same_part class p q ≡ false → (false ≡ true) ↔ (map (part_seen class) v.parts ≡ map (part_seen class) w.parts)
+  parts_other is = loop_other (part_seen class) v.parts w.parts k p q at_p at_q (λ same. let bad : true ≡ false = sym (part_itself class p q same) ∙ is in cc)
+
+  pub parts_more : ((j : ℕ) → j < k → slice_get (map (part_seen class) v.parts) j ≡ slice_get (map (part_seen class) w.parts) j) → same_part class p q ≡ true → (j : ℕ) → j < k + 1 → slice_get (map (part_seen class) v.parts) j ≡ slice_get (map (part_seen class) w.parts) j
+  parts_more before is = next_item (map (part_seen class) v.parts) (map (part_seen class) w.parts) k before (item_same (part_seen class) v.parts w.parts k p q at_p at_q (parts_same class p q is))
+
+pub places_all : (one other : List Place) (n : ℕ) → length one ≤ n → length one ≡ length other → ((j : ℕ) → j < n → slice_get one j ≡ slice_get other j) → (true ≡ true) ↔ (one ≡ other)
+places_all one other n past size each = (λ t. lists_same one other size (λ k lt. each k (omega (arith, lt, past))), λ e. refl)
+
+pub iff_moved : (r : Bool) (a b x y : CallShape) → a ≡ x → b ≡ y → (r ≡ true) ↔ (a ≡ b) → (r ≡ true) ↔ (x ≡ y)
+iff_moved r a b x y one other iff = (λ right. sym one ∙ iff.0 right ∙ other, λ e. iff.1 (one ∙ e ∙ sym other))

@@ -13,12 +13,17 @@ use Rattle.cert_text.specs.Certs.{PlainCert, PairLine, is_pointer}
 use Rattle.cert_check.specs.declared.refused.RefusedKind.TheVariants as kind
 use Rattle.cert_check.specs.declared.refused.Refused.{Refused}
 use Rattle.abi_types.specs.Limits.{symbol_limit}
-use Rattle.cert_check.specs.Compatible.{Sides, IsCompared, bound, KeepsExport, is_typed, task_of}
+use Rattle.abi_types.specs.declared.library.Marks.{Marks}
+use Rattle.abi_types.specs.Libraries.{PlainLibrary}
+use Rattle.cert_check.specs.Compatible.{Sides, sides, IsCompared, bound, KeepsExport, is_typed, task_of}
 
 -- two libraries and marks, and a certificate for them
 pub record Case : Type 0 where
   pub sides : Sides
   pub cert : PlainCert
+
+abbrev pub asked : PlainLibrary → PlainLibrary → Marks → PlainCert → Case
+asked old new marks cert = record { sides = sides old new marks; cert = cert }
 
 -- ---- what lines say
 

@@ -1,15 +1,16 @@
 // The alike lines.
-ghost use Rattle.std.specs.Prelude.{◌≡◌, ◌<◌, ◌↔◌, IsTrue, is_none, length};
+ghost use Rattle.std.specs.Prelude.{◌≡◌, ◌<◌, ◌↔◌, ◌+◌, IsTrue, is_none, length};
 ghost use Rattle.cert_text.specs.Certs.{Ascend, first_cmp};
 ghost use Rattle.cert_check.specs.Accepted.{Settles, AlikeOld, AlikeNew, KeepsAlike, each, line_of as the_line_of};
 ghost use Rattle.cert_check.specs.Finds.{FindsFirst};
 ghost use Rattle.cert_check.specs.Ground.{case_of};
 
-use crate::ground::{Ground, find};
-use crate::lookups::line_of;
+use crate::ground::{Ground, alike_new_of, alike_old_of, find};
 use crate::looks::look_alike;
+use crate::lookups::line_of;
 use crate::refused::{Refused, RefusedKind};
 use abi_types::{Index, Library};
+use cert_text::Cert;
 
 // Whether an entry has no alike line.
 fn is_own(lines: &[(u64, u64)], entry: u64) -> bool
@@ -53,21 +54,36 @@ fn first_unlike<Ix: Index>(library: &Library<Ix>, lines: &[(u64, u64)]) -> Optio
     None
 }
 
+// The number of the alike line of the old library at a position.
+fn old_line(cert: &Cert, k: usize) -> u64
+    requires { k < length cert.now.alike_old }
+    ensures { result ≡ 5 + length cert.now.binds + k }
+{
+    cert.known();
+    let at = 5 + cert.binds.as_slice().len() + k;
+    at as u64
+}
+
+// The number of the alike line of the new library at a position.
+fn new_line(cert: &Cert, k: usize) -> u64
+    requires { k < length cert.now.alike_new }
+    ensures { result ≡ 5 + length cert.now.binds + length cert.now.alike_old + k }
+{
+    cert.known();
+    let at = 5 + cert.binds.as_slice().len() + cert.alike_old.as_slice().len() + k;
+    at as u64
+}
+
 /// The alike lines of the old library, in their order.
 pub fn check_alike_old(ground: &Ground) -> Result<(), Refused>
     ensures { Settles (case_of ground.now) (each AlikeOld (length ground.now.cert.now.alike_old)) result }
 {
-    let cert = ground.cert;
-    cert.known();
-    match first_unlike(ground.old, cert.alike_old.as_slice()) {
+    match first_unlike(ground.old, alike_old_of(ground.cert)) {
         None => Ok(()),
-        Some(k) => {
-            let at = 5 + cert.binds.as_slice().len() + k;
-            Err(Refused {
-                kind: RefusedKind::Alike,
-                at: at as u64,
-            })
-        }
+        Some(k) => Err(Refused {
+            kind: RefusedKind::Alike,
+            at: old_line(ground.cert, k),
+        }),
     }
 }
 
@@ -75,16 +91,11 @@ pub fn check_alike_old(ground: &Ground) -> Result<(), Refused>
 pub fn check_alike_new(ground: &Ground) -> Result<(), Refused>
     ensures { Settles (case_of ground.now) (each AlikeNew (length ground.now.cert.now.alike_new)) result }
 {
-    let cert = ground.cert;
-    cert.known();
-    match first_unlike(ground.new, cert.alike_new.as_slice()) {
+    match first_unlike(ground.new, alike_new_of(ground.cert)) {
         None => Ok(()),
-        Some(k) => {
-            let at = 5 + cert.binds.as_slice().len() + cert.alike_old.as_slice().len() + k;
-            Err(Refused {
-                kind: RefusedKind::Alike,
-                at: at as u64,
-            })
-        }
+        Some(k) => Err(Refused {
+            kind: RefusedKind::Alike,
+            at: new_line(ground.cert, k),
+        }),
     }
 }

@@ -1,12 +1,12 @@
 // The bind lines.
-ghost use Rattle.std.specs.Prelude.{◌≡◌, ◌<◌, ◌↔◌, IsTrue, length, slice_get, Some};
+ghost use Rattle.std.specs.Prelude.{◌≡◌, ◌==◌, ◌↔◌, IsTrue};
 ghost use Rattle.abi_types.specs.Plain.{plain_export};
 ghost use Rattle.cert_text.specs.Certs.{Ascend, first_cmp};
 ghost use Rattle.cert_check.specs.Accepted.{Settles, HasBinding, line_of as the_line_of, binding_places};
 ghost use Rattle.cert_check.specs.Bindings.{IsOwned, FindsUnbound, FindsUnowned, least as the_least};
 ghost use Rattle.cert_check.specs.Ground.{case_of};
 
-use crate::ground::{Ground, bound_to, export_at, export_count, is_compared};
+use crate::ground::{Ground, binds_of, bound_to, export_at, export_count, is_compared};
 use crate::refused::{Refused, RefusedKind};
 use abi_types::Export;
 
@@ -21,16 +21,23 @@ fn line_of(lines: &[(u32, u32)], symbol: u32) -> Option<u32>
     }
 }
 
+fn same_symbol(one: u32, other: u32) -> bool
+    ensures { result ≡ (one == other) }
+{
+    one == other
+}
+
 // Whether an old export binds, and its line says to what.
 fn has_binding(ground: &Ground, export: &Export) -> bool
     ensures { IsTrue result ↔ HasBinding (case_of ground.now) export.now.symbol (plain_export export.now) }
 {
-    let cert = ground.cert;
-    cert.known();
-    let said = line_of(cert.binds.as_slice(), export.symbol);
+    let said = match line_of(binds_of(ground.cert), export.symbol) {
+        None => return false,
+        Some(said) => said,
+    };
     match bound_to(ground, export) {
         None => false,
-        Some(partner) => said == Some(partner.symbol),
+        Some(partner) => same_symbol(said, partner.symbol),
     }
 }
 
@@ -53,7 +60,11 @@ fn is_owned(ground: &Ground, symbol: u32) -> bool
     ensures { IsTrue result ↔ IsOwned (case_of ground.now) symbol }
 {
     ground.old.known();
-    match ground.old.exports().binary_search_by_key(&symbol, |export| export.symbol) {
+    match ground
+        .old
+        .exports()
+        .binary_search_by_key(&symbol, |export| export.symbol)
+    {
         Ok(k) => is_compared(ground, k),
         Err(_) => false,
     }
@@ -63,9 +74,7 @@ fn is_owned(ground: &Ground, symbol: u32) -> bool
 fn first_unowned(ground: &Ground) -> Option<u32>
     ensures { FindsUnowned (case_of ground.now) result }
 {
-    let cert = ground.cert;
-    cert.known();
-    let lines = cert.binds.as_slice();
+    let lines = binds_of(ground.cert);
     for k in 0..lines.len() {
         let (symbol, _) = lines[k];
         if !is_owned(ground, symbol) {
@@ -80,13 +89,7 @@ fn least(one: Option<u32>, other: Option<u32>) -> Option<u32>
     ensures { result ≡ the_least one other }
 {
     match (one, other) {
-        (Some(one), Some(other)) => {
-            if one < other {
-                Some(one)
-            } else {
-                Some(other)
-            }
-        }
+        (Some(one), Some(other)) => { if one < other { Some(one) } else { Some(other) } }
         (Some(one), None) => Some(one),
         (None, other) => other,
     }

@@ -1,7 +1,5 @@
 // The whole check.
-ghost use Rattle.std.specs.Prelude.{◌≡◌};
-ghost use Rattle.cert_check.specs.Compatible.{sides};
-ghost use Rattle.cert_check.specs.Accepted.{Settles, places};
+ghost use Rattle.cert_check.specs.Accepted.{Settles, asked, places};
 
 use crate::alike::{check_alike_new, check_alike_old};
 use crate::bindings::check_bindings;
@@ -21,7 +19,7 @@ pub fn check_cert(
     marks: &Marks,
     cert: &Cert,
 ) -> Result<(), Refused>
-    ensures { let c = record { sides = sides old.now new.now marks.now; cert = cert.now } in Settles c (places c) result }
+    ensures { Settles (asked old.now new.now marks.now cert.now) (places (asked old.now new.now marks.now cert.now)) result }
 {
     let ground = Ground {
         old,

@@ -20,7 +20,6 @@ fn keeps_export(old: &Export, new: &Export) -> bool
 }
 
 // Whether the old export at a position keeps the rules, where it is compared and binds.
-#[tactic(auto, using(crate::proofs::ExportLemmas::rules_dropped, crate::proofs::ExportLemmas::rules_unbound, crate::proofs::ExportLemmas::rules_bound))]
 fn keeps_rules(ground: &Ground, k: usize) -> bool
     requires { k < length ground.now.old.now.exports }
     ensures { IsTrue result ↔ KeepsRules (case_of ground.now) k }
@@ -80,7 +79,6 @@ fn has_root_line(ground: &Ground, old: &Export, new: &Export) -> bool
 
 // Whether the types of the old export at a position and of the one that it binds to have a pair line, where both have a
 // type.
-#[tactic(auto, using(crate::proofs::ExportLemmas::root_dropped, crate::proofs::ExportLemmas::root_unbound, crate::proofs::ExportLemmas::root_untyped, crate::proofs::ExportLemmas::root_bound))]
 fn keeps_root(ground: &Ground, k: usize) -> bool
     requires { k < length ground.now.old.now.exports }
     ensures { IsTrue result ↔ KeepsRoot (case_of ground.now) k }
@@ -93,7 +91,10 @@ fn keeps_root(ground: &Ground, k: usize) -> bool
         None => return true,
         Some(partner) => partner,
     };
-    if !is_typed(export) || !is_typed(partner) {
+    if !is_typed(export) {
+        return true;
+    }
+    if !is_typed(partner) {
         return true;
     }
     has_root_line(ground, export, partner)

@@ -4,11 +4,12 @@ ghost use Rattle.std.specs.Option.{option_map};
 ghost use Rattle.abi_types.specs.Graphs.{view_at, node_of};
 ghost use Rattle.abi_types.specs.Plain.{plain_export};
 ghost use Rattle.pair_rules.specs.Steps.{is_marked as the_node_is_marked};
+ghost use Rattle.cert_text.specs.Certs.{Ascend, first_cmp};
 ghost use Rattle.cert_check.specs.Compatible.{task_of, bound};
 ghost use Rattle.cert_check.specs.Accepted.{symbol_of};
 ghost use Rattle.cert_check.specs.Ground.{case_of, NamesNodes};
 
-use abi_types::{Export, Graph, Index, Library, Marks, NewIx, OldIx, View, Way};
+use abi_types::{Export, Index, Library, Marks, NewIx, OldIx, View, Way};
 use cert_text::Cert;
 use vers_bind::bind_in;
 
@@ -21,8 +22,8 @@ pub struct Ground<'x, 'o, 'n> {
     pub cert: &'x Cert,
 }
 
-// Whether an old node is marked at a way.
-fn is_marked(ground: &Ground, node: OldIx, way: Way) -> bool
+/// Whether an old node is marked at a way.
+pub fn is_marked(ground: &Ground, node: OldIx, way: Way) -> bool
     ensures { result ≡ the_node_is_marked (task_of (case_of ground.now).sides) node way }
 {
     let flags = match way {
@@ -35,16 +36,16 @@ fn is_marked(ground: &Ground, node: OldIx, way: Way) -> bool
     }
 }
 
-// The node of an entry.
-fn find<Ix: Index>(library: &Library<Ix>, entry: u64) -> Option<Ix>
+/// The node of an entry.
+pub fn find<Ix: Index>(library: &Library<Ix>, entry: u64) -> Option<Ix>
     ensures node { option_map Ix.number_of result ≡ node_of library.now.graph entry }
     ensures inside { IfSome result (λ ix. Ix.number_of ix < length library.now.graph) }
 {
     library.graph().find(entry)
 }
 
-// What a node looks like.
-fn view_of<'x, 'a, Ix: Index>(library: &'x Library<'a, Ix>, ix: Ix) -> &'x View<'a, Ix>
+/// What a node looks like.
+pub fn view_of<'x, 'a, Ix: Index>(library: &'x Library<'a, Ix>, ix: Ix) -> &'x View<'a, Ix>
     requires { Ix.number_of ix < length library.now.graph }
     ensures view { result.now ≡ view_at library.now.graph (Ix.number_of ix) }
     ensures named { NamesNodes library.now.graph result.now }
@@ -54,6 +55,32 @@ fn view_of<'x, 'a, Ix: Index>(library: &'x Library<'a, Ix>, ix: Ix) -> &'x View<
     graph.view(ix)
 }
 
+/// The bind lines of a certificate.
+pub fn binds_of(cert: &Cert) -> &[(u32, u32)]
+    ensures value { result.now ≡ cert.now.binds }
+    ensures ascend { Ascend first_cmp result.now }
+{
+    cert.known();
+    cert.binds.as_slice()
+}
+
+/// The alike lines of the old library.
+pub fn alike_old_of(cert: &Cert) -> &[(u64, u64)]
+    ensures value { result.now ≡ cert.now.alike_old }
+    ensures ascend { Ascend first_cmp result.now }
+{
+    cert.known();
+    cert.alike_old.as_slice()
+}
+
+/// The alike lines of the new library.
+pub fn alike_new_of(cert: &Cert) -> &[(u64, u64)]
+    ensures value { result.now ≡ cert.now.alike_new }
+    ensures ascend { Ascend first_cmp result.now }
+{
+    cert.known();
+    cert.alike_new.as_slice()
+}
 
 /// Whether the old export at a position is compared: no rule drops it.
 pub fn is_compared(ground: &Ground, k: usize) -> bool

@@ -1,5 +1,5 @@
 // Whether two nodes look alike, but for the nodes that their parts name, which are of one class.
-ghost use Rattle.std.specs.Prelude.{◌≡◌, ◌<◌, ◌↔◌, IsTrue, length, map};
+ghost use Rattle.std.specs.Prelude.{◌≡◌, ◌<◌, ◌==◌, ◌↔◌, IsTrue, length, map};
 ghost use Rattle.std.specs.Bool.{beq};
 ghost use Rattle.std.specs.Str.{bytes_eq};
 ghost use Rattle.abi_types.specs.Graphs.{node_at};
@@ -216,12 +216,7 @@ fn same_call(one: &CallShape, other: &CallShape) -> bool
 
 /// Whether two nodes have the same labels, and the same views but for the nodes that parts name, which are of one class
 /// position by position.
-pub fn look_alike<Ix: Index>(
-    graph: &Graph<Ix>,
-    lines: &[(u64, u64)],
-    one: Ix,
-    other: Ix,
-) -> bool
+pub fn look_alike<Ix: Index>(graph: &Graph<Ix>, lines: &[(u64, u64)], one: Ix, other: Ix) -> bool
     requires one { Ix.number_of one < length graph.now }
     requires other { Ix.number_of other < length graph.now }
     requires ascend { Ascend first_cmp lines.now }
