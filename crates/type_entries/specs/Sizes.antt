@@ -3,7 +3,7 @@ use Rattle.std.specs.Prelude.{ℕ, ◌^◌, ◌||◌, Bool, false, nat_lt, List,
 use Rattle.std.specs.List.{list_any}
 use Rattle.abi_base.specs.Limits.{weight_limit}
 use Rattle.dw_entries.specs.Debug.{PlainDwarf}
-use Rattle.abi_types.specs.Graphs.{size_limit, align_limit}
+use Rattle.abi_types.specs.Limits.{size_limit, align_limit}
 use Rattle.type_entries.specs.References.{Type_, members_of}
 use Rattle.type_entries.specs.Placement.{is_beyond}
 use Rattle.type_entries.specs.Facts.{facts_of}

@@ -1,0 +1,7 @@
+use Rattle.std.proofs.Common.{below_more, refl}
+use Rattle.cert_check.specs.Accepted.{KeepsRoot}
+use Rattle.cert_check.specs.Ground.{case_of}
+use Rattle.cert_check.proofs.exports.first_rootless.Goals as goal
+
+pub loop-k-preserved : goal.loop-k-preserved
+loop-k-preserved c = below_more (KeepsRoot (case_of c.args.ground.now)) c.loop-k.k c.loop-k.invariant (c.if-not-keeps_root.ensures.0 refl)

@@ -1,0 +1,111 @@
+// The bind lines.
+ghost use Rattle.std.specs.Prelude.{◌≡◌, ◌==◌, ◌↔◌, IsTrue};
+ghost use Rattle.abi_types.specs.Plain.{plain_export};
+ghost use Rattle.cert_text.specs.Certs.{Ascend, first_cmp};
+ghost use Rattle.cert_check.specs.Accepted.{Settles, HasBinding, line_of as the_line_of, binding_places};
+ghost use Rattle.cert_check.specs.Bindings.{IsOwned, FindsUnbound, FindsUnowned, least as the_least};
+ghost use Rattle.cert_check.specs.Ground.{case_of};
+
+use crate::ground::{Ground, binds_of, bound_to, export_at, export_count, is_compared};
+use crate::refused::{Refused, RefusedKind};
+use abi_types::Export;
+
+// What stands behind a symbol's number on the bind line that begins with it, by binary search.
+fn line_of(lines: &[(u32, u32)], symbol: u32) -> Option<u32>
+    requires { Ascend first_cmp lines.now }
+    ensures { result ≡ the_line_of lines.now symbol }
+{
+    match lines.binary_search_by_key(&symbol, |line| line.0) {
+        Ok(k) => Some(lines[k].1),
+        Err(_) => None,
+    }
+}
+
+fn same_symbol(one: u32, other: u32) -> bool
+    ensures { result ≡ (one == other) }
+{
+    one == other
+}
+
+// Whether an old export binds, and its line says to what.
+fn has_binding(ground: &Ground, export: &Export) -> bool
+    ensures { IsTrue result ↔ HasBinding (case_of ground.now) export.now.symbol (plain_export export.now) }
+{
+    let said = match line_of(binds_of(ground.cert), export.symbol) {
+        None => return false,
+        Some(said) => said,
+    };
+    match bound_to(ground, export) {
+        None => false,
+        Some(partner) => same_symbol(said, partner.symbol),
+    }
+}
+
+// The number of the least old export that is compared and lacks its line.
+fn first_unbound(ground: &Ground) -> Option<u32>
+    ensures { FindsUnbound (case_of ground.now) result }
+{
+    ground.old.known();
+    for k in 0..export_count(ground) {
+        let export = export_at(ground, k);
+        if is_compared(ground, k) && !has_binding(ground, export) {
+            return Some(export.symbol);
+        }
+    }
+    None
+}
+
+// Whether a number is that of the symbol of an old export that is compared, by binary search.
+fn is_owned(ground: &Ground, symbol: u32) -> bool
+    ensures { IsTrue result ↔ IsOwned (case_of ground.now) symbol }
+{
+    ground.old.known();
+    match ground
+        .old
+        .exports()
+        .binary_search_by_key(&symbol, |export| export.symbol)
+    {
+        Ok(k) => is_compared(ground, k),
+        Err(_) => false,
+    }
+}
+
+// The number of the least bind line that is no compared export's.
+fn first_unowned(ground: &Ground) -> Option<u32>
+    ensures { FindsUnowned (case_of ground.now) result }
+{
+    let lines = binds_of(ground.cert);
+    for k in 0..lines.len() {
+        let (symbol, _) = lines[k];
+        if !is_owned(ground, symbol) {
+            return Some(symbol);
+        }
+    }
+    None
+}
+
+// The lesser of two numbers, where there are any.
+fn least(one: Option<u32>, other: Option<u32>) -> Option<u32>
+    ensures { result ≡ the_least one other }
+{
+    match (one, other) {
+        (Some(one), Some(other)) => { if one < other { Some(one) } else { Some(other) } }
+        (Some(one), None) => Some(one),
+        (None, other) => other,
+    }
+}
+
+/// The bind lines, symbol by symbol.
+pub fn check_bindings(ground: &Ground) -> Result<(), Refused>
+    ensures { Settles (case_of ground.now) binding_places result }
+{
+    let unbound = first_unbound(ground);
+    let unowned = first_unowned(ground);
+    match least(unbound, unowned) {
+        None => Ok(()),
+        Some(symbol) => Err(Refused {
+            kind: RefusedKind::Bindings,
+            at: u64::from(symbol),
+        }),
+    }
+}

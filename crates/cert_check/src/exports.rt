@@ -1,0 +1,126 @@
+// The rules of exports, and the pair lines of their types.
+ghost use Rattle.std.specs.Prelude.{◌≡◌, ◌<◌, ◌↔◌, IsTrue, length};
+ghost use Rattle.abi_types.specs.Plain.{plain_export};
+ghost use Rattle.cert_check.specs.Compatible.{KeepsExport, is_typed as the_export_is_typed};
+ghost use Rattle.cert_check.specs.Accepted.{Settles, Rules, Root, KeepsRules, KeepsRoot, each};
+ghost use Rattle.cert_check.specs.Finds.{FindsFirst};
+ghost use Rattle.cert_check.specs.Ground.{case_of, has_root_line as it_has_a_root_line};
+
+use crate::ground::{Ground, bound_to, export_at, export_count, is_compared, symbol_at};
+use crate::lookups::{is_line, rep};
+use crate::refused::{Refused, RefusedKind};
+use abi_types::{Export, Way};
+use pair_rules::export_breaks;
+
+// Whether two exports that are bound to each other break no rule.
+fn keeps_export(old: &Export, new: &Export) -> bool
+    ensures { IsTrue result ↔ KeepsExport (plain_export old.now) (plain_export new.now) }
+{
+    export_breaks(old, new) == [false, false, false]
+}
+
+// Whether the old export at a position keeps the rules, where it is compared and binds.
+fn keeps_rules(ground: &Ground, k: usize) -> bool
+    requires { k < length ground.now.old.now.exports }
+    ensures { IsTrue result ↔ KeepsRules (case_of ground.now) k }
+{
+    if !is_compared(ground, k) {
+        return true;
+    }
+    let export = export_at(ground, k);
+    match bound_to(ground, export) {
+        None => true,
+        Some(partner) => keeps_export(export, partner),
+    }
+}
+
+// The first position of an old export that breaks a rule.
+fn first_broken(ground: &Ground) -> Option<usize>
+    ensures { FindsFirst (KeepsRules (case_of ground.now)) (length ground.now.old.now.exports) result }
+{
+    for k in 0..export_count(ground) {
+        if !keeps_rules(ground, k) {
+            return Some(k);
+        }
+    }
+    None
+}
+
+/// The rules of exports, export by export.
+pub fn check_rules(ground: &Ground) -> Result<(), Refused>
+    ensures { Settles (case_of ground.now) (each Rules (length ground.now.old.now.exports)) result }
+{
+    match first_broken(ground) {
+        None => Ok(()),
+        Some(k) => Err(Refused {
+            kind: RefusedKind::ExportRule,
+            at: symbol_at(ground, k),
+        }),
+    }
+}
+
+// Whether an export has a type.
+fn is_typed(export: &Export) -> bool
+    ensures { result ≡ the_export_is_typed (plain_export export.now) }
+{
+    export.entry != 0
+}
+
+// Whether the types of two exports have a pair line by their representatives, as reached by value.
+fn has_root_line(ground: &Ground, old: &Export, new: &Export) -> bool
+    ensures { result ≡ it_has_a_root_line (case_of ground.now) (plain_export old.now) (plain_export new.now) }
+{
+    let cert = ground.cert;
+    cert.known();
+    let old_rep = rep(cert.alike_old.as_slice(), old.entry);
+    let new_rep = rep(cert.alike_new.as_slice(), new.entry);
+    is_line(cert.pairs.as_slice(), (old_rep, new_rep, Way::Direct))
+}
+
+// Whether the types of the old export at a position and of the one that it binds to have a pair line, where both have a
+// type.
+fn keeps_root(ground: &Ground, k: usize) -> bool
+    requires { k < length ground.now.old.now.exports }
+    ensures { IsTrue result ↔ KeepsRoot (case_of ground.now) k }
+{
+    if !is_compared(ground, k) {
+        return true;
+    }
+    let export = export_at(ground, k);
+    let partner = match bound_to(ground, export) {
+        None => return true,
+        Some(partner) => partner,
+    };
+    if !is_typed(export) {
+        return true;
+    }
+    if !is_typed(partner) {
+        return true;
+    }
+    has_root_line(ground, export, partner)
+}
+
+// The first position of an old export whose types have no pair line.
+fn first_rootless(ground: &Ground) -> Option<usize>
+    ensures { FindsFirst (KeepsRoot (case_of ground.now)) (length ground.now.old.now.exports) result }
+{
+    for k in 0..export_count(ground) {
+        if !keeps_root(ground, k) {
+            return Some(k);
+        }
+    }
+    None
+}
+
+/// The pair lines of the types of exports, export by export.
+pub fn check_roots(ground: &Ground) -> Result<(), Refused>
+    ensures { Settles (case_of ground.now) (each Root (length ground.now.old.now.exports)) result }
+{
+    match first_rootless(ground) {
+        None => Ok(()),
+        Some(k) => Err(Refused {
+            kind: RefusedKind::Root,
+            at: symbol_at(ground, k),
+        }),
+    }
+}

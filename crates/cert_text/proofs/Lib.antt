@@ -1,0 +1,16 @@
+pub mod NumberLemmas
+pub mod FeedLemmas
+pub mod HeadLemmas
+pub mod ReadHead
+pub mod FormLemmas
+pub mod OrderLemmas
+pub mod BodyLemmas
+pub mod ReadingLemmas
+pub mod EndLemmas
+pub mod WritingLemmas
+pub mod FirstLemmas
+pub mod CompleteLemmas
+pub mod LinedLemmas
+pub mod RunLemmas
+pub mod WholeLemmas
+pub mod MigrateLemmas

@@ -1,0 +1,21 @@
+//! Certificates: their text, which has one spelling, and what a text says.
+#![tactic(auto)]
+
+mod cert;
+mod draft;
+mod first;
+mod forms;
+mod head;
+pub mod laws;
+mod line;
+mod reading;
+mod words;
+mod writing;
+
+pub use cert::Cert;
+pub use first::{Cert1, migrate, read_cert_1};
+pub use reading::read_cert;
+pub use writing::write_cert;
+
+#[cfg(test)]
+mod tests;

@@ -1,0 +1,100 @@
+// What a text says.
+ghost use Rattle.std.specs.Prelude.{◌≡◌, ◌≤◌, length, MatchResult, IfOk};
+ghost use Rattle.cert_text.specs.Certs.{line_count};
+ghost use Rattle.abi_base.specs.Outcome.{Judges};
+ghost use Rattle.cert_text.specs.Faults.{is_end as it_is_end, end_fault as the_end_fault, fault_of};
+ghost use Rattle.cert_text.specs.Grammar.{IsSpelled, IsSpelledIn};
+ghost use Rattle.cert_text.specs.Steps.{Accepts, LineFails};
+
+use crate::cert::Cert;
+use crate::draft::Draft;
+use crate::forms::form_of;
+use crate::head::{end_fault, line_at, line_end, line_fault, order_fault, read_head};
+use crate::line::{Line, Version, is_end, may_follow};
+use crate::words::from;
+use abi_base::{Fault, Refusal};
+use std::alloc::Global;
+
+// Whether the line before is the last one.
+fn is_over(before: Option<Line>) -> bool
+    ensures { result ≡ it_is_end before }
+{
+    match before {
+        None => false,
+        Some(line) => is_end(line),
+    }
+}
+
+// What a line says that stands behind another.
+fn read_line(
+    version: Version,
+    number: u64,
+    before: Option<Line>,
+    text: &[u8],
+) -> Result<Line, Fault>
+    ensures { MatchResult result (λ line. Accepts version number before text.now line) (λ fault. LineFails version number before text.now fault) }
+{
+    if is_over(before) {
+        return Err(end_fault(number));
+    }
+    let line = match form_of(version, text) {
+        None => return Err(line_fault(number)),
+        Some(line) => line,
+    };
+    match before {
+        None => Ok(line),
+        Some(earlier) => {
+            if may_follow(earlier, line) {
+                Ok(line)
+            } else {
+                Err(order_fault(number))
+            }
+        }
+    }
+}
+
+// What is wrong where the lines end, with what stands behind them.
+fn fault_at_end(number: u64, before: Option<Line>, rest: &[u8]) -> Option<Fault>
+    ensures { result ≡ the_end_fault number before rest.now }
+{
+    if is_over(before) && rest.is_empty() {
+        None
+    } else {
+        Some(end_fault(number))
+    }
+}
+
+/// The certificate of a version that the bytes spell. Its pair lines are those of ways, where those of version 1 are direct.
+pub fn read_text(alloc: Global, version: Version, bytes: &[u8]) -> Result<Cert, Refusal>
+    ensures spelled { IfOk result (λ cert. IsSpelledIn version bytes.now cert) }
+    ensures room { IfOk result (λ cert. line_count cert ≤ length bytes.now) }
+    ensures fault { Judges result (fault_of version bytes.now) }
+{
+    let head = read_head(version, bytes)?;
+    let old_digest = head.old_digest;
+    let new_digest = head.new_digest;
+    let rules_digest = head.rules_digest;
+    let mut draft = Draft::new(alloc, old_digest, new_digest, rules_digest);
+    let mut at = head.next;
+    let mut number = 5u64;
+    let mut before: Option<Line> = None;
+    'lines: while let Some(end) = line_end(bytes, at) {
+        let line = read_line(version, number, before, line_at(bytes, at, end))?;
+        draft.put(line)?;
+        before = Some(line);
+        number += 1;
+        at = end + 1;
+    }
+    match fault_at_end(number, before, from(bytes, at)) {
+        Some(fault) => Err(Refusal::Fault(fault)),
+        None => Ok(draft.finish()),
+    }
+}
+
+/// The certificate that the bytes spell. A fault is the first one of the text, and its place the number of its line.
+pub fn read_cert(alloc: Global, bytes: &[u8]) -> Result<Cert, Refusal>
+    ensures spelled { IfOk result (λ cert. IsSpelled bytes.now cert) }
+    ensures fault { Judges result (fault_of Version.Two bytes.now) }
+{
+    read_text(alloc, Version::Two, bytes)
+}

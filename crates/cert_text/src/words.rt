@@ -1,0 +1,150 @@
+// Numbers, words and digests in the lines of a certificate.
+ghost use Rattle.std.specs.Prelude.{◌≡◌, ◌≤◌, ◌<◌, length, take, drop, Some, None, MatchOption};
+ghost use Rattle.std.specs.Str.{bytes_eq};
+ghost use Rattle.std.specs.Option.{option_copied};
+ghost use Rattle.hex.specs.Hex.{encode_lower};
+ghost use Rattle.cert_text.specs.Forms.{is_plain as it_is_plain, number_in, space as the_space, number_then as the_number_then, numbers_in, behind as the_rest_behind, numbers_behind as the_numbers_behind, digest_in, digest_behind as the_digest_behind};
+
+use hex::FromHex;
+
+// Whether a text has bytes, no sign, and no zero before other digits.
+fn is_plain(text: &[u8]) -> bool
+    ensures { result ≡ it_is_plain text.now }
+{
+    text.len() > 0 && text[0] != b'+' && (text[0] != b'0' || text.len() == 1)
+}
+
+/// The number that a text writes in decimal, without leading zeros.
+pub fn number(text: &[u8]) -> Option<u64>
+    ensures { result ≡ number_in text.now }
+{
+    if !is_plain(text) {
+        return None;
+    }
+    match str::from_utf8(text) {
+        Err(_) => None,
+        Ok(word) => match word.parse::<u64>() {
+            Ok(number) => Some(number),
+            Err(_) => None,
+        },
+    }
+}
+
+// The place of the first space.
+fn space(text: &[u8]) -> Option<usize>
+    ensures { result ≡ the_space text.now }
+{
+    text.iter().position(|byte| *byte == b' ')
+}
+
+// What stands before a place.
+fn before(text: &[u8], at: usize) -> &[u8]
+    requires { at ≤ length text.now }
+    ensures { result.now ≡ take at text.now }
+{
+    &text[..at]
+}
+
+/// What stands from a place on.
+pub fn from(text: &[u8], at: usize) -> &[u8]
+    requires { at ≤ length text.now }
+    ensures { result.now ≡ drop at text.now }
+{
+    &text[at..]
+}
+
+/// The number before the first space, and what stands behind that space.
+#[tactic(auto, unfolding(crate::specs::Forms::number_then))]
+pub fn number_then(text: &[u8]) -> Option<(u64, &[u8])>
+    ensures { MatchOption result (the_number_then text.now ≡ None) (λ found. the_number_then text.now ≡ Some (found.0, found.1.now)) }
+{
+    match space(text) {
+        None => None,
+        Some(at) => match number(before(text, at)) {
+            None => None,
+            Some(number) => Some((number, from(text, at + 1))),
+        },
+    }
+}
+
+// Two numbers, separated by one space.
+#[tactic(auto, unfolding(crate::specs::Forms::numbers_in))]
+fn numbers(text: &[u8]) -> Option<(u64, u64)>
+    ensures { result ≡ numbers_in text.now }
+{
+    match number_then(text) {
+        None => None,
+        Some((one, rest)) => match number(rest) {
+            None => None,
+            Some(other) => Some((one, other)),
+        },
+    }
+}
+
+/// Whether two texts are equal.
+pub fn is_same(one: &[u8], other: &[u8]) -> bool
+    ensures { result ≡ bytes_eq one.now other.now }
+{
+    one == other
+}
+
+/// What stands behind a word at the front.
+#[tactic(auto, unfolding(crate::specs::Forms::behind), using(crate::proofs::NumberLemmas::none_longer))]
+pub fn behind<'a>(text: &'a [u8], word: &[u8]) -> Option<&'a [u8]>
+    ensures { option_copied result ≡ the_rest_behind word.now text.now }
+{
+    if text.len() < word.len() {
+        return None;
+    }
+    if !is_same(before(text, word.len()), word) {
+        return None;
+    }
+    Some(from(text, word.len()))
+}
+
+/// Two numbers behind a word.
+#[tactic(auto, unfolding(crate::specs::Forms::numbers_behind))]
+pub fn numbers_behind(text: &[u8], word: &[u8]) -> Option<(u64, u64)>
+    ensures { result ≡ the_numbers_behind word.now text.now }
+{
+    match behind(text, word) {
+        None => None,
+        Some(rest) => numbers(rest),
+    }
+}
+
+// A digest in lower-case hexadecimal digits.
+fn digits_of(digest: [u8; 32]) -> [u8; 64]
+    ensures { result ≡ encode_lower digest }
+{
+    let mut digits = [0; 64];
+    let _ = hex::encode_to_slice(digest.as_slice(), digits.as_mut_slice());
+    digits
+}
+
+// The 32 bytes that a text writes in lower-case hexadecimal digits.
+fn digest(text: &[u8]) -> Option<[u8; 32]>
+    ensures { result ≡ digest_in text.now }
+{
+    match <[u8; 32] as FromHex>::from_hex(text) {
+        Err(_) => None,
+        Ok(digest) => {
+            if is_same(text, digits_of(digest).as_slice()) {
+                Some(digest)
+            } else {
+                None
+            }
+        }
+    }
+}
+
+/// The digest behind a word.
+#[tactic(auto, unfolding(crate::specs::Forms::digest_behind))]
+pub fn digest_behind(text: &[u8], word: &[u8]) -> Option<[u8; 32]>
+    ensures { result ≡ the_digest_behind word.now text.now }
+{
+    match behind(text, word) {
+        None => None,
+        Some(digits) => digest(digits),
+    }
+}
