@@ -1,5 +1,5 @@
 -- What is compared, and how one pair of types leads to others.
-use Rattle.std.specs.Prelude.{◌≡◌, ℕ, Bool, false, if◌then◌else◌, List, Option, Some, None, slice_index_or}
+use Rattle.std.specs.Prelude.{◌≡◌, ℕ, Bool, true, false, if◌then◌else◌, List, Option, Some, None, slice_index_or}
 use Rattle.abi_types.specs.declared.kind.Way.{Way}
 use Rattle.abi_types.specs.declared.kind.Way.TheVariants as way
 use Rattle.abi_types.specs.Types.{PlainView, PlainNode}
@@ -28,6 +28,10 @@ pub record Triple : Type 0 where
   pub old : ℕ
   pub new : ℕ
   pub way : Way
+
+abbrev pub is_pointer : Way → Bool
+is_pointer way.Direct = false
+is_pointer way.Pointer = true
 
 -- the marks at a way
 abbrev pub marks_at : Task → Way → List Bool
