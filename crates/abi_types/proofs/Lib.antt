@@ -1,6 +1,8 @@
 pub mod EntryLemmas
-pub mod LibraryLemmas
+pub mod LeafLemmas
 pub mod LikeLemmas
 pub mod LookupLemmas
+pub mod NameLemmas
+pub mod Recursion
 pub mod ShapedLemmas
-pub mod ValidLemmas
+pub mod WalkLemmas

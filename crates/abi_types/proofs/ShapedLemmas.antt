@@ -1,14 +1,16 @@
 -- Graphs with call places are graphs.
-use Rattle.std.proofs.Common.{◌≡◌, ◌<◌, ◌≤◌, ◌+◌, ◌*◌, ◌^◌, ℕ, Bool, true, false, cond, List, [], ◌∷◌, ◌++◌, length, map, get_or, refl, sym, ap, ◌∙◌, arith, subst, inl, inr, ◌⊎◌}
-use Rattle.std.specs.List.{range_with_len, sum_by}
+use Rattle.std.proofs.Common.{◌≡◌, ◌<◌, ◌+◌, ◌*◌, ℕ, Bool, true, false, cond, List, [], ◌∷◌, length, get_or, refl, sym, ap, ◌∙◌, arith, subst, inl, inr, ◌⊎◌}
+use Rattle.std.specs.List.{sum_by}
 use Rattle.std.proofs.lemmas.Bool.{cases_lt, false≢true}
-use Rattle.std.proofs.lemmas.List.{get_or_read, get_or_past}
+use Rattle.std.proofs.lemmas.List.{get_or_past}
 use Rattle.std.proofs.lemmas.List.Sums.{sum_by-cons}
-use Rattle.std.proofs.lemmas.List.FromFn.{length-map-range_with_len, get_or-map-range_with_len, map-range_with_len_more}
+use Rattle.std.proofs.lemmas.List.FromFn.{length-map-range_with_len, get_or-map-range_with_len, fill_by_all}
 use Rattle.abi_types.specs.declared.place.CallShape.{CallShape}
 use Rattle.abi_types.specs.Types.{PlainPart, Param, PlainView, PlainNode}
-use Rattle.abi_types.specs.Forms.{has_elements, is_function, no_call, HasForm}
+use Rattle.abi_types.specs.Forms.{has_elements, is_function, HasForm}
+use Rattle.abi_types.specs.Limits.{align_room}
 use Rattle.abi_types.specs.Graphs.{IsGraph, KeepsLimits, KeepsBits, node_at, view_at, part_at, no_part, void_node, call_at, shaped_node, shaped, to_of, inner_of, room_of, rooms}
+use Rattle.abi_types.specs.Calls.{IsSameButCall}
 use Rattle.abi_types.specs.Entries.{IsOfNode, IsEntryOrder}
 use Rattle.std.proofs.lemmas.List.Elements.{All-weaker}
 use Rattle.std.specs.Prelude.{Contains}
@@ -82,6 +84,13 @@ IsShaped-at nodes calls i =
       | inr past ↦ inl (get_or_past (shaped nodes calls) i void_node (omega (arith, length-shaped nodes calls)) ∙ sym (get_or_past nodes i void_node past))
     ]
 
+-- the node is the same but for the places of its call
+pub IsSameButCall-at : (nodes : List PlainNode) (calls : List CallShape) (i : ℕ) → IsSameButCall (node_at nodes i) (node_at (shaped nodes calls) i)
+IsSameButCall-at nodes calls i = go (node_at nodes i) (node_at (shaped nodes calls) i) (IsShaped-at nodes calls i) where
+  go : (n m : PlainNode) → IsShaped n m → IsSameButCall n m
+  go n m (inl e) = e ∙ ap (λ (x : PlainNode). record n { view = record n.view { call = x.view.call } }) (sym e)
+  go n m (inr f) = f.1.1 ∙ ap (λ (call : CallShape). record n { view = record n.view { call = call } }) (sym (ap (λ (x : PlainNode). x.view.call) f.1.1))
+
 sum_by-agree : {X : Type 0} (f h : X → ℕ) (xs : List X) → ((x : X) → f x ≡ h x) → sum_by f xs ≡ sum_by h xs
 sum_by-agree f h [] same = refl
 sum_by-agree f h (x ∷ xs) same = let ih = sum_by-agree f h xs same in omega (arith, sum_by-cons f x xs, sum_by-cons h x xs, same x, ih)
@@ -97,7 +106,7 @@ module _ (nodes : List PlainNode) (calls : List CallShape) where
   size-same i = same_size (node_at nodes i) (node_at (shaped nodes calls) i) (at i)
 
   room-same : (p : PlainPart) → room_of (shaped nodes calls) p ≡ room_of nodes p
-  room-same (Param to) = ap (λ (n : ℕ). n + 2 ^ 33) (size-same to)
+  room-same (Param to) = ap (λ (n : ℕ). n + align_room) (size-same to)
   room-same _ = refl
 
   rooms-same : (i : ℕ) → rooms (shaped nodes calls) (view_at (shaped nodes calls) i) ≡ rooms nodes (view_at nodes i)
@@ -123,6 +132,7 @@ module _ (nodes : List PlainNode) (calls : List CallShape) where
     falls = λ i k to e.
         let low = graph.falls i k to (ap inner_of (sym (part-same i k)) ∙ e) in
         omega (arith, low, same_rank (node_at nodes i) (node_at (shaped nodes calls) i) (at i), same_rank (node_at nodes to) (node_at (shaped nodes calls) to) (at to));
+    shallow = λ i. rw (same_rank (node_at nodes i) (node_at (shaped nodes calls) i) (at i)) (graph.shallow i);
     forms = λ i. form_shaped (node_at nodes i) (node_at (shaped nodes calls) i) (at i) (graph.forms i);
     limits = λ i. limits-shaped i (graph.limits i);
     whole = λ i to elements e.
@@ -143,21 +153,9 @@ module _ (nodes : List PlainNode) (calls : List CallShape) where
 
 -- ---- a loop over the nodes
 
-abbrev pub shaped_front : List PlainNode → List CallShape → ℕ → List PlainNode
-shaped_front nodes calls n = map (λ i. shaped_node (node_at nodes i) (call_at calls i)) (range_with_len 0 n)
-
--- one more node
-pub shaped_front-more : (nodes : List PlainNode) (calls : List CallShape) (i : ℕ) (node copy : PlainNode) (call : CallShape) (so_far grown : List PlainNode) → i < length nodes → length calls ≡ length nodes
-    → node ≡ get_or nodes i node → call ≡ get_or calls i call → copy ≡ shaped_node node call → so_far ≡ shaped_front nodes calls i → grown ≡ so_far ++ copy ∷ [] → grown ≡ shaped_front nodes calls (i + 1)
-shaped_front-more nodes calls i node copy call so_far grown inside many node_is call_is copied is pushed =
-    let node_here : node ≡ node_at nodes i = get_or_read nodes i node inside node_is void_node in
-    let call_here : call ≡ call_at calls i = get_or_read calls i call (omega arith) call_is no_call in
-    pushed ∙ ap (λ (xs : List PlainNode). xs ++ copy ∷ []) is ∙ ap (λ (n : PlainNode). shaped_front nodes calls i ++ n ∷ []) (copied ∙ ap (λ (n : PlainNode). shaped_node n call) node_here ∙ ap (shaped_node (node_at nodes i)) call_here)
-    ∙ sym (map-range_with_len_more (λ i. shaped_node (node_at nodes i) (call_at calls i)) 0 i i (omega arith))
-
-pub shaped_front-all : (nodes : List PlainNode) (calls : List CallShape) (i : ℕ) (copies : List PlainNode) → i ≤ length nodes → length nodes ≤ i → copies ≡ shaped_front nodes calls i → copies ≡ shaped nodes calls
+pub shaped-all : (nodes after : List PlainNode) (calls : List CallShape) → length after ≡ length nodes → ((k : ℕ) → k < length after → node_at after k ≡ shaped_node (node_at nodes k) (call_at calls k)) → after ≡ shaped nodes calls
 unfolding shaped
-shaped_front-all nodes calls i copies le ge is = let all : i ≡ length nodes = omega arith in is ∙ ap (shaped_front nodes calls) all
+shaped-all nodes after calls many done = fill_by_all (λ i. shaped_node (node_at nodes i) (call_at calls i)) after (length nodes) void_node many (λ k lt. done k (omega arith))
 
 -- what a graph keeps, of the nodes with call places
 pub KeepsAll-shaped : (nodes slice : List PlainNode) (calls : List CallShape) (copies : List PlainNode) (pairs : List (ℕ × ℕ)) → slice ≡ nodes → copies ≡ shaped slice calls

@@ -29,6 +29,25 @@ abbrev pub is_function : Kind → Bool
 is_function kind.Function = true
 is_function other = false
 
+abbrev pub is_array : Kind → Bool
+is_array kind.Array = true
+is_array other = false
+
+-- the kinds whose objects are made of other objects
+abbrev pub is_aggregate : Kind → Bool
+is_aggregate kind.Structure = true
+is_aggregate kind.Union = true
+is_aggregate kind.Array = true
+is_aggregate other = false
+
+-- the kinds whose objects are leaves of what they stand in
+abbrev pub is_leaf : Kind → Bool
+is_leaf kind.Scalar = true
+is_leaf kind.Pointer = true
+is_leaf kind.Enumeration = true
+is_leaf kind.Vector = true
+is_leaf other = false
+
 -- the size that all types of a kind have, where they have one
 abbrev pub size_of_kind : Kind → Option ℕ
 size_of_kind kind.Void = Some 0

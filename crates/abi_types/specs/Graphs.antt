@@ -1,11 +1,13 @@
 -- Lists of nodes that are graphs of types.
-use Rattle.std.specs.Prelude.{◌≡◌, ◌<◌, ◌≤◌, ◌+◌, ◌*◌, ◌^◌, ◌==◌, ℕ, true, false, List, [], length, Option, Some, None, slice_index_or, find, map, if◌then◌else◌}
+use Rattle.std.specs.Prelude.{◌≡◌, ◌<◌, ◌≤◌, ◌+◌, ◌*◌, ◌==◌, ℕ, true, false, List, [], length, Option, Some, None, slice_index_or, find, map, filter_map, if◌then◌else◌}
 use Rattle.std.specs.List.{sum_by, range_with_len}
+use Rattle.abi_base.specs.Limits.{depth_limit}
 use Rattle.abi_types.specs.declared.kind.Kind.TheVariants as kind
 use Rattle.abi_types.specs.declared.kind.Group.TheVariants as group
 use Rattle.abi_types.specs.declared.place.CallShape.{CallShape}
 use Rattle.abi_types.specs.Types.{PlainPart, Member, Enumerator, Target, Element, Outcome, Param, PlainView, PlainNode}
 use Rattle.abi_types.specs.Forms.{has_elements, is_function, no_call, HasForm}
+use Rattle.abi_types.specs.Limits.{size_limit, bit_limit, align_limit, align_room, room_limit}
 
 -- ---- look-ups, which give a part that names no node, or void, past the end
 
@@ -74,26 +76,24 @@ abbrev pub inner_of : PlainPart → Option ℕ
 inner_of (Target to) = None
 inner_of other = to_of other
 
+-- the type of a parameter, and the types of all parameters in order
+abbrev pub param_of : PlainPart → Option ℕ
+param_of (Param to) = Some to
+param_of other = None
+
+abbrev pub params_of : List PlainPart → List ℕ
+params_of parts = filter_map param_of parts
+
 -- ---- what a graph keeps
-
--- the limits of a size and of a count, of a place and a width in bits, and of an explicit alignment
-abbrev pub size_limit : ℕ
-size_limit = 2 ^ 60
-
-abbrev pub bit_limit : ℕ
-bit_limit = 2 ^ 63
-
-abbrev pub align_limit : ℕ
-align_limit = 2 ^ 32
 
 -- a member's place and width in bits are below the limit
 abbrev pub KeepsBits : PlainPart → Type 0
 KeepsBits (Member name bit width to) = (bit < bit_limit) × (width < bit_limit)
 KeepsBits other = Unit {0}
 
--- what the arguments of a function may take: for each parameter its size and room for its alignment, twice the limit
+-- what the arguments of a function may take: for each parameter its size and room for its alignment
 abbrev pub room_of : List PlainNode → PlainPart → ℕ
-room_of nodes (Param to) = (view_at nodes to).size + 2 ^ 33
+room_of nodes (Param to) = (view_at nodes to).size + align_room
 room_of nodes other = 0
 
 abbrev pub rooms : List PlainNode → PlainView → ℕ
@@ -109,9 +109,10 @@ pub record KeepsLimits (nodes : List PlainNode) (v : PlainView) : Type 0 where
   pub count : v.count ≤ size_limit
   pub align : v.align ≤ align_limit
   pub bits : (k : ℕ) → KeepsBits (part_at v k)
-  pub rooms : rooms nodes v ≤ 2 ^ 62
+  pub rooms : rooms nodes v ≤ room_limit
 
--- The list meets all that a graph keeps. Cycles go through pointers alone, since the rank falls by value.
+-- The list meets all that a graph keeps. Cycles go through pointers alone, since the rank falls by value; and no chain of
+-- by-value steps is longer than the limit, since no rank is above it.
 pub record IsGraph (nodes : List PlainNode) : Type 0 where
   pub void_first : 0 < length nodes
   pub void_kind : (view_at nodes 0).kind ≡ kind.Void
@@ -119,6 +120,7 @@ pub record IsGraph (nodes : List PlainNode) : Type 0 where
   pub inside : (i k to : ℕ) → to_of (part_at (view_at nodes i) k) ≡ Some to → to < length nodes
   pub apart : (i j : ℕ) → i < length nodes → j < length nodes → (node_at nodes i).entry ≡ (node_at nodes j).entry → i ≡ j
   pub falls : (i k to : ℕ) → inner_of (part_at (view_at nodes i) k) ≡ Some to → (node_at nodes to).rank < (node_at nodes i).rank
+  pub shallow : (i : ℕ) → (node_at nodes i).rank ≤ depth_limit
   pub forms : (i : ℕ) → HasForm (view_at nodes i)
   pub limits : (i : ℕ) → KeepsLimits nodes (view_at nodes i)
   pub whole : (i : ℕ) → IsWhole nodes (view_at nodes i)

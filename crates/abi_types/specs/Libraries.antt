@@ -1,5 +1,5 @@
 -- Libraries as plain data, and what they keep.
-use Rattle.std.specs.Prelude.{◌≡◌, ℕ, List, length, Option, IsSome, All, count_by}
+use Rattle.std.specs.Prelude.{◌≡◌, ◌<◌, ℕ, List, length, Option, Some, IsSome, All, count_by, slice_get}
 use Rattle.std.specs.Borrow.{Bor}
 use Rattle.std.specs.Option.{option_copied}
 use Rattle.abi_types.specs.declared.export.Export.{Export}
@@ -8,6 +8,7 @@ use Rattle.abi_types.specs.Exports.{PlainExport}
 use Rattle.abi_types.specs.Types.{PlainView, PlainNode}
 use Rattle.abi_types.specs.Forms.{is_param}
 use Rattle.abi_types.specs.Graphs.{node_of, view_at}
+use Rattle.abi_types.specs.Limits.{symbol_limit}
 use Rattle.abi_types.specs.Plain.{plain_exports}
 
 -- a library, without where its names lie in memory
@@ -29,8 +30,14 @@ plain_library digest soname exports graph = record {
 abbrev pub HasPlaces : PlainView → Type 0
 HasPlaces v = v.kind ≡ kind.Function → length v.call.params ≡ count_by is_param v.parts
 
+-- the exports stand in strictly ascending order of the numbers of their symbols
+pub record AreNumbered (exports : List PlainExport) : Type 0 where
+  pub ascend : (j k : ℕ) (e f : PlainExport) → j < k → slice_get exports j ≡ Some e → slice_get exports k ≡ Some f → e.symbol < f.symbol
+  pub below : (k : ℕ) (e : PlainExport) → slice_get exports k ≡ Some e → e.symbol < symbol_limit
+
 -- The entry of each export is that of a node, which is void where it is 0. The call of each function has a place for each of
 -- its parameters.
 pub record IsLibrary (exports : List PlainExport) (graph : List PlainNode) : Type 0 where
   pub entries : All (λ (e : PlainExport). IsSome (node_of graph e.entry)) exports
+  pub numbered : AreNumbered exports
   pub places : (i : ℕ) → HasPlaces (view_at graph i)

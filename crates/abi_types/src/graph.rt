@@ -35,73 +35,29 @@ impl<'a, Ix: Index> Model for Graph<'a, Ix> {
     ghost invariant = { λ g. IsGraph g.nodes × IsEntryOrder g.entries.items g.nodes };
 }
 
-// A copy of a call shape.
-fn copy_of_call(alloc: Global, call: &CallShape) -> Result<CallShape, NoMemory>
-    ensures { IfOk result (λ copy. copy ≡ call.now) }
+// Puts a call into a node, where it is that of a function.
+fn put_call<'a, Ix: Index>(node: &mut Node<'a, Ix>, call: CallShape)
+    ensures { node.new ≡ the_shaped_node node.old call }
 {
-    Ok(CallShape {
-        outcome: call.outcome,
-        params: List::copy_of(alloc, call.params.as_slice())?,
-    })
-}
-
-// A copy of a view with another call shape.
-fn view_with_call<'a, Ix: Index>(
-    alloc: Global,
-    view: &View<'a, Ix>,
-    call: &CallShape,
-) -> Result<View<'a, Ix>, NoMemory>
-    ensures { IfOk result (λ copy. copy ≡ record view.now { call = call.now }) }
-{
-    Ok(View {
-        kind: view.kind,
-        declared_only: view.declared_only,
-        tag: view.tag,
-        size: view.size,
-        group: view.group,
-        align: view.align,
-        count: view.count,
-        variadic: view.variadic,
-        parts: view.parts.copy(alloc)?,
-        call: copy_of_call(alloc, call)?,
-    })
-}
-
-// A copy of a node, in which the call of a function is this one.
-fn shaped_node<'a, Ix: Index>(
-    alloc: Global,
-    node: &Node<'a, Ix>,
-    call: &CallShape,
-) -> Result<Node<'a, Ix>, NoMemory>
-    ensures { IfOk result (λ copy. copy ≡ the_shaped_node node.now call.now) }
-{
-    let view = &node.view;
-    let view = match view.kind {
-        Kind::Function => view_with_call(alloc, view, call)?,
-        _ => view_with_call(alloc, view, &view.call)?,
-    };
-    Ok(Node {
-        entry: node.entry,
-        rank: node.rank,
-        view,
-        labels: List::copy_of(alloc, node.labels.as_slice())?,
-    })
-}
-
-// Copies of the nodes, in which the call of each function is the shape at its number.
-fn shaped_nodes<'a, Ix: Index>(
-    alloc: Global,
-    nodes: &[Node<'a, Ix>],
-    calls: &[CallShape],
-) -> Result<List<Node<'a, Ix>>, NoMemory>
-    requires { length calls.now ≡ length nodes.now }
-    ensures { IfOk result (λ copies. copies ≡ shaped nodes.now calls.now) }
-{
-    let mut copies = List::new(alloc);
-    for i in 0..nodes.len() {
-        copies.push(shaped_node(alloc, &nodes[i], &calls[i])?)?;
+    match node.view.kind {
+        Kind::Function => node.view.call = call,
+        _ => {}
     }
-    Ok(copies)
+}
+
+// The nodes with a call in each function among them, from the last one on.
+fn with_each_call<'a, Ix: Index>(
+    mut nodes: Vec<Node<'a, Ix>>,
+    mut calls: Vec<CallShape>,
+) -> Vec<Node<'a, Ix>>
+    requires { length calls.items ≡ length nodes.items }
+    ensures { result.items ≡ shaped nodes.entry.items calls.items }
+{
+    while let Some(call) = calls.pop() {
+        let last = calls.len();
+        put_call(&mut nodes[last], call);
+    }
+    nodes
 }
 
 impl<'a, Ix: Index> Graph<'a, Ix> {
@@ -115,17 +71,16 @@ impl<'a, Ix: Index> Graph<'a, Ix> {
     }
 
     /// The same graph, in which the call of each function is the shape at its number, and all else stays.
-    pub fn with_calls(
-        self,
-        alloc: Global,
-        calls: List<CallShape>,
-    ) -> Result<Graph<'a, Ix>, NoMemory>
+    pub fn with_calls(self, calls: List<CallShape>) -> Graph<'a, Ix>
         requires { length calls ≡ length self }
-        ensures { IfOk result (λ g. g ≡ shaped self.entry calls) }
+        ensures { result ≡ shaped self.entry calls }
     {
         let Graph { nodes, entries } = self;
-        let nodes = shaped_nodes(alloc, nodes.as_slice(), calls.as_slice())?;
-        Ok(Graph { nodes, entries })
+        let nodes = with_each_call(nodes.into_vec(), calls.into_vec());
+        Graph {
+            nodes: List::of(nodes),
+            entries,
+        }
     }
 
     /// How many nodes there are.

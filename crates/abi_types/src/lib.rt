@@ -5,33 +5,33 @@
 mod alike;
 mod entries;
 mod export;
-mod form;
 mod graph;
 mod index;
 mod kind;
+pub mod laws;
+mod leaf;
 mod library;
-mod limits;
 mod lookup;
+mod names;
 mod part;
 mod parts;
 mod place;
 mod rule;
 mod shown;
 mod sort;
-mod valid;
 mod view;
 
 pub use export::{Export, SymbolKind};
 pub use graph::Graph;
 pub use index::{Index, NewIx, OldIx};
 pub use kind::{Group, Kind, LabelKind, Way};
+pub use leaf::Leaf;
 pub use library::{Library, Marks};
 pub use part::Part;
 pub use parts::Parts;
 pub use place::{CallShape, Place, Slot};
 pub use rule::RuleName;
 pub use shown::{push_label, push_shown};
-pub use valid::{is_graph, is_library};
 pub use view::{Label, Node, View};
 
 #[cfg(test)]

@@ -1,13 +1,16 @@
 // A library as it is compared, and what a rule file marks in it.
-ghost use Rattle.std.specs.Prelude.{◌≡◌};
+ghost use Rattle.std.specs.Prelude.{◌≡◌, IfOk};
 ghost use Rattle.std.specs.Option.{option_copied};
 ghost use Rattle.abi_types.specs.Plain.{plain_exports};
 ghost use Rattle.abi_types.specs.Libraries.{plain_library, IsLibrary};
+ghost use Rattle.abi_types.specs.Names.{AreNamed};
 
 use crate::export::Export;
 use crate::graph::Graph;
 use crate::index::Index;
-use abi_base::List;
+use crate::names::{name_order_of, named_in};
+use abi_base::{List, NoMemory};
+use std::alloc::Global;
 use std::marker::Model;
 
 /// A library: the digest of its file, its soname, its exports, and the types that they have. Contracts see it as a
@@ -18,6 +21,8 @@ pub struct Library<'a, Ix: Index> {
     soname: Option<&'a [u8]>,
     exports: List<Export<'a>>,
     graph: Graph<'a, Ix>,
+    // The positions of the exports, in order of names.
+    by_name: Vec<usize>,
 }
 
 impl<'a, Ix: Index> Model for Library<'a, Ix> {
@@ -27,29 +32,33 @@ impl<'a, Ix: Index> Model for Library<'a, Ix> {
 
     ghost use Rattle.abi_types.specs.Plain.{plain_exports};
     ghost use Rattle.abi_types.specs.Libraries.{plain_library, IsLibrary};
+    ghost use Rattle.abi_types.specs.Names.{IsNameOrder};
 
     ghost view = { λ l. plain_library l.digest l.soname l.exports l.graph };
 
-    ghost invariant = { λ l. IsLibrary (plain_exports l.exports) l.graph };
+    ghost invariant = { λ l. IsLibrary (plain_exports l.exports) l.graph × IsNameOrder l.by_name.items (plain_exports l.exports) };
 }
 
 impl<'a, Ix: Index> Library<'a, Ix> {
     /// The library of these parts.
     pub fn new(
+        alloc: Global,
         digest: [u8; 32],
         soname: Option<&'a [u8]>,
         exports: List<Export<'a>>,
         graph: Graph<'a, Ix>,
-    ) -> Library<'a, Ix>
+    ) -> Result<Library<'a, Ix>, NoMemory>
         requires { IsLibrary (plain_exports exports) graph }
-        ensures { result ≡ plain_library digest soname.entry exports.entry graph.entry }
+        ensures { IfOk result (λ library. library ≡ plain_library digest soname.entry exports.entry graph.entry) }
     {
-        Library {
+        let by_name = name_order_of(alloc, exports.as_slice())?;
+        Ok(Library {
             digest,
             soname,
             exports,
             graph,
-        }
+            by_name,
+        })
     }
 
     /// The SHA-256 of its file.
@@ -71,6 +80,14 @@ impl<'a, Ix: Index> Library<'a, Ix> {
         ensures { plain_exports result.now ≡ self.now.exports }
     {
         self.exports.as_slice()
+    }
+
+    /// The positions of the exports of a name, in ascending order: those of all its versions. It takes the time of two binary
+    /// searches and no memory.
+    pub fn exports_named(&self, name: &[u8]) -> &[usize]
+        ensures { AreNamed self.now.exports name.now result.now }
+    {
+        named_in(self.exports.as_slice(), self.by_name.as_slice(), name)
     }
 
     /// The types of its exports.

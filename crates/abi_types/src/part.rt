@@ -38,7 +38,7 @@ impl<'a, Ix: Index> Part<'a, Ix> {
     ghost use Rattle.std.specs.Prelude.{◌≡◌};
     ghost use Rattle.std.specs.Option.{option_map};
     ghost use Rattle.abi_types.specs.Parts.{plain_part};
-    ghost use Rattle.abi_types.specs.Graphs.{to_of, inner_of};
+    ghost use Rattle.abi_types.specs.Graphs.{to_of, inner_of, param_of};
 
     /// The node that the part names. An enumerator names none.
     pub fn to(&self) -> Option<Ix>
@@ -61,6 +61,16 @@ impl<'a, Ix: Index> Part<'a, Ix> {
         match self {
             Part::Target { .. } => None,
             _ => self.to(),
+        }
+    }
+
+    /// The type of a parameter, where the part is one.
+    pub fn param(&self) -> Option<Ix>
+        ensures { option_map Ix.number_of result ≡ param_of (plain_part Ix.number_of self.now) }
+    {
+        match self {
+            Part::Param { to } => Some(*to),
+            _ => None,
         }
     }
 }

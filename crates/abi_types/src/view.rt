@@ -12,6 +12,7 @@ use std::marker::Model;
 /// What a type looks like. Fields that a kind does not use hold 0, `false`, `Group::Bool` or nothing.
 #[derive(Drop)]
 pub struct View<'a, Ix: Index> {
+    /// What sort of type it is.
     pub kind: Kind,
     /// Whether the type is declared here, and its parts are told nowhere in this unit.
     pub declared_only: bool,
@@ -27,6 +28,7 @@ pub struct View<'a, Ix: Index> {
     pub count: u64,
     /// Whether a function takes further arguments after its parameters.
     pub variadic: bool,
+    /// Its members, enumerators, target, element type, or result and parameters.
     pub parts: Parts<'a, Ix>,
     /// Where a function's result and arguments are.
     pub call: CallShape,
@@ -54,7 +56,8 @@ impl<'a, Ix: Index> Model for View<'a, Ix> {
 impl<'a, Ix: Index> View<'a, Ix> {
     ghost use Rattle.std.specs.Prelude.{◌≡◌, ◌<◌, length};
     ghost use Rattle.abi_types.specs.Parts.{plain_part};
-    ghost use Rattle.abi_types.specs.Graphs.{part_at};
+    ghost use Rattle.std.specs.Option.{option_map};
+    ghost use Rattle.abi_types.specs.Graphs.{part_at, inner_of};
 
     /// How many parts there are.
     pub fn parts_len(&self) -> usize
@@ -70,12 +73,24 @@ impl<'a, Ix: Index> View<'a, Ix> {
     {
         self.parts.at(k)
     }
+
+    /// The type of the elements of an array or a vector: the node that the first part names by value, where there is one.
+    pub fn element(&self) -> Option<Ix>
+        ensures { option_map Ix.number_of result ≡ inner_of (part_at self.now 0) }
+    {
+        if self.parts_len() == 0 {
+            return None;
+        }
+        self.part(0).inner()
+    }
 }
 
 /// A name by which rules speak of a type.
 #[derive(Clone, Copy, Debug)]
 pub struct Label<'a> {
+    /// What kind of name it is.
     pub kind: LabelKind,
+    /// Its bytes.
     pub name: &'a [u8],
 }
 
@@ -84,9 +99,11 @@ pub struct Label<'a> {
 pub struct Node<'a, Ix: Index> {
     /// The offset of the debugging information entry that it stands for. 0 is void.
     pub entry: u64,
-    /// It falls from a node to what its parts name by value.
+    /// It falls from a node to what its parts name by value, and is 512 at most.
     pub rank: u32,
+    /// What the type looks like.
     pub view: View<'a, Ix>,
+    /// The names by which rules speak of it.
     pub labels: List<Label<'a>>,
 }
 

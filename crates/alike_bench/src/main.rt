@@ -6,10 +6,9 @@
 ghost use Rattle.std.specs.Prelude.{◌<◌};
 
 use abi_base::{List, NoMemory};
-use abi_types::{
-    CallShape, Graph, Group, Index, Kind, Node, OldIx, Part, Parts, Place, View, is_graph,
-};
+use abi_types::{Graph, Index, Node, OldIx};
 use graph_alike::alike;
+use hand_graphs::{graph, member, pointer, scalar, structure, void};
 use std::alloc::{AllocError, Global};
 use std::fmt::Write;
 use std::{env, io};
@@ -21,6 +20,11 @@ const FIRST: usize = 2;
 
 // How many bytes the name of a member has.
 const NAME_BYTES: usize = 8;
+
+// How many bytes an integer has, and a structure.
+const INTEGER_SIZE: u64 = 4;
+
+const STRUCTURE_SIZE: u64 = 8;
 
 // How many nodes a wide structure and its pointers are, and those of a ring.
 const WIDE: usize = 1000;
@@ -59,66 +63,21 @@ fn names(alloc: Global, count: u32) -> Result<String, AllocError> {
     Ok(names)
 }
 
-fn node<'a, Ix: Index>(
-    alloc: Global,
-    number: usize,
-    rank: u32,
-    kind: Kind,
-    size: u64,
-    parts: Vec<Part<'a, Ix>>,
-) -> Result<Node<'a, Ix>, NoMemory> {
-    Ok(Node {
-        entry: number as u64,
-        rank,
-        view: View {
-            kind,
-            declared_only: false,
-            tag: &[],
-            size,
-            group: Group::Bool,
-            align: 0,
-            count: 0,
-            variadic: false,
-            parts: Parts::of(alloc, parts)?,
-            call: CallShape {
-                outcome: Place::Nothing,
-                params: List::new(alloc),
-            },
-        },
-        labels: List::new(alloc),
-    })
-}
-
-fn pointer<'a, Ix: Index>(
-    alloc: Global,
-    number: usize,
-    to: usize,
-) -> Result<Node<'a, Ix>, NoMemory> {
-    let mut parts = Vec::new(alloc);
-    parts.push(Part::Target { to: Ix::of(to) })?;
-    node(alloc, number, 0, Kind::Pointer, 8, parts)
-}
-
 // A structure whose members have these names and the types of so many nodes from the first on, one after the other.
-fn structure<'a, Ix: Index>(
+fn linked<'a, Ix: Index>(
     alloc: Global,
     number: usize,
     names: &'a [u8],
     count: usize,
     first: usize,
 ) -> Result<Node<'a, Ix>, NoMemory> {
-    let mut parts = Vec::new(alloc);
+    let mut members = Vec::new(alloc);
     let mut to = first;
     for name in names.chunks(NAME_BYTES).take(count) {
-        parts.push(Part::Member {
-            name,
-            bit: 0,
-            width: 0,
-            to: Ix::of(to),
-        })?;
+        members.push(member::<Ix>(name, 0, to))?;
         to = to.saturating_add(1);
     }
-    node(alloc, number, 1, Kind::Structure, 8, parts)
+    structure(alloc, number as u64, 1, STRUCTURE_SIZE, members)
 }
 
 // A structure and its pointer by turns; the last structure of a ring has the pointer to the first.
@@ -186,16 +145,16 @@ fn nodes<'a, Ix: Index>(
     count: usize,
 ) -> Result<List<Node<'a, Ix>>, NoMemory> {
     let mut nodes = List::new(alloc);
-    let void = node(alloc, 0, 0, Kind::Void, 0, Vec::new(alloc))?;
+    let void = void::<Ix>(alloc)?;
     nodes.push(void)?;
-    let integer = node(alloc, INTEGER, 0, Kind::Scalar, 4, Vec::new(alloc))?;
+    let integer = scalar(alloc, INTEGER as u64, INTEGER_SIZE)?;
     nodes.push(integer)?;
     for number in FIRST..count {
         let next = match plan_of(pattern, number, count) {
-            Plan::Pointer { to } => pointer(alloc, number, to)?,
+            Plan::Pointer { to } => pointer(alloc, number as u64, to)?,
             Plan::Structure { first, members } => {
                 let there = members.min(count.saturating_sub(first));
-                structure(alloc, number, names, there, first)?
+                linked(alloc, number, names, there, first)?
             }
         };
         nodes.push(next)?;
@@ -225,10 +184,10 @@ fn measured(
     rounds: u32,
 ) -> Result<(usize, usize), NoMemory> {
     let nodes = nodes::<OldIx>(alloc, pattern, names, count)?;
-    if !is_graph(nodes.as_slice()) {
-        return Ok((0, 0));
-    }
-    let graph = Graph::of_nodes(alloc, nodes)?;
+    let graph = match graph(alloc, nodes)? {
+        Some(graph) => graph,
+        None => return Ok((0, 0)),
+    };
     let mut classes = 0usize;
     for _ in 0..rounds {
         classes = classes.saturating_add(count_classes(alloc, &graph)?);

@@ -8,7 +8,7 @@ use Rattle.std.proofs.lemmas.List.FromFn.{length-range_with_len, get_or-range_wi
 use Rattle.std.specs.List.{range_with_len}
 use Rattle.graph_alike.specs.declared.blocks.Block.{Block}
 use Rattle.graph_alike.specs.declared.blocks.Blocks.{Blocks}
-use Rattle.graph_alike.specs.Blocks.{at, no_block, block_at, first_at, middle_at, end_at, base_at, IsLayout, IsLaidOut, AreBlocks, ListsMarks, HasNoMarks, mark_at, is_marked, class_in, base_in, len_of, count_of, advanced, IsAdvanced, IsSwapped}
+use Rattle.graph_alike.specs.Blocks.{at, no_block, block_at, first_at, middle_at, end_at, IsLayout, IsLaidOut, AreBlocks, ListsMarks, HasNoMarks, mark_at, is_marked, class_in, len_of, count_of, advanced, IsAdvanced, IsSwapped}
 use Rattle.graph_alike.proofs.Layouts.{AreMoved, IsLayout-marked, marks-marked}
 
 -- ---- reading and writing
@@ -195,11 +195,6 @@ marked_by-len old new x m =
     let j : ℕ = middle_at old.blocks.items (at old.class.items x) in
     ap length m.marking.orders ∙ length-set (set old.order.items i (at old.order.items j)) j (at old.order.items i) ∙ length-set old.order.items i (at old.order.items j)
 
-pub marked_by-bases : (old new : Blocks) (x : ℕ) → IsMarked old new x → (d : ℕ) → base_in new d ≡ base_in old d
-marked_by-bases old new x m d =
-    ap (λ (bs : List Block). base_at bs d) m.marking.new_blocks
-    ∙ same_after_set (λ (b : Block). b.base) old.blocks.items (at old.class.items x) (advanced old.blocks.items (at old.class.items x)) (m.marking.before.layout.class_inside x m.marking.inside) refl d
-
 pub marked_by-firsts : (old new : Blocks) (x : ℕ) → IsMarked old new x → (d : ℕ) → first_at new.blocks.items d ≡ first_at old.blocks.items d
 marked_by-firsts old new x m d =
     ap (λ (bs : List Block). first_at bs d) m.marking.new_blocks
@@ -310,9 +305,9 @@ at_range : (n i : ℕ) → i < n → at (range_with_len 0 n) i ≡ i
 at_range n i inside = let u : get_or (range_with_len 0 n) i 0 ≡ 0 + i = get_or-range_with_len 0 n i 0 inside in omega arith
 
 pub one_laid : (n : ℕ) (order place class : List ℕ) (blocks : List Block) → 0 < n → order ≡ range_with_len 0 n → place ≡ range_with_len 0 n → length class ≡ n → ((x : ℕ) → at class x ≡ 0)
-    → blocks ≡ record { first = 0; middle = 0; end = n; base = 0 } ∷ [] → IsLaidOut order place class blocks
+    → blocks ≡ record { first = 0; middle = 0; end = n } ∷ [] → IsLaidOut order place class blocks
 one_laid n order place class blocks some is_order is_place lens zeros is_blocks =
-    let whole : Block = record { first = 0; middle = 0; end = n; base = 0 } in
+    let whole : Block = record { first = 0; middle = 0; end = n } in
     let o_len : length order ≡ n = ap length is_order ∙ length-range_with_len 0 n in
     let p_len : length place ≡ n = ap length is_place ∙ length-range_with_len 0 n in
     let o : (i : ℕ) → i < n → at order i ≡ i = λ i h. ap (λ (xs : List ℕ). at xs i) is_order ∙ at_range n i h in
@@ -339,10 +334,10 @@ one_laid n order place class blocks some is_order is_place lens zeros is_blocks 
       };
     }
 
-pub one_unmarked : (n : ℕ) (place class : List ℕ) (blocks : List Block) → ((x : ℕ) → at class x ≡ 0) → blocks ≡ record { first = 0; middle = 0; end = n; base = 0 } ∷ [] → (x : ℕ) → mark_at place class blocks x ≡ false
+pub one_unmarked : (n : ℕ) (place class : List ℕ) (blocks : List Block) → ((x : ℕ) → at class x ≡ 0) → blocks ≡ record { first = 0; middle = 0; end = n } ∷ [] → (x : ℕ) → mark_at place class blocks x ≡ false
 unfolding mark_at
 one_unmarked n place class blocks zeros is_blocks x =
-    let u : middle_at blocks (at class x) ≡ 0 = ap (λ (bs : List Block). middle_at bs (at class x)) is_blocks ∙ ap (middle_at (record { first = 0; middle = 0; end = n; base = 0 } ∷ [])) (zeros x) in
+    let u : middle_at blocks (at class x) ≡ 0 = ap (λ (bs : List Block). middle_at bs (at class x)) is_blocks ∙ ap (middle_at (record { first = 0; middle = 0; end = n } ∷ [])) (zeros x) in
     grind (arith, nat_tests)
 
 -- the numbers at the places of a class are those of the class
@@ -375,20 +370,3 @@ class_members b c k items is inside read cut x =
           let ordered : get_or o p 0 ≡ x = is.layout.ordered x x_in in
           (i, omega arith, there ∙ ap (λ (q : ℕ). get_or o q x) back ∙ get_or_default o p x 0 (omega arith) ∙ ordered),
     )
-
--- marks do not see bases
-pub rebased-marks : (place class : List ℕ) (blocks blocks' : List Block) (c : ℕ) (b : Block) → c < length blocks → blocks' ≡ set blocks c b → b.middle ≡ middle_at blocks c → (x : ℕ) → mark_at place class blocks' x ≡ mark_at place class blocks x
-unfolding mark_at
-rebased-marks place class blocks blocks' c b inside written same x =
-    ap (λ (m : ℕ). ltb (at place x) m) (ap (λ (bs : List Block). middle_at bs (at class x)) written ∙ same_after_set (λ (e : Block). e.middle) blocks c b inside same (at class x))
-
-pub rebased-listed : (b : Blocks) (bs : Vec Block Global) (c : ℕ) (k : Block) → c < count_of b → bs.items ≡ set b.blocks.items c k → k.first ≡ first_at b.blocks.items c → k.middle ≡ middle_at b.blocks.items c → ListsMarks b → ListsMarks (record b { blocks = bs })
-rebased-listed b bs c k inside written first middle lists =
-    let count : length bs.items ≡ count_of b = ap length written ∙ length-set b.blocks.items c k in
-    record {
-      listed = λ d d_in some.
-          let f : first_at bs.items d ≡ first_at b.blocks.items d = ap (λ (xs : List Block). first_at xs d) written ∙ same_after_set (λ (e : Block). e.first) b.blocks.items c k inside first d in
-          let m : middle_at bs.items d ≡ middle_at b.blocks.items d = ap (λ (xs : List Block). middle_at xs d) written ∙ same_after_set (λ (e : Block). e.middle) b.blocks.items c k inside middle d in
-          lists.listed d (omega arith) (omega arith);
-      inside = λ d h. let u = lists.inside d h in omega arith;
-    }

@@ -1,13 +1,13 @@
 -- Blocks whose marked numbers are split off, on their lists.
-use Rattle.std.proofs.Common.{Vec, Global, ◌≡◌, ◌+◌, ◌<◌, ◌≤◌, ℕ, ltb, leb, Bool, true, false, not, ◌&&◌, ◌⊎◌, inl, inr, List, [], ◌∷◌, ◌++◌, length, get_or, set, refl, sym, ◌∙◌, ap, arith, subst}
+use Rattle.std.proofs.Common.{Vec, Global, ◌≡◌, ◌+◌, ◌<◌, ◌≤◌, ℕ, eqb, ltb, leb, Bool, true, false, not, ◌&&◌, ◌⊎◌, inl, inr, List, [], ◌∷◌, ◌++◌, length, get_or, set, refl, sym, ◌∙◌, ap, arith, subst}
 use Rattle.std.specs.Prelude.{Contains, if◌then◌else◌}
-use Rattle.std.proofs.lemmas.Bool.{cases_eq, cases_lt}
+use Rattle.std.proofs.lemmas.Bool.{cases_eq, cases_lt, eq-eqb, ne_eqb}
 use Rattle.std.proofs.lemmas.Bool.Decides.{nat_tests}
 use Rattle.std.proofs.lemmas.List.{length-set, get_or-set_same, get_or-set_other, get_or_push, get_or_append_left, length_push}
 use Rattle.std.proofs.lemmas.List.Elements.{Contains-push, Contains-push_cases, Contains-append_left}
 use Rattle.graph_alike.specs.declared.blocks.Block.{Block}
 use Rattle.graph_alike.specs.declared.blocks.Blocks.{Blocks}
-use Rattle.graph_alike.specs.Blocks.{at, no_block, block_at, first_at, middle_at, end_at, base_at, IsLaidOut, AreBlocks, ListsMarks, KeepsTogether, mark_at, is_marked, class_in, base_in, len_of, count_of, IsSplitOf, IsWhole, IsSplitAt}
+use Rattle.graph_alike.specs.Blocks.{at, no_block, block_at, first_at, middle_at, end_at, IsLaidOut, AreBlocks, ListsMarks, KeepsTogether, mark_at, is_marked, class_in, len_of, count_of, IsSplitOf, IsWhole, IsSplitAt}
 use Rattle.graph_alike.proofs.Layouts.{IsLayout-unmarked, IsParted, IsLayout-split, IsPut, together-put, IsLeft, together-left}
 use Rattle.graph_alike.proofs.BlockLemmas.{IsLayout-same, read_block, same_after_set}
 
@@ -23,30 +23,30 @@ pub record IsUnmarking (old new : Blocks) (c : ℕ) (b : Block) : Type 0 where
   pub place : new.place ≡ old.place
   pub class : new.class ≡ old.class
   pub touched : new.touched ≡ old.touched
-  pub blocks : new.blocks.items ≡ set old.blocks.items c (record { first = b.first; middle = b.first; end = b.end; base = b.base })
+  pub blocks : new.blocks.items ≡ set old.blocks.items c (record { first = b.first; middle = b.first; end = b.end })
 
-unmarking-field : {X : Type 0} (field : Block → X) (old new : Blocks) (c : ℕ) (b : Block) → IsUnmarking old new c b → field (record { first = b.first; middle = b.first; end = b.end; base = b.base }) ≡ field b → (d : ℕ) → field (block_at new.blocks.items d) ≡ field (block_at old.blocks.items d)
+unmarking-field : {X : Type 0} (field : Block → X) (old new : Blocks) (c : ℕ) (b : Block) → IsUnmarking old new c b → field (record { first = b.first; middle = b.first; end = b.end }) ≡ field b → (d : ℕ) → field (block_at new.blocks.items d) ≡ field (block_at old.blocks.items d)
 unmarking-field field old new c b u same d =
     ap (λ (bs : List Block). field (block_at bs d)) u.blocks
-    ∙ same_after_set field old.blocks.items c (record { first = b.first; middle = b.first; end = b.end; base = b.base }) u.inside (same ∙ ap field (read_block old.blocks.items c b u.inside u.read)) d
+    ∙ same_after_set field old.blocks.items c (record { first = b.first; middle = b.first; end = b.end }) u.inside (same ∙ ap field (read_block old.blocks.items c b u.inside u.read)) d
 
 unmarking-middle : (old new : Blocks) (c : ℕ) (b : Block) → IsUnmarking old new c b → middle_at new.blocks.items c ≡ first_at old.blocks.items c
 unmarking-middle old new c b u =
     ap (λ (bs : List Block). middle_at bs c) u.blocks
-    ∙ ap (λ (e : Block). e.middle) (get_or-set_same old.blocks.items c (record { first = b.first; middle = b.first; end = b.end; base = b.base }) no_block u.inside)
+    ∙ ap (λ (e : Block). e.middle) (get_or-set_same old.blocks.items c (record { first = b.first; middle = b.first; end = b.end }) no_block u.inside)
     ∙ ap (λ (e : Block). e.first) (read_block old.blocks.items c b u.inside u.read)
 
 unmarking-middles : (old new : Blocks) (c : ℕ) (b : Block) → IsUnmarking old new c b → (d : ℕ) → (d ≡ c → ⊥) → middle_at new.blocks.items d ≡ middle_at old.blocks.items d
 unmarking-middles old new c b u d ne =
     ap (λ (bs : List Block). middle_at bs d) u.blocks
-    ∙ ap (λ (e : Block). e.middle) (get_or-set_other old.blocks.items c d (record { first = b.first; middle = b.first; end = b.end; base = b.base }) no_block ne)
+    ∙ ap (λ (e : Block). e.middle) (get_or-set_other old.blocks.items c d (record { first = b.first; middle = b.first; end = b.end }) no_block ne)
 
 pub unmarking-layout : (old new : Blocks) (c : ℕ) (b : Block) → IsUnmarking old new c b → AreBlocks new
 unmarking-layout old new c b u =
     let orders : new.order.items ≡ old.order.items = ap (λ v. v.items) u.order in
     let places : new.place.items ≡ old.place.items = ap (λ v. v.items) u.place in
     let classes : new.class.items ≡ old.class.items = ap (λ v. v.items) u.class in
-    let count : count_of new ≡ count_of old = ap length u.blocks ∙ length-set old.blocks.items c (record { first = b.first; middle = b.first; end = b.end; base = b.base }) in
+    let count : count_of new ≡ count_of old = ap length u.blocks ∙ length-set old.blocks.items c (record { first = b.first; middle = b.first; end = b.end }) in
     let P : List ℕ → List ℕ → List ℕ → Type 0 = λ xs ys zs. IsLaidOut xs ys zs new.blocks.items in
     let here : P old.order.items old.place.items old.class.items = record {
       places = u.before.places;
@@ -102,8 +102,7 @@ whole_marks old c is inside whole = elim whole [
 
 pub unmarking-split : (old new : Blocks) (c : ℕ) (b : Block) → IsUnmarking old new c b → IsSplitAt old new c
 unmarking-split old new c b u =
-    let count : count_of new ≡ count_of old = ap length u.blocks ∙ length-set old.blocks.items c (record { first = b.first; middle = b.first; end = b.end; base = b.base }) in
-    let bases = unmarking-field (λ (e : Block). e.base) old new c b u refl in
+    let count : count_of new ≡ count_of old = ap length u.blocks ∙ length-set old.blocks.items c (record { first = b.first; middle = b.first; end = b.end }) in
     let (s, all) = whole_marks old c u.before u.inside u.whole in
     record {
       blocks = unmarking-layout old new c b u;
@@ -112,8 +111,9 @@ unmarking-split old new c b u =
         count = omega arith;
         together = λ x y x_in y_in. together-left c s (class_in old x) (class_in old y) (is_marked old x) (is_marked old y) (class_in new x) (class_in new y) (is_marked new x) (is_marked new y)
             (unmarking-left old new c b s u all x x_in) (unmarking-left old new c b s u all y y_in);
-        bases = λ x x_in. bases (class_in new x) ∙ ap (λ v. base_in old (at v.items x)) u.class;
-        old_bases = λ d d_in. bases d;
+        origin = λ d. d;
+        origins = λ x x_in. ap (λ v. at v.items x) u.class;
+        own_origins = λ d d_in. refl;
       };
       touched = u.touched;
       marks = λ d d_in some.
@@ -357,27 +357,30 @@ cutting-side old new c kept parted u =
       )
     ]
 
-cutting-base : (old : Blocks) (c : ℕ) (kept parted : Block) → IsSplitOf (block_at old.blocks.items c) kept parted → (kept.base ≡ base_in old c) × (parted.base ≡ base_in old c)
-cutting-base old c kept parted halves = elim halves [ inl (one, other) ↦ (one.base_is, other.base_is) | inr (one, other) ↦ (one.base_is, other.base_is) ]
+-- the new class comes from the one that is cut, and each other one from itself
+origin_of : ℕ → ℕ → ℕ → ℕ
+origin_of c number d = if eqb d number then c else d
 
-cutting-old_bases : (old new : Blocks) (c : ℕ) (kept parted : Block) → IsCutting old new c kept parted → (d : ℕ) → d < count_of old → base_in new d ≡ base_in old d
-cutting-old_bases old new c kept parted u d d_in = elim (cases_eq d c) [
-  | inl e ↦ ap (base_at new.blocks.items) e ∙ ap (λ (b : Block). b.base) (cutting-kept old new c kept parted u) ∙ (cutting-base old c kept parted u.halves).0 ∙ ap (base_at old.blocks.items) (sym e)
-  | inr ne ↦ ap (λ (b : Block). b.base) (cutting-others old new c kept parted u d d_in ne)
-]
+origin_of-new : (c number : ℕ) → origin_of c number number ≡ c
+unfolding origin_of
+origin_of-new c number = let e = eq-eqb number number refl in ap (λ (t : Bool). if t then c else number) e
 
-cutting-bases : (old new : Blocks) (c : ℕ) (kept parted : Block) → IsCutting old new c kept parted → (x : ℕ) → x < len_of old → base_in new (class_in new x) ≡ base_in old (class_in old x)
-cutting-bases old new c kept parted u x x_in =
+origin_of-old : (c number d : ℕ) → d < number → origin_of c number d ≡ d
+unfolding origin_of
+origin_of-old c number d lt = let e = ne_eqb d number (λ same. absurd (omega arith)) in ap (λ (t : Bool). if t then c else d) e
+
+cutting-origins : (old new : Blocks) (c : ℕ) (kept parted : Block) → IsCutting old new c kept parted → (x : ℕ) → x < len_of old → origin_of c (count_of old) (class_in new x) ≡ class_in old x
+cutting-origins old new c kept parted u x x_in =
     let cut = cutting-parted old new c kept parted u in
     let here = u.before.layout.class_inside x x_in in
-    let left = λ (out : at old.place.items x < parted.first ⊎ (parted.end ≤ at old.place.items x)). ap (base_at new.blocks.items) (cut.left x x_in out) ∙ cutting-old_bases old new c kept parted u (class_in old x) here in
+    let left = λ (out : at old.place.items x < parted.first ⊎ (parted.end ≤ at old.place.items x)). ap (origin_of c (count_of old)) (cut.left x x_in out) ∙ origin_of-old c (count_of old) (class_in old x) here in
     elim (cases_lt (at old.place.items x) parted.first) [
       | inl before ↦ left (inl before)
       | inr from ↦ elim (cases_lt (at old.place.items x) parted.end) [
         | inl lt ↦
             let own = u.before.layout.own c (at old.place.items x) u.inside (let v = cut.low in omega arith) (let v = cut.high in omega arith) in
             let of_c : class_in old x ≡ c = sym (ap (at old.class.items) (u.before.layout.ordered x x_in)) ∙ own in
-            ap (base_at new.blocks.items) (cut.put x x_in from lt) ∙ ap (λ (b : Block). b.base) (cutting-new old new c kept parted u) ∙ (cutting-base old c kept parted u.halves).1 ∙ ap (base_at old.blocks.items) (sym of_c)
+            ap (origin_of c (count_of old)) (cut.put x x_in from lt) ∙ origin_of-new c (count_of old) ∙ sym of_c
         | inr past ↦ left (inr past)
       ]
     ]
@@ -394,8 +397,9 @@ cutting-split old new c kept parted u =
         count = omega arith;
         together = λ x y x_in y_in. together-put c (count_of old) s (class_in old x) (class_in old y) (is_marked old x) (is_marked old y) (class_in new x) (class_in new y) (is_marked new x) (is_marked new y) u.inside
             (cutting-put old new c kept parted s u inside_part outside_part x x_in) (cutting-put old new c kept parted s u inside_part outside_part y y_in);
-        bases = cutting-bases old new c kept parted u;
-        old_bases = cutting-old_bases old new c kept parted u;
+        origin = origin_of c (count_of old);
+        origins = cutting-origins old new c kept parted u;
+        own_origins = origin_of-old c (count_of old);
       };
       touched = u.touched;
       marks = λ d d_in some. elim (cases_lt d (count_of old)) [
@@ -416,8 +420,9 @@ KeepsTogether-same b = record {
   len = refl;
   count = omega arith;
   together = λ x y x_in y_in. (λ e. e, λ e. e);
-  bases = λ x x_in. refl;
-  old_bases = λ c c_in. refl;
+  origin = λ c. c;
+  origins = λ x x_in. refl;
+  own_origins = λ c c_in. refl;
 }
 
 pub KeepsTogether-then : (a b c : Blocks) → KeepsTogether a b → KeepsTogether b c → KeepsTogether a c
@@ -430,8 +435,9 @@ KeepsTogether-then a b c one two =
           let (to_a, from_a) = one.together x y x_in y_in in
           let (to_b, from_b) = two.together x y (omega arith) (omega arith) in
           (λ e. to_a (to_b e), λ e. from_b (from_a e));
-      bases = λ x x_in. two.bases x (omega arith) ∙ one.bases x x_in;
-      old_bases = λ d d_in. two.old_bases d (let u = one.count in omega arith) ∙ one.old_bases d d_in;
+      origin = λ d. one.origin (two.origin d);
+      origins = λ x x_in. ap one.origin (two.origins x (omega arith)) ∙ one.origins x x_in;
+      own_origins = λ d d_in. ap one.origin (two.own_origins d (let u = one.count in omega arith)) ∙ one.own_origins d d_in;
     }
 
 -- what is kept while classes are split
@@ -448,8 +454,9 @@ KeepsTogether-touched b ts = record {
   len = refl;
   count = omega arith;
   together = λ x y x_in y_in. (λ e. e, λ e. e);
-  bases = λ x x_in. refl;
-  old_bases = λ c c_in. refl;
+  origin = λ c. c;
+  origins = λ x x_in. refl;
+  own_origins = λ c c_in. refl;
 }
 
 -- one class more, which was the last in the list

@@ -1,13 +1,12 @@
 -- The nodes that stand for classes.
-use Rattle.std.proofs.Common.{◌≡◌, ◌+◌, ◌<◌, ℕ, List, length, get_or, ◌++◌, [], ◌∷◌, add-one, sym, ◌∙◌, ap, arith, inl, inr}
+use Rattle.std.proofs.Common.{◌≡◌, ◌+◌, ◌<◌, ℕ, zero, suc, List, length, get_or, ◌++◌, [], ◌∷◌, add-one, sym, ◌∙◌, ap, arith, inl, inr}
 use Rattle.std.specs.List.{range_with_len}
 use Rattle.std.proofs.lemmas.Bool.{cases_lt}
 use Rattle.std.proofs.lemmas.List.{get_or_past, get_or_read}
 use Rattle.std.proofs.lemmas.List.FromFn.{length-range_with_len, get_or-range_with_len}
 use Rattle.abi_types.specs.Types.{PlainNode}
 use Rattle.abi_types.specs.Graphs.{node_at}
-use Rattle.pair_rules.proofs.Ranges.{range_with_len_more}
-use Rattle.graph_alike.specs.Alike.{look_of}
+use Rattle.abi_types.specs.Seen.{look_of}
 use Rattle.graph_alike.specs.Classes.{PlainClasses, rep_in, rep_of, AreSound}
 
 -- what is read at the number of a node stands for its class
@@ -30,6 +29,12 @@ rep_of-inside s t same sound i r inside at =
     omega arith
 
 -- ---- each node alone
+
+range_with_len_more : (a n : ℕ) → range_with_len a (suc n) ≡ range_with_len a n ++ (a + n) ∷ []
+range_with_len_more a zero = ap (λ k. k ∷ []) (omega arith)
+range_with_len_more a (suc n) =
+    let e : a + 1 + n ≡ a + suc n = omega arith in
+    ap (λ ks. a ∷ ks) (range_with_len_more (a + 1) n ∙ ap (λ k. range_with_len (a + 1) n ++ k ∷ []) e)
 
 -- one number more
 pub range_pushed : (n : ℕ) (xs ys : List ℕ) → xs ≡ range_with_len 0 n → ys ≡ xs ++ n ∷ [] → ys ≡ range_with_len 0 (n + 1)
@@ -56,5 +61,5 @@ AreSound-alone nodes c of_nodes numbers =
       inside = λ i below. rw (own i) below;
       own = λ i. own (rep_of c i);
       least = λ i. let e = ap (λ (k : ℕ). (node_at c.nodes k).entry) (own i) in omega arith;
-      stable = λ i j e. let same : i ≡ j = sym (own i) ∙ e ∙ own j in ap (λ (k : ℕ). look_of (rep_of c) (node_at c.nodes k)) same;
+      stable = λ i j i_in j_in e. let same : i ≡ j = sym (own i) ∙ e ∙ own j in ap (λ (k : ℕ). look_of (rep_of c) (node_at c.nodes k)) same;
     }

@@ -10,4 +10,3 @@ mod RepLemmas
 mod ShapeLemmas
 mod SpellingLemmas
 mod SplitLemmas
-pub mod Unseen

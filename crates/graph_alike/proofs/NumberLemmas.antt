@@ -5,101 +5,127 @@ use Rattle.std.specs.Global.{Vec}
 use Rattle.std.specs.HashMap.{get_by}
 use Rattle.std.specs.Map.{lookup}
 use Rattle.std.specs.Cmp.Lexicographic.{pointwise}
-use Rattle.std.proofs.lemmas.Bool.{cases_lt, cases_Bool, eqb-true, false≢true}
+use Rattle.std.proofs.lemmas.Bool.{cases_lt, cases_Bool, eqb-true, eq-eqb, and_parts, and_from, false≢true}
 use Rattle.std.proofs.lemmas.List.{get_or_default}
 use Rattle.std.proofs.lemmas.List.Elements.{Contains-push, Contains-push_cases, Contains-append_left}
 use Rattle.std.proofs.lemmas.List.Sorted.{Contains-permutation, IsPermutation-sym}
 use Rattle.std.proofs.lemmas.Option.{same_Some, none-some}
 use Rattle.abi_types.specs.Types.{PlainNode, PlainLabel, PlainView}
 use Rattle.abi_types.specs.Graphs.{node_at, view_at}
-use Rattle.graph_alike.specs.Alike.{Look, shape_of}
-use Rattle.graph_alike.specs.Shapes.{spelled}
-use Rattle.graph_alike.specs.Numbered.{Numbers, Words, number_in, IsNumbered}
+use Rattle.abi_types.specs.Seen.{Look, shape_of}
+use Rattle.graph_alike.specs.declared.shapes.Spelling.{Spelling}
+use Rattle.graph_alike.specs.Shapes.{spelled, letters_of}
+use Rattle.graph_alike.specs.Numbered.{Numbers, same_numbers, same_spelling, number_in, AreOneSpelling, IsSpellingOf, IsNumbered}
 use Rattle.graph_alike.specs.Splits.{number_at, stands_beside, HaveSameKeys}
-use Rattle.graph_alike.proofs.SpellingLemmas.{own_look, same_spelling}
+use Rattle.graph_alike.proofs.SpellingLemmas.{own_look, AreTold, AreSpelledAlike, same_from_spelling, spelling_from_same}
 use Rattle.graph_alike.proofs.RefineLemmas.{beside-contains, contains-beside}
 
 -- ---- equal lists of numbers
-
-both : (a b : Bool) → (a && b) ≡ true → (a ≡ true) × (b ≡ true)
-both true true e = (refl, refl)
-both true false e = cc
-both false b e = cc
 
 items_same : (xs ys : List ℕ) → pointwise eqb xs ys ≡ true → xs ≡ ys
 items_same [] [] e = refl
 items_same [] (y ∷ ys) e = absurd (false≢true e)
 items_same (x ∷ xs) [] e = absurd (false≢true e)
 items_same (x ∷ xs) (y ∷ ys) e =
-    let (one, more) = both (eqb x y) (pointwise eqb xs ys) e in
+    let (one, more) = and_parts (eqb x y) (pointwise eqb xs ys) e in
     let here = eqb-true x y one in
     let later = items_same xs ys more in
     cc
 
+one_from_test : (s t : Spelling) → same_spelling s t ≡ true → AreOneSpelling s t
+one_from_test s t e =
+    let (numbers, letters) = and_parts (same_numbers s.numbers.items t.numbers.items) (same_numbers s.letters.items t.letters.items) e in
+    record { numbers = items_same s.numbers.items t.numbers.items numbers; letters = items_same s.letters.items t.letters.items letters }
+
+pub one-sym : (s t : Spelling) → AreOneSpelling s t → AreOneSpelling t s
+one-sym s t e = record { numbers = sym e.numbers; letters = sym e.letters }
+
+tests_of : (numbers letters : List ℕ) → Spelling → Bool
+tests_of numbers letters q = same_numbers numbers q.numbers.items && same_numbers letters q.letters.items
+
+-- what stands under one spelling stands under the other
+pub number_in-same : (numbers : Numbers) (s t : Spelling) → AreOneSpelling s t → number_in numbers s ≡ number_in numbers t
+unfolding tests_of
+number_in-same numbers s t e =
+    ap (λ (xs : List ℕ). get_by (tests_of xs s.letters.items) numbers) e.numbers
+    ∙ ap (λ (xs : List ℕ). get_by (tests_of t.numbers.items xs) numbers) e.letters
+
+items_refl : (xs : List ℕ) → same_numbers xs xs ≡ true
+items_refl [] = refl
+items_refl (x ∷ xs) = and_from (eqb x x) (pointwise eqb xs xs) (eq-eqb x x refl) (items_refl xs)
+
+test_from_one : (s t : Spelling) → AreOneSpelling s t → same_spelling s t ≡ true
+test_from_one s t e =
+    and_from (same_numbers s.numbers.items t.numbers.items) (same_numbers s.letters.items t.letters.items)
+    (ap (same_numbers s.numbers.items) (sym e.numbers) ∙ items_refl s.numbers.items) (ap (same_numbers s.letters.items) (sym e.letters) ∙ items_refl s.letters.items)
+
 -- ---- one shape more
 
--- what stands under shapes after an insert of a new one
-pub kept_from : (old new : Numbers) (words : Words) (fresh : ℕ) → None ≡ number_in old words → ((q : Words) → number_in new q ≡ cond (pointwise eqb words.items q.items) (Some fresh) (number_in old q))
-    → (key : Words) (n : ℕ) → number_in old key ≡ Some n → number_in new key ≡ Some n
-kept_from old new words fresh none adds key n there = elim (cases_Bool (pointwise eqb words.items key.items)) [
+pub found_from : (old new : Numbers) (copied spelling : Spelling) (fresh : ℕ) → AreOneSpelling copied spelling → ((q : Spelling) → number_in new q ≡ cond (same_spelling copied q) (Some fresh) (number_in old q)) → number_in new spelling ≡ Some fresh
+found_from old new copied spelling fresh is adds = adds spelling ∙ ap (λ (b : Bool). cond b (Some fresh) (number_in old spelling)) (test_from_one copied spelling is)
+
+-- what stands under spellings after an insert of a new one
+pub kept_from : (old new : Numbers) (copied spelling : Spelling) (fresh : ℕ) → AreOneSpelling copied spelling → None ≡ number_in old spelling → ((q : Spelling) → number_in new q ≡ cond (same_spelling copied q) (Some fresh) (number_in old q))
+    → (key : Spelling) (n : ℕ) → number_in old key ≡ Some n → number_in new key ≡ Some n
+kept_from old new copied spelling fresh is none adds key n there = elim (cases_Bool (same_spelling copied key)) [
   | inl same ↦
-      let e : words.items ≡ key.items = items_same words.items key.items same in
-      let found : number_in old words ≡ Some n = ap (λ (ks : List ℕ). get_by (λ (v : Words). pointwise eqb ks v.items) old) e ∙ there in
+      let found : number_in old spelling ≡ Some n = number_in-same old spelling copied (one-sym copied spelling is) ∙ number_in-same old copied key (one_from_test copied key same) ∙ there in
       absurd (none-some n (none ∙ found))
   | inr other ↦ adds key ∙ ap (λ (b : Bool). cond b (Some fresh) (number_in old key)) other ∙ there
 ]
 
-pub fresh_from : (old new : Numbers) (words : Words) (fresh : ℕ) → ((q : Words) → number_in new q ≡ cond (pointwise eqb words.items q.items) (Some fresh) (number_in old q))
-    → (key : Words) (n : ℕ) → number_in new key ≡ Some n → (number_in old key ≡ Some n) ⊎ ((key.items ≡ words.items) × (n ≡ fresh))
-fresh_from old new words fresh adds key n there = elim (cases_Bool (pointwise eqb words.items key.items)) [
+pub fresh_from : (old new : Numbers) (copied spelling : Spelling) (fresh : ℕ) → AreOneSpelling copied spelling → ((q : Spelling) → number_in new q ≡ cond (same_spelling copied q) (Some fresh) (number_in old q))
+    → (key : Spelling) (n : ℕ) → number_in new key ≡ Some n → (number_in old key ≡ Some n) ⊎ (AreOneSpelling key spelling × (n ≡ fresh))
+fresh_from old new copied spelling fresh is adds key n there = elim (cases_Bool (same_spelling copied key)) [
   | inl same ↦
-      let e : words.items ≡ key.items = items_same words.items key.items same in
+      let e = one_from_test copied key same in
       let f : Some fresh ≡ Some n = sym (adds key ∙ ap (λ (b : Bool). cond b (Some fresh) (number_in old key)) same) ∙ there in
-      inr (sym e, sym (same_Some fresh n f))
+      inr (record { numbers = sym e.numbers ∙ is.numbers; letters = sym e.letters ∙ is.letters }, sym (same_Some fresh n f))
   | inr other ↦ inl (sym (adds key ∙ ap (λ (b : Bool). cond b (Some fresh) (number_in old key)) other) ∙ there)
 ]
 
-pub nothing_under : (old : Numbers) (words : Words) (key : List ℕ) → key ≡ words.items → None ≡ get_by (λ (v : Words). pointwise eqb key v.items) old → None ≡ number_in old words
-nothing_under old words key same none = none ∙ ap (λ (ks : List ℕ). get_by (λ (v : Words). pointwise eqb ks v.items) old) same
-
 -- ---- all nodes
 
-pub words_of : List PlainNode → ℕ → List ℕ
-words_of nodes x = spelled (own_look (node_at nodes x))
+-- the spelling is that of a node
+abbrev pub IsOf : List PlainNode → Spelling → ℕ → Type 0
+IsOf nodes s x = IsSpellingOf s (own_look (node_at nodes x))
 
 -- what is kept of the nodes below a bound
 pub record IsNumbering (nodes : List PlainNode) (m : ℕ) (numbers : Numbers) (pairs : List (ℕ × ℕ)) : Type 0 where
-  pub of_nodes : (k x : ℕ) → Contains pairs (k, x) → (x < m) × ((w : Words) × (w.items ≡ words_of nodes x) × (number_in numbers w ≡ Some k))
+  pub of_nodes : (k x : ℕ) → Contains pairs (k, x) → (x < m) × ((s : Spelling) × IsOf nodes s x × (number_in numbers s ≡ Some k))
   pub all_nodes : (x : ℕ) → x < m → (k : ℕ) × Contains pairs (k, x)
-  pub back : (w : Words) (n : ℕ) → number_in numbers w ≡ Some n → (n < m) × (words_of nodes n ≡ w.items)
+  pub back : (s : Spelling) (n : ℕ) → number_in numbers s ≡ Some n → (n < m) × IsOf nodes s n
 
 pub IsNumbering-start : (nodes : List PlainNode) (numbers : Numbers) (pairs : List (ℕ × ℕ)) → numbers.entries ≡ [] → pairs ≡ [] → IsNumbering nodes 0 numbers pairs
 IsNumbering-start nodes numbers pairs none empty = record {
   of_nodes = λ k x h. let (i, below, e) = subst (λ (ps : List (ℕ × ℕ)). Contains ps (k, x)) empty h in absurd (omega arith);
   all_nodes = λ x lt. absurd (omega arith);
-  back = λ w n e.
-      let nothing : number_in numbers w ≡ None = ap (lookup (λ (v : Words). pointwise eqb w.items v.items)) none in
+  back = λ s n e.
+      let nothing : number_in numbers s ≡ None = ap (lookup (same_spelling s)) none in
       absurd (none-some n (sym nothing ∙ e));
 }
 
-pub IsNumbering-more : (nodes : List PlainNode) (m k : ℕ) (old new : Numbers) (pairs grown : List (ℕ × ℕ)) (words : Words) (labels : List PlainLabel) (view : PlainView) → IsNumbering nodes m old pairs
-    → words.items ≡ spelled (record { labels = labels; view = view }) → labels ≡ (node_at nodes m).labels → view ≡ view_at nodes m
-    → number_in new words ≡ Some k → ((key : Words) (n : ℕ) → number_in old key ≡ Some n → number_in new key ≡ Some n)
-    → ((key : Words) (n : ℕ) → number_in new key ≡ Some n → (number_in old key ≡ Some n) ⊎ ((key.items ≡ words.items) × (n ≡ m)))
-    → grown ≡ pairs ++ (k, m) ∷ [] → IsNumbering nodes (m + 1) new grown
-unfolding words_of
-IsNumbering-more nodes m k old new pairs grown words labels view going spells is_labels is_view found kept fresh push =
+of_node : (nodes : List PlainNode) (m : ℕ) (s : Spelling) (labels : List PlainLabel) (view : PlainView) → IsSpellingOf s (record { labels = labels; view = view }) → labels ≡ (node_at nodes m).labels → view ≡ view_at nodes m → IsOf nodes s m
+of_node nodes m s labels view spells is_labels is_view =
     let made : List PlainLabel → PlainView → Look = λ ls v. record { labels = ls; view = v } in
-    let spelling : words.items ≡ spelled (own_look (node_at nodes m)) = spells ∙ ap (λ (ls : List PlainLabel). spelled (made ls view)) is_labels ∙ ap (λ (v : PlainView). spelled (made (node_at nodes m).labels v)) is_view in
+    subst (λ (v : PlainView). IsSpellingOf s (made (node_at nodes m).labels v)) is_view (subst (λ (ls : List PlainLabel). IsSpellingOf s (made ls view)) is_labels spells)
+
+pub IsNumbering-more : (nodes : List PlainNode) (m k : ℕ) (old new : Numbers) (pairs grown : List (ℕ × ℕ)) (spelling : Spelling) (labels : List PlainLabel) (view : PlainView) → IsNumbering nodes m old pairs
+    → IsSpellingOf spelling (record { labels = labels; view = view }) → labels ≡ (node_at nodes m).labels → view ≡ view_at nodes m
+    → number_in new spelling ≡ Some k → ((key : Spelling) (n : ℕ) → number_in old key ≡ Some n → number_in new key ≡ Some n)
+    → ((key : Spelling) (n : ℕ) → number_in new key ≡ Some n → (number_in old key ≡ Some n) ⊎ (AreOneSpelling key spelling × (n ≡ m)))
+    → grown ≡ pairs ++ (k, m) ∷ [] → IsNumbering nodes (m + 1) new grown
+IsNumbering-more nodes m k old new pairs grown spelling labels view going spells is_labels is_view found kept fresh push =
+    let here : IsOf nodes spelling m = of_node nodes m spelling labels view spells is_labels is_view in
     record {
       of_nodes = λ j x h. elim (Contains-push_cases pairs (k, m) (j, x) (subst (λ (ps : List (ℕ × ℕ)). Contains ps (j, x)) push h)) [
         | inl before ↦
-            let (lt, (w, is, there)) = going.of_nodes j x before in
-            (omega arith, (w, is, kept w j there))
+            let (lt, (s, is, there)) = going.of_nodes j x before in
+            (omega arith, (s, is, kept s j there))
         | inr same ↦
             let e0 : k ≡ j = ap (λ (p : ℕ × ℕ). p.0) same in
             let e1 : m ≡ x = ap (λ (p : ℕ × ℕ). p.1) same in
-            (omega arith, (words, spelling ∙ ap (λ (q : ℕ). spelled (own_look (node_at nodes q))) e1, found ∙ ap Some e0))
+            (omega arith, (spelling, subst (IsOf nodes spelling) e1 here, found ∙ ap Some e0))
       ];
       all_nodes = λ x lt. elim (cases_lt x m) [
         | inl less ↦ let (j, there) = going.all_nodes x less in (j, subst (λ (ps : List (ℕ × ℕ)). Contains ps (j, x)) (sym push) (Contains-append_left pairs ((k, m) ∷ []) (j, x) there))
@@ -107,29 +133,34 @@ IsNumbering-more nodes m k old new pairs grown words labels view going spells is
             let e : m ≡ x = omega arith in
             (k, subst (λ (q : ℕ). Contains grown (k, q)) e (subst (λ (ps : List (ℕ × ℕ)). Contains ps (k, m)) (sym push) (Contains-push pairs (k, m))))
       ];
-      back = λ w n e. elim (fresh w n e) [
-        | inl older ↦ let (lt, is) = going.back w n older in (omega arith, is)
-        | inr (is, at) ↦ (omega arith, ap (λ (q : ℕ). spelled (own_look (node_at nodes q))) at ∙ sym spelling ∙ sym is)
+      back = λ s n e. elim (fresh s n e) [
+        | inl older ↦ let (lt, is) = going.back s n older in (omega arith, is)
+        | inr (is, at) ↦ (omega arith, subst (IsOf nodes s) (sym at) (record { numbers = is.numbers ∙ here.numbers; letters = is.letters ∙ here.letters }))
       ];
     }
 
-pub IsNumbering-all : (nodes : List PlainNode) (m : ℕ) (numbers : Numbers) (pairs : Vec (ℕ × ℕ)) → m ≡ length nodes → IsNumbering nodes m numbers pairs.items → IsNumbered nodes pairs
-unfolding words_of
-IsNumbering-all nodes m numbers pairs all going = record {
+alike_from_one : (nodes : List PlainNode) (s : Spelling) (x y : ℕ) → IsOf nodes s x → IsOf nodes s y → AreSpelledAlike (node_at nodes x) (node_at nodes y)
+alike_from_one nodes s x y of_x of_y = record { numbers = sym of_x.numbers ∙ of_y.numbers; letters = sym of_x.letters ∙ of_y.letters }
+
+one_from_alike : (nodes : List PlainNode) (s t : Spelling) (x y : ℕ) → IsOf nodes s x → IsOf nodes t y → AreSpelledAlike (node_at nodes x) (node_at nodes y) → AreOneSpelling s t
+one_from_alike nodes s t x y of_x of_y e = record { numbers = of_x.numbers ∙ e.numbers ∙ sym of_y.numbers; letters = of_x.letters ∙ e.letters ∙ sym of_y.letters }
+
+pub IsNumbering-all : AreTold → (nodes : List PlainNode) (m : ℕ) (numbers : Numbers) (pairs : Vec (ℕ × ℕ)) → m ≡ length nodes → IsNumbering nodes m numbers pairs.items → IsNumbered nodes pairs
+IsNumbering-all told nodes m numbers pairs all going = record {
   of_nodes = λ k x h. let (lt, w) = going.of_nodes k x h in omega arith;
   all_nodes = λ x lt. going.all_nodes x (omega arith);
   shapes = λ j k x y at_x at_y.
-      let (x_in, (v, v_is, v_at)) = going.of_nodes j x at_x in
-      let (y_in, (w, w_is, w_at)) = going.of_nodes k y at_y in
-      let (to, from) = same_spelling (node_at nodes x) (node_at nodes y) in (
+      let (x_in, (s, s_is, s_at)) = going.of_nodes j x at_x in
+      let (y_in, (t, t_is, t_at)) = going.of_nodes k y at_y in (
         λ e.
-            let (lt, one) = going.back v j v_at in
-            let (lt', two) = going.back w k w_at in
-            to (sym v_is ∙ sym one ∙ ap (λ (q : ℕ). spelled (own_look (node_at nodes q))) e ∙ two ∙ w_is),
+            let (lt, one) = going.back s j s_at in
+            let (lt', two) = going.back t k t_at in
+            let first = same_from_spelling told (node_at nodes x) (node_at nodes j) (alike_from_one nodes s x j s_is one) in
+            let second = same_from_spelling told (node_at nodes k) (node_at nodes y) (alike_from_one nodes t k y two t_is) in
+            first ∙ ap (λ (q : ℕ). shape_of (node_at nodes q)) e ∙ second,
         λ e.
-            let same : v.items ≡ w.items = v_is ∙ from e ∙ sym w_is in
-            let there : number_in numbers v ≡ Some k = ap (λ (ks : List ℕ). get_by (λ (u : Words). pointwise eqb ks u.items) numbers) same ∙ w_at in
-            same_Some j k (sym v_at ∙ there),
+            let same = one_from_alike nodes s t x y s_is t_is (spelling_from_same (node_at nodes x) (node_at nodes y) e) in
+            same_Some j k (sym s_at ∙ number_in-same numbers s t same ∙ t_at),
       );
 }
 

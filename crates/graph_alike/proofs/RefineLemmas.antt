@@ -13,7 +13,7 @@ use Rattle.abi_types.specs.Types.{PlainNode}
 use Rattle.abi_types.specs.Graphs.{IsGraph, node_at, view_at, part_at, to_of}
 use Rattle.graph_alike.specs.declared.blocks.Blocks.{Blocks}
 use Rattle.graph_alike.specs.Alike.{AreAlike}
-use Rattle.graph_alike.specs.Blocks.{no_block, first_at, len_of, count_of, class_in, base_in, AreBlocks, ListsMarks, HasNoMarks}
+use Rattle.graph_alike.specs.Blocks.{no_block, first_at, len_of, count_of, class_in, AreBlocks, ListsMarks, HasNoMarks}
 use Rattle.graph_alike.specs.Splits.{number_at, stands_beside, HaveSameKeys, IsSplitBy}
 use Rattle.graph_alike.specs.Edges.{list_at, AreIncoming}
 use Rattle.graph_alike.specs.Refined.{IsRefined}
@@ -139,51 +139,64 @@ alike_named nodes class c x y k graph keeps (r, is, h) =
     let same = keeps a b (graph.inside x k a names) (graph.inside y k b names') (r, is, is.parts x y k a b h names names') in
     named_in-some class c a (to_of (part_at (view_at nodes x) k)) names ∙ eq-eqb (class a) c (same ∙ of_c))
 
--- what is kept while classes are used
+-- What is kept while classes are used: all below a number were. A class that was not used shares its base with those that it was
+-- split from, and one that was used is a base of its own.
 pub record IsRefining (nodes : List PlainNode) (b : Blocks) (c : ℕ) : Type 0 where
   pub blocks : AreBlocks b
   pub listed : ListsMarks b
   pub unmarked : HasNoMarks b
   pub len : len_of b ≡ length nodes
-  pub refined : IsRefined nodes (class_in b) (base_in b)
-  pub own : (d : ℕ) → d < c → base_in b d ≡ d
+  pub base : ℕ → ℕ
+  pub refined : IsRefined nodes (class_in b) base
+  pub own : (d : ℕ) → d < c → base d ≡ d
   pub low : c ≤ count_of b
 
-pub IsRefining-start : (nodes : List PlainNode) (b : Blocks) → AreBlocks b → ListsMarks b → HasNoMarks b → len_of b ≡ length nodes → IsRefined nodes (class_in b) (base_in b) → IsRefining nodes b 0
+pub IsRefining-start : (nodes : List PlainNode) (b : Blocks) → AreBlocks b → ListsMarks b → HasNoMarks b → len_of b ≡ length nodes → IsRefined nodes (class_in b) (λ c. 0) → IsRefining nodes b 0
 IsRefining-start nodes b blocks listed unmarked len refined = record {
   blocks = blocks;
   listed = listed;
   unmarked = unmarked;
   len = len;
+  base = λ c. 0;
   refined = refined;
   own = λ d lt. absurd (omega arith);
   low = omega arith;
 }
 
-base_of_named : (old_base base : ℕ → ℕ) (c m n : ℕ) → ((d : ℕ) → base d ≡ (if eqb d c then c else old_base d)) → eqb m c ≡ eqb n c → old_base m ≡ old_base n → base m ≡ base n
-base_of_named old_base base c m n bases same old = elim (cases_Bool (eqb m c)) [
+-- the bases, where one more class is used
+based : (ℕ → ℕ) → ℕ → ℕ → ℕ
+based base c d = if eqb d c then c else base d
+
+based-same : (base : ℕ → ℕ) (c m n : ℕ) → eqb m c ≡ eqb n c → base m ≡ base n → based base c m ≡ based base c n
+unfolding based
+based-same base c m n same old = elim (cases_Bool (eqb m c)) [
   | inl yes_m ↦
       let yes_n : eqb n c ≡ true = sym same ∙ yes_m in
-      bases m ∙ ap (λ (t : Bool). if t then c else old_base m) yes_m ∙ sym (bases n ∙ ap (λ (t : Bool). if t then c else old_base n) yes_n)
+      ap (λ (t : Bool). if t then c else base m) yes_m ∙ sym (ap (λ (t : Bool). if t then c else base n) yes_n)
   | inr no_m ↦
       let no_n : eqb n c ≡ false = sym same ∙ no_m in
-      bases m ∙ ap (λ (t : Bool). if t then c else old_base m) no_m ∙ old ∙ sym (bases n ∙ ap (λ (t : Bool). if t then c else old_base n) no_n)
+      ap (λ (t : Bool). if t then c else base m) no_m ∙ old ∙ sym (ap (λ (t : Bool). if t then c else base n) no_n)
 ]
 
-pub IsRefining-more : (nodes : List PlainNode) (b based after : Blocks) (c : ℕ) (pairs : List (ℕ × ℕ)) → IsGraph nodes → IsRefining nodes b c → c < count_of b → AreOfClass nodes (class_in b) c pairs
-    → len_of based ≡ len_of b → count_of based ≡ count_of b → ((x : ℕ) → class_in based x ≡ class_in b x) → ((d : ℕ) → base_in based d ≡ (if eqb d c then c else base_in b d))
-    → IsSplitBy based after pairs → IsRefining nodes after (c + 1)
-IsRefining-more nodes b based after c pairs graph going c_in of_class len count classes bases split =
+based-own : (base : ℕ → ℕ) (c d : ℕ) → ((e : ℕ) → e < c → base e ≡ e) → d < c + 1 → based base c d ≡ d
+unfolding based
+based-own base c d own lt = elim (cases_eq d c) [
+  | inl e ↦ ap (λ (t : Bool). if t then c else base d) (eq-eqb d c e) ∙ sym e
+  | inr ne ↦ let test : eqb d c ≡ false = grind (arith, nat_tests) in ap (λ (t : Bool). if t then c else base d) test ∙ own d (omega arith)
+]
+
+pub IsRefining-more : (nodes : List PlainNode) (b after : Blocks) (c : ℕ) (pairs : List (ℕ × ℕ)) → IsGraph nodes → IsRefining nodes b c → c < count_of b → AreOfClass nodes (class_in b) c pairs → IsSplitBy b after pairs → IsRefining nodes after (c + 1)
+IsRefining-more nodes b after c pairs graph going c_in of_class split =
     let len_b = going.len in
     let len_s = split.len in
-    let in_based : (x : ℕ) → x < length nodes → x < len_of based = λ x h. omega arith in
-    let older : (x y : ℕ) → x < length nodes → y < length nodes → class_in after x ≡ class_in after y → (class_in b x ≡ class_in b y) × HaveSameKeys pairs x y =
-    λ x y x_in y_in e. let (same, keys) = (split.classes x y (in_based x x_in) (in_based y y_in)).0 e in (sym (classes x) ∙ same ∙ classes y, keys) in
+    let in_b : (x : ℕ) → x < length nodes → x < len_of b = λ x h. omega arith in
+    let older : (x y : ℕ) → x < length nodes → y < length nodes → class_in after x ≡ class_in after y → (class_in b x ≡ class_in b y) × HaveSameKeys pairs x y = λ x y x_in y_in e. (split.classes x y (in_b x x_in) (in_b y y_in)).0 e in
     record {
       blocks = split.blocks;
       listed = split.listed;
       unmarked = split.unmarked;
-      len = split.len ∙ len ∙ going.len;
+      len = split.len ∙ going.len;
+      base = λ d. based going.base c (split.origin d);
       refined = record {
         shapes = λ x y x_in y_in e. going.refined.shapes x y x_in y_in (older x y x_in y_in e).0;
         parts = λ x y k p q x_in y_in e names names'.
@@ -192,29 +205,26 @@ IsRefining-more nodes b based after c pairs graph going c_in of_class len count 
             let q_in = graph.inside y k q names' in
             let tests : eqb (class_in b p) c ≡ eqb (class_in b q) c =
             sym (named_in-some (class_in b) c p (to_of (part_at (view_at nodes x) k)) names) ∙ sym (of_class.are k x x_in) ∙ keys k ∙ of_class.are k y y_in ∙ named_in-some (class_in b) c q (to_of (part_at (view_at nodes y) k)) names' in
-            split.bases p (in_based p p_in) ∙ ap (base_in based) (classes p)
-            ∙ base_of_named (base_in b) (base_in based) c (class_in b p) (class_in b q) bases tests (going.refined.parts x y k p q x_in y_in same names names')
-            ∙ sym (split.bases q (in_based q q_in) ∙ ap (base_in based) (classes q));
+            ap (based going.base c) (split.origins p (in_b p p_in))
+            ∙ based-same going.base c (class_in b p) (class_in b q) tests (going.refined.parts x y k p q x_in y_in same names names')
+            ∙ sym (ap (based going.base c) (split.origins q (in_b q q_in)));
         alike = λ x y x_in y_in alike.
             let same = going.refined.alike x y x_in y_in alike in
-            (split.classes x y (in_based x x_in) (in_based y y_in)).1 (
-              classes x ∙ same ∙ sym (classes y),
+            (split.classes x y (in_b x x_in) (in_b y y_in)).1 (
+              same,
               λ k.
                   of_class.are k x x_in ∙ alike_named nodes (class_in b) c x y k graph going.refined.alike alike ∙ sym (of_class.are k y y_in),
             );
       };
       own = λ d lt.
-          let d_in : d < count_of based = omega arith in
-          split.old_bases d d_in ∙ bases d ∙ elim (cases_eq d c) [
-            | inl e ↦ ap (λ (t : Bool). if t then c else base_in b d) (eq-eqb d c e) ∙ sym e
-            | inr ne ↦ let test : eqb d c ≡ false = grind (arith, nat_tests) in ap (λ (t : Bool). if t then c else base_in b d) test ∙ going.own d (omega arith)
-          ];
+          let d_in : d < count_of b = omega arith in
+          ap (based going.base c) (split.own_origins d d_in) ∙ based-own going.base c d going.own lt;
       low = let u = split.count in omega arith;
     }
 
 pub IsRefining-all : (nodes : List PlainNode) (b : Blocks) (c : ℕ) → IsGraph nodes → IsRefining nodes b c → count_of b ≤ c → IsRefined nodes (class_in b) (λ d. d)
 IsRefining-all nodes b c graph going past =
-    let own : (x : ℕ) → x < length nodes → base_in b (class_in b x) ≡ class_in b x = λ x x_in. let u = going.blocks.layout.class_inside x (let l = going.len in omega arith) in going.own (class_in b x) (omega arith) in
+    let own : (x : ℕ) → x < length nodes → going.base (class_in b x) ≡ class_in b x = λ x x_in. let u = going.blocks.layout.class_inside x (let l = going.len in omega arith) in going.own (class_in b x) (omega arith) in
     record {
       shapes = going.refined.shapes;
       parts = λ x y k p q x_in y_in e names names'. sym (own p (graph.inside x k p names)) ∙ going.refined.parts x y k p q x_in y_in e names names' ∙ own q (graph.inside y k q names');

@@ -6,9 +6,11 @@ use Rattle.std.proofs.lemmas.List.{length-set, get_or-set_same, get_or-set_other
 use Rattle.abi_types.specs.Types.{PlainNode}
 use Rattle.abi_types.specs.Graphs.{IsGraph, node_at}
 use Rattle.graph_alike.specs.declared.blocks.Blocks.{Blocks}
-use Rattle.graph_alike.specs.Alike.{look_of, shape_of, AreAlike}
-use Rattle.graph_alike.specs.Classes.{rep_in, IsStable, AreSound}
-use Rattle.graph_alike.specs.Blocks.{at, len_of, class_in, base_in}
+use Rattle.abi_types.specs.Seen.{look_of, shape_of}
+use Rattle.graph_alike.specs.Alike.{AreAlike}
+use Rattle.pair_rules.specs.Stable.{IsStable}
+use Rattle.graph_alike.specs.Classes.{PlainClasses, rep_in, rep_of, AreSound, AreCoarsest, IsLeast, IsLeastEntry}
+use Rattle.graph_alike.specs.Blocks.{at, len_of, class_in}
 use Rattle.graph_alike.specs.Splits.{HaveSameKeys, IsSplitBy}
 use Rattle.graph_alike.specs.Refined.{IsRefined}
 use Rattle.graph_alike.specs.Reps.{entry_at, AreOfClasses, IsLowered, AreReps}
@@ -147,33 +149,10 @@ same_rep nodes class reps is x y x_in y_in =
     )
 
 reps_stable : (nodes : List PlainNode) (class : ℕ → ℕ) (reps : List ℕ) → IsGraph nodes → AreReps nodes class reps → IsRefined nodes class (λ c. c) → IsStable nodes (rep_in reps)
-reps_stable nodes class reps graph is refined x y e =
-    let len = is.each in
-    elim (cases_lt x (length nodes)) [
-      | inl x_in ↦ elim (cases_lt y (length nodes)) [
-        | inl y_in ↦
-            let same = (same_rep nodes class reps is x y x_in y_in).0 e in
-            same_look (rep_in reps) (node_at nodes x) (node_at nodes y) (refined.shapes x y x_in y_in same)
-            (λ k a b to_a to_b. (same_rep nodes class reps is a b (graph.inside x k a to_a) (graph.inside y k b to_b)).1 (refined.parts x y k a b x_in y_in same to_a to_b))
-        | inr y_past ↦
-            let u = rep_inside reps x (omega arith) in
-            let v = is.inside x x_in in
-            let w = rep_past reps y (omega arith) in
-            absurd (omega arith)
-      ]
-      | inr x_past ↦
-          let u = rep_past reps x (omega arith) in
-          elim (cases_lt y (length nodes)) [
-            | inl y_in ↦
-                let v = rep_inside reps y (omega arith) in
-                let w = is.inside y y_in in
-                absurd (omega arith)
-            | inr y_past ↦
-                let v = rep_past reps y (omega arith) in
-                let same : x ≡ y = sym u ∙ e ∙ v in
-                ap (λ (q : ℕ). look_of (rep_in reps) (node_at nodes q)) same
-          ]
-    ]
+reps_stable nodes class reps graph is refined x y x_in y_in e =
+    let same = (same_rep nodes class reps is x y x_in y_in).0 e in
+    same_look (rep_in reps) (node_at nodes x) (node_at nodes y) (refined.shapes x y x_in y_in same)
+    (λ k a b to_a to_b. (same_rep nodes class reps is a b (graph.inside x k a to_a) (graph.inside y k b to_b)).1 (refined.parts x y k a b x_in y_in same to_a to_b))
 
 pub AreSound-reps : (nodes : List PlainNode) (class : ℕ → ℕ) (reps : List ℕ) → IsGraph nodes → AreReps nodes class reps → IsRefined nodes class (λ c. c) → AreSound (record { nodes = nodes; reps = reps })
 AreSound-reps nodes class reps graph is refined =
@@ -198,19 +177,46 @@ AreSound-reps nodes class reps graph is refined =
 
 pub coarsest_reps : (nodes : List PlainNode) (class : ℕ → ℕ) (reps : List ℕ) → IsGraph nodes → AreReps nodes class reps → IsRefined nodes class (λ c. c) → (i j : ℕ) → i < length nodes → j < length nodes → (rep_in reps i ≡ rep_in reps j) ↔ AreAlike nodes i j
 coarsest_reps nodes class reps graph is refined i j i_in j_in = (
-  λ e. alike_from_stable nodes (rep_in reps) (reps_stable nodes class reps graph is refined) i j e,
+  λ e. alike_from_stable nodes (rep_in reps) graph (reps_stable nodes class reps graph is refined) i j i_in j_in e,
   λ alike. (same_rep nodes class reps is i j i_in j_in).1 (refined.alike i j i_in j_in alike),
 )
 
 -- ---- the first classes
 
-pub first_refined : (nodes : List PlainNode) (one b : Blocks) (pairs : List (ℕ × ℕ)) → IsGraph nodes → len_of one ≡ length nodes → ((x : ℕ) → x < length nodes → class_in one x ≡ 0)
+pub first_refined : (nodes : List PlainNode) (one b : Blocks) (pairs : List (ℕ × ℕ)) → len_of one ≡ length nodes → ((x : ℕ) → x < length nodes → class_in one x ≡ 0)
     → ((x y : ℕ) → x < length nodes → y < length nodes → HaveSameKeys pairs x y ↔ (shape_of (node_at nodes x) ≡ shape_of (node_at nodes y)))
-    → IsSplitBy one b pairs → IsRefined nodes (class_in b) (base_in b)
-first_refined nodes one b pairs graph len zeros keys split =
-    let base_of : (x : ℕ) → x < length nodes → base_in b (class_in b x) ≡ base_in one 0 = λ x lt. split.bases x (omega arith) ∙ ap (base_in one) (zeros x lt) in
-    record {
-      shapes = λ x y x_in y_in e. (keys x y x_in y_in).0 ((split.classes x y (omega arith) (omega arith)).0 e).1;
-      parts = λ x y k p q x_in y_in e names names'. base_of p (graph.inside x k p names) ∙ sym (base_of q (graph.inside y k q names'));
-      alike = λ x y x_in y_in (r, is, h). (split.classes x y (omega arith) (omega arith)).1 (zeros x x_in ∙ sym (zeros y y_in), (keys x y x_in y_in).1 (is.shapes x y h));
-    }
+    → IsSplitBy one b pairs → IsRefined nodes (class_in b) (λ c. 0)
+first_refined nodes one b pairs len zeros keys split = record {
+  shapes = λ x y x_in y_in e. (keys x y x_in y_in).0 ((split.classes x y (omega arith) (omega arith)).0 e).1;
+  parts = λ x y k p q x_in y_in e names names'. refl;
+  alike = λ x y x_in y_in (r, is, h). (split.classes x y (omega arith) (omega arith)).1 (zeros x x_in ∙ sym (zeros y y_in), (keys x y x_in y_in).1 (is.shapes x y h));
+}
+
+-- ---- what stands for a class
+
+module _ (c : PlainClasses) (sound : AreSound c) (coarsest : AreCoarsest c) where
+  rep_least : (i : ℕ) → i < length c.nodes → rep_of c i ≡ i → IsLeast c.nodes i
+  rep_least i i_in own j j_in alike =
+      let same = (coarsest j i j_in i_in).1 alike ∙ own in
+      let low = sound.least j in
+      let e = ap (entry_at c.nodes) same in
+      omega arith
+
+  pub stands : (a : ℕ) → a < length c.nodes → IsLeastEntry c.nodes (node_at c.nodes (rep_of c a)).entry a
+  stands a a_in = record {
+    node = rep_of c a;
+    inside = sound.inside a a_in;
+    alike = (coarsest a (rep_of c a) a_in (sound.inside a a_in)).0 (sym (sound.own a));
+    least = rep_least (rep_of c a) (sound.inside a a_in) (sound.own a);
+    is = refl;
+  }
+
+  pub stands_alone : (entry a : ℕ) → a < length c.nodes → IsLeastEntry c.nodes entry a → (node_at c.nodes (rep_of c a)).entry ≡ entry
+  stands_alone entry a a_in s =
+      let same = (coarsest a s.node a_in s.inside).1 s.alike in
+      let low = sound.least s.node in
+      let rep_in' = sound.inside s.node s.inside in
+      let high = s.least (rep_of c s.node) rep_in' ((coarsest (rep_of c s.node) s.node rep_in' s.inside).0 (sound.own s.node)) in
+      let e = ap (entry_at c.nodes) same in
+      let is = s.is in
+      omega arith

@@ -2,7 +2,7 @@
 use Rattle.std.proofs.Common.{◌≡◌, ◌+◌, ◌<◌, ◌≤◌, ℕ, List, [], ◌∷◌, ◌++◌, length, map, take, get_or, refl, sym, ◌∙◌, ap, append_assoc}
 use Rattle.std.specs.Prelude.{flat_map}
 use Rattle.std.proofs.lemmas.List.{take_more, take_all, length-map, get_or-map, get_or_default, flat_map_more}
-use Rattle.graph_alike.specs.Shapes.{spelled_list, spelled_number, spelled_name}
+use Rattle.graph_alike.specs.Shapes.{spelled_list}
 
 -- ---- one item after the other
 
@@ -32,9 +32,21 @@ list_more_map g f base cur next n i xs x inside read so_far push =
 pub list_all_map : {X Y : Type 0} (g : X → Y) (f : Y → List ℕ) (base cur : List ℕ) (i : ℕ) (xs : List X) → length xs ≤ i → cur ≡ base ++ length xs ∷ flat_map f (take i (map g xs)) → cur ≡ base ++ spelled_list f (map g xs)
 list_all_map g f base cur i xs past so_far = list_all f base cur (length xs) i (map g xs) (rw (length-map xs g) past) (sym (length-map xs g)) so_far
 
-pub name_all : (base cur : List ℕ) (i : ℕ) (name : List ℕ) → length name ≤ i → cur ≡ base ++ length name ∷ flat_map spelled_number (take i name) → cur ≡ base ++ spelled_name name
-unfolding spelled_name
-name_all base cur i name past so_far = list_all spelled_number base cur (length name) i name past refl so_far
-
 pub list_more_map_at : {X Y : Type 0} (g : X → Y) (f : Y → List ℕ) (base cur next : List ℕ) (n i : ℕ) (xs : List X) (d : X) → i < length xs → cur ≡ base ++ n ∷ flat_map f (take i (map g xs)) → next ≡ cur ++ f (g (get_or xs i d)) → next ≡ base ++ n ∷ flat_map f (take (i + 1) (map g xs))
 list_more_map_at g f base cur next n i xs d inside so_far push = list_more_map g f base cur next n i xs (get_or xs i d) inside (get_or_default xs i d (get_or xs i d) inside) so_far push
+
+-- ---- letters of items, one item after the other
+
+pub letters_more : {X Y : Type 0} (g : X → Y) (f : Y → List ℕ) (base cur next : List ℕ) (i : ℕ) (xs : List X) (x : X) → i < length xs → x ≡ get_or xs i x → cur ≡ base ++ flat_map f (take i (map g xs)) → next ≡ cur ++ f (g x) → next ≡ base ++ flat_map f (take (i + 1) (map g xs))
+letters_more g f base cur next i xs x inside read so_far push =
+    let inside' : i < length (map g xs) = rw (length-map xs g) inside in
+    let at : get_or (map g xs) i (g x) ≡ g x = get_or-map g xs i x (g x) inside ∙ ap g (sym read) in
+    let e : take (i + 1) (map g xs) ≡ take i (map g xs) ++ g x ∷ [] = take_more (map g xs) i (g x) inside' ∙ ap (λ y. take i (map g xs) ++ y ∷ []) at in
+    push ∙ ap (λ (ns : List ℕ). ns ++ f (g x)) so_far ∙ flat_map_more f base (take i (map g xs)) (g x) ∙ ap (λ ys. base ++ flat_map f ys) (sym e)
+
+-- the same, where the item is read with a default
+pub letters_more_at : {X Y : Type 0} (g : X → Y) (f : Y → List ℕ) (base cur next : List ℕ) (i : ℕ) (xs : List X) (d : X) → i < length xs → cur ≡ base ++ flat_map f (take i (map g xs)) → next ≡ cur ++ f (g (get_or xs i d)) → next ≡ base ++ flat_map f (take (i + 1) (map g xs))
+letters_more_at g f base cur next i xs d inside so_far push = letters_more g f base cur next i xs (get_or xs i d) inside (get_or_default xs i d (get_or xs i d) inside) so_far push
+
+pub letters_all : {X Y : Type 0} (g : X → Y) (f : Y → List ℕ) (base cur : List ℕ) (i : ℕ) (xs : List X) → length xs ≤ i → cur ≡ base ++ flat_map f (take i (map g xs)) → cur ≡ base ++ flat_map f (map g xs)
+letters_all g f base cur i xs past so_far = so_far ∙ ap (λ ys. base ++ flat_map f ys) (take_all i (map g xs) (rw (length-map xs g) past))

@@ -13,10 +13,9 @@ use Rattle.abi_types.specs.declared.place.Place.{Place}
 use Rattle.abi_types.specs.declared.place.Place.TheVariants as place
 use Rattle.abi_types.specs.declared.place.CallShape.{CallShape}
 use Rattle.abi_types.specs.Types.{PlainPart, Member, Enumerator, Target, Element, Outcome, Param, PlainView, PlainLabel, PlainNode}
-use Rattle.pair_rules.specs.Same.{kind_number, group_number}
-use Rattle.pair_rules.proofs.SameLemmas.{equal_from_same_kind, equal_from_same_group}
-use Rattle.graph_alike.specs.Alike.{part_seen, view_seen, Look, shape_of}
-use Rattle.graph_alike.specs.Shapes.{label_number, truth_number, spelled_list, spelled_number, spelled_name, spelled_slot, spelled_place, spelled_call, spelled_part, spelled_label, spelled_numbers, spelled_view, spelled}
+use Rattle.pair_rules.specs.Same.{kind_number, group_number, same_kind, same_group}
+use Rattle.abi_types.specs.Seen.{part_seen, view_seen, Look, shape_of}
+use Rattle.graph_alike.specs.Shapes.{label_number, truth_number, spelled_list, spelled_slot, spelled_place, spelled_call, spelled_part, spelled_label, spelled_numbers, spelled_view, spelled, letters_of_label, letters_of_part, letters_of}
 
 -- A spelling with anything after it tells what a function gives of what is spelled, and what comes after.
 abbrev Tells : {X Y : Type 0} → (X → List ℕ) → (X → Y) → Type 0
@@ -44,14 +43,41 @@ same_map : {X : Type 0} (xs : List X) → map (λ x. x) xs ≡ xs
 same_map [] = refl
 same_map (x ∷ xs) = ap (λ ys. x ∷ ys) (same_map xs)
 
-number_tells : Tells spelled_number (λ n. n)
-number_tells m n s t e = (let u : m ≡ n = cc in u, let v : s ≡ t = cc in v)
+-- A spelling and letters, with anything after either, tell what a function gives of what is spelled, and what comes after.
+abbrev TellBoth : {X Y : Type 0} → (X → List ℕ) → (X → List ℕ) → (X → Y) → Type 0
+TellBoth {X} {Y} f g h = (a b : X) (s t u v : List ℕ) → f a ++ s ≡ f b ++ t → g a ++ u ≡ g b ++ v → (h a ≡ h b) × (s ≡ t) × (u ≡ v)
 
-name_tells : Tells spelled_name (λ n. n)
-unfolding spelled_name
-name_tells m n s t e =
-    let (same, rest) = list_tells spelled_number (λ (k : ℕ). k) number_tells m n s t e in
-    (sym (same_map m) ∙ same ∙ same_map n, rest)
+-- a name of known length
+name_tells : (m n u v : List ℕ) → length m ≡ length n → m ++ u ≡ n ++ v → (m ≡ n) × (u ≡ v)
+name_tells [] [] u v len e = (refl, e)
+name_tells [] (y ∷ n) u v len e = absurd (let l : 0 ≡ suc (length n) = len in omega arith)
+name_tells (x ∷ m) [] u v len e = absurd (let l : suc (length m) ≡ 0 = len in omega arith)
+name_tells (x ∷ m) (y ∷ n) u v len e =
+    let here : x ≡ y = cc in
+    let more : m ++ u ≡ n ++ v = cc in
+    let lens : length m ≡ length n = let l : suc (length m) ≡ suc (length n) = len in omega arith in
+    let (later, after) = name_tells m n u v lens more in
+    (rw (here, later) refl, after)
+
+items_both : {X Y : Type 0} (f g : X → List ℕ) (h : X → Y) → TellBoth f g h → (xs ys : List X) (s t u v : List ℕ) → length xs ≡ length ys → flat_map f xs ++ s ≡ flat_map f ys ++ t → flat_map g xs ++ u ≡ flat_map g ys ++ v
+    → (map h xs ≡ map h ys) × (s ≡ t) × (u ≡ v)
+items_both f g h tell [] [] s t u v len e l = (refl, e, l)
+items_both f g h tell [] (y ∷ ys) s t u v len e l = absurd (let n : 0 ≡ suc (length ys) = len in omega arith)
+items_both f g h tell (x ∷ xs) [] s t u v len e l = absurd (let n : suc (length xs) ≡ 0 = len in omega arith)
+items_both f g h tell (x ∷ xs) (y ∷ ys) s t u v len e l =
+    let numbers : f x ++ (flat_map f xs ++ s) ≡ f y ++ (flat_map f ys ++ t) = sym (append_assoc (f x) (flat_map f xs) s) ∙ e ∙ append_assoc (f y) (flat_map f ys) t in
+    let letters : g x ++ (flat_map g xs ++ u) ≡ g y ++ (flat_map g ys ++ v) = sym (append_assoc (g x) (flat_map g xs) u) ∙ l ∙ append_assoc (g y) (flat_map g ys) v in
+    let (here, rest, more) = tell x y (flat_map f xs ++ s) (flat_map f ys ++ t) (flat_map g xs ++ u) (flat_map g ys ++ v) numbers letters in
+    let lens : length xs ≡ length ys = let n : suc (length xs) ≡ suc (length ys) = len in omega arith in
+    let (later, after, last) = items_both f g h tell xs ys s t u v lens rest more in
+    (rw (here, later) refl, after, last)
+
+list_both : {X Y : Type 0} (f g : X → List ℕ) (h : X → Y) → TellBoth f g h → TellBoth (spelled_list f) (flat_map g) (map h)
+unfolding spelled_list
+list_both f g h tell xs ys s t u v e l =
+    let len : length xs ≡ length ys = cc in
+    let rest : flat_map f xs ++ s ≡ flat_map f ys ++ t = cc in
+    items_both f g h tell xs ys s t u v len rest l
 
 -- ---- slots and places
 
@@ -151,8 +177,8 @@ part_tag (Outcome to) = 4
 part_tag (Param to) = 5
 
 part_rest : PlainPart → List ℕ
-part_rest (Member name bit width to) = spelled_name name ++ bit ∷ width ∷ []
-part_rest (Enumerator name value) = spelled_name name ++ value ∷ []
+part_rest (Member name bit width to) = length name ∷ bit ∷ width ∷ []
+part_rest (Enumerator name value) = length name ∷ value ∷ []
 part_rest other = []
 
 part_is : (p : PlainPart) (s : List ℕ) → spelled_part p ++ s ≡ part_tag p ∷ (part_rest p ++ s)
@@ -164,31 +190,31 @@ part_is (Element to) s = refl
 part_is (Outcome to) s = refl
 part_is (Param to) s = refl
 
-part_same : (p q : PlainPart) (s t : List ℕ) → eqb (part_tag p) (part_tag q) ≡ true → part_rest p ++ s ≡ part_rest q ++ t → (part_seen (λ _. 0) p ≡ part_seen (λ _. 0) q) × (s ≡ t)
+part_same : (p q : PlainPart) (s t u v : List ℕ) → eqb (part_tag p) (part_tag q) ≡ true → part_rest p ++ s ≡ part_rest q ++ t → letters_of_part p ++ u ≡ letters_of_part q ++ v → (part_seen (λ _. 0) p ≡ part_seen (λ _. 0) q) × (s ≡ t) × (u ≡ v)
 unfolding part_tag part_rest
-part_same (Member m b w to) (Member n c x to') s t tags rest =
-    let both : spelled_name m ++ (b ∷ w ∷ s) ≡ spelled_name n ++ (c ∷ x ∷ t) = sym (append_assoc (spelled_name m) (b ∷ w ∷ []) s) ∙ rest ∙ append_assoc (spelled_name n) (c ∷ x ∷ []) t in
-    let (names, after) = name_tells m n (b ∷ w ∷ s) (c ∷ x ∷ t) both in
+part_same (Member m b w to) (Member n c x to') s t u v tags rest letters =
+    let lens : length m ≡ length n = cc in
     let bits : b ≡ c = cc in
     let widths : w ≡ x = cc in
-    (let u : part_seen (λ _. 0) (Member m b w to) ≡ part_seen (λ _. 0) (Member n c x to') = cc in u, let u : s ≡ t = cc in u)
-part_same (Enumerator m v) (Enumerator n w) s t tags rest =
-    let both : spelled_name m ++ (v ∷ s) ≡ spelled_name n ++ (w ∷ t) = sym (append_assoc (spelled_name m) (v ∷ []) s) ∙ rest ∙ append_assoc (spelled_name n) (w ∷ []) t in
-    let (names, after) = name_tells m n (v ∷ s) (w ∷ t) both in
-    let values : v ≡ w = cc in
-    (let u : part_seen (λ _. 0) (Enumerator m v) ≡ part_seen (λ _. 0) (Enumerator n w) = cc in u, let u : s ≡ t = cc in u)
-part_same (Target to) (Target to') s t tags rest = (refl, rest)
-part_same (Element to) (Element to') s t tags rest = (refl, rest)
-part_same (Outcome to) (Outcome to') s t tags rest = (refl, rest)
-part_same (Param to) (Param to') s t tags rest = (refl, rest)
-part_same _ _ s t tags rest = absurd (false≢true tags)
+    let (names, after) = name_tells m n u v lens letters in
+    (let k : part_seen (λ _. 0) (Member m b w to) ≡ part_seen (λ _. 0) (Member n c x to') = cc in k, let k : s ≡ t = cc in k, after)
+part_same (Enumerator m a) (Enumerator n b) s t u v tags rest letters =
+    let lens : length m ≡ length n = cc in
+    let values : a ≡ b = cc in
+    let (names, after) = name_tells m n u v lens letters in
+    (let k : part_seen (λ _. 0) (Enumerator m a) ≡ part_seen (λ _. 0) (Enumerator n b) = cc in k, let k : s ≡ t = cc in k, after)
+part_same (Target to) (Target to') s t u v tags rest letters = (refl, rest, letters)
+part_same (Element to) (Element to') s t u v tags rest letters = (refl, rest, letters)
+part_same (Outcome to) (Outcome to') s t u v tags rest letters = (refl, rest, letters)
+part_same (Param to) (Param to') s t u v tags rest letters = (refl, rest, letters)
+part_same _ _ s t u v tags rest letters = absurd (false≢true tags)
 
-part_tells : Tells spelled_part (part_seen (λ _. 0))
-part_tells p q s t e =
+part_tells : TellBoth spelled_part letters_of_part (part_seen (λ _. 0))
+part_tells p q s t u v e letters =
     let both : part_tag p ∷ (part_rest p ++ s) ≡ part_tag q ∷ (part_rest q ++ t) = sym (part_is p s) ∙ e ∙ part_is q t in
     let tags : part_tag p ≡ part_tag q = cc in
     let rest : part_rest p ++ s ≡ part_rest q ++ t = cc in
-    part_same p q s t (eq-eqb (part_tag p) (part_tag q) tags) rest
+    part_same p q s t u v (eq-eqb (part_tag p) (part_tag q) tags) rest letters
 
 label_same : (k l : LabelKind) → eqb (label_number k) (label_number l) ≡ true → k ≡ l
 label_same label.Structure label.Structure e = refl
@@ -198,14 +224,15 @@ label_same label.Typedef label.Typedef e = refl
 label_same label.Builtin label.Builtin e = refl
 label_same _ _ e = absurd (false≢true e)
 
-label_tells : Tells spelled_label (λ l. l)
-label_tells k l s t e =
+label_tells : TellBoth spelled_label letters_of_label (λ l. l)
+label_tells k l s t u v e letters =
     let numbers : label_number k.kind ≡ label_number l.kind = cc in
-    let rest : spelled_name k.name ++ s ≡ spelled_name l.name ++ t = cc in
+    let lens : length k.name ≡ length l.name = cc in
+    let rest : s ≡ t = cc in
     let kinds = label_same k.kind l.kind (eq-eqb (label_number k.kind) (label_number l.kind) numbers) in
-    let (names, after) = name_tells k.name l.name s t rest in
+    let (names, after) = name_tells k.name l.name u v lens letters in
     let made : LabelKind → List ℕ → PlainLabel = λ kind name. record { kind = kind; name = name } in
-    (ap (λ (kind : LabelKind). made kind k.name) kinds ∙ ap (λ (name : List ℕ). made l.kind name) names, after)
+    (ap (λ (kind : LabelKind). made kind k.name) kinds ∙ ap (λ (name : List ℕ). made l.kind name) names, rest, after)
 
 -- ---- views
 
@@ -232,12 +259,19 @@ view_seen-made : (v : PlainView) → view_seen (λ _. 0) v ≡ made_view v.kind 
 unfolding view_seen made_view
 view_seen-made v = refl
 
-view_is : (v : PlainView) (s : List ℕ) → spelled_view v ++ s ≡ spelled_numbers v ++ (spelled_name v.tag ++ (spelled_list spelled_part v.parts ++ (spelled_call v.call ++ s)))
+view_is : (v : PlainView) (s : List ℕ) → spelled_view v ++ s ≡ spelled_numbers v ++ (spelled_list spelled_part v.parts ++ (spelled_call v.call ++ s))
 unfolding spelled_view
 view_is v s =
-    append_assoc (spelled_numbers v ++ spelled_name v.tag ++ spelled_list spelled_part v.parts) (spelled_call v.call) s
-    ∙ append_assoc (spelled_numbers v ++ spelled_name v.tag) (spelled_list spelled_part v.parts) (spelled_call v.call ++ s)
-    ∙ append_assoc (spelled_numbers v) (spelled_name v.tag) (spelled_list spelled_part v.parts ++ (spelled_call v.call ++ s))
+    append_assoc (spelled_numbers v ++ spelled_list spelled_part v.parts) (spelled_call v.call) s
+    ∙ append_assoc (spelled_numbers v) (spelled_list spelled_part v.parts) (spelled_call v.call ++ s)
+
+abbrev letters_of_view : PlainView → List ℕ
+letters_of_view v = v.tag ++ flat_map letters_of_part v.parts
+
+-- what the law of kinds and groups says: those of one number are one
+pub record AreTold : Type 0 where
+  pub kinds : (a b : Kind) → (same_kind a b ≡ true) ↔ (a ≡ b)
+  pub groups : (a b : Group) → (same_group a b ≡ true) ↔ (a ≡ b)
 
 made_same : (v w : PlainView) → v.kind ≡ w.kind → v.declared_only ≡ w.declared_only → v.tag ≡ w.tag → v.size ≡ w.size → v.group ≡ w.group → v.align ≡ w.align → v.count ≡ w.count → v.variadic ≡ w.variadic
     → map (part_seen (λ _. 0)) v.parts ≡ map (part_seen (λ _. 0)) w.parts → v.call ≡ w.call → view_seen (λ _. 0) v ≡ view_seen (λ _. 0) w
@@ -245,10 +279,10 @@ made_same v w kinds declared tags sizes groups aligns counts variadics parts cal
     let made : made_view v.kind v.declared_only v.tag v.size v.group v.align v.count v.variadic (map (part_seen (λ _. 0)) v.parts) v.call ≡ made_view w.kind w.declared_only w.tag w.size w.group w.align w.count w.variadic (map (part_seen (λ _. 0)) w.parts) w.call = cc in
     view_seen-made v ∙ made ∙ sym (view_seen-made w)
 
-view_tells : Tells spelled_view (view_seen (λ _. 0))
-view_tells v w s t e =
-    let rest_v : List ℕ = spelled_name v.tag ++ (spelled_list spelled_part v.parts ++ (spelled_call v.call ++ s)) in
-    let rest_w : List ℕ = spelled_name w.tag ++ (spelled_list spelled_part w.parts ++ (spelled_call w.call ++ t)) in
+view_tells : AreTold → TellBoth spelled_view letters_of_view (view_seen (λ _. 0))
+view_tells told v w s t u x e letters =
+    let rest_v : List ℕ = spelled_list spelled_part v.parts ++ (spelled_call v.call ++ s) in
+    let rest_w : List ℕ = spelled_list spelled_part w.parts ++ (spelled_call w.call ++ t) in
     let both : spelled_numbers v ++ rest_v ≡ spelled_numbers w ++ rest_w = sym (view_is v s) ∙ e ∙ view_is w t in
     let kinds : kind_number v.kind ≡ kind_number w.kind = cc in
     let declared : truth_number v.declared_only ≡ truth_number w.declared_only = cc in
@@ -257,24 +291,34 @@ view_tells v w s t e =
     let aligns : v.align ≡ w.align = cc in
     let counts : v.count ≡ w.count = cc in
     let variadics : truth_number v.variadic ≡ truth_number w.variadic = cc in
+    let lens : length v.tag ≡ length w.tag = cc in
     let rest : rest_v ≡ rest_w = cc in
-    let (tags, rest1) = name_tells v.tag w.tag (spelled_list spelled_part v.parts ++ (spelled_call v.call ++ s)) (spelled_list spelled_part w.parts ++ (spelled_call w.call ++ t)) rest in
-    let (parts, rest2) = list_tells spelled_part (part_seen (λ _. 0)) part_tells v.parts w.parts (spelled_call v.call ++ s) (spelled_call w.call ++ t) rest1 in
-    let (calls, after) = call_tells v.call w.call s t rest2 in (
-      made_same v w (equal_from_same_kind v.kind w.kind (eq-eqb (kind_number v.kind) (kind_number w.kind) kinds)) (truth_same v.declared_only w.declared_only (eq-eqb (truth_number v.declared_only) (truth_number w.declared_only) declared)) tags sizes
-          (equal_from_same_group v.group w.group (eq-eqb (group_number v.group) (group_number w.group) groups)) aligns counts (truth_same v.variadic w.variadic (eq-eqb (truth_number v.variadic) (truth_number w.variadic) variadics)) parts calls,
+    let names : v.tag ++ (flat_map letters_of_part v.parts ++ u) ≡ w.tag ++ (flat_map letters_of_part w.parts ++ x) = sym (append_assoc v.tag (flat_map letters_of_part v.parts) u) ∙ letters ∙ append_assoc w.tag (flat_map letters_of_part w.parts) x in
+    let (tags, names1) = name_tells v.tag w.tag (flat_map letters_of_part v.parts ++ u) (flat_map letters_of_part w.parts ++ x) lens names in
+    let (parts, rest1, names2) = list_both spelled_part letters_of_part (part_seen (λ _. 0)) part_tells v.parts w.parts (spelled_call v.call ++ s) (spelled_call w.call ++ t) u x rest names1 in
+    let (calls, after) = call_tells v.call w.call s t rest1 in (
+      made_same v w ((told.kinds v.kind w.kind).0 (eq-eqb (kind_number v.kind) (kind_number w.kind) kinds)) (truth_same v.declared_only w.declared_only (eq-eqb (truth_number v.declared_only) (truth_number w.declared_only) declared)) tags sizes
+          ((told.groups v.group w.group).0 (eq-eqb (group_number v.group) (group_number w.group) groups)) aligns counts (truth_same v.variadic w.variadic (eq-eqb (truth_number v.variadic) (truth_number w.variadic) variadics)) parts calls,
       after,
+      names2,
     )
 
-look_tells : Tells spelled (λ l. let made : Look = record { labels = l.labels; view = view_seen (λ _. 0) l.view } in made)
-unfolding spelled
-look_tells k l s t e =
-    let both : spelled_list spelled_label k.labels ++ (spelled_view k.view ++ s) ≡ spelled_list spelled_label l.labels ++ (spelled_view l.view ++ t) =
+look_tells : AreTold → TellBoth spelled letters_of (λ l. let made : Look = record { labels = l.labels; view = view_seen (λ _. 0) l.view } in made)
+unfolding spelled letters_of
+look_tells told k l s t u v e letters =
+    let numbers : spelled_list spelled_label k.labels ++ (spelled_view k.view ++ s) ≡ spelled_list spelled_label l.labels ++ (spelled_view l.view ++ t) =
     sym (append_assoc (spelled_list spelled_label k.labels) (spelled_view k.view) s) ∙ e ∙ append_assoc (spelled_list spelled_label l.labels) (spelled_view l.view) t in
-    let (labels, rest) = list_tells spelled_label (λ (x : PlainLabel). x) label_tells k.labels l.labels (spelled_view k.view ++ s) (spelled_view l.view ++ t) both in
-    let (views, after) = view_tells k.view l.view s t rest in
+    let names : flat_map letters_of_label k.labels ++ (letters_of_view k.view ++ u) ≡ flat_map letters_of_label l.labels ++ (letters_of_view l.view ++ v) = sym (letters_is k u) ∙ letters ∙ letters_is l v in
+    let (labels, rest, more) = list_both spelled_label letters_of_label (λ (x : PlainLabel). x) label_tells k.labels l.labels (spelled_view k.view ++ s) (spelled_view l.view ++ t) (letters_of_view k.view ++ u) (letters_of_view l.view ++ v) numbers names in
+    let (views, after, last) = view_tells told k.view l.view s t u v rest more in
     let made : List PlainLabel → PlainView → Look = λ ls v. record { labels = ls; view = v } in
-    (ap (λ (ls : List PlainLabel). made ls (view_seen (λ _. 0) k.view)) (sym (same_map k.labels) ∙ labels ∙ same_map l.labels) ∙ ap (λ (v : PlainView). made l.labels v) views, after)
+    (ap (λ (ls : List PlainLabel). made ls (view_seen (λ _. 0) k.view)) (sym (same_map k.labels) ∙ labels ∙ same_map l.labels) ∙ ap (λ (v : PlainView). made l.labels v) views, after, last)
+  where
+    letters_is : (k : Look) (u : List ℕ) → (flat_map letters_of_label k.labels ++ k.view.tag ++ flat_map letters_of_part k.view.parts) ++ u ≡ flat_map letters_of_label k.labels ++ (letters_of_view k.view ++ u)
+    letters_is k u =
+        append_assoc (flat_map letters_of_label k.labels ++ k.view.tag) (flat_map letters_of_part k.view.parts) u
+        ∙ append_assoc (flat_map letters_of_label k.labels) k.view.tag (flat_map letters_of_part k.view.parts ++ u)
+        ∙ ap (λ (xs : List ℕ). flat_map letters_of_label k.labels ++ xs) (sym (append_assoc k.view.tag (flat_map letters_of_part k.view.parts) u))
 
 -- ---- equal shapes are spelled alike
 
@@ -297,7 +341,7 @@ list_unseen ps = ap (λ (n : ℕ). n ∷ flat_map spelled_part (map (part_seen (
 
 view_unseen : (v : PlainView) → spelled_view (view_seen (λ _. 0) v) ≡ spelled_view v
 unfolding spelled_view view_seen
-view_unseen v = ap (λ (ns : List ℕ). spelled_numbers v ++ spelled_name v.tag ++ ns ++ spelled_call v.call) (list_unseen v.parts)
+view_unseen v = ap (λ (ns : List ℕ). spelled_numbers v ++ ns ++ spelled_call v.call) (list_unseen v.parts)
 
 -- the look of a node as it stands
 abbrev pub own_look : PlainNode → Look
@@ -307,12 +351,38 @@ shape_unseen : (n : PlainNode) → spelled (shape_of n) ≡ spelled (own_look n)
 unfolding spelled
 shape_unseen n = ap (λ (ns : List ℕ). spelled_list spelled_label n.labels ++ ns) (view_unseen n.view)
 
+letters_of_part-seen : (p : PlainPart) → letters_of_part (part_seen (λ _. 0) p) ≡ letters_of_part p
+letters_of_part-seen (Member name bit width to) = refl
+letters_of_part-seen (Enumerator name value) = refl
+letters_of_part-seen (Target to) = refl
+letters_of_part-seen (Element to) = refl
+letters_of_part-seen (Outcome to) = refl
+letters_of_part-seen (Param to) = refl
+
+letters-seen : (ps : List PlainPart) → flat_map letters_of_part (map (part_seen (λ _. 0)) ps) ≡ flat_map letters_of_part ps
+letters-seen [] = refl
+letters-seen (p ∷ ps) = rw (letters_of_part-seen p, letters-seen ps) refl
+
+letters_unseen : (n : PlainNode) → letters_of (shape_of n) ≡ letters_of (own_look n)
+unfolding letters_of view_seen
+letters_unseen n = ap (λ (ls : List ℕ). flat_map letters_of_label n.labels ++ n.view.tag ++ ls) (letters-seen n.view.parts)
+
 append_none : (xs : List ℕ) → xs ++ [] ≡ xs
 append_none [] = refl
 append_none (x ∷ xs) = ap (λ (ys : List ℕ). x ∷ ys) (append_none xs)
 
-pub same_spelling : (m n : PlainNode) → (spelled (own_look m) ≡ spelled (own_look n)) ↔ (shape_of m ≡ shape_of n)
-same_spelling m n = (
-  λ e. (look_tells (own_look m) (own_look n) [] [] (append_none (spelled (own_look m)) ∙ e ∙ sym (append_none (spelled (own_look n))))).0,
-  λ e. sym (shape_unseen m) ∙ ap spelled e ∙ shape_unseen n,
-)
+-- nodes are spelled alike
+pub record AreSpelledAlike (m n : PlainNode) : Type 0 where
+  pub numbers : spelled (own_look m) ≡ spelled (own_look n)
+  pub letters : letters_of (own_look m) ≡ letters_of (own_look n)
+
+pub same_from_spelling : AreTold → (m n : PlainNode) → AreSpelledAlike m n → shape_of m ≡ shape_of n
+same_from_spelling told m n e = (look_tells told (own_look m) (own_look n) [] [] [] []
+    (append_none (spelled (own_look m)) ∙ e.numbers ∙ sym (append_none (spelled (own_look n))))
+    (append_none (letters_of (own_look m)) ∙ e.letters ∙ sym (append_none (letters_of (own_look n))))).0
+
+pub spelling_from_same : (m n : PlainNode) → shape_of m ≡ shape_of n → AreSpelledAlike m n
+spelling_from_same m n e = record {
+  numbers = sym (shape_unseen m) ∙ ap spelled e ∙ shape_unseen n;
+  letters = sym (letters_unseen m) ∙ ap letters_of e ∙ letters_unseen n;
+}

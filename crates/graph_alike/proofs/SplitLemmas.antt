@@ -6,7 +6,7 @@ use Rattle.std.proofs.lemmas.Bool.Decides.{nat_tests}
 use Rattle.std.proofs.lemmas.List.{take_all}
 use Rattle.std.proofs.lemmas.List.Folds.{list_any_more}
 use Rattle.graph_alike.specs.declared.blocks.Blocks.{Blocks}
-use Rattle.graph_alike.specs.Blocks.{class_in, base_in, is_marked, AreBlocks, ListsMarks, HasNoMarks, KeepsTogether}
+use Rattle.graph_alike.specs.Blocks.{class_in, is_marked, AreBlocks, ListsMarks, HasNoMarks, KeepsTogether}
 use Rattle.graph_alike.specs.Splits.{key_of, key_at, number_at, stands_beside, IsMarkedRun, IsSplitBy}
 
 -- ---- who stands beside a key
@@ -82,8 +82,9 @@ IsSplitBy-start b pairs blocks listed unmarked = record {
   len = refl;
   count = omega arith;
   classes = λ x y x_in y_in. (λ e. (e, λ key. beside_none key x pairs ∙ sym (beside_none key y pairs)), λ both. both.0);
-  bases = λ x x_in. refl;
-  old_bases = λ c c_in. refl;
+  origin = λ c. c;
+  origins = λ x x_in. refl;
+  own_origins = λ c c_in. refl;
 }
 
 -- a number stands beside another key as before the run
@@ -131,12 +132,12 @@ IsSplitBy-more start before marked after pairs from next parted inside so_far ru
                 ) in
                 (apart (run.classes x ∙ older ∙ sym (run.classes y), marks)).0,
           );
-      bases = λ x x_in.
-          keeps.bases x (omega arith) ∙ ap (base_in marked) (run.classes x) ∙ run.bases (class_in before x) ∙ so_far.bases x x_in;
-      old_bases = λ c c_in.
+      origin = λ c. so_far.origin (keeps.origin c);
+      origins = λ x x_in. ap so_far.origin (keeps.origins x (omega arith) ∙ run.classes x) ∙ so_far.origins x x_in;
+      own_origins = λ c c_in.
           let a = so_far.count in
           let b = run.count in
-          keeps.old_bases c (omega arith) ∙ run.bases c ∙ so_far.old_bases c c_in;
+          ap so_far.origin (keeps.own_origins c (omega arith)) ∙ so_far.own_origins c c_in;
     }
 
 pub IsSplitBy-all : (start b : Blocks) (pairs : List (ℕ × ℕ)) (i : ℕ) → length pairs ≤ i → IsSplitBy start b (take i pairs) → IsSplitBy start b pairs

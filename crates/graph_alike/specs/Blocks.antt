@@ -9,7 +9,7 @@ abbrev pub at : List ℕ → ℕ → ℕ
 at xs i = slice_index_or xs i 0
 
 abbrev pub no_block : Block
-no_block = record { first = 0; middle = 0; end = 0; base = 0 }
+no_block = record { first = 0; middle = 0; end = 0 }
 
 abbrev pub block_at : List Block → ℕ → Block
 block_at blocks c = slice_index_or blocks c no_block
@@ -22,9 +22,6 @@ middle_at blocks c = (block_at blocks c).middle
 
 abbrev pub end_at : List Block → ℕ → ℕ
 end_at blocks c = (block_at blocks c).end
-
-abbrev pub base_at : List Block → ℕ → ℕ
-base_at blocks c = (block_at blocks c).base
 
 -- ---- the layout
 
@@ -57,10 +54,6 @@ count_of b = length b.blocks.items
 abbrev pub class_in : Blocks → ℕ → ℕ
 class_in b x = at b.class.items x
 
--- the base of a class
-abbrev pub base_in : Blocks → ℕ → ℕ
-base_in b c = base_at b.blocks.items c
-
 -- whether a number is marked
 unfoldable pub mark_at : List ℕ → List ℕ → List Block → ℕ → Bool
 mark_at place class blocks x = nat_lt (at place x) (middle_at blocks (at class x))
@@ -90,31 +83,31 @@ HasNoMarks b = (x : ℕ) → x < len_of b → is_marked b x ≡ false
 abbrev pub AreTogether : Blocks → ℕ → ℕ → Type 0
 AreTogether b x y = (class_in b x ≡ class_in b y) × (is_marked b x ≡ is_marked b y)
 
--- The same numbers are together as before, and their classes keep their bases.
+-- The same numbers are together as before, and each class comes from one that was there: a class that was there from itself.
 pub record KeepsTogether (old new : Blocks) : Type 0 where
   pub len : len_of new ≡ len_of old
   pub count : count_of old ≤ count_of new
   pub together : (x y : ℕ) → x < len_of old → y < len_of old → AreTogether new x y ↔ AreTogether old x y
-  pub bases : (x : ℕ) → x < len_of old → base_in new (class_in new x) ≡ base_in old (class_in old x)
-  pub old_bases : (c : ℕ) → c < count_of old → base_in new c ≡ base_in old c
+  pub origin : ℕ → ℕ
+  pub origins : (x : ℕ) → x < len_of old → origin (class_in new x) ≡ class_in old x
+  pub own_origins : (c : ℕ) → c < count_of old → origin c ≡ c
 
 -- ---- single steps
 
 -- A block is split into its marked part and the others, either first, with no marks.
-pub record IsPart (whole part : Block) (first last : ℕ) : Type 0 where
+pub record IsPart (part : Block) (first last : ℕ) : Type 0 where
   pub first_is : part.first ≡ first
   pub middle_is : part.middle ≡ first
   pub end_is : part.end ≡ last
-  pub base_is : part.base ≡ whole.base
 
 abbrev pub IsSplitOf : Block → Block → Block → Type 0
 IsSplitOf whole one other =
-    (IsPart whole one whole.first whole.middle × IsPart whole other whole.middle whole.end)
-    ⊎ (IsPart whole one whole.middle whole.end × IsPart whole other whole.first whole.middle)
+    (IsPart one whole.first whole.middle × IsPart other whole.middle whole.end)
+    ⊎ (IsPart one whole.middle whole.end × IsPart other whole.first whole.middle)
 
 -- the middle of a class is one higher
 abbrev pub advanced : List Block → ℕ → Block
-advanced blocks c = record { first = first_at blocks c; middle = middle_at blocks c + 1; end = end_at blocks c; base = base_at blocks c }
+advanced blocks c = record { first = first_at blocks c; middle = middle_at blocks c + 1; end = end_at blocks c }
 
 pub record IsAdvanced (old new : Blocks) (c : ℕ) : Type 0 where
   pub order : new.order ≡ old.order

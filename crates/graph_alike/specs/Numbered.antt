@@ -1,25 +1,39 @@
 -- Shapes numbered by the first node of each.
-use Rattle.std.specs.Prelude.{◌≡◌, ◌<◌, ◌↔◌, ℕ, List, length, Option, Contains}
+use Rattle.std.specs.Prelude.{◌≡◌, ◌<◌, ◌↔◌, ◌==◌, ◌&&◌, ℕ, Bool, List, length, Option, Contains}
 use Rattle.std.specs.Global.{Vec}
 use Rattle.std.specs.Cmp.Lexicographic.{pointwise}
-use Rattle.std.specs.Prelude.{◌==◌}
 use Rattle.std.specs.HashMap.{HashMap, get_by}
 use Rattle.std.specs.declared.hash.FoldHasher.{FoldHasher}
 use Rattle.std.specs.declared.hash.BuildHasherDefault.{BuildHasherDefault}
 use Rattle.abi_types.specs.Types.{PlainNode}
 use Rattle.abi_types.specs.Graphs.{node_at}
-use Rattle.graph_alike.specs.Alike.{shape_of}
+use Rattle.abi_types.specs.Seen.{Look, shape_of}
+use Rattle.graph_alike.specs.declared.shapes.Spelling.{Spelling}
+use Rattle.graph_alike.specs.Shapes.{spelled, letters_of}
 
--- numbers of shapes, and a shape as it is spelled
+-- the spelling is that of what is seen
+pub record IsSpellingOf (s : Spelling) (l : Look) : Type 0 where
+  pub numbers : s.numbers.items ≡ spelled l
+  pub letters : s.letters.items ≡ letters_of l
+
+-- two spellings have the same numbers and letters
+pub record AreOneSpelling (s t : Spelling) : Type 0 where
+  pub numbers : s.numbers.items ≡ t.numbers.items
+  pub letters : s.letters.items ≡ t.letters.items
+
+abbrev pub same_numbers : List ℕ → List ℕ → Bool
+same_numbers = pointwise (λ m n. m == n)
+
+abbrev pub same_spelling : Spelling → Spelling → Bool
+same_spelling s t = same_numbers s.numbers.items t.numbers.items && same_numbers s.letters.items t.letters.items
+
+-- numbers of spellings
 abbrev pub Numbers : Type 0
-Numbers = HashMap (Vec ℕ) ℕ (BuildHasherDefault FoldHasher)
+Numbers = HashMap Spelling ℕ (BuildHasherDefault FoldHasher)
 
-abbrev pub Words : Type 0
-Words = Vec ℕ
-
--- what stands under a shape
-abbrev pub number_in : Numbers → Words → Option ℕ
-number_in numbers words = get_by (λ v. pointwise (λ m n. m == n) words.items v.items) numbers
+-- what stands under a spelling
+abbrev pub number_in : Numbers → Spelling → Option ℕ
+number_in numbers s = get_by (same_spelling s) numbers
 
 -- the pairs are those of all nodes, and their numbers are equal exactly where the shapes are
 pub record IsNumbered (nodes : List PlainNode) (pairs : Vec (ℕ × ℕ)) : Type 0 where

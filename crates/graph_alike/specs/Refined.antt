@@ -2,7 +2,8 @@
 use Rattle.std.specs.Prelude.{◌≡◌, ◌<◌, ℕ, List, length}
 use Rattle.abi_types.specs.Types.{PlainNode}
 use Rattle.abi_types.specs.Graphs.{node_at}
-use Rattle.graph_alike.specs.Alike.{shape_of, AreAlike}
+use Rattle.abi_types.specs.Seen.{shape_of}
+use Rattle.graph_alike.specs.Alike.{AreAlike}
 use Rattle.graph_alike.specs.Edges.{Names}
 
 -- Nodes of one class have one shape, and the nodes that their parts at one position name are of classes of one base. Alike nodes

@@ -1,4 +1,4 @@
--- Shapes of nodes, spelled as lists of numbers: equal shapes are spelled alike, and others are not.
+-- Shapes of nodes, spelled as numbers and letters: equal shapes are spelled alike, and others are not.
 use Rattle.std.specs.Prelude.{ℕ, ◌++◌, Bool, List, [], ◌∷◌, length, flat_map, if◌then◌else◌}
 use Rattle.abi_types.specs.declared.kind.LabelKind.{LabelKind}
 use Rattle.abi_types.specs.declared.kind.LabelKind.TheVariants as label
@@ -8,8 +8,8 @@ use Rattle.abi_types.specs.declared.place.Place.{Place}
 use Rattle.abi_types.specs.declared.place.Place.TheVariants as place
 use Rattle.abi_types.specs.declared.place.CallShape.{CallShape}
 use Rattle.abi_types.specs.Types.{PlainPart, Member, Enumerator, Target, Element, Outcome, Param, PlainView, PlainLabel}
+use Rattle.abi_types.specs.Seen.{Look}
 use Rattle.pair_rules.specs.Same.{kind_number, group_number}
-use Rattle.graph_alike.specs.Alike.{Look}
 
 -- each kind of label has a number of its own
 abbrev pub label_number : LabelKind → ℕ
@@ -29,9 +29,6 @@ spelled_list f xs = length xs ∷ flat_map f xs
 abbrev pub spelled_number : ℕ → List ℕ
 spelled_number n = n ∷ []
 
-unfoldable pub spelled_name : List ℕ → List ℕ
-spelled_name = spelled_list spelled_number
-
 abbrev pub spelled_slot : Slot → List ℕ
 spelled_slot slot.Unused = 0 ∷ 0 ∷ []
 spelled_slot (slot.General n) = 1 ∷ n ∷ []
@@ -48,24 +45,37 @@ spelled_place place.Hidden = 3 ∷ []
 unfoldable pub spelled_call : CallShape → List ℕ
 spelled_call c = spelled_place c.outcome ++ spelled_list spelled_place c.params
 
--- a part, without the node that it names
+-- a part, without the node that it names, and of its name the length alone
 unfoldable pub spelled_part : PlainPart → List ℕ
-spelled_part (Member name bit width to) = 0 ∷ (spelled_name name ++ bit ∷ width ∷ [])
-spelled_part (Enumerator name value) = 1 ∷ (spelled_name name ++ value ∷ [])
+spelled_part (Member name bit width to) = 0 ∷ length name ∷ bit ∷ width ∷ []
+spelled_part (Enumerator name value) = 1 ∷ length name ∷ value ∷ []
 spelled_part (Target to) = 2 ∷ []
 spelled_part (Element to) = 3 ∷ []
 spelled_part (Outcome to) = 4 ∷ []
 spelled_part (Param to) = 5 ∷ []
 
 abbrev pub spelled_label : PlainLabel → List ℕ
-spelled_label l = label_number l.kind ∷ spelled_name l.name
+spelled_label l = label_number l.kind ∷ length l.name ∷ []
 
 -- what a view says in numbers alone
 abbrev pub spelled_numbers : PlainView → List ℕ
-spelled_numbers v = kind_number v.kind ∷ truth_number v.declared_only ∷ v.size ∷ group_number v.group ∷ v.align ∷ v.count ∷ truth_number v.variadic ∷ []
+spelled_numbers v = kind_number v.kind ∷ truth_number v.declared_only ∷ v.size ∷ group_number v.group ∷ v.align ∷ v.count ∷ truth_number v.variadic ∷ length v.tag ∷ []
 
 unfoldable pub spelled_view : PlainView → List ℕ
-spelled_view v = spelled_numbers v ++ spelled_name v.tag ++ spelled_list spelled_part v.parts ++ spelled_call v.call
+spelled_view v = spelled_numbers v ++ spelled_list spelled_part v.parts ++ spelled_call v.call
 
 unfoldable pub spelled : Look → List ℕ
 spelled l = spelled_list spelled_label l.labels ++ spelled_view l.view
+
+-- ---- the letters of the names, one name after the other
+
+abbrev pub letters_of_label : PlainLabel → List ℕ
+letters_of_label l = l.name
+
+abbrev pub letters_of_part : PlainPart → List ℕ
+letters_of_part (Member name bit width to) = name
+letters_of_part (Enumerator name value) = name
+letters_of_part other = []
+
+unfoldable pub letters_of : Look → List ℕ
+letters_of l = flat_map letters_of_label l.labels ++ l.view.tag ++ flat_map letters_of_part l.view.parts

@@ -2,7 +2,7 @@
 use Rattle.std.specs.Prelude.{◌≡◌, ◌≢◌, ◌<◌, ◌≤◌, ◌↔◌, ◌==◌, ◌&&◌, ℕ, Bool, List, length, slice_index_or, take}
 use Rattle.std.specs.List.{list_any}
 use Rattle.graph_alike.specs.declared.blocks.Blocks.{Blocks}
-use Rattle.graph_alike.specs.Blocks.{len_of, count_of, class_in, base_in, is_marked, AreBlocks, ListsMarks, HasNoMarks}
+use Rattle.graph_alike.specs.Blocks.{len_of, count_of, class_in, is_marked, AreBlocks, ListsMarks, HasNoMarks}
 
 abbrev pub key_of : ℕ × ℕ → ℕ
 key_of pair = pair.0
@@ -29,14 +29,14 @@ pub record IsMarkedRun (old new : Blocks) (pairs : List (ℕ × ℕ)) (from next
   pub len : len_of new ≡ len_of old
   pub count : count_of new ≡ count_of old
   pub classes : (x : ℕ) → class_in new x ≡ class_in old x
-  pub bases : (c : ℕ) → base_in new c ≡ base_in old c
   pub marks : (x : ℕ) → x < len_of old → is_marked new x ≡ stands_beside (take next pairs) (key_at pairs from) x
   pub more : from < next
   pub inside : next ≤ length pairs
   pub run : (i : ℕ) → from ≤ i → i < next → key_at pairs i ≡ key_at pairs from
   pub ends : next < length pairs → key_at pairs next ≢ key_at pairs from
 
--- Two numbers are of one class exactly where they were of one class and stand beside the same keys. Classes keep their bases.
+-- Two numbers are of one class exactly where they were of one class and stand beside the same keys. Each
+-- class comes from one that was there: a class that was there from itself.
 pub record IsSplitBy (old new : Blocks) (pairs : List (ℕ × ℕ)) : Type 0 where
   pub blocks : AreBlocks new
   pub listed : ListsMarks new
@@ -44,5 +44,6 @@ pub record IsSplitBy (old new : Blocks) (pairs : List (ℕ × ℕ)) : Type 0 whe
   pub len : len_of new ≡ len_of old
   pub count : count_of old ≤ count_of new
   pub classes : (x y : ℕ) → x < len_of old → y < len_of old → (class_in new x ≡ class_in new y) ↔ ((class_in old x ≡ class_in old y) × HaveSameKeys pairs x y)
-  pub bases : (x : ℕ) → x < len_of old → base_in new (class_in new x) ≡ base_in old (class_in old x)
-  pub old_bases : (c : ℕ) → c < count_of old → base_in new c ≡ base_in old c
+  pub origin : ℕ → ℕ
+  pub origins : (x : ℕ) → x < len_of old → origin (class_in new x) ≡ class_in old x
+  pub own_origins : (c : ℕ) → c < count_of old → origin c ≡ c

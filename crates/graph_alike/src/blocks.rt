@@ -1,6 +1,6 @@
 // Numbers in classes, which are split by marks.
 ghost use Rattle.std.specs.Prelude.{◌≡◌, ◌≢◌, ◌≤◌, ◌<◌, ◌+◌, ◌==◌, ◌||◌, ◌↔◌, ◌⊎◌, ℕ, nat_lt, nat_le, ◌&&◌, if◌then◌else◌, length, IfOk, OnOk, IsTrue, Contains};
-ghost use Rattle.graph_alike.specs.Blocks.{at, block_at, first_at, middle_at, end_at, base_at, len_of, count_of, class_in, base_in, is_marked, AreBlocks, ListsMarks, HasNoMarks, KeepsTogether, IsWhole, IsSplitAt, IsAdvanced, IsSwapped, IsSplitOf};
+ghost use Rattle.graph_alike.specs.Blocks.{at, block_at, first_at, middle_at, end_at, len_of, count_of, class_in, is_marked, AreBlocks, ListsMarks, HasNoMarks, KeepsTogether, IsWhole, IsSplitAt, IsAdvanced, IsSwapped, IsSplitOf};
 
 use abi_base::NoMemory;
 use std::alloc::Global;
@@ -14,8 +14,6 @@ pub struct Block {
     pub middle: usize,
     /// The place after its last number.
     pub end: usize,
-    /// What splits have been made by: classes of one base have not been told apart as targets yet.
-    pub base: usize,
 }
 
 /// The numbers below a bound in classes. Numbers are marked one by one, and then each class with both is split into its marked
@@ -44,13 +42,11 @@ fn halves(block: Block) -> (Block, Block)
         first: block.first,
         middle: block.first,
         end: block.middle,
-        base: block.base,
     };
     let others = Block {
         first: block.middle,
         middle: block.middle,
         end: block.end,
-        base: block.base,
     };
     if block.middle - block.first <= block.end - block.middle {
         (others, marked)
@@ -67,7 +63,7 @@ fn is_whole(block: Block) -> bool
 }
 
 impl Blocks {
-    /// All numbers below a bound in one class, whose base is 0.
+    /// All numbers below a bound in one class.
     pub fn one(alloc: Global, len: usize) -> Result<Blocks, NoMemory>
         requires { 0 < len }
         ensures len { IfOk result (λ b. len_of b ≡ len) }
@@ -75,7 +71,6 @@ impl Blocks {
         ensures listed { IfOk result ListsMarks }
         ensures unmarked { IfOk result HasNoMarks }
         ensures classes { IfOk result (λ b. (x : ℕ) → x < len → class_in b x ≡ 0) }
-        ensures bases { IfOk result (λ b. base_in b 0 ≡ 0) }
     {
         let mut order = Vec::new(alloc);
         let mut place = Vec::new(alloc);
@@ -90,7 +85,6 @@ impl Blocks {
             first: 0,
             middle: 0,
             end: len,
-            base: 0,
         };
         blocks.push(whole)?;
         Ok(Blocks {
@@ -129,22 +123,6 @@ impl Blocks {
         &self.order.as_slice()[block.first..block.end]
     }
 
-    /// Makes a class its own base.
-    pub fn set_base(&mut self, class: usize)
-        requires blocks { AreBlocks self.old }
-        requires inside { class < count_of self.old }
-        ensures blocks { AreBlocks self.new }
-        ensures listed { ListsMarks self.old → ListsMarks self.new }
-        ensures unmarked { HasNoMarks self.old → HasNoMarks self.new }
-        ensures len { len_of self.new ≡ len_of self.old }
-        ensures count { count_of self.new ≡ count_of self.old }
-        ensures classes { (x : ℕ) → class_in self.new x ≡ class_in self.old x }
-        ensures bases { (c : ℕ) → base_in self.new c ≡ (if c == class then class else base_in self.old c) }
-    {
-        let block = &mut self.blocks[class];
-        block.base = class;
-    }
-
     /// Marks a number.
     pub fn mark(&mut self, number: usize) -> Result<(), NoMemory>
         requires blocks { AreBlocks self.old }
@@ -155,7 +133,6 @@ impl Blocks {
         ensures len { OnOk result (len_of self.new ≡ len_of self.old) }
         ensures count { OnOk result (count_of self.new ≡ count_of self.old) }
         ensures classes { OnOk result ((x : ℕ) → class_in self.new x ≡ class_in self.old x) }
-        ensures bases { OnOk result ((c : ℕ) → base_in self.new c ≡ base_in self.old c) }
         ensures marks { OnOk result ((x : ℕ) → x < len_of self.old → is_marked self.new x ≡ (is_marked self.old x || x == number)) }
     {
         let class = self.class[number];

@@ -1,8 +1,7 @@
 // Classes of the nodes of a graph.
 ghost use Rattle.std.specs.Prelude.{◌≡◌, ◌<◌, ◌↔◌, ℕ, length, IfOk};
 ghost use Rattle.std.specs.List.{range_with_len};
-ghost use Rattle.graph_alike.specs.Alike.{AreAlike};
-ghost use Rattle.graph_alike.specs.Classes.{rep_of, AreSound};
+ghost use Rattle.graph_alike.specs.Classes.{rep_of, AreSound, AreCoarsest};
 
 use crate::blocks::Blocks;
 use crate::refine::refine;
@@ -73,7 +72,7 @@ pub fn alike<'g, 'a, Ix: Index>(
     graph: &'g Graph<'a, Ix>,
 ) -> Result<Classes<'g, 'a, Ix>, NoMemory>
     ensures graph { IfOk result (λ c. c.nodes ≡ graph.now) }
-    ensures coarsest { IfOk result (λ c. (i j : ℕ) → i < length graph.now → j < length graph.now → (rep_of c i ≡ rep_of c j) ↔ AreAlike graph.now i j) }
+    ensures coarsest { IfOk result AreCoarsest }
 {
     graph.known();
     let mut blocks = Blocks::one(alloc, graph.len())?;

@@ -1,15 +1,19 @@
 //! What alike nodes and stable classes come to. Each law is the contract of a function that does nothing.
 ghost use Rattle.std.specs.Prelude.{◌≡◌, ◌<◌, ℕ, List, length};
 ghost use Rattle.abi_types.specs.Types.{PlainNode, PlainView};
-ghost use Rattle.abi_types.specs.Graphs.{IsGraph, view_at};
+ghost use Rattle.abi_types.specs.Graphs.{IsGraph, node_at, view_at};
 ghost use Rattle.pair_rules.specs.TypeRules.{breaks};
 ghost use Rattle.pair_rules.specs.Partners.{partner_at};
 ghost use Rattle.graph_alike.specs.Alike.{AreAlike};
-ghost use Rattle.graph_alike.specs.Classes.{IsStable};
+ghost use Rattle.pair_rules.specs.Stable.{IsStable};
+ghost use Rattle.graph_alike.specs.Classes.{PlainClasses, AreSound, AreCoarsest, IsLeastEntry, rep_of};
 
-/// Where classes are stable, nodes of one class are alike.
+use pair_rules::laws::rules_see_no_nodes;
+
+/// Where classes of a graph are stable, nodes of one class are alike.
 pub fn what_is_stable_is_alike()
-    ensures { (nodes : List PlainNode) (class : ℕ → ℕ) → IsStable nodes class → (i j : ℕ) → class i ≡ class j → AreAlike nodes i j }
+    ensures { (nodes : List PlainNode) (class : ℕ → ℕ) → IsGraph nodes → IsStable nodes class → (i j : ℕ) → i < length nodes → j < length nodes
+        → class i ≡ class j → AreAlike nodes i j }
 {}
 
 /// Each node is alike to itself, alike nodes are alike either way round, and what is alike to one node of a graph is alike.
@@ -29,4 +33,15 @@ pub fn alike_nodes_break_the_same_rules()
         → partner_at (view_at nodes i) w k ≡ partner_at (view_at nodes j) w k }
     ensures new_partners { (nodes : List PlainNode) (i j : ℕ) (v : PlainView) (k : ℕ) → AreAlike nodes i j
         → partner_at v (view_at nodes i) k ≡ partner_at v (view_at nodes j) k }
+{
+    rules_see_no_nodes();
+}
+
+/// Where nodes are of one class exactly where they are alike, the entry of the node that stands for a class is the least of those
+/// of the nodes that are alike to one of it, and no other entry is.
+pub fn classes_stand_by_their_least_entries()
+    ensures stands { (c : PlainClasses) (a : ℕ) → AreSound c → AreCoarsest c → a < length c.nodes
+        → IsLeastEntry c.nodes (node_at c.nodes (rep_of c a)).entry a }
+    ensures alone { (c : PlainClasses) (entry a : ℕ) → AreSound c → AreCoarsest c → a < length c.nodes
+        → IsLeastEntry c.nodes entry a → (node_at c.nodes (rep_of c a)).entry ≡ entry }
 {}

@@ -1,6 +1,6 @@
 // The coarsest stable classes.
 ghost use Rattle.std.specs.Prelude.{◌≡◌, ◌<◌, ◌≤◌, length, OnOk};
-ghost use Rattle.graph_alike.specs.Blocks.{len_of, class_in, base_in, AreBlocks, ListsMarks, HasNoMarks};
+ghost use Rattle.graph_alike.specs.Blocks.{len_of, class_in, AreBlocks, ListsMarks, HasNoMarks};
 ghost use Rattle.graph_alike.specs.Refined.{IsRefined};
 
 use crate::blocks::Blocks;
@@ -23,7 +23,7 @@ pub fn refine<Ix: Index>(
     requires listed { ListsMarks blocks.old }
     requires unmarked { HasNoMarks blocks.old }
     requires len { len_of blocks.old ≡ length graph.now }
-    requires refined { IsRefined graph.now (class_in blocks.old) (base_in blocks.old) }
+    requires refined { IsRefined graph.now (class_in blocks.old) (λ c. 0) }
     ensures blocks { OnOk result (AreBlocks blocks.new) }
     ensures len { OnOk result (len_of blocks.new ≡ length graph.now) }
     ensures refined { OnOk result (IsRefined graph.now (class_in blocks.new) (λ c. c)) }
@@ -33,7 +33,6 @@ pub fn refine<Ix: Index>(
     let mut class = 0;
     'classes: while class < blocks.count() {
         let pairs = incoming_of(alloc, lists.as_slice(), blocks.members(class))?;
-        blocks.set_base(class);
         split_by_keys(blocks, pairs.as_slice())?;
         class += 1;
     }

@@ -1,20 +1,30 @@
-// What a node looks like in all but the nodes that its parts name, spelled as a list of numbers.
-ghost use Rattle.std.specs.Prelude.{◌≡◌, ◌<◌, ◌↔◌, ◌++◌, ◌⊎◌, ℕ, List, [], ◌∷◌, length, map, if◌then◌else◌, Some, IfOk, OnOk, Contains};
+// What a node looks like in all but the nodes that its parts name, spelled as numbers and letters.
+ghost use Rattle.std.specs.Prelude.{◌≡◌, ◌<◌, ◌↔◌, ◌++◌, ◌⊎◌, ℕ, List, [], ◌∷◌, length, map, flat_map, if◌then◌else◌, Some, IfOk, OnOk, Contains};
 ghost use Rattle.std.specs.List.Sorted.{IsNonDecreasingBy};
 ghost use Rattle.abi_types.specs.Types.{PlainPart};
 ghost use Rattle.abi_types.specs.Graphs.{node_at};
 ghost use Rattle.abi_types.specs.Plain.{plain_label};
 ghost use Rattle.abi_types.specs.Parts.{plain_part};
+ghost use Rattle.abi_types.specs.Seen.{shape_of};
 ghost use Rattle.pair_rules.specs.Same.{kind_number as the_kind_number, group_number as the_group_number};
-ghost use Rattle.graph_alike.specs.Alike.{shape_of};
-ghost use Rattle.graph_alike.specs.Shapes.{label_number as the_label_number, truth_number, spelled_list, spelled_number, spelled_name, spelled_slot, spelled_place, spelled_call, spelled_part, spelled_label, spelled_numbers, spelled_view, spelled};
+ghost use Rattle.graph_alike.specs.Shapes.{label_number as the_label_number, truth_number, spelled_list, spelled_number, spelled_slot, spelled_place, spelled_call, spelled_part, spelled_label, spelled_numbers, spelled_view, spelled, letters_of_label, letters_of_part as the_letters_of_part, letters_of};
 ghost use Rattle.graph_alike.specs.Splits.{key_of, number_at, HaveSameKeys};
-ghost use Rattle.graph_alike.specs.Numbered.{Words, number_in, IsNumbered};
+ghost use Rattle.graph_alike.specs.Numbered.{number_in, AreOneSpelling, IsSpellingOf, IsNumbered};
+ghost use Rattle.graph_alike.specs.declared.shapes.Spelling.{Spelling};
 
 use abi_base::NoMemory;
 use abi_types::{CallShape, Graph, Group, Index, Kind, Label, LabelKind, Part, Place, Slot, View};
+use pair_rules::laws::the_same_are_equal;
 use std::alloc::Global;
 use std::collections::HashMap;
+
+/// A shape as it is spelled: its numbers, among them the length of each name, and the letters of its names, one name after the
+/// other.
+#[derive(PartialEq, Eq, Hash, Drop)]
+pub struct Spelling {
+    pub numbers: Vec<u64>,
+    pub letters: Vec<u8>,
+}
 
 // Each kind has a number of its own, and so have groups, kinds of labels, slots, places and parts.
 
@@ -58,16 +68,6 @@ fn label_number(kind: LabelKind) -> u64
         LabelKind::Typedef => 3,
         LabelKind::Builtin => 4,
     }
-}
-
-fn push_name(into: &mut Vec<u64>, name: &[u8]) -> Result<(), NoMemory>
-    ensures { OnOk result (into.new.items ≡ into.old.items ++ spelled_name name.now) }
-{
-    into.push(name.len() as u64)?;
-    'bytes: for i in 0..name.len() {
-        into.push(u64::from(name[i]))?;
-    }
-    Ok(())
 }
 
 fn push_pair(into: &mut Vec<u64>, one: u64, other: u64) -> Result<(), NoMemory>
@@ -143,19 +143,17 @@ fn push_places(into: &mut Vec<u64>, places: &[Place]) -> Result<(), NoMemory>
     Ok(())
 }
 
-fn push_member(into: &mut Vec<u64>, name: &[u8], bit: u64, width: u64) -> Result<(), NoMemory>
-    ensures { OnOk result (into.new.items ≡ into.old.items ++ 0 ∷ (spelled_name name.now ++ bit ∷ width ∷ [])) }
+fn push_member(into: &mut Vec<u64>, letters: usize, bit: u64, width: u64) -> Result<(), NoMemory>
+    ensures { OnOk result (into.new.items ≡ into.old.items ++ 0 ∷ letters ∷ bit ∷ width ∷ []) }
 {
-    into.push(0)?;
-    push_name(into, name)?;
+    push_pair(into, 0, letters as u64)?;
     push_pair(into, bit, width)
 }
 
-fn push_enumerator(into: &mut Vec<u64>, name: &[u8], value: u64) -> Result<(), NoMemory>
-    ensures { OnOk result (into.new.items ≡ into.old.items ++ 1 ∷ (spelled_name name.now ++ value ∷ [])) }
+fn push_enumerator(into: &mut Vec<u64>, letters: usize, value: u64) -> Result<(), NoMemory>
+    ensures { OnOk result (into.new.items ≡ into.old.items ++ 1 ∷ letters ∷ value ∷ []) }
 {
-    into.push(1)?;
-    push_name(into, name)?;
+    push_pair(into, 1, letters as u64)?;
     push_number(into, value)
 }
 
@@ -169,8 +167,8 @@ fn push_part<Ix: Index>(into: &mut Vec<u64>, part: &Part<Ix>) -> Result<(), NoMe
             bit,
             width,
             ..
-        } => push_member(into, *name, *bit, *width),
-        Part::Enumerator { name, value } => push_enumerator(into, *name, *value),
+        } => push_member(into, name.len(), *bit, *width),
+        Part::Enumerator { name, value } => push_enumerator(into, name.len(), *value),
         Part::Target { .. } => push_number(into, 2),
         Part::Element { .. } => push_number(into, 3),
         Part::Outcome { .. } => push_number(into, 4),
@@ -191,8 +189,7 @@ fn push_parts<Ix: Index>(into: &mut Vec<u64>, parts: &[Part<Ix>]) -> Result<(), 
 fn push_label(into: &mut Vec<u64>, label: &Label) -> Result<(), NoMemory>
     ensures { OnOk result (into.new.items ≡ into.old.items ++ spelled_label (plain_label label.now)) }
 {
-    into.push(label_number(label.kind))?;
-    push_name(into, label.name)
+    push_pair(into, label_number(label.kind), label.name.len() as u64)
 }
 
 fn push_labels(into: &mut Vec<u64>, labels: &[Label]) -> Result<(), NoMemory>
@@ -219,7 +216,7 @@ fn push_numbers<Ix: Index>(into: &mut Vec<u64>, view: &View<Ix>) -> Result<(), N
     push_pair(into, kind_number(view.kind), u64::from(view.declared_only))?;
     push_pair(into, view.size, group_number(view.group))?;
     push_pair(into, view.align, view.count)?;
-    push_number(into, u64::from(view.variadic))
+    push_pair(into, u64::from(view.variadic), view.tag.len() as u64)
 }
 
 #[tactic(auto, unfolding(crate::specs::Shapes::spelled_view))]
@@ -227,37 +224,96 @@ fn push_view<Ix: Index>(into: &mut Vec<u64>, view: &View<Ix>) -> Result<(), NoMe
     ensures { OnOk result (into.new.items ≡ into.old.items ++ spelled_view view.now) }
 {
     push_numbers(into, view)?;
-    push_name(into, view.tag)?;
     push_parts(into, view.parts.as_slice())?;
     push_call(into, &view.call)
 }
 
-// The shape of a node.
-#[tactic(auto, unfolding(crate::specs::Shapes::spelled))]
-fn spell<Ix: Index>(alloc: Global, labels: &[Label], view: &View<Ix>) -> Result<Vec<u64>, NoMemory>
-    ensures { IfOk result (λ words. words.items ≡ spelled (record { labels = map plain_label labels.now; view = view.now })) }
+// The letters of labels.
+fn push_label_letters(into: &mut Vec<u8>, labels: &[Label]) -> Result<(), NoMemory>
+    ensures { OnOk result (into.new.items ≡ into.old.items ++ flat_map letters_of_label (map plain_label labels.now)) }
 {
-    let mut words = Vec::new(alloc);
-    push_labels(&mut words, labels)?;
-    push_view(&mut words, view)?;
-    Ok(words)
+    'labels: for i in 0..labels.len() {
+        into.extend_from_slice(labels[i].name)?;
+    }
+    Ok(())
 }
 
-// The number of a shape, which is `fresh` where it has none yet.
+// The letters of a part.
+fn letters_of_part<'a, Ix: Index>(part: &Part<'a, Ix>) -> &'a [u8]
+    ensures { result.now ≡ the_letters_of_part (plain_part Ix.number_of part.now) }
+{
+    match part {
+        Part::Member { name, .. } | Part::Enumerator { name, .. } => *name,
+        Part::Target { .. } | Part::Element { .. } | Part::Outcome { .. } | Part::Param { .. } => {
+            b""
+        }
+    }
+}
+
+// The letters of parts.
+fn push_part_letters<Ix: Index>(into: &mut Vec<u8>, parts: &[Part<Ix>]) -> Result<(), NoMemory>
+    ensures { OnOk result (into.new.items ≡ into.old.items ++ flat_map the_letters_of_part (map (plain_part Ix.number_of) parts.now)) }
+{
+    'parts: for i in 0..parts.len() {
+        let letters = letters_of_part(&parts[i]);
+        into.extend_from_slice(letters)?;
+    }
+    Ok(())
+}
+
+// The letters of a shape.
+#[tactic(auto, unfolding(crate::specs::Shapes::letters_of))]
+fn push_letters<Ix: Index>(
+    into: &mut Vec<u8>,
+    labels: &[Label],
+    view: &View<Ix>,
+) -> Result<(), NoMemory>
+    ensures { OnOk result (into.new.items ≡ into.old.items ++ letters_of (record { labels = map plain_label labels.now; view = view.now })) }
+{
+    push_label_letters(into, labels)?;
+    into.extend_from_slice(view.tag)?;
+    push_part_letters(into, view.parts.as_slice())
+}
+
+// The shape of a node, in place of what was spelled before.
+#[tactic(auto, unfolding(crate::specs::Shapes::spelled))]
+fn spell<Ix: Index>(into: &mut Spelling, labels: &[Label], view: &View<Ix>) -> Result<(), NoMemory>
+    ensures { OnOk result (IsSpellingOf into.new (record { labels = map plain_label labels.now; view = view.now })) }
+{
+    into.numbers.clear();
+    into.letters.clear();
+    push_labels(&mut into.numbers, labels)?;
+    push_view(&mut into.numbers, view)?;
+    push_letters(&mut into.letters, labels, view)
+}
+
+// The spelling in memory of its own, with no room to spare.
+fn copy(alloc: Global, spelling: &Spelling) -> Result<Spelling, NoMemory>
+    ensures { IfOk result (λ copied. AreOneSpelling copied spelling.now) }
+{
+    Ok(Spelling {
+        numbers: Vec::from_slice(alloc, spelling.numbers.as_slice())?,
+        letters: Vec::from_slice(alloc, spelling.letters.as_slice())?,
+    })
+}
+
+// The number of a spelling, which is `fresh` where it has none yet.
 fn number_of(
-    numbers: &mut HashMap<Vec<u64>, usize>,
-    words: Vec<u64>,
+    alloc: Global,
+    numbers: &mut HashMap<Spelling, usize>,
+    spelling: &Spelling,
     fresh: usize,
 ) -> Result<usize, NoMemory>
-    ensures number { IfOk result (λ number. number_in numbers.new words ≡ Some number) }
-    ensures kept { OnOk result ((key : Words) (n : ℕ) → number_in numbers.old key ≡ Some n → number_in numbers.new key ≡ Some n) }
-    ensures fresh { OnOk result ((key : Words) (n : ℕ) → number_in numbers.new key ≡ Some n → (number_in numbers.old key ≡ Some n) ⊎ ((key.items ≡ words.items) × (n ≡ fresh))) }
+    ensures number { IfOk result (λ number. number_in numbers.new spelling.now ≡ Some number) }
+    ensures kept { OnOk result ((key : Spelling) (n : ℕ) → number_in numbers.old key ≡ Some n → number_in numbers.new key ≡ Some n) }
+    ensures fresh { OnOk result ((key : Spelling) (n : ℕ) → number_in numbers.new key ≡ Some n → (number_in numbers.old key ≡ Some n) ⊎ (AreOneSpelling key spelling.now × (n ≡ fresh))) }
 {
-    match numbers.get(words.as_slice()) {
+    match numbers.get(spelling) {
         Some(number) => return Ok(*number),
         None => {}
     }
-    numbers.insert(words, fresh)?;
+    let copied = copy(alloc, spelling)?;
+    numbers.insert(copied, fresh)?;
     Ok(fresh)
 }
 
@@ -265,12 +321,17 @@ fn number_of(
 fn numbered<Ix: Index>(alloc: Global, graph: &Graph<Ix>) -> Result<Vec<(usize, usize)>, NoMemory>
     ensures { IfOk result (IsNumbered graph.now) }
 {
+    the_same_are_equal();
     let mut numbers = HashMap::new(alloc);
     let mut pairs = Vec::new(alloc);
+    let mut spelling = Spelling {
+        numbers: Vec::new(alloc),
+        letters: Vec::new(alloc),
+    };
     'nodes: for node in 0..graph.len() {
         let ix = Ix::of(node);
-        let words = spell(alloc, graph.labels(ix), graph.view(ix))?;
-        let number = number_of(&mut numbers, words, node)?;
+        spell(&mut spelling, graph.labels(ix), graph.view(ix))?;
+        let number = number_of(alloc, &mut numbers, &spelling, node)?;
         pairs.push((number, node))?;
     }
     Ok(pairs)

@@ -3,8 +3,8 @@ use crate::{alike, plain};
 use abi_base::{List, NoMemory};
 use abi_types::{
     CallShape, Graph, Group, Index, Kind, Label, LabelKind, Node, OldIx, Part, Parts, Place, View,
-    is_graph,
 };
+use hand_graphs::is_graph;
 use std::alloc::Global;
 use std::process::Abort;
 use std::test::Fail;
@@ -95,7 +95,8 @@ fn assert_reps(
     nodes: List<Node<OldIx>>,
     reps: &[usize],
 ) -> Result<(), Fail> {
-    assert!(rt; is_graph(nodes.as_slice()));
+    let is_made = is_graph(alloc, nodes.as_slice())?;
+    assert!(rt; is_made);
     let graph = Graph::of_nodes(alloc, nodes)?;
     assert_eq!(rt; graph.len(), reps.len());
     let classes = alike(alloc, &graph)?;

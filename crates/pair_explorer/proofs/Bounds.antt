@@ -13,7 +13,7 @@ use Rattle.std.proofs.lemmas.Nat.{mul-add-lt, same_from_place}
 use Rattle.abi_types.specs.declared.kind.Way.{Way}
 use Rattle.abi_types.specs.declared.kind.Way.TheVariants.{Direct, Pointer}
 use Rattle.pair_rules.specs.Steps.{Triple}
-use Rattle.pair_rules.proofs.Ranges.{range_with_len_more}
+use Rattle.pair_explorer.proofs.Ranges.{range_with_len_more}
 use Rattle.graph_alike.specs.Classes.{PlainClasses, rep_of, class_reps, class_count}
 use Rattle.pair_explorer.specs.declared.visits.Visit.{Visit}
 use Rattle.pair_explorer.specs.Scopes.{Scope}

@@ -6,16 +6,9 @@ use Rattle.std.proofs.lemmas.Map.Keys.{any_passes_from_place}
 use Rattle.std.proofs.lemmas.Option.{slice_get_cases}
 use Rattle.pair_rules.specs.Steps.{Triple}
 use Rattle.pair_explorer.specs.declared.visits.Visit.{Visit}
-use Rattle.pair_explorer.specs.Visits.{seen, has}
+use Rattle.pair_explorer.specs.Visits.{seen, has, IsVisit}
 use Rattle.pair_explorer.specs.Adding.{added}
 use Rattle.pair_explorer.proofs.Triples.{same_triple-refl, same_triple-is}
-
--- a visit is of the triple
-pub record IsThere (vs : List Visit) (x : Triple) : Type 0 where
-  pub place : ℕ
-  pub visit : Visit
-  pub at : slice_get vs place ≡ Some visit
-  pub is : seen visit ≡ x
 
 -- what stands in `vs` stands in `ws`, at its place
 pub record Extends (vs ws : List Visit) : Type 0 where
@@ -25,8 +18,8 @@ pub has-at : (vs : List Visit) (n : ℕ) (v : Visit) → slice_get vs n ≡ Some
 unfolding has
 has-at vs n v e = any_passes_from_place _ vs n v e (same_triple-refl (seen v))
 
-pub has_there : (vs : List Visit) (x : Triple) → IsThere vs x → has vs x ≡ true
-has_there vs x t = ap (has vs) (sym t.is) ∙ has-at vs t.place t.visit t.at
+pub has_there : (vs : List Visit) (x : Triple) → IsVisit vs x → has vs x ≡ true
+has_there vs x t = ap (has vs) (sym t.is) ∙ has-at vs t.number t.visit t.at
 
 -- an item passes where some item does
 pub any_found : {X : Type 0} (p : X → Bool) (xs : List X) → list_any p xs ≡ true → (n : ℕ) × (x : X) × (slice_get xs n ≡ Some x) × (p x ≡ true)
@@ -37,11 +30,11 @@ any_found p (x ∷ xs) h =
       | inr later ↦ let f = any_found p xs later in (suc f.0, f.1, f.2, f.3)
     ]
 
-pub has_found : (vs : List Visit) (x : Triple) → has vs x ≡ true → IsThere vs x
+pub has_found : (vs : List Visit) (x : Triple) → has vs x ≡ true → IsVisit vs x
 unfolding has
 has_found vs x h =
     let f = any_found _ vs h in
-    record { place = f.0; visit = f.1; at = f.2; is = sym (same_triple-is x (seen f.1) f.3) }
+    record { number = f.0; visit = f.1; at = f.2; is = sym (same_triple-is x (seen f.1) f.3) }
 
 pub Extends-refl : (vs : List Visit) → Extends vs vs
 Extends-refl vs = record { kept = λ n v e. e }

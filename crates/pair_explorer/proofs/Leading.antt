@@ -1,16 +1,14 @@
 -- What a step over representatives leads to.
 use Rattle.std.proofs.Common.{◌≡◌, ◌<◌, ◌≤◌, ℕ, false, length, slice_get, List, [], Option, Some, None, refl, sym, ◌∙◌, ap, subst, inl, inr, arith}
+use Rattle.std.specs.Prelude.{◌↔◌}
 use Rattle.std.specs.Option.{option_map}
 use Rattle.std.proofs.lemmas.Option.{slice_get_within, same_Some, none-some}
 use Rattle.abi_types.specs.declared.kind.Way.{Way}
-use Rattle.abi_types.specs.Types.{PlainPart, PlainView}
-use Rattle.abi_types.specs.Graphs.{part_at, to_of, view_at}
-use Rattle.pair_rules.specs.Partners.{partner_at}
-use Rattle.pair_rules.specs.Ways.{after}
-use Rattle.pair_rules.specs.Steps.{PlainRoot, Triple, is_marked, step, triple_of, led_by, next_of}
+use Rattle.abi_types.specs.Types.{PlainNode, PlainView}
+use Rattle.abi_types.specs.Graphs.{view_at, IsGraph}
+use Rattle.pair_rules.specs.Steps.{PlainRoot, Task, Triple, is_marked, step, next_of, IsStep}
+use Rattle.pair_rules.specs.Stable.{IsInside}
 use Rattle.pair_rules.specs.Paths.{root_triple}
-use Rattle.pair_rules.proofs.Leading.{step-parts, step-from_next, step-inside, IsNext-from_some}
-use Rattle.pair_rules.proofs.Partnering.{IsPartner-from_some, part-inside}
 use Rattle.graph_alike.specs.Classes.{PlainClasses, AreSound, rep_of}
 use Rattle.pair_explorer.specs.declared.visits.Parent.{Parent}
 use Rattle.pair_explorer.specs.declared.visits.Parent.TheVariants.{Root, Step}
@@ -22,8 +20,14 @@ use Rattle.pair_explorer.proofs.Triples.{triple_eq}
 use Rattle.pair_explorer.proofs.Order.{LedBefore}
 use Rattle.pair_explorer.proofs.Visited.{IsPlaced, MayFollow, MayEnter}
 
--- what a caller keeps, and what the types of graphs and classes keep
+-- what the law of steps says
+pub record AreSteps (t : Task) : Type 0 where
+  pub exact : (x y : Triple) (i : ℕ) → (step t x i ≡ Some y) ↔ IsStep t x i y
+  pub inside : (x y : Triple) (i : ℕ) → IsGraph t.old → IsGraph t.new → step t x i ≡ Some y → IsInside t y
+
+-- what a caller keeps, what the types of graphs and classes keep, and what steps are
 pub record IsGround (s : Scope) : Type 0 where
+  pub steps : AreSteps s.task
   pub scope : IsScope s
   pub graphs : AreGraphs s
   pub old : AreSound s.old
@@ -49,30 +53,32 @@ rep_step-parts s x z i e = go (step s.task x i) refl e where
   go (Some y) is e = record { to = y; stepped = is; is = same_Some (rep s y) z e }
 
 -- a step along a part leads on from an unmarked node, and the part is there
-pub step-part : (s : Scope) (x y : Triple) (i : ℕ) → step s.task x i ≡ Some y → (is_marked s.task x.old x.way ≡ false) × (i < length (view_at s.task.old x.old).parts)
-step-part s x y i e =
-    let parts = step-parts s.task x y i e in
-    let next = IsNext-from_some (view_at s.task.old x.old) (view_at s.task.new x.new) x.way i y parts.1 in
-    (parts.0, part-inside (view_at s.task.old x.old) i y.old next.old)
+pub step-part : (s : Scope) → IsGround s → (x y : Triple) (i : ℕ) → step s.task x i ≡ Some y → (is_marked s.task x.old x.way ≡ false) × (i < length (view_at s.task.old x.old).parts)
+step-part s ground x y i e = let is = (ground.steps.exact x y i).0 e in (is.unmarked, is.partners.old_inside)
 
 -- the step that the code takes
-pub next_of-is : (v w : PlainView) (at : Way) (i : ℕ) (p : ℕ × ℕ) (a b : ℕ) → partner_at v w i ≡ Some p → to_of (part_at v p.0) ≡ Some a → to_of (part_at w p.1) ≡ Some b → next_of v w at i ≡ Some (record { old = a; new = b; way = after at (part_at v p.0) })
-unfolding next_of
-next_of-is v w at i p a b partners old new =
-    ap (led_by v w at) partners ∙ ap (λ o. triple_of (after at (part_at v p.0)) o (to_of (part_at w p.1))) old ∙ ap (triple_of (after at (part_at v p.0)) (Some a)) new
+step-is : (s : Scope) (x : Triple) (i : ℕ) (v w : PlainView) → is_marked s.task x.old x.way ≡ false → v ≡ view_at s.task.old x.old → w ≡ view_at s.task.new x.new → step s.task x i ≡ next_of v w x.way i
+unfolding step
+step-is s x i v w unmarked old new = rw unmarked (ap (λ u. next_of u (view_at s.task.new x.new) x.way i) (sym old) ∙ ap (λ u. next_of v u x.way i) (sym new))
 
-pub next_visit-is : (s : Scope) (n i : ℕ) (x : Triple) (v w : PlainView) (p : ℕ × ℕ) (a b r q : ℕ) (way : Way) (part : PlainPart) → is_marked s.task x.old x.way ≡ false → v ≡ view_at s.task.old x.old → w ≡ view_at s.task.new x.new
-    → partner_at v w i ≡ Some p → part ≡ part_at v p.0 → to_of part ≡ Some a → to_of (part_at w p.1) ≡ Some b → r ≡ rep_of s.old a → q ≡ rep_of s.new b → way ≡ after x.way part
-    → next_visit s n x i ≡ Some (record { old = r; new = q; way = way; parent = Step n p.0 })
+-- and what it leads to is there
+pub next-inside : (s : Scope) (x to : Triple) (i : ℕ) (v w : PlainView) → AreSteps s.task → AreGraphs s → is_marked s.task x.old x.way ≡ false → v ≡ view_at s.task.old x.old → w ≡ view_at s.task.new x.new → Some to ≡ next_of v w x.way i → IsInside s.task to
+next-inside s x to i v w steps graphs unmarked old new e = steps.inside x to i graphs.old graphs.new (step-is s x i v w unmarked old new ∙ sym e)
+
+-- a number that is read fits where the nodes are
+pub node-fits : (a b : ℕ) (xs ys : List PlainNode) → a ≡ b → xs ≡ ys → b < length ys → a < length xs
+node-fits a b xs ys same nodes lt = let e = ap length nodes in omega arith
+
+pub next_visit-none : (s : Scope) (n i : ℕ) (x : Triple) (v w : PlainView) → is_marked s.task x.old x.way ≡ false → v ≡ view_at s.task.old x.old → w ≡ view_at s.task.new x.new → None ≡ next_of v w x.way i → None ≡ next_visit s n x i
 unfolding next_visit rep_step
-next_visit-is s n i x v w p a b r q way part unmarked old new partners is_part to_a to_b is_r is_q is_way =
-    let place = (IsPartner-from_some v w i p partners).0 in
-    let to : Triple = record { old = a; new = b; way = after x.way (part_at v p.0) } in
-    let next : next_of v w x.way i ≡ Some to = next_of-is v w x.way i p a b partners (ap to_of (sym is_part) ∙ to_a) to_b in
-    let stepped : step s.task x i ≡ Some to = step-from_next s.task x i unmarked ∙ ap (λ u. next_of u (view_at s.task.new x.new) x.way i) (sym old) ∙ ap (λ u. next_of v u x.way i) (sym new) ∙ next in
-    let mk : ℕ → ℕ → Way → ℕ → Option Visit = λ m k u j. Some (record { old = m; new = k; way = u; parent = Step n j }) in
-    let code : mk r q way p.0 ≡ mk (rep_of s.old a) (rep_of s.new b) to.way i = ap (λ m. mk m q way p.0) is_r ∙ ap (λ k. mk (rep_of s.old a) k way p.0) is_q ∙ ap (λ u. mk (rep_of s.old a) (rep_of s.new b) u p.0) (is_way ∙ ap (after x.way) is_part) ∙ ap (mk (rep_of s.old a) (rep_of s.new b) to.way) place in
-    ap (λ o. visit_to (Step n i) (option_map (rep s) o)) stepped ∙ sym code
+next_visit-none s n i x v w unmarked old new e = ap (λ o. visit_to (Step n i) (option_map (rep s) o)) (e ∙ sym (step-is s x i v w unmarked old new))
+
+pub next_visit-is : (s : Scope) (n i : ℕ) (x to : Triple) (v w : PlainView) (r q : ℕ) → is_marked s.task x.old x.way ≡ false → v ≡ view_at s.task.old x.old → w ≡ view_at s.task.new x.new → Some to ≡ next_of v w x.way i → r ≡ rep_of s.old to.old → q ≡ rep_of s.new to.new
+    → Some (record { old = r; new = q; way = to.way; parent = Step n i }) ≡ next_visit s n x i
+unfolding next_visit rep_step
+next_visit-is s n i x to v w r q unmarked old new e is_r is_q =
+    let mk : ℕ → ℕ → Option Visit = λ a b. Some (record { old = a; new = b; way = to.way; parent = Step n i }) in
+    ap (λ a. mk a q) is_r ∙ ap (mk (rep_of s.old to.old)) is_q ∙ ap (λ o. visit_to (Step n i) (option_map (rep s) o)) (e ∙ sym (step-is s x i v w unmarked old new))
 
 -- ---- representatives
 
@@ -92,8 +98,8 @@ rep-placed s x ground old new = record {
 pub rep_step-placed : (s : Scope) (x z : Triple) (i : ℕ) → IsGround s → rep_step s x i ≡ Some z → IsPlaced s z
 rep_step-placed s x z i ground e =
     let parts = rep_step-parts s x z i e in
-    let inside = step-inside s.task x parts.to i ground.graphs.old ground.graphs.new parts.stepped in
-    subst (IsPlaced s) parts.is (rep-placed s parts.to ground inside.0 inside.1)
+    let inside = ground.steps.inside x parts.to i ground.graphs.old ground.graphs.new parts.stepped in
+    subst (IsPlaced s) parts.is (rep-placed s parts.to ground inside.old inside.new)
 
 -- ---- visits of steps and of roots
 

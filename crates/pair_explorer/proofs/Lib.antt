@@ -5,8 +5,11 @@ pub mod Keyed
 pub mod Leading
 pub mod Loop
 pub mod Order
+pub mod Ranges
 pub mod Representatives
 pub mod Scoped
+pub mod Sources
+pub mod Spelled
 pub mod Triples
 pub mod Verdict
 pub mod Visited

@@ -8,7 +8,7 @@ use Rattle.abi_types.specs.Graphs.{view_at}
 use Rattle.pair_rules.specs.declared.rules.Broken.{Broken}
 use Rattle.pair_rules.specs.Steps.{PlainRoot, Task, Triple, is_marked}
 use Rattle.pair_rules.specs.Paths.{Path, From, Then, root_triple}
-use Rattle.pair_rules.proofs.Ranges.{range_with_len_more}
+use Rattle.pair_explorer.proofs.Ranges.{range_with_len_more}
 use Rattle.pair_explorer.specs.declared.visits.Parent.{Parent}
 use Rattle.pair_explorer.specs.declared.visits.Parent.TheVariants.{Root, Step}
 use Rattle.pair_explorer.specs.declared.visits.Visit.{Visit}
@@ -17,7 +17,7 @@ use Rattle.pair_explorer.specs.Visits.{seen, has, Along, AreEarlier, IsEarlier}
 use Rattle.pair_explorer.specs.Adding.{visit_of, entered, next_visit, root_visit, expanded}
 use Rattle.pair_explorer.specs.Explorations.{visit_breaks, some_breaks, breaks_below, IsExploration}
 use Rattle.pair_explorer.proofs.Growth.{Extends, Extends-refl, has_there, at_below}
-use Rattle.pair_explorer.proofs.Order.{IsThereBy, first_of, same_path}
+use Rattle.pair_explorer.proofs.Order.{IsThereBy, first_of, same_path, path_before}
 use Rattle.pair_explorer.proofs.Visited.{IsLed, IsVisited, IsVisited-none, IsEntered-entered, IsThereBy-Extends}
 use Rattle.pair_explorer.proofs.Leading.{IsGround, IsUnder, under-more, step-part, rep_step_of, rep_step-parts, next_visit-parts, next_visit_at, root_visit-parts, root_visit_at, MayEnter-next, MayEnter-root}
 
@@ -99,14 +99,14 @@ unfolding expanded
 IsGoing-more s ground vs m broken v at was =
     elim (cases_Bool (is_marked s.task v.old v.way)) [
       | inl marked ↦ rw marked (IsGoing-next s vs vs m broken v at was was.visited (Extends-refl vs)
-          (λ i y e. let parts = rep_step-parts s (seen v) y i e in absurd (false≢true (sym (step-part s (seen v) parts.to i parts.stepped).0 ∙ marked)))
+          (λ i y e. let parts = rep_step-parts s (seen v) y i e in absurd (false≢true (sym (step-part s ground (seen v) parts.to i parts.stepped).0 ∙ marked)))
           (λ n u at_n. under-more m (suc m) u.parent (omega arith) (was.under n u at_n)))
       | inr unmarked ↦
           let all = IsEntered-entered s (next_visit s m (seen v)) (length (view_at s.task.old v.old).parts) vs was.visited (MayEnter-next s vs m v ground at was.under) in
           rw unmarked (IsGoing-next s vs _ m broken v at was all.visited all.grows
           (λ i y e.
           let parts = rep_step-parts s (seen v) y i e in
-          all.entered i (visit_of y (Step m i)) (step-part s (seen v) parts.to i parts.stepped).1 (next_visit_at s m i (seen v) y e))
+          all.entered i (visit_of y (Step m i)) (step-part s ground (seen v) parts.to i parts.stepped).1 (next_visit_at s m i (seen v) y e))
           (λ n u at_n. elim (all.sources n u at_n) [
             | inl there ↦ under-more m (suc m) u.parent (omega arith) (was.under n u there)
             | inr new ↦ let p = next_visit-parts s m new.0 (seen v) u new.2 in rw p.0 (omega arith)
@@ -144,7 +144,7 @@ are_earlier s vs was = λ n v at. go n (seen v) v.parent (was.led n v at) where
   go n x (Step pair part) led = led.1
 
 there : (vs : List Visit) (x : Triple) (parent : Parent) → IsThereBy vs x parent → has vs x ≡ true
-there vs x parent t = has_there vs x (record { place = t.place; visit = t.visit; at = t.at; is = t.is })
+there vs x parent t = has_there vs x (record { number = t.place; visit = t.visit; at = t.at; is = t.is })
 
 -- at the end all is explored
 pub IsExploration-end : (s : Scope) (vs : List Visit) (m : ℕ) (broken : List (ℕ × Broken)) → IsGoing s vs m broken → length vs ≤ m → IsExploration s vs broken
@@ -161,6 +161,7 @@ IsExploration-end s vs m broken was past =
           let one = was.visited.once h.place n h.visit v h.at at h.is in
           let same = same_path vs n h.path path (rw one at h.along) along in
           rw same at h.first;
+      ascending = λ m n path later lt along along_later. path_before vs was.visited.ordered m n path later lt along along_later;
       earlier = are_earlier s vs was.visited;
       once = was.visited.once;
       represented = λ n v at. (was.visited.placed n v at).own;

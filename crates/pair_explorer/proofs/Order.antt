@@ -36,6 +36,15 @@ pub IsBefore-not_after : (p q r : Path) → IsBefore p q → IsNotAfter q r → 
 IsBefore-not_after p q r a (inl b) = IsBefore-trans p q r a b
 IsBefore-not_after p q r a (inr b) = rw (← b) a
 
+pub IsNotAfter-trans : (p q r : Path) → IsNotAfter p q → IsNotAfter q r → IsNotAfter p r
+IsNotAfter-trans p q r (inl a) b = inl (IsBefore-not_after p q r a b)
+IsNotAfter-trans p q r (inr a) b = subst (λ x. IsNotAfter x r) (sym a) b
+
+pub IsBefore-irreflexive : (p : Path) → IsBefore p p → ⊥
+IsBefore-irreflexive (From j) before = omega arith
+IsBefore-irreflexive (Then p j) (inl before) = IsBefore-irreflexive p before
+IsBefore-irreflexive (Then p j) (inr same) = omega (arith, same.1)
+
 -- one visit has one path
 pub same_path : (vs : List Visit) (n : ℕ) (p q : Path) → Along vs n p → Along vs n q → p ≡ q
 same_path vs n (From j) (From k) (u, at_u, is_u) (v, at_v, is_v) = let same = same_Some u v (sym at_u ∙ at_v) in let e : Root j ≡ Root k = sym is_u ∙ ap (λ (x : Visit). x.parent) same ∙ is_v in cc

@@ -1,30 +1,53 @@
 -- What one node of each class tells of all others.
-use Rattle.std.proofs.Common.{◌≡◌, ℕ, true, false, List, Option, None, refl, sym, ◌∙◌, ap, inl, inr}
+use Rattle.std.proofs.Common.{◌≡◌, ◌<◌, ◌≤◌, ℕ, true, false, length, List, Option, None, refl, sym, ◌∙◌, ap, inl, inr, arith}
 use Rattle.std.specs.Option.{option_map}
-use Rattle.std.proofs.lemmas.Bool.{cases_Bool}
+use Rattle.std.proofs.lemmas.Bool.{cases_Bool, cases_lt}
 use Rattle.abi_types.specs.declared.kind.Way.{Way}
 use Rattle.abi_types.specs.declared.kind.Way.TheVariants.{Direct, Pointer}
-use Rattle.abi_types.specs.Types.{PlainNode}
-use Rattle.abi_types.specs.Graphs.{view_at}
+use Rattle.abi_types.specs.Types.{PlainNode, PlainView}
+use Rattle.abi_types.specs.Graphs.{node_at, view_at}
 use Rattle.pair_rules.specs.TypeRules.{breaks}
-use Rattle.pair_rules.specs.Steps.{Triple, is_marked, breaks_of, step, next_of}
+use Rattle.pair_rules.specs.Steps.{Task, Triple, is_marked, breaks_of, step, next_of}
 use Rattle.pair_rules.specs.Paths.{Path, From, Then, root_triple, Leads}
-use Rattle.pair_rules.proofs.Leading.{step-from_next}
-use Rattle.graph_alike.specs.Alike.{Look, view_seen}
+use Rattle.abi_types.specs.Seen.{Look, look_of, view_seen}
+use Rattle.pair_rules.specs.Stable.{classed}
 use Rattle.graph_alike.specs.Classes.{PlainClasses, AreSound, rep_of}
-use Rattle.graph_alike.proofs.Unseen.{next_of-seen, breaks-seen}
 use Rattle.pair_explorer.specs.Scopes.{Scope, rep, rep_step, LeadsByRep}
 use Rattle.pair_explorer.specs.ByClass.{IsSound}
+use Rattle.pair_explorer.proofs.Scoped.{rep_past}
 use Rattle.pair_explorer.proofs.Triples.{triple_eq}
 use Rattle.pair_explorer.proofs.Leading.{rep_step_of, rep_step-parts}
+
+-- what the law of rules says: rules and steps see of the nodes that parts name only which they are
+pub record AreUnseen : Type 0 where
+  pub breaks : (f g : ℕ → ℕ) (v w : PlainView) → breaks (view_seen f v) (view_seen g w) ≡ breaks v w
+  pub steps : (f g : ℕ → ℕ) (v w : PlainView) (way : Way) (i : ℕ) → next_of (view_seen f v) (view_seen g w) way i ≡ option_map (classed f g) (next_of v w way i)
+
+-- past the end each number stands for itself, so nodes and what is past them are never of one class
+all_stable : (c : PlainClasses) → AreSound c → (a b : ℕ) → rep_of c a ≡ rep_of c b → look_of (rep_of c) (node_at c.nodes a) ≡ look_of (rep_of c) (node_at c.nodes b)
+all_stable c sound a b e =
+    elim (cases_lt a (length c.nodes)) [
+      | inl a_in ↦ elim (cases_lt b (length c.nodes)) [
+        | inl b_in ↦ sound.stable a b a_in b_in e
+        | inr b_past ↦ let u = sound.inside a a_in in let v = rep_past c b sound b_past in absurd (omega arith)
+      ]
+      | inr a_past ↦ elim (cases_lt b (length c.nodes)) [
+        | inl b_in ↦ let u = sound.inside b b_in in let v = rep_past c a sound a_past in absurd (omega arith)
+        | inr b_past ↦ let same : a ≡ b = sym (rep_past c a sound a_past) ∙ e ∙ rep_past c b sound b_past in ap (λ (k : ℕ). look_of (rep_of c) (node_at c.nodes k)) same
+      ]
+    ]
 
 -- nodes of one class look the same, but for which nodes of one class their parts name
 seen_same : (c : PlainClasses) (nodes : List PlainNode) (a b : ℕ) → AreSound c → c.nodes ≡ nodes → rep_of c a ≡ rep_of c b → view_seen (rep_of c) (view_at nodes a) ≡ view_seen (rep_of c) (view_at nodes b)
 seen_same c nodes a b sound same e =
-    let looks : view_seen (rep_of c) (view_at c.nodes a) ≡ view_seen (rep_of c) (view_at c.nodes b) = ap (λ (l : Look). l.view) (sound.stable a b e) in
+    let looks : view_seen (rep_of c) (view_at c.nodes a) ≡ view_seen (rep_of c) (view_at c.nodes b) = ap (λ (l : Look). l.view) (all_stable c sound a b e) in
     rw same at looks
 
-module _ (s : Scope) (sound : IsSound s) where
+step-from_next : (t : Task) (x : Triple) (i : ℕ) → is_marked t x.old x.way ≡ false → step t x i ≡ next_of (view_at t.old x.old) (view_at t.new x.new) x.way i
+unfolding step
+step-from_next t x i unmarked = rw unmarked refl
+
+module _ (unseen : AreUnseen) (s : Scope) (sound : IsSound s) where
   pub rep_twice : (x : Triple) → rep s (rep s x) ≡ rep s x
   rep_twice x = triple_eq (rep s (rep s x)) (rep s x) (sound.old.own x.old) (sound.new.own x.new) refl
 
@@ -45,8 +68,8 @@ module _ (s : Scope) (sound : IsSound s) where
   -- they break the same rules
   pub breaks_same : (x y : Triple) → rep s x ≡ rep s y → breaks_of s.task x ≡ breaks_of s.task y
   breaks_same x y e =
-      sym (breaks-seen (rep_of s.old) (rep_of s.new) (view_at s.task.old x.old) (view_at s.task.new x.new)) ∙ ap (λ v. breaks v (view_seen (rep_of s.new) (view_at s.task.new x.new))) (old_same x y e) ∙ ap (breaks (view_seen (rep_of s.old) (view_at s.task.old y.old))) (new_same x y e)
-      ∙ breaks-seen (rep_of s.old) (rep_of s.new) (view_at s.task.old y.old) (view_at s.task.new y.new)
+      sym (unseen.breaks (rep_of s.old) (rep_of s.new) (view_at s.task.old x.old) (view_at s.task.new x.new)) ∙ ap (λ v. breaks v (view_seen (rep_of s.new) (view_at s.task.new x.new))) (old_same x y e) ∙ ap (breaks (view_seen (rep_of s.old) (view_at s.task.old y.old))) (new_same x y e)
+      ∙ unseen.breaks (rep_of s.old) (rep_of s.new) (view_at s.task.old y.old) (view_at s.task.new y.new)
 
   -- what the types of a triple lead to over representatives
   next : Triple → ℕ → Option Triple
@@ -64,7 +87,7 @@ module _ (s : Scope) (sound : IsSound s) where
 
   rep_step-unmarked : (x : Triple) (i : ℕ) → is_marked s.task x.old x.way ≡ false → rep_step s x i ≡ next x i
   unfolding rep_step next
-  rep_step-unmarked x i unmarked = ap (option_map (rep s)) (step-from_next s.task x i unmarked) ∙ sym (next_of-seen (rep_of s.old) (rep_of s.new) (view_at s.task.old x.old) (view_at s.task.new x.new) x.way i)
+  rep_step-unmarked x i unmarked = ap (option_map (rep s)) (step-from_next s.task x i unmarked) ∙ sym (unseen.steps (rep_of s.old) (rep_of s.new) (view_at s.task.old x.old) (view_at s.task.new x.new) x.way i)
 
   -- and they lead to the same representatives
   pub rep_step_same : (x y : Triple) (i : ℕ) → rep s x ≡ rep s y → rep_step s x i ≡ rep_step s y i

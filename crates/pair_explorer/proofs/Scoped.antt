@@ -81,7 +81,7 @@ AreEvenBelow-more classes marks n r here there was n_inside r_inside is_r is_her
 }
 
 -- past the end each number stands for itself
-rep_past : (classes : PlainClasses) (a : ℕ) → AreSound classes → length classes.nodes ≤ a → rep_of classes a ≡ a
+pub rep_past : (classes : PlainClasses) (a : ℕ) → AreSound classes → length classes.nodes ≤ a → rep_of classes a ≡ a
 unfolding rep_in
 rep_past classes a sound past = get_or_past classes.reps a a (omega (arith, sound.each))
 

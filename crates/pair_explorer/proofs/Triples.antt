@@ -4,8 +4,8 @@ use Rattle.std.proofs.lemmas.Bool.{and_parts, and_from, eqb-true, eq-eqb}
 use Rattle.abi_types.specs.declared.kind.Way.{Way}
 use Rattle.abi_types.specs.declared.kind.Way.TheVariants.{Direct, Pointer}
 use Rattle.pair_rules.specs.Steps.{Triple}
-use Rattle.pair_explorer.specs.Visits.{is_pointer, same_way, same_triple}
-use Rattle.pair_explorer.specs.Keys.{way_at}
+use Rattle.pair_rules.specs.Steps.{is_pointer}
+use Rattle.pair_explorer.specs.Visits.{same_way, same_triple}
 
 pub same_way-refl : (w : Way) → same_way w w ≡ true
 same_way-refl Direct = refl
@@ -16,14 +16,6 @@ same_way-is Direct Direct e = refl
 same_way-is Direct Pointer e = absurd cc
 same_way-is Pointer Direct e = absurd cc
 same_way-is Pointer Pointer e = refl
-
-pub way_at-is_pointer : (w : Way) → way_at (is_pointer w) ≡ w
-way_at-is_pointer Direct = refl
-way_at-is_pointer Pointer = refl
-
-pub is_pointer-way_at : (b : Bool) → is_pointer (way_at b) ≡ b
-is_pointer-way_at true = refl
-is_pointer-way_at false = refl
 
 pub triple_eq : (x y : Triple) → x.old ≡ y.old → x.new ≡ y.new → x.way ≡ y.way → x ≡ y
 triple_eq x y a b c =

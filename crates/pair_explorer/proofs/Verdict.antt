@@ -1,5 +1,5 @@
 -- What an exploration says of all nodes.
-use Rattle.std.proofs.Common.{◌≡◌, ◌<◌, ◌≤◌, ℕ, zero, suc, true, false, length, slice_get, List, [], ◌∷◌, ◌++◌, map, Some, refl, sym, ◌∙◌, ap, subst, inl, inr, arith, length-append}
+use Rattle.std.proofs.Common.{◌≡◌, ◌<◌, ◌≤◌, ℕ, zero, suc, Bool, true, false, length, slice_get, List, [], ◌∷◌, ◌++◌, map, Some, refl, sym, ◌∙◌, ap, subst, inl, inr, arith, length-append}
 use Rattle.std.specs.List.{Contains}
 use Rattle.std.proofs.lemmas.Bool.{cases_order, cases_Bool}
 use Rattle.std.proofs.lemmas.List.{nil_from_length, length-map, get_or-map}
@@ -8,18 +8,17 @@ use Rattle.std.proofs.lemmas.Option.{slice_get_within, same_Some}
 use Rattle.pair_rules.specs.declared.rules.Broken.{Broken}
 use Rattle.pair_rules.specs.Steps.{Task, Triple, is_marked, breaks_of}
 use Rattle.pair_rules.specs.Paths.{Path, From, Then, IsReachable, Leads}
-use Rattle.pair_rules.specs.Closed.{AreCompatible}
-use Rattle.pair_rules.proofs.Leading.{related_from_path}
+use Rattle.pair_rules.specs.Closed.{AreCompatible, IsClosed, HoldsRoots}
 use Rattle.pair_explorer.specs.declared.visits.Visit.{Visit}
 use Rattle.pair_explorer.specs.Scopes.{Scope, rep, rep_step, LeadsByRep}
-use Rattle.pair_explorer.specs.Visits.{seen, has, Along}
+use Rattle.pair_explorer.specs.Visits.{seen, has, IsVisit, Along}
 use Rattle.pair_explorer.specs.Explorations.{IsExploration, visit_breaks, breaks_below}
-use Rattle.pair_explorer.specs.ByClass.{IsSound, IsTold, IsToldBy}
-use Rattle.pair_explorer.proofs.Growth.{IsThere, has_found, at_below}
+use Rattle.pair_explorer.specs.ByClass.{IsSound, IsTold, IsToldBy, IsReached, covers}
+use Rattle.pair_explorer.proofs.Growth.{has_found, at_below}
 use Rattle.pair_explorer.proofs.Leading.{rep_step_of, rep_step-parts}
 use Rattle.pair_explorer.proofs.Loop.{breaks_below-more}
 use Rattle.pair_explorer.proofs.Order.{same_path}
-use Rattle.pair_explorer.proofs.Representatives.{rep_twice, marked_same, breaks_same, rep_step_same, goes, comes}
+use Rattle.pair_explorer.proofs.Representatives.{AreUnseen, rep_twice, marked_same, breaks_same, rep_step_same, goes, comes}
 
 -- ---- lists
 
@@ -33,12 +32,12 @@ left-nil xs ys e = nil_from_length xs (omega (arith, length-append xs ys, ap len
 right-nil : {X : Type 0} (xs ys : List X) → xs ++ ys ≡ [] → ys ≡ []
 right-nil xs ys e = nil_from_length ys (omega (arith, length-append xs ys, ap length e))
 
-Contains-mapped : {X Y : Type 0} (f : X → Y) (xs : List X) (x : X) → Contains xs x → Contains (map f xs) (f x)
+pub Contains-mapped : {X Y : Type 0} (f : X → Y) (xs : List X) (x : X) → Contains xs x → Contains (map f xs) (f x)
 Contains-mapped f xs x (k, lt, is) =
     let lt' : k < length (map f xs) = rw (length-map xs f) lt in
     (k, lt', get_or-map f xs k x (f x) lt ∙ ap f is)
 
-Contains-map_source : {X Y : Type 0} (f : X → Y) (xs : List X) (y : Y) → Contains (map f xs) y → (x : X) × Contains xs x × (f x ≡ y)
+pub Contains-map_source : {X Y : Type 0} (f : X → Y) (xs : List X) (y : Y) → Contains (map f xs) y → (x : X) × Contains xs x × (f x ≡ y)
 Contains-map_source f [] y (k, lt, is) = absurd (omega (arith, lt))
 Contains-map_source f (x ∷ xs) y (zero, lt, is) = (x, (0, omega arith, refl), is)
 Contains-map_source f (x ∷ xs) y (suc k, lt, is) =
@@ -50,11 +49,11 @@ not_contains_nil x (k, lt, is) = omega (arith, lt)
 
 -- ---- the breaks of visits
 
-visit_breaks-marked : (t : Task) (n : ℕ) (v : Visit) → is_marked t v.old v.way ≡ true → visit_breaks t n v ≡ []
+pub visit_breaks-marked : (t : Task) (n : ℕ) (v : Visit) → is_marked t v.old v.way ≡ true → visit_breaks t n v ≡ []
 unfolding visit_breaks
 visit_breaks-marked t n v marked = rw marked refl
 
-visit_breaks-unmarked : (t : Task) (n : ℕ) (v : Visit) → is_marked t v.old v.way ≡ false → visit_breaks t n v ≡ map (λ b. (n, b)) (breaks_of t (seen v))
+pub visit_breaks-unmarked : (t : Task) (n : ℕ) (v : Visit) → is_marked t v.old v.way ≡ false → visit_breaks t n v ≡ map (λ b. (n, b)) (breaks_of t (seen v))
 unfolding visit_breaks
 visit_breaks-unmarked t n v unmarked = rw unmarked refl
 
@@ -82,7 +81,7 @@ none_below t vs (suc m) n v none le lt at =
       | inr (inr above) ↦ absurd (omega arith)
     ]
 
-breaks_below-zero : (t : Task) (vs : List Visit) → breaks_below t vs 0 ≡ []
+pub breaks_below-zero : (t : Task) (vs : List Visit) → breaks_below t vs 0 ≡ []
 unfolding breaks_below
 breaks_below-zero t vs = refl
 
@@ -135,10 +134,14 @@ told_below t vs (suc m) n v b le lt at unmarked breaks =
 
 -- ---- all nodes
 
-module _ (s : Scope) (vs : List Visit) (broken : List (ℕ × Broken)) (sound : IsSound s) (explored : IsExploration s vs broken) where
+-- what the law of closed relations says
+abbrev pub HoldReachable : Type 0
+HoldReachable = (t : Task) (r : Triple → Bool) (path : Path) (x : Triple) → IsClosed t r → HoldsRoots t r → Leads t path x → r x ≡ true
+
+module _ (unseen : AreUnseen) (s : Scope) (vs : List Visit) (broken : List (ℕ × Broken)) (sound : IsSound s) (explored : IsExploration s vs broken) where
   -- the representatives of a visit are itself
-  visit_rep : (x : Triple) (there : IsThere vs (rep s x)) → rep s (seen there.visit) ≡ rep s x
-  visit_rep x there = ap (rep s) there.is ∙ rep_twice s sound x
+  visit_rep : (x : Triple) (there : IsVisit vs (rep s x)) → rep s (seen there.visit) ≡ rep s x
+  visit_rep x there = ap (rep s) there.is ∙ rep_twice unseen s sound x
 
   -- what a path over representatives leads to was reached
   reached : (path : Path) (z : Triple) → LeadsByRep s path z → has vs z ≡ true
@@ -146,38 +149,53 @@ module _ (s : Scope) (vs : List Visit) (broken : List (ℕ × Broken)) (sound : 
   reached (Then path part) z (y, leads, stepped) =
       let there = has_found vs y (reached path y leads) in
       let to = rep_step-parts s (seen there.visit) z part (ap (λ x. rep_step s x part) there.is ∙ stepped) in
-      ap (has vs) (sym to.is) ∙ explored.partners there.place part there.visit to.to there.at to.stepped
+      ap (has vs) (sym to.is) ∙ explored.partners there.number part there.visit to.to there.at to.stepped
 
   -- without a break, the triples whose representatives were reached are a closed relation
+  pub closed_from_none : broken ≡ [] → IsClosed s.task (covers s vs)
+  closed_from_none none =
+      let none' : breaks_below s.task vs (length vs) ≡ [] = sym explored.breaks ∙ none in
+      record {
+        keeps = λ x h unmarked.
+            let there = has_found vs (rep s x) h in
+            let same = visit_rep x there in
+            let unmarked' = marked_same unseen s sound (seen there.visit) x same ∙ unmarked in
+            let none_there = none_below s.task vs (length vs) there.number there.visit none' (omega arith) (slice_get_within vs there.number there.visit there.at) there.at in
+            sym (breaks_same unseen s sound (seen there.visit) x same) ∙ breaks_from_none s.task there.number there.visit none_there unmarked';
+        leads_on = λ x y i h stepped.
+            let there = has_found vs (rep s x) h in
+            let same = visit_rep x there in
+            let to = rep_step-parts s (seen there.visit) (rep s y) i (rep_step_same unseen s sound (seen there.visit) x i same ∙ rep_step_of s x y i stepped) in
+            ap (has vs) (sym to.is) ∙ explored.partners there.number i there.visit to.to there.at to.stepped;
+      }
+
   pub compatible_from_none : broken ≡ [] → AreCompatible s.task
-  compatible_from_none none =
-      let none' : breaks_below s.task vs (length vs) ≡ [] = sym explored.breaks ∙ none in (
-        (λ x. has vs (rep s x)),
-        record {
-          keeps = λ x h unmarked.
-              let there = has_found vs (rep s x) h in
-              let same = visit_rep x there in
-              let unmarked' = marked_same s sound (seen there.visit) x same ∙ unmarked in
-              let none_there = none_below s.task vs (length vs) there.place there.visit none' (omega arith) (slice_get_within vs there.place there.visit there.at) there.at in
-              sym (breaks_same s sound (seen there.visit) x same) ∙ breaks_from_none s.task there.place there.visit none_there unmarked';
-          leads_on = λ x y i h stepped.
-              let there = has_found vs (rep s x) h in
-              let same = visit_rep x there in
-              let to = rep_step-parts s (seen there.visit) (rep s y) i (rep_step_same s sound (seen there.visit) x i same ∙ rep_step_of s x y i stepped) in
-              ap (has vs) (sym to.is) ∙ explored.partners there.place i there.visit to.to there.at to.stepped;
-        },
-        explored.roots,
-      )
+  compatible_from_none none = (covers s vs, closed_from_none none, explored.roots)
+
+  -- what is reachable is covered
+  pub covered : (x : Triple) → IsReachable s.task x → covers s vs x ≡ true
+  covered x (path, leads) = reached path (rep s x) (goes unseen s sound path x leads)
+
+  -- what was reached are the representatives of a reachable triple
+  pub reached_is : (z : Triple) → has vs z ≡ true → IsReached s z
+  reached_is z h =
+      let there = has_found vs z h in
+      let path = explored.reached there.number there.visit there.at in
+      let x = comes unseen s sound path.0 (seen there.visit) path.2 in
+      record { triple = x.0; path = path.0; leads = x.1; is = x.2 ∙ there.is }
+
+  pub reached_from : (z : Triple) → IsReached s z → has vs z ≡ true
+  reached_from z r = ap (has vs) (sym r.is) ∙ covered r.triple (r.path, r.leads)
 
   -- where types are compatible, no visit breaks a rule
-  pub none_from_compatible : AreCompatible s.task → broken ≡ []
-  none_from_compatible (r, closed, roots) =
+  pub none_from_compatible : HoldReachable → AreCompatible s.task → broken ≡ []
+  none_from_compatible holds (r, closed, roots) =
       explored.breaks ∙ none_below_all s.task vs (length vs) (omega arith) (λ n v at.
       let path = explored.reached n v at in
-      let x = comes s sound path.0 (seen v) path.2 in
+      let x = comes unseen s sound path.0 (seen v) path.2 in
       let same : rep s x.0 ≡ rep s (seen v) = x.2 ∙ sym (explored.represented n v at) in
       none_from_breaks s.task n v (λ unmarked.
-      sym (breaks_same s sound x.0 (seen v) same) ∙ closed.keeps x.0 (related_from_path s.task r closed roots path.0 x.0 x.1) (marked_same s sound x.0 (seen v) same ∙ unmarked)))
+      sym (breaks_same unseen s sound x.0 (seen v) same) ∙ closed.keeps x.0 (holds s.task r path.0 x.0 closed roots x.1) (marked_same unseen s sound x.0 (seen v) same ∙ unmarked)))
 
   same_reps : (x : Triple) (v : Visit) (n : ℕ) → slice_get vs n ≡ Some v → rep s x ≡ seen v → rep s x ≡ rep s (seen v)
   same_reps x v n at is = is ∙ sym (explored.represented n v at)
@@ -189,9 +207,9 @@ module _ (s : Scope) (vs : List Visit) (broken : List (ℕ × Broken)) (sound : 
       record {
         triple = x;
         leads = leads;
-        first = λ other y leads_y same_y. explored.first n at.visit path other at.at along (subst (LeadsByRep s other) (same_y ∙ is) (goes s sound other y leads_y));
-        unmarked = marked_same s sound x (seen at.visit) same ∙ at.unmarked;
-        breaks = subst (λ (bs : List Broken). Contains bs b) (sym (breaks_same s sound x (seen at.visit) same)) at.breaks;
+        first = λ other y leads_y same_y. explored.first n at.visit path other at.at along (subst (LeadsByRep s other) (same_y ∙ is) (goes unseen s sound other y leads_y));
+        unmarked = marked_same unseen s sound x (seen at.visit) same ∙ at.unmarked;
+        breaks = subst (λ (bs : List Broken). Contains bs b) (sym (breaks_same unseen s sound x (seen at.visit) same)) at.breaks;
         visit = at.visit;
         at = at.at;
         is = is;
@@ -206,19 +224,19 @@ module _ (s : Scope) (vs : List Visit) (broken : List (ℕ × Broken)) (sound : 
   pub told_by : (n : ℕ) (b : Broken) (path : Path) → Contains broken (n, b) → Along vs n path → IsToldBy s vs n b path
   told_by n b path contains along =
       let at = broken_below s.task vs (length vs) n b (omega arith) (subst (λ (xs : List (ℕ × Broken)). Contains xs (n, b)) explored.breaks contains) in
-      let x = comes s sound path (seen at.visit) (leads_there n at.visit path at.at along) in
+      let x = comes unseen s sound path (seen at.visit) (leads_there n at.visit path at.at along) in
       told_of n b path at x.0 along x.1 x.2
 
   pub told : (x : Triple) (b : Broken) → IsReachable s.task x → is_marked s.task x.old x.way ≡ false → Contains (breaks_of s.task x) b → IsTold s vs broken x b
   told x b (path, leads) unmarked breaks =
-      let there = has_found vs (rep s x) (reached path (rep s x) (goes s sound path x leads)) in
+      let there = has_found vs (rep s x) (reached path (rep s x) (goes unseen s sound path x leads)) in
       let same = visit_rep x there in
-      let unmarked' = marked_same s sound (seen there.visit) x same ∙ unmarked in
-      let breaks' = subst (λ (bs : List Broken). Contains bs b) (sym (breaks_same s sound (seen there.visit) x same)) breaks in
+      let unmarked' = marked_same unseen s sound (seen there.visit) x same ∙ unmarked in
+      let breaks' = subst (λ (bs : List Broken). Contains bs b) (sym (breaks_same unseen s sound (seen there.visit) x same)) breaks in
       record {
-        number = there.place;
+        number = there.number;
         visit = there.visit;
         at = there.at;
         is = sym there.is;
-        told = subst (λ (xs : List (ℕ × Broken)). Contains xs (there.place, b)) (sym explored.breaks) (told_below s.task vs (length vs) there.place there.visit b (omega arith) (slice_get_within vs there.place there.visit there.at) there.at unmarked' breaks');
+        told = subst (λ (xs : List (ℕ × Broken)). Contains xs (there.number, b)) (sym explored.breaks) (told_below s.task vs (length vs) there.number there.visit b (omega arith) (slice_get_within vs there.number there.visit there.at) there.at unmarked' breaks');
       }

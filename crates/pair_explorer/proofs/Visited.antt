@@ -108,7 +108,7 @@ IsThereBy-added vs x above =
     elim (cases_Bool (has vs (seen x))) [
       | inl there ↦
           let f = has_found vs (seen x) there in
-          rw there (record { place = f.place; visit = f.visit; at = f.at; is = f.is; by = inl (above f.place f.visit f.at) })
+          rw there (record { place = f.number; visit = f.visit; at = f.at; is = f.is; by = inl (above f.number f.visit f.at) })
       | inr new ↦ rw new (record { place = length vs; visit = x; at = slice_get_last vs x; is = refl; by = inr refl })
     ]
 

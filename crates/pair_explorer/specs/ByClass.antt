@@ -1,12 +1,13 @@
 -- What holds over representatives, and over all nodes.
-use Rattle.std.specs.Prelude.{◌≡◌, ℕ, false, List, Some, Contains, slice_get}
+use Rattle.std.specs.Prelude.{◌≡◌, ◌<◌, ◌⊎◌, ℕ, Bool, false, List, Some, Contains, slice_get}
 use Rattle.graph_alike.specs.Classes.{AreSound}
 use Rattle.pair_rules.specs.declared.rules.Broken.{Broken}
+use Rattle.pair_rules.specs.BreakOrder.{IsBrokenBefore}
 use Rattle.pair_rules.specs.Steps.{Triple, is_marked, breaks_of}
 use Rattle.pair_rules.specs.Paths.{Path, Leads, IsNotAfter}
 use Rattle.pair_explorer.specs.declared.visits.Visit.{Visit}
 use Rattle.pair_explorer.specs.Scopes.{Scope, IsScope, rep}
-use Rattle.pair_explorer.specs.Visits.{seen}
+use Rattle.pair_explorer.specs.Visits.{seen, has}
 
 -- what a caller keeps, and what the types of classes keep
 pub record IsSound (s : Scope) : Type 0 where
@@ -35,3 +36,18 @@ pub record IsTold (s : Scope) (visits : List Visit) (breaks : List (ℕ × Broke
   pub at : slice_get visits number ≡ Some visit
   pub is : rep s x ≡ seen visit
   pub told : Contains breaks (number, broken)
+
+-- the triples of nodes whose representatives were visited
+abbrev pub covers : Scope → List Visit → Triple → Bool
+covers s visits x = has visits (rep s x)
+
+-- some reachable triple has these representatives
+pub record IsReached (s : Scope) (z : Triple) : Type 0 where
+  pub triple : Triple
+  pub path : Path
+  pub leads : Leads s.task path triple
+  pub is : rep s triple ≡ z
+
+-- told at an earlier visit, or at the same one as an earlier break
+abbrev pub IsToldBefore : ℕ × Broken → ℕ × Broken → Type 0
+IsToldBefore p q = (p.0 < q.0) ⊎ ((p.0 ≡ q.0) × IsBrokenBefore p.1 q.1)

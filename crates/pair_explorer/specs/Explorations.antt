@@ -3,7 +3,7 @@ use Rattle.std.specs.Prelude.{◌≡◌, ◌<◌, ◌*◌, ℕ, true, List, [], 
 use Rattle.std.specs.List.{range_with_len}
 use Rattle.pair_rules.specs.declared.rules.Broken.{Broken}
 use Rattle.pair_rules.specs.Steps.{PlainRoot, Task, Triple, is_marked, breaks_of, step}
-use Rattle.pair_rules.specs.Paths.{Path, root_triple, IsNotAfter}
+use Rattle.pair_rules.specs.Paths.{Path, root_triple, IsBefore, IsNotAfter}
 use Rattle.graph_alike.specs.Classes.{class_count}
 use Rattle.pair_explorer.specs.declared.visits.Visit.{Visit}
 use Rattle.pair_explorer.specs.Scopes.{Scope, rep, LeadsByRep}
@@ -27,14 +27,16 @@ abbrev pub most_triples : Scope → ℕ
 most_triples s = 2 * (class_count s.old * class_count s.new)
 
 pub record IsExploration (s : Scope) (visits : List Visit) (broken : List (ℕ × Broken)) : Type 0 where
-  -- the representatives of each root are reached
+  -- the representatives of each root are visited
   pub roots : (k : ℕ) (root : PlainRoot) → slice_get s.task.roots k ≡ Some root → has visits (rep s (root_triple root)) ≡ true
-  -- and those of each triple to which a step leads from what is reached
+  -- and those of each triple to which a step leads from what is visited
   pub partners : (n i : ℕ) (v : Visit) (y : Triple) → slice_get visits n ≡ Some v → step s.task (seen v) i ≡ Some y → has visits (rep s y) ≡ true
   -- the parents of each spell a path that leads to it over representatives
   pub reached : (n : ℕ) (v : Visit) → slice_get visits n ≡ Some v → (path : Path) × Along visits n path × LeadsByRep s path (seen v)
   -- and no other path that leads to it so comes before that one
   pub first : (n : ℕ) (v : Visit) (path other : Path) → slice_get visits n ≡ Some v → Along visits n path → LeadsByRep s other (seen v) → IsNotAfter path other
+  -- they stand in order of these paths
+  pub ascending : (m n : ℕ) (path later : Path) → m < n → Along visits m path → Along visits n later → IsBefore path later
   -- what led to a triple stands before it
   pub earlier : AreEarlier visits
   -- no triple stands twice

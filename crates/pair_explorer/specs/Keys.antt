@@ -1,20 +1,19 @@
--- Triples as keys of a map.
-use Rattle.std.specs.Prelude.{ℕ, Bool, true, false}
-use Rattle.abi_types.specs.declared.kind.Way.{Way}
-use Rattle.abi_types.specs.declared.kind.Way.TheVariants.{Direct, Pointer}
+-- Triples with what led to each of them, as visits.
+use Rattle.std.specs.Prelude.{Bool, List, [], ◌∷◌}
 use Rattle.pair_rules.specs.Steps.{Triple}
+use Rattle.pair_rules.specs.contracts.triple.TriplePartialEq.TheImpl as triples
 use Rattle.pair_explorer.specs.declared.visits.Parent.{Parent}
 use Rattle.pair_explorer.specs.declared.visits.Visit.{Visit}
-use Rattle.pair_explorer.specs.Visits.{is_pointer}
 
--- the numbers of the nodes, and whether they are reached through a pointer
-abbrev pub key_of : Triple → ℕ × ℕ × Bool
-key_of x = (x.old, x.new, is_pointer x.way)
+-- whether two triples are one, as the set of triples compares them
+abbrev pub at_triple : Triple → Triple → Bool
+at_triple = (triples.ghosts).eq
 
-abbrev pub way_at : Bool → Way
-way_at true = Pointer
-way_at false = Direct
+abbrev pub visit_made : Triple → Parent → Visit
+visit_made x parent = record { old = x.old; new = x.new; way = x.way; parent = parent }
 
--- the visit of a key and what led to it
-abbrev pub visit_at : (ℕ × ℕ × Bool) × Parent → Visit
-visit_at e = record { old = e.0.0; new = e.0.1; way = way_at e.0.2; parent = e.1 }
+-- the visits of the triples, as long as both lists go on
+unfoldable pub visits_of : List Triple → List Parent → List Visit
+visits_of [] parents = []
+visits_of (x ∷ xs) [] = []
+visits_of (x ∷ xs) (p ∷ ps) = visit_made x p ∷ visits_of xs ps

@@ -11,16 +11,17 @@ use crate::visits::{Visit, Visits};
 use abi_base::{List, NoMemory};
 use abi_types::{Graph, Marks, NewIx, OldIx};
 use graph_alike::Classes;
-use pair_rules::{Broken, Steps, breaks};
+use pair_rules::laws::steps_lead_to_nodes;
+use pair_rules::{Broken, Comparison, Steps};
 use std::alloc::Global;
 use std::sync::ledger::Ledger;
 
 /// What an exploration gives.
 #[derive(Drop)]
 pub struct Explored {
-    /// The triples that were reached, with what led to each first.
+    /// The visits, each of another triple.
     pub visits: Visits,
-    /// The broken rules, each with the number of its triple.
+    /// The broken rules, each with the number of its visit.
     pub breaks: List<(usize, Broken)>,
 }
 
@@ -61,9 +62,10 @@ fn expand<L: Ledger>(
     }
     let old = ground.old.view(visit.old);
     let new = ground.new.view(visit.new);
-    let found = breaks(alloc, old, new, steps)?;
+    let comparison = Comparison::of(alloc, old, new, steps)?;
+    let found = comparison.breaks(alloc)?;
     add_breaks(&mut explored.breaks, number, found.as_slice())?;
-    add_partners(ground, &mut explored.visits, number, visit, old, new)
+    add_partners(ground, &mut explored.visits, number, visit, &comparison)
 }
 
 /// All triples to which the roots lead, over the representatives of classes, with the first path to each, and the broken rules
@@ -85,6 +87,7 @@ pub fn explore<L: Ledger>(
     ensures cost { IfOk result (λ e. steps.new ≤ steps.old + length e.visits) }
     ensures bound { steps.new ≤ steps.old + most_triples (scope old.now new.now roots.now marks.now old_classes.now new_classes.now) }
 {
+    steps_lead_to_nodes();
     old.known();
     new.known();
     old_classes.known();

@@ -10,9 +10,10 @@ ghost use Rattle.pair_explorer.specs.Scopes.{HasNodes, AreGraphs};
 use crate::roots::Root;
 use crate::visits::{Parent, Visit, Visits};
 use abi_base::NoMemory;
-use abi_types::{Graph, Index, Marks, NewIx, OldIx, View, Way};
+use abi_types::{Graph, Index, Marks, NewIx, OldIx, Way};
 use graph_alike::Classes;
-use pair_rules::{after, partner_at};
+use pair_rules::Comparison;
+use pair_rules::laws::steps_lead_to_nodes;
 
 /// What is compared, and the classes of its nodes. The lifetimes are those that a caller's graphs and classes bring along.
 #[derive(Clone, Copy)]
@@ -70,40 +71,32 @@ pub fn add_roots(ground: &Ground, visits: &mut Visits) -> Result<(), NoMemory>
 }
 
 // The visit to which the old part `i` leads from the visit of a number, whose old node is unmarked at its way.
-#[tactic(auto, unfolding(crate::specs::Adding::next_visit, crate::specs::Scopes::rep_step, pair_rules::specs::Steps::step, pair_rules::specs::Steps::next_of))]
 fn next_visit(
     ground: &Ground,
     number: usize,
     visit: &Visit,
-    old: &View<OldIx>,
-    new: &View<NewIx>,
+    comparison: &Comparison,
     i: usize,
 ) -> Option<Visit>
     requires nodes { HasNodes (scope_of ground.now) }
     requires graphs { AreGraphs (scope_of ground.now) }
     requires unmarked { the_node_is_marked (scope_of ground.now).task visit.now.old visit.now.way ≡ false }
-    requires old { old.now ≡ view_at ground.now.old.now visit.now.old }
-    requires new { new.now ≡ view_at ground.now.new.now visit.now.new }
-    requires inside { i < length old.now.parts }
+    requires old { comparison.now.old ≡ view_at ground.now.old.now visit.now.old }
+    requires new { comparison.now.new ≡ view_at ground.now.new.now visit.now.new }
+    requires inside { i < length comparison.now.old.parts }
     ensures { result ≡ the_next_visit (scope_of ground.now) number (seen visit.now) i }
 {
-    let (i, j) = match partner_at(old, new, i) {
-        None => return None,
-        Some(places) => places,
-    };
-    let part = old.part(i);
-    match (part.to(), new.part(j).to()) {
-        (Some(a), Some(b)) => Some(Visit {
-            old: ground.old_classes.rep(a),
-            new: ground.new_classes.rep(b),
-            way: after(visit.way, part),
-            parent: Parent::Step {
-                pair: number,
-                part: i,
-            },
-        }),
-        _ => None,
-    }
+    steps_lead_to_nodes();
+    let next = comparison.next(visit.way, i)?;
+    Some(Visit {
+        old: ground.old_classes.rep(next.old),
+        new: ground.new_classes.rep(next.new),
+        way: next.way,
+        parent: Parent::Step {
+            visit: number,
+            part: i,
+        },
+    })
 }
 
 // Adds all to which the visit of a number leads. Its old node is unmarked at its way.
@@ -112,18 +105,17 @@ pub fn add_partners(
     visits: &mut Visits,
     number: usize,
     visit: &Visit,
-    old: &View<OldIx>,
-    new: &View<NewIx>,
+    comparison: &Comparison,
 ) -> Result<(), NoMemory>
     requires nodes { HasNodes (scope_of ground.now) }
     requires graphs { AreGraphs (scope_of ground.now) }
     requires unmarked { the_node_is_marked (scope_of ground.now).task visit.now.old visit.now.way ≡ false }
-    requires old { old.now ≡ view_at ground.now.old.now visit.now.old }
-    requires new { new.now ≡ view_at ground.now.new.now visit.now.new }
-    ensures { OnOk result (visits.new ≡ entered (the_next_visit (scope_of ground.now) number (seen visit.now)) (length old.now.parts) visits.old) }
+    requires old { comparison.now.old ≡ view_at ground.now.old.now visit.now.old }
+    requires new { comparison.now.new ≡ view_at ground.now.new.now visit.now.new }
+    ensures { OnOk result (visits.new ≡ entered (the_next_visit (scope_of ground.now) number (seen visit.now)) (length comparison.now.old.parts) visits.old) }
 {
-    for i in 0..old.parts_len() {
-        if let Some(next) = next_visit(ground, number, visit, old, new, i) {
+    for i in 0..comparison.parts_len() {
+        if let Some(next) = next_visit(ground, number, visit, comparison, i) {
             visits.add(&next)?;
         }
     }

@@ -1,4 +1,4 @@
-// The path to a triple.
+// The path to a visit.
 ghost use Rattle.std.specs.Prelude.{◌<◌, length, IfOk};
 ghost use Rattle.pair_explorer.specs.Visits.{Along, AreEarlier};
 ghost use Rattle.pair_explorer.specs.Routes.{path_of};
@@ -15,7 +15,7 @@ pub struct Route {
     pub parts: List<usize>,
 }
 
-/// The path to the triple of a number: the one that the parents spell.
+/// The path to the visit of a number: the one that the parents spell.
 pub fn route_to(alloc: Global, visits: &Visits, number: usize) -> Result<Route, NoMemory>
     requires number { number < length visits.now }
     requires earlier { AreEarlier visits.now }
@@ -24,16 +24,15 @@ pub fn route_to(alloc: Global, visits: &Visits, number: usize) -> Result<Route, 
     let mut parts = Vec::new(alloc);
     let mut at = number;
     'walk: loop {
-        let visit = visits.visit(at);
-        match visit.parent {
+        match visits.visit(at).parent {
             Parent::Root { export } => {
                 parts.as_mut_slice().reverse();
                 let parts = List::of(parts);
                 return Ok(Route { export, parts });
             }
-            Parent::Step { pair, part } => {
+            Parent::Step { visit, part } => {
                 parts.push(part)?;
-                at = pair;
+                at = visit;
             }
         }
     }

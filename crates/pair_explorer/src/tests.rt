@@ -6,9 +6,9 @@ use crate::{Explored, Root, Visits, explore, is_scope, route_to};
 use abi_base::{List, NoMemory};
 use abi_types::{
     CallShape, Graph, Group, Index, Kind, Marks, NewIx, Node, OldIx, Part, Parts, Place, View,
-    is_graph,
 };
 use graph_alike::{Classes, alike, plain};
+use hand_graphs::is_graph;
 use pair_rules::{Broken, Steps};
 use std::alloc::Global;
 use std::fmt::Write;
@@ -141,7 +141,8 @@ fn graph<'a, Ix: Index>(
         let next = node(alloc, entry, text)?;
         nodes.push(next)?;
     }
-    assert!(rt; is_graph(nodes.as_slice()), "{cell}");
+    let is_made = is_graph(alloc, nodes.as_slice())?;
+    assert!(rt; is_made, "{cell}");
     Graph::of_nodes(alloc, nodes)
 }
 

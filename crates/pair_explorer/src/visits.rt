@@ -1,12 +1,15 @@
 // Triples that were reached, found without a scan.
-ghost use Rattle.std.specs.Prelude.{◌≡◌, ◌<◌, [], length, slice_get, Some, OnOk};
+ghost use Rattle.std.specs.Prelude.{◌≡◌, ◌<◌, [], not, length, slice_get, Some, OnOk, OnErr, IfOk};
+ghost use Rattle.std.specs.List.{list_any};
+ghost use Rattle.indexmap.specs.IndexSet.{insert_key};
 ghost use Rattle.pair_explorer.specs.Adding.{added};
-ghost use Rattle.pair_explorer.specs.Visits.{seen, has as the_visits_have, is_pointer as the_way_is_pointer};
-ghost use Rattle.pair_explorer.specs.Keys.{key_of as the_key_of, way_at as the_way_at};
+ghost use Rattle.pair_explorer.specs.Keys.{at_triple};
+ghost use Rattle.pair_explorer.specs.Visits.{seen, has as the_visits_have};
 
 use abi_base::NoMemory;
-use abi_types::{Index, NewIx, OldIx, Way};
-use indexmap::IndexMap;
+use abi_types::{NewIx, OldIx, Way};
+use indexmap::IndexSet;
+use pair_rules::Triple;
 use std::alloc::Global;
 use std::marker::Model;
 
@@ -15,11 +18,11 @@ use std::marker::Model;
 pub enum Parent {
     /// An export, by its position among the old ones.
     Root { export: u32 },
-    /// A part of the old type of an earlier triple: the number of that triple, and the position of the part.
-    Step { pair: usize, part: usize },
+    /// A part of the old type of an earlier visit: the number of that visit, and the position of the part.
+    Step { visit: usize, part: usize },
 }
 
-/// An old type and a new type in its place, the way by which they are reached, and what led to them first.
+/// A triple that was reached, and what led to it first.
 #[derive(Clone, Copy, Debug, PartialEq, Eq)]
 pub struct Visit {
     pub old: OldIx,
@@ -28,41 +31,48 @@ pub struct Visit {
     pub parent: Parent,
 }
 
-/// Triples that were reached, each once, in the order in which they were. Contracts see it as the list of visits.
+impl Visit {
+    /// The triple that was reached.
+    pub fn triple(&self) -> Triple
+        ensures { result ≡ seen self.now }
+    {
+        Triple {
+            old: self.old,
+            new: self.new,
+            way: self.way,
+        }
+    }
+}
+
+/// The visits of an exploration, each of another triple, in the order in which they were made. Contracts see their list.
 #[derive(Drop)]
 pub struct Visits {
-    // What led to each triple. A key is the numbers of the nodes, and whether they are reached through a pointer.
-    parents: IndexMap<(usize, usize, bool), Parent>,
+    triples: IndexSet<Triple>,
+    // What led to each of them.
+    parents: Vec<Parent>,
 }
 
 impl Model for Visits {
-    ghost use Rattle.std.specs.Prelude.{List, map};
+    ghost use Rattle.std.specs.Prelude.{◌≡◌, List, length};
     ghost use Rattle.pair_explorer.specs.declared.visits.Visit.{Visit};
 
     ghost Value = { List Visit };
 
-    ghost use Rattle.pair_explorer.specs.Keys.{visit_at};
+    ghost use Rattle.pair_explorer.specs.Keys.{visits_of};
 
-    ghost view = { λ visits. map visit_at visits.parents.entries };
+    ghost view = { λ visits. visits_of visits.triples.keys visits.parents.items };
+
+    ghost invariant = { λ visits. length visits.triples.keys ≡ length visits.parents.items };
 }
 
-// The key of a triple.
-fn key_of(visit: &Visit) -> (usize, usize, bool)
-    ensures { result ≡ the_key_of (seen visit.now) }
+// Puts a triple last where it is new, and tells whether it is.
+fn put(triples: &mut IndexSet<Triple>, triple: Triple) -> Result<bool, NoMemory>
+    ensures keys { OnOk result (triples.new.keys ≡ insert_key at_triple triples.old.keys triple) }
+    ensures is_new { IfOk result (λ is_new. is_new ≡ not (list_any (at_triple triple) triples.old.keys)) }
+    ensures err { OnErr result (triples.new.keys ≡ triples.old.keys) }
 {
-    let through_pointer = matches!(visit.way, Way::Pointer);
-    (visit.old.number(), visit.new.number(), through_pointer)
-}
-
-// The way that a key tells.
-fn way_at(through_pointer: bool) -> Way
-    ensures { result ≡ the_way_at through_pointer }
-{
-    if through_pointer {
-        Way::Pointer
-    } else {
-        Way::Direct
-    }
+    let (_, is_new) = triples.insert_full(triple)?;
+    Ok(is_new)
 }
 
 impl Visits {
@@ -71,7 +81,8 @@ impl Visits {
         ensures { result ≡ [] }
     {
         Visits {
-            parents: IndexMap::new(alloc),
+            triples: IndexSet::new(alloc),
+            parents: Vec::new(alloc),
         }
     }
 
@@ -86,15 +97,14 @@ impl Visits {
     pub fn get(&self, number: usize) -> Option<Visit>
         ensures { result ≡ slice_get self.now number }
     {
-        match self.parents.get_index(number) {
-            None => None,
-            Some((key, parent)) => Some(Visit {
-                old: OldIx::of(key.0),
-                new: NewIx::of(key.1),
-                way: way_at(key.2),
-                parent: *parent,
-            }),
-        }
+        let triple = self.triples.get_index(number)?;
+        let parent = self.parents.get(number)?;
+        Some(Visit {
+            old: triple.old,
+            new: triple.new,
+            way: triple.way,
+            parent: *parent,
+        })
     }
 
     /// The visit of a number that is there.
@@ -105,21 +115,22 @@ impl Visits {
         self.get(number).unwrap()
     }
 
-    /// Whether the triple of a visit was reached.
-    pub fn has(&self, visit: &Visit) -> bool
-        ensures { result ≡ the_visits_have self.now (seen visit.now) }
+    /// Whether a triple was reached.
+    pub fn has(&self, triple: &Triple) -> bool
+        ensures { result ≡ the_visits_have self.now triple.now }
     {
-        self.parents.contains_key(&key_of(visit))
+        self.triples.contains(triple)
     }
 
     /// Adds a visit, where its triple is new.
     pub(crate) fn add(&mut self, visit: &Visit) -> Result<(), NoMemory>
         ensures { OnOk result (self.new ≡ added self.old visit.now) }
     {
-        if self.has(visit) {
-            return Ok(());
+        // With room for what led to the triple, nothing can fail once the triple is in.
+        self.parents.reserve(1)?;
+        if put(&mut self.triples, visit.triple())? {
+            self.parents.push(visit.parent)?;
         }
-        self.parents.insert(key_of(visit), visit.parent)?;
         Ok(())
     }
 }

@@ -1,5 +1,5 @@
 -- A step leads from nodes to nodes, and a closed relation holds all to which a path leads.
-use Rattle.std.proofs.Common.{◌≡◌, ◌<◌, ℕ, Bool, true, false, length, Option, Some, None, refl, sym, ◌∙◌, ap, inl, inr}
+use Rattle.std.proofs.Common.{◌≡◌, ◌<◌, ℕ, Bool, true, false, length, slice_get, Option, Some, None, refl, sym, ◌∙◌, ap, inl, inr}
 use Rattle.std.proofs.lemmas.Bool.{cases_Bool}
 use Rattle.std.proofs.lemmas.Option.{same_Some, none-some}
 use Rattle.abi_types.specs.declared.kind.Way.{Way}
@@ -7,10 +7,11 @@ use Rattle.abi_types.specs.Types.{PlainView}
 use Rattle.abi_types.specs.Graphs.{part_at, view_at, to_of, IsGraph}
 use Rattle.pair_rules.specs.Partners.{partner_at}
 use Rattle.pair_rules.specs.Ways.{after}
-use Rattle.pair_rules.specs.Steps.{Task, Triple, is_marked, triple_of, led_by, next_of, step}
-use Rattle.pair_rules.specs.Paths.{Path, From, Then, Leads}
+use Rattle.pair_rules.specs.Steps.{Task, Triple, is_marked, triple_of, led_by, next_of, step, PlainRoot, IsStep}
+use Rattle.pair_rules.specs.Stable.{IsInside}
+use Rattle.pair_rules.specs.Paths.{Path, From, Then, Leads, root_triple}
 use Rattle.pair_rules.specs.Closed.{IsClosed, HoldsRoots}
-use Rattle.pair_rules.proofs.Partnering.{IsPartner-from_some}
+use Rattle.pair_rules.proofs.Partnering.{IsPartner-from_some, some_from_IsPartner}
 
 triple_of-parts : (at : Way) (o m : Option ℕ) (y : Triple) → triple_of at o m ≡ Some y → (o ≡ Some y.old) × (m ≡ Some y.new) × (y.way ≡ at)
 triple_of-parts at (Some a) (Some b) y e =
@@ -58,10 +59,40 @@ pub step-from_next : (t : Task) (x : Triple) (i : ℕ) → is_marked t x.old x.w
 unfolding step
 step-from_next t x i unmarked = rw unmarked refl
 
-pub step-inside : (t : Task) (x y : Triple) (i : ℕ) → IsGraph t.old → IsGraph t.new → step t x i ≡ Some y → (y.old < length t.old) × (y.new < length t.new)
+-- a step is what its parts say, both ways
+pub IsStep-from_some : (t : Task) (x y : Triple) (i : ℕ) → step t x i ≡ Some y → IsStep t x i y
+IsStep-from_some t x y i e =
+    let parts = step-parts t x y i e in
+    let next = IsNext-from_some (view_at t.old x.old) (view_at t.new x.new) x.way i y parts.1 in
+    record {
+      unmarked = parts.0;
+      new_part = next.new_part;
+      partners = (IsPartner-from_some (view_at t.old x.old) (view_at t.new x.new) i (i, next.new_part) next.partners).1;
+      old = next.old;
+      new = next.new;
+      way = next.way;
+    }
+
+next_from : (v w : PlainView) (at : Way) (i j : ℕ) (y : Triple) → partner_at v w i ≡ Some (i, j) → to_of (part_at v i) ≡ Some y.old → to_of (part_at w j) ≡ Some y.new → y.way ≡ after at (part_at v i) → next_of v w at i ≡ Some y
+unfolding next_of
+next_from v w at i j y partners old new way =
+    let mk : Way → Option Triple = λ u. Some (record { old = y.old; new = y.new; way = u }) in
+    ap (led_by v w at) partners ∙ ap (λ o. triple_of (after at (part_at v i)) o (to_of (part_at w j))) old ∙ ap (triple_of (after at (part_at v i)) (Some y.old)) new ∙ ap mk (sym way)
+
+pub some_from_IsStep : (t : Task) (x y : Triple) (i : ℕ) → IsStep t x i y → step t x i ≡ Some y
+some_from_IsStep t x y i is =
+    step-from_next t x i is.unmarked
+    ∙ next_from (view_at t.old x.old) (view_at t.new x.new) x.way i is.new_part y (some_from_IsPartner (view_at t.old x.old) (view_at t.new x.new) i is.new_part is.partners) is.old is.new is.way
+
+pub step-inside : (t : Task) (x y : Triple) (i : ℕ) → IsGraph t.old → IsGraph t.new → step t x i ≡ Some y → IsInside t y
 step-inside t x y i old new e =
-    let next = IsNext-from_some (view_at t.old x.old) (view_at t.new x.new) x.way i y (step-parts t x y i e).1 in
-    (old.inside x.old i y.old next.old, new.inside x.new next.new_part y.new next.new)
+    let is = IsStep-from_some t x y i e in
+    record { old = old.inside x.old i y.old is.old; new = new.inside x.new is.new_part y.new is.new }
+
+-- where roots are nodes, paths lead to nodes
+pub leads-inside : (t : Task) → IsGraph t.old → IsGraph t.new → ((k : ℕ) (root : PlainRoot) → slice_get t.roots k ≡ Some root → IsInside t (root_triple root)) → (path : Path) (x : Triple) → Leads t path x → IsInside t x
+leads-inside t old new roots (From export) x (k, root, at, is, e) = rw e (roots k root at)
+leads-inside t old new roots (Then path part) y (x, leads, stepped) = step-inside t x y part old new stepped
 
 pub related_from_path : (t : Task) (r : Triple → Bool) → IsClosed t r → HoldsRoots t r → (path : Path) (x : Triple) → Leads t path x → r x ≡ true
 related_from_path t r closed roots (From export) x leads = ap r leads.4 ∙ roots leads.0 leads.1 leads.2

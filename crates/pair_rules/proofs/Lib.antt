@@ -1,3 +1,6 @@
+pub mod BreakOrder
+pub mod Classes
+pub mod Compared
 pub mod Given
 pub mod Keeps
 pub mod Leading
@@ -9,3 +12,4 @@ pub mod PlaceEq
 pub mod PlaceOf
 pub mod Ranges
 pub mod SameLemmas
+pub mod Unseen

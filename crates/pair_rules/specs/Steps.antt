@@ -1,12 +1,12 @@
 -- What is compared, and how one pair of types leads to others.
-use Rattle.std.specs.Prelude.{ℕ, Bool, false, if◌then◌else◌, List, Option, Some, None, slice_index_or}
+use Rattle.std.specs.Prelude.{◌≡◌, ℕ, Bool, true, false, if◌then◌else◌, List, Option, Some, None, slice_index_or}
 use Rattle.abi_types.specs.declared.kind.Way.{Way}
 use Rattle.abi_types.specs.declared.kind.Way.TheVariants as way
 use Rattle.abi_types.specs.Types.{PlainView, PlainNode}
 use Rattle.abi_types.specs.Graphs.{part_at, view_at, to_of}
 use Rattle.pair_rules.specs.declared.rules.Broken.{Broken}
 use Rattle.pair_rules.specs.TypeRules.{breaks}
-use Rattle.pair_rules.specs.Partners.{partner_at}
+use Rattle.pair_rules.specs.Partners.{partner_at, IsPartner}
 use Rattle.pair_rules.specs.Ways.{after}
 
 -- the types of an old export and of the new one that it binds to, each by the number of its node
@@ -28,6 +28,10 @@ pub record Triple : Type 0 where
   pub old : ℕ
   pub new : ℕ
   pub way : Way
+
+abbrev pub is_pointer : Way → Bool
+is_pointer way.Direct = false
+is_pointer way.Pointer = true
 
 -- the marks at a way
 abbrev pub marks_at : Task → Way → List Bool
@@ -60,3 +64,13 @@ next_of v w at i = led_by v w at (partner_at v w i)
 -- that is marked at its way no step leads on.
 unfoldable pub step : Task → Triple → ℕ → Option Triple
 step t x i = if is_marked t x.old x.way then None else next_of (view_at t.old x.old) (view_at t.new x.new) x.way i
+
+-- Part i of the old type leads from the first triple to the second: the old node is unmarked at its way, part i is there and has
+-- a partner, and the two parts name the nodes of the second triple.
+pub record IsStep (t : Task) (x : Triple) (i : ℕ) (y : Triple) : Type 0 where
+  pub unmarked : is_marked t x.old x.way ≡ false
+  pub new_part : ℕ
+  pub partners : IsPartner (view_at t.old x.old) (view_at t.new x.new) i new_part
+  pub old : to_of (part_at (view_at t.old x.old) i) ≡ Some y.old
+  pub new : to_of (part_at (view_at t.new x.new) new_part) ≡ Some y.new
+  pub way : y.way ≡ after x.way (part_at (view_at t.old x.old) i)

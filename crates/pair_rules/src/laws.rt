@@ -1,19 +1,24 @@
 //! What the definitions of matches, rules, partners and steps come to. Each law is the contract of a function that does
 //! nothing.
-ghost use Rattle.std.specs.Prelude.{◌≡◌, ◌<◌, ◌≤◌, ◌↔◌, ℕ, Bool, true, List, [], length, take, filter, Some, None, Contains};
+ghost use Rattle.std.specs.Prelude.{◌≡◌, ◌<◌, ◌≤◌, ◌↔◌, ℕ, Bool, true, List, [], length, take, filter, Some, None, Contains, slice_get};
+ghost use Rattle.std.specs.Option.{option_map};
 ghost use Rattle.abi_types.specs.declared.kind.Kind.{Kind};
 ghost use Rattle.abi_types.specs.declared.kind.Group.{Group};
+ghost use Rattle.abi_types.specs.declared.kind.Way.{Way};
 ghost use Rattle.abi_types.specs.declared.place.Place.{Place};
 ghost use Rattle.abi_types.specs.Types.{PlainView};
-ghost use Rattle.abi_types.specs.Graphs.{part_at, to_of, IsGraph};
+ghost use Rattle.abi_types.specs.Graphs.{part_at, view_at, IsGraph};
 ghost use Rattle.abi_types.specs.Parts.{like};
+ghost use Rattle.abi_types.specs.Seen.{view_seen};
 ghost use Rattle.pair_rules.specs.declared.rules.Broken.{Broken};
+ghost use Rattle.pair_rules.specs.BreakOrder.{IsBrokenBefore};
 ghost use Rattle.pair_rules.specs.Same.{same_kind, same_group, same_place};
 ghost use Rattle.pair_rules.specs.Matching.{match_of, IsMatch};
-ghost use Rattle.pair_rules.specs.TypeRules.{are_compared, rules_asked, breaks, IsBroken};
+ghost use Rattle.pair_rules.specs.TypeRules.{rules_asked, breaks, IsBroken};
 ghost use Rattle.pair_rules.specs.Partners.{partner_at, IsPartner};
-ghost use Rattle.pair_rules.specs.Steps.{Task, Triple, step};
-ghost use Rattle.pair_rules.specs.Paths.{Path, Leads};
+ghost use Rattle.pair_rules.specs.Steps.{PlainRoot, Task, Triple, is_marked, breaks_of, next_of, step, IsStep};
+ghost use Rattle.pair_rules.specs.Stable.{AreClasses, StandsFor, IsInside, LeadsLike, classed, related};
+ghost use Rattle.pair_rules.specs.Paths.{Path, Then, Leads, root_triple};
 ghost use Rattle.pair_rules.specs.Closed.{IsClosed, HoldsRoots};
 
 /// The k-th part of a sort and a name matches the k-th part of that sort and name, and a part has no match exactly where the
@@ -37,6 +42,11 @@ pub fn breaks_are_where_their_rules_say()
     ensures { (v w : PlainView) (b : Broken) → Contains (breaks v w) b ↔ (Contains (rules_asked v w) b.rule × IsBroken v w b) }
 {}
 
+/// The list of what two types break stands in order of rules, and of parts where a rule is broken at several.
+pub fn breaks_stand_in_order()
+    ensures { (v w : PlainView) (m n : ℕ) (b c : Broken) → m < n → slice_get (breaks v w) m ≡ Some b → slice_get (breaks v w) n ≡ Some c → IsBrokenBefore b c }
+{}
+
 /// A type breaks no rule in its own place, whatever it looks like.
 pub fn a_type_may_replace_itself()
     ensures { (v : PlainView) → breaks v v ≡ [] }
@@ -49,13 +59,51 @@ pub fn partners_name_nodes()
     ensures place { (v w : PlainView) (i : ℕ) (p : ℕ × ℕ) → partner_at v w i ≡ Some p → p.0 ≡ i }
 {}
 
-/// In graphs a step leads to nodes.
+/// A part leads from one triple to another exactly where the old node is unmarked at its way, the part is there and has a
+/// partner, and the two parts name the nodes of the other triple. In graphs these are there.
 pub fn steps_lead_to_nodes()
-    ensures { (t : Task) (x y : Triple) (i : ℕ) → IsGraph t.old → IsGraph t.new → step t x i ≡ Some y →
-        (y.old < length t.old) × (y.new < length t.new) }
+    ensures exact { (t : Task) (x y : Triple) (i : ℕ) → (step t x i ≡ Some y) ↔ IsStep t x i y }
+    ensures inside { (t : Task) (x y : Triple) (i : ℕ) → IsGraph t.old → IsGraph t.new → step t x i ≡ Some y → IsInside t y }
+{}
+
+/// In graphs a path from roots that are nodes leads to nodes, and each position of it is one of a part that is there.
+pub fn paths_lead_to_nodes()
+    ensures nodes { (t : Task) (path : Path) (x : Triple) → IsGraph t.old → IsGraph t.new
+        → ((k : ℕ) (root : PlainRoot) → slice_get t.roots k ≡ Some root → IsInside t (root_triple root))
+        → Leads t path x → IsInside t x }
+    ensures parts { (t : Task) (path : Path) (part : ℕ) (y : Triple) → Leads t (Then path part) y
+        → (x : Triple) × Leads t path x × (part < length (view_at t.old x.old).parts) }
 {}
 
 /// A closed relation that holds the roots holds all to which a path leads.
 pub fn closed_relations_hold_what_is_reachable()
     ensures { (t : Task) (r : Triple → Bool) (path : Path) (x : Triple) → IsClosed t r → HoldsRoots t r → Leads t path x → r x ≡ true }
+{}
+
+/// Rules, partners and steps see of the nodes that parts name no more than which they are: with other numbers for the nodes the
+/// same rules are broken, the same parts are partners, and steps lead to what has the other numbers.
+pub fn rules_see_no_nodes()
+    ensures breaks { (f g : ℕ → ℕ) (v w : PlainView) → breaks (view_seen f v) (view_seen g w) ≡ breaks v w }
+    ensures partners { (f g : ℕ → ℕ) (v w : PlainView) (i : ℕ) → partner_at (view_seen f v) (view_seen g w) i ≡ partner_at v w i }
+    ensures steps { (f g : ℕ → ℕ) (v w : PlainView) (way : Way) (i : ℕ) →
+        next_of (view_seen f v) (view_seen g w) way i ≡ option_map (classed f g) (next_of v w way i) }
+{}
+
+/// Over stable classes and even marks, triples of the same classes are marked alike, break the same rules, and lead to triples
+/// of the same classes.
+pub fn triples_of_the_same_classes()
+    ensures marks { (t : Task) (old new : ℕ → ℕ) (x y : Triple) → AreClasses t old new → IsInside t x → IsInside t y
+        → classed old new x ≡ classed old new y → is_marked t x.old x.way ≡ is_marked t y.old y.way }
+    ensures breaks { (t : Task) (old new : ℕ → ℕ) (x y : Triple) → AreClasses t old new → IsInside t x → IsInside t y
+        → classed old new x ≡ classed old new y → breaks_of t x ≡ breaks_of t y }
+    ensures steps { (t : Task) (old new : ℕ → ℕ) (x y z : Triple) (i : ℕ) → AreClasses t old new → IsInside t x → IsInside t y
+        → classed old new x ≡ classed old new y → step t y i ≡ Some z → LeadsLike t old new x i z }
+{}
+
+/// Over stable classes and even marks, where for each triple of nodes whose classes are listed some triple of the same classes
+/// stands, the triples of nodes whose classes are listed are a closed relation.
+pub fn what_stands_for_classes_closes()
+    ensures { (t : Task) (old new : ℕ → ℕ) (listed : Triple → Bool) → AreClasses t old new
+        → ((x : Triple) → IsInside t x → listed (classed old new x) ≡ true → StandsFor t old new listed x)
+        → IsClosed t (related t old new listed) }
 {}

@@ -3,16 +3,20 @@
 //! the rules.
 #![tactic(auto)]
 
+mod comparison;
 mod exports;
 pub mod laws;
 mod matching;
 mod rules;
 mod steps;
+mod triple;
 
+pub use comparison::{Comparison, breaks};
 pub use exports::export_breaks;
 pub use matching::{after, partner, partner_at};
-pub use rules::{Broken, breaks, holds};
+pub use rules::{Broken, holds};
 pub use steps::Steps;
+pub use triple::Triple;
 
 #[cfg(test)]
 mod tests;

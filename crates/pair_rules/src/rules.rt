@@ -1,19 +1,18 @@
 // The rules of two types.
-ghost use Rattle.std.specs.Prelude.{◌≡◌, ◌<◌, ◌+◌, ◌++◌, ◌↔◌, ℕ, [], List, Option, length, take, map, filter, slice_index_or, count_by, IsTrue, OnOk, IfOk};
+ghost use Rattle.std.specs.Prelude.{◌≡◌, ◌<◌, ◌+◌, ◌++◌, ◌↔◌, ℕ, true, [], List, Option, length, take, map, filter, slice_index_or, count_by, IsTrue, OnOk, IfOk};
 ghost use Rattle.std.specs.List.{range_with_len};
 ghost use Rattle.abi_types.specs.Forms.{has_elements as the_kind_has_elements};
 ghost use Rattle.abi_types.specs.Graphs.{part_at};
+ghost use Rattle.pair_rules.specs.Comparisons.{matches as the_matches};
 ghost use Rattle.pair_rules.specs.Matching.{match_of as the_match_of};
 ghost use Rattle.pair_rules.specs.Same.{same_group as the_same_group, same_place as the_same_place};
-ghost use Rattle.pair_rules.specs.TypeRules.{bit_at as the_bit_at, breaks as the_breaks, breaks_part as the_part_breaks, breaks_whole as the_whole_breaks, broken as the_broken, broken_at, has_alignment as the_kind_has_alignment, has_size as the_kind_has_size, in_bytes as the_value_in_bytes, param_moved as the_param_moved, params_of as the_params_of, rules_asked as the_rules_asked, speaks_of_parts as the_rule_speaks_of_parts, value_at as the_value_at, width_at as the_width_at};
+ghost use Rattle.pair_rules.specs.TypeRules.{are_compared as the_types_are_compared, bit_at as the_bit_at, breaks as the_breaks, breaks_part as the_part_breaks, breaks_whole as the_whole_breaks, broken as the_broken, broken_at, has_alignment as the_kind_has_alignment, has_size as the_kind_has_size, in_bytes as the_value_in_bytes, param_moved as the_param_moved, params_of as the_params_of, rules_asked as the_rules_asked, speaks_of_parts as the_rule_speaks_of_parts, value_at as the_value_at, width_at as the_width_at};
 ghost use Rattle.pair_rules.specs.Keeping.{keeps_part as the_part_keeps, keeps_parts as the_parts_keep, keeps_whole as the_whole_keeps};
 
 use crate::matching::{are_compared, match_of, number_of, same_kind};
-use crate::steps::Steps;
 use abi_base::{List, NoMemory};
 use abi_types::{Group, Index, Kind, NewIx, OldIx, Part, Place, RuleName, View};
 use std::alloc::Global;
-use std::sync::ledger::Ledger;
 
 /// A broken rule, with the position of the old part that it speaks of, else 0.
 #[derive(Clone, Copy, Debug, PartialEq, Eq)]
@@ -241,21 +240,6 @@ fn breaks_part(
     }
 }
 
-// The match of each old part.
-fn matches_of(
-    alloc: Global,
-    old: &View<OldIx>,
-    new: &View<NewIx>,
-) -> Result<List<Option<usize>>, NoMemory>
-    ensures { IfOk result (λ list. list ≡ map (the_match_of old.now new.now) (range_with_len 0 (length old.now.parts))) }
-{
-    let mut list = List::new(alloc);
-    'walk: for i in 0..old.parts_len() {
-        list.push(match_of(old, new, i))?;
-    }
-    Ok(list)
-}
-
 // Appends where two types break a rule that speaks of parts, in order of the old parts.
 fn push_parts(
     list: &mut List<Broken>,
@@ -284,7 +268,8 @@ fn push_broken(
     new: &View<NewIx>,
     matches: &[Option<usize>],
 ) -> Result<(), NoMemory>
-    requires { matches.now ≡ map (the_match_of old.now new.now) (range_with_len 0 (length old.now.parts)) }
+    requires matches { matches.now ≡ the_matches old.now new.now }
+    requires asked { the_rule_speaks_of_parts rule ≡ true → the_types_are_compared old.now new.now ≡ true }
     ensures { OnOk result (list.new ≡ list.old ++ the_broken old.now new.now rule) }
 {
     if speaks_of_parts(rule) {
@@ -296,23 +281,20 @@ fn push_broken(
     Ok(())
 }
 
-/// All rules that two types break, in order of rule and then of the old parts. It counts as one step, also where there is no
-/// memory for the answer.
+// All rules that two types break, in order of rule and then of the old parts, whose matches are at hand.
 #[tactic(auto, unfolding(crate::specs::TypeRules::breaks))]
-pub fn breaks<L: Ledger>(
+pub(crate) fn breaks_by(
     alloc: Global,
     old: &View<OldIx>,
     new: &View<NewIx>,
-    steps: &mut Steps<L>,
+    matches: &[Option<usize>],
 ) -> Result<List<Broken>, NoMemory>
-    ensures breaks { IfOk result (λ list. list ≡ the_breaks old.now new.now) }
-    ensures step { steps.new ≡ steps.old + 1 }
+    requires { matches.now ≡ the_matches old.now new.now }
+    ensures { IfOk result (λ list. list ≡ the_breaks old.now new.now) }
 {
-    steps.tick();
-    let matches = matches_of(alloc, old, new)?;
     let mut list = List::new(alloc);
     'rules: for rule in rules_asked(old, new) {
-        push_broken(&mut list, *rule, old, new, matches.as_slice())?;
+        push_broken(&mut list, *rule, old, new, matches)?;
     }
     Ok(list)
 }

@@ -1,7 +1,7 @@
 // The rules on pairs of small types, by their words.
 ghost use Rattle.std.specs.Prelude.{◌≡◌, ◌<◌, ◌+◌, OnOk};
 
-use crate::{Broken, Steps, after, breaks, holds, partner, partner_at};
+use crate::{Broken, Comparison, Steps, after, breaks, holds, partner, partner_at};
 use abi_base::{List, NoMemory};
 use abi_types::{CallShape, Group, Index, Kind, NewIx, OldIx, Part, Parts, Place, Slot, View, Way};
 use std::alloc::Global;
@@ -292,6 +292,46 @@ fn partners_by_position(
     Ok(text)
 }
 
+fn push_position(text: &mut String, position: &str) -> Result<(), NoMemory> {
+    let space = if text.is_empty() { "" } else { " " };
+    write!(text, "{space}{position}")?;
+    Ok(())
+}
+
+// The old positions that lead on.
+fn leading<L: Ledger>(
+    alloc: Global,
+    blank: Blank,
+    old: &View<OldIx>,
+    new: &View<NewIx>,
+) -> Result<String, NoMemory>
+    requires name { blank.name ≡ L.name }
+    requires parts { blank.parts ≡ L.parts }
+    requires some { 0 < blank.parts }
+{
+    let mut steps = Steps::<L>::new(blank);
+    let comparison = Comparison::of(alloc, old, new, &mut steps)?;
+    let mut text = String::new(alloc);
+    for i in 0..comparison.parts_len() {
+        if comparison.next(Way::Direct, i).is_some() {
+            let position = format!(in alloc; "{i}")?;
+            push_position(&mut text, position.as_str())?;
+        }
+    }
+    Ok(text)
+}
+
+// The old positions of a row's partners.
+fn old_positions(alloc: Global, partners: &str) -> Result<String, NoMemory> {
+    let mut text = String::new(alloc);
+    for pair in partners.split(' ') {
+        if let Some((old, _)) = pair.split_once('-') {
+            push_position(&mut text, old)?;
+        }
+    }
+    Ok(text)
+}
+
 // The cells of a line.
 #[derive(Clone, Copy)]
 struct Row<'a> {
@@ -343,6 +383,9 @@ fn check_partners(
     expect(rt, row.what, told.as_str(), row.partners);
     let told = partners_by_position(alloc, old, new)?;
     expect(rt, row.what, told.as_str(), row.partners);
+    let told = leading::<Brand>(alloc, Blank::new(1), old, new)?;
+    let wanted = old_positions(alloc, row.partners)?;
+    expect(rt, row.what, told.as_str(), wanted.as_str());
     Ok(())
 }
 

@@ -5,8 +5,9 @@
 
 ghost use Rattle.std.specs.Prelude.{◌≡◌, ◌<◌};
 
-use abi_base::{List, NoMemory};
-use abi_types::{CallShape, Group, Index, Kind, NewIx, OldIx, Part, Parts, Place, View};
+use abi_base::NoMemory;
+use abi_types::{Index, Kind, NewIx, OldIx, View};
+use hand_graphs::{member, view};
 use pair_rules::{Steps, breaks, partner, partner_at};
 use std::alloc::{AllocError, Global};
 use std::fmt::Write;
@@ -16,6 +17,12 @@ use std::{env, io};
 
 // How many bytes a name has.
 const NAME_BYTES: usize = 8;
+
+// The number of the node of void, which is the type of all members.
+const VOID: usize = 0;
+
+// How many bytes the structure has.
+const STRUCTURE_SIZE: u64 = 8;
 
 // So many names, one after the other.
 fn names(alloc: Global, count: u32) -> Result<String, AllocError> {
@@ -28,30 +35,11 @@ fn names(alloc: Global, count: u32) -> Result<String, AllocError> {
 
 // A structure whose members have these names.
 fn structure<'a, Ix: Index>(alloc: Global, names: &'a [u8]) -> Result<View<'a, Ix>, NoMemory> {
-    let mut parts = Vec::new(alloc);
+    let mut members = Vec::new(alloc);
     for name in names.chunks(NAME_BYTES) {
-        parts.push(Part::Member {
-            name,
-            bit: 0,
-            width: 0,
-            to: Ix::of(0),
-        })?;
+        members.push(member::<Ix>(name, 0, VOID))?;
     }
-    Ok(View {
-        kind: Kind::Structure,
-        declared_only: false,
-        tag: b"",
-        size: 8,
-        group: Group::Bool,
-        align: 0,
-        count: 0,
-        variadic: false,
-        parts: Parts::of(alloc, parts)?,
-        call: CallShape {
-            outcome: Place::Nothing,
-            params: List::new(alloc),
-        },
-    })
+    view(alloc, Kind::Structure, STRUCTURE_SIZE, members)
 }
 
 // How many rules the structures break and how many partners they have, over all rounds.

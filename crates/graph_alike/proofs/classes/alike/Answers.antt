@@ -2,7 +2,7 @@
 use Rattle.std.proofs.Common.{◌≡◌, ◌<◌, ℕ, List, length, subst, sym, ◌∙◌, arith}
 use Rattle.std.specs.Prelude.{◌↔◌}
 use Rattle.abi_types.specs.Graphs.{node_at}
-use Rattle.graph_alike.specs.Alike.{shape_of}
+use Rattle.abi_types.specs.Seen.{shape_of}
 use Rattle.graph_alike.specs.Blocks.{class_in}
 use Rattle.graph_alike.specs.Splits.{HaveSameKeys}
 use Rattle.graph_alike.proofs.RepLemmas.{first_refined, AreSound-reps, coarsest_reps}
@@ -17,7 +17,7 @@ refine-requires-clause-refined g c =
     let nodes = c.args.graph.now in
     let len = c.len.ensures in
     let whole = told.len in
-    first_refined nodes c.in_ok-blocks.blocks c.split_by_keys.new.blocks c.as_slice.result.now c.known.ensures (told.len ∙ c.len.ensures) (λ x inside. told.classes x (omega arith))
+    first_refined nodes c.in_ok-blocks.blocks c.split_by_keys.new.blocks c.as_slice.result.now (told.len ∙ c.len.ensures) (λ x inside. told.classes x (omega arith))
     (subst (λ (ps : List (ℕ × ℕ)). (x y : ℕ) → x < length nodes → y < length nodes → HaveSameKeys ps x y ↔ (shape_of (node_at nodes x) ≡ shape_of (node_at nodes y))) (sym c.as_slice.ensures.value) c.in_ok-pairs.ensures.shapes)
     c.in_ok-split_by_keys.ensures
 

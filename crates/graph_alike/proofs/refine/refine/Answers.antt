@@ -13,14 +13,14 @@ incoming_of-requires g c =
 
 pub split_by_keys-requires-clause-numbers : goal.split_by_keys-requires-clause-numbers
 split_by_keys-requires-clause-numbers g c =
-    numbers_inside c.args.graph.now c.in_ok-lists.lists.items c.as_slice.result.now c.members.result.now c.in_ok-pairs.pairs.items c.as_slice-in-classes.result.now (len_of c.set_base.new.self) c.in_ok-lists.ensures c.as_slice.ensures.value c.as_slice-in-classes.ensures.value
-    (c.set_base.ensures.len ∙ c.classes.invariant.len) c.in_ok-pairs.ensures.pairs
+    numbers_inside c.args.graph.now c.in_ok-lists.lists.items c.as_slice.result.now c.members.result.now c.in_ok-pairs.pairs.items c.as_slice-in-classes.result.now (len_of c.classes.blocks) c.in_ok-lists.ensures c.as_slice.ensures.value c.as_slice-in-classes.ensures.value
+    c.classes.invariant.len c.in_ok-pairs.ensures.pairs
 
 pub classes-preserved : goal.classes-preserved
 classes-preserved g c =
-    IsRefining-more c.args.graph.now c.classes.blocks c.set_base.new.self c.split_by_keys.new.blocks c.classes.class c.as_slice-in-classes.result.now c.known.ensures c.classes.invariant (let e = c.count.ensures in omega arith)
+    IsRefining-more c.args.graph.now c.classes.blocks c.split_by_keys.new.blocks c.classes.class c.as_slice-in-classes.result.now c.known.ensures c.classes.invariant (let e = c.count.ensures in omega arith)
     (AreOfClass-sliced c.args.graph.now c.in_ok-lists.lists.items c.as_slice.result.now c.members.result.now c.in_ok-pairs.pairs.items c.as_slice-in-classes.result.now (class_in c.classes.blocks) c.classes.class (len_of c.classes.blocks) c.known.ensures c.in_ok-lists.ensures c.as_slice.ensures.value c.as_slice-in-classes.ensures.value c.classes.invariant.len c.members.ensures.all c.in_ok-pairs.ensures.pairs)
-    c.set_base.ensures.len c.set_base.ensures.count c.set_base.ensures.classes c.set_base.ensures.bases c.in_ok-split_by_keys.ensures
+    c.in_ok-split_by_keys.ensures
 
 pub classes-smaller : goal.classes-smaller
 classes-smaller g c =

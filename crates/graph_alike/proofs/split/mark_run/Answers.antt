@@ -17,7 +17,6 @@ run-preserved c =
       len = told.len ∙ inv.len;
       count = told.count ∙ inv.count;
       classes = λ x. told.classes x ∙ inv.classes x;
-      bases = λ x. told.bases x ∙ inv.bases x;
       marks = λ x x_in. marked_more c.args.pairs.now c.run.i (key_at c.args.pairs.now c.args.from) x (number_at c.args.pairs.now c.run.i) (is_marked c.run.blocks x) (is_marked c.mark.new.self x) c.run-test.true here refl (inv.marks x x_in) (told.marks x (omega (arith, inv.len)));
       run = λ j low high. elim (cases_lt j c.run.i) [
         | inl lt ↦ inv.run j low lt

@@ -1,6 +1,6 @@
 -- The numbers so far are marked, and stand beside the key.
 use Rattle.std.proofs.Common.{◌≡◌, ◌<◌, ◌≤◌, ℕ, take}
-use Rattle.graph_alike.specs.Blocks.{len_of, count_of, class_in, base_in, is_marked, AreBlocks, ListsMarks}
+use Rattle.graph_alike.specs.Blocks.{len_of, count_of, class_in, is_marked, AreBlocks, ListsMarks}
 use Rattle.graph_alike.specs.Splits.{key_at, stands_beside}
 use Rattle.graph_alike.proofs.split.mark_run.Given as goal
 
@@ -11,7 +11,6 @@ invariant-run l = record {
   len : len_of l.blocks ≡ len_of l.fn.blocks;
   count : count_of l.blocks ≡ count_of l.fn.blocks;
   classes : (x : ℕ) → class_in l.blocks x ≡ class_in l.fn.blocks x;
-  bases : (c : ℕ) → base_in l.blocks c ≡ base_in l.fn.blocks c;
   marks : (x : ℕ) → x < len_of l.fn.blocks → is_marked l.blocks x ≡ stands_beside (take l.i l.pairs) (key_at l.pairs l.from) x;
   run : (j : ℕ) → l.from ≤ j → j < l.i → key_at l.pairs j ≡ key_at l.pairs l.from;
 }

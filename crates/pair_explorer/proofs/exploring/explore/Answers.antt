@@ -6,18 +6,24 @@ use Rattle.graph_alike.specs.Classes.{AreSound}
 use Rattle.pair_explorer.specs.Scopes.{Scope, IsScope, scope}
 use Rattle.pair_explorer.specs.Explorations.{most_triples}
 use Rattle.pair_explorer.proofs.Bounds.{length-visited-le}
-use Rattle.pair_explorer.proofs.Leading.{IsGround}
+use Rattle.pair_explorer.proofs.Leading.{AreSteps, IsGround}
 use Rattle.pair_explorer.proofs.Loop.{IsGoing-start, IsGoing-more, IsExploration-end}
 use Rattle.pair_explorer.proofs.exploring.explore.Goals as goal
 
-ground : (s : Scope) → IsScope s → IsGraph s.task.old → IsGraph s.task.new → AreSound s.old → AreSound s.new → IsGround s
-ground s kept old new old_sound new_sound = record { scope = kept; graphs = record { old = old; new = new }; old = old_sound; new = new_sound }
+ground : (s : Scope) → AreSteps s.task → IsScope s → IsGraph s.task.old → IsGraph s.task.new → AreSound s.old → AreSound s.new → IsGround s
+ground s steps kept old new old_sound new_sound = record { steps = steps; scope = kept; graphs = record { old = old; new = new }; old = old_sound; new = new_sound }
 
 pub list-init : goal.list-init
 list-init g c =
     let s : Scope = scope c.args.old.now c.args.new.now c.args.roots.now c.args.marks.now c.args.old_classes.now c.args.new_classes.now in
-    let ok = ground s c.requires c.known.ensures c.known-2.ensures c.known-3.ensures c.known-4.ensures in
+    let ok = ground s (record { exact = c.steps_lead_to_nodes.ensures.exact s.task; inside = c.steps_lead_to_nodes.ensures.inside s.task }) c.requires c.known.ensures c.known-2.ensures c.known-3.ensures c.known-4.ensures in
     record { going = rw (c.in_ok-add_roots.ensures, c.new.ensures, c.new-2.ensures) (IsGoing-start s ok); cost = omega arith }
+
+pub expand-requires-clause-old : goal.expand-requires-clause-old
+expand-requires-clause-old g c = (c.list.invariant.going.visited.placed c.list.number c.visit-visit.result c.visit-visit.ensures).old
+
+pub expand-requires-clause-new : goal.expand-requires-clause-new
+expand-requires-clause-new g c = (c.list.invariant.going.visited.placed c.list.number c.visit-visit.result c.visit-visit.ensures).new
 
 pub expand-requires-clause-graphs : goal.expand-requires-clause-graphs
 expand-requires-clause-graphs g c = record { old = c.known.ensures; new = c.known-2.ensures }
@@ -25,7 +31,7 @@ expand-requires-clause-graphs g c = record { old = c.known.ensures; new = c.know
 pub returns-in_err-expand-clause-bound : goal.returns-in_err-expand-clause-bound
 returns-in_err-expand-clause-bound g c =
     let s : Scope = scope c.args.old.now c.args.new.now c.args.roots.now c.args.marks.now c.args.old_classes.now c.args.new_classes.now in
-    let ok = ground s c.requires c.known.ensures c.known-2.ensures c.known-3.ensures c.known-4.ensures in
+    let ok = ground s (record { exact = c.steps_lead_to_nodes.ensures.exact s.task; inside = c.steps_lead_to_nodes.ensures.inside s.task }) c.requires c.known.ensures c.known-2.ensures c.known-3.ensures c.known-4.ensures in
     let most = length-visited-le s c.list.explored.visits ok c.list.invariant.going.visited in
     let lt = slice_get_within c.list.explored.visits c.list.number c.visit-visit.result c.visit-visit.ensures in
     omega (arith, most, lt, c.list.invariant.cost, c.expand.ensures.cost)
@@ -33,7 +39,7 @@ returns-in_err-expand-clause-bound g c =
 pub list-smaller : goal.list-smaller
 list-smaller g c =
     let s : Scope = scope c.args.old.now c.args.new.now c.args.roots.now c.args.marks.now c.args.old_classes.now c.args.new_classes.now in
-    let ok = ground s c.requires c.known.ensures c.known-2.ensures c.known-3.ensures c.known-4.ensures in
+    let ok = ground s (record { exact = c.steps_lead_to_nodes.ensures.exact s.task; inside = c.steps_lead_to_nodes.ensures.inside s.task }) c.requires c.known.ensures c.known-2.ensures c.known-3.ensures c.known-4.ensures in
     let most = length-visited-le s c.list.explored.visits ok c.list.invariant.going.visited in
     let lt = slice_get_within c.list.explored.visits c.list.number c.visit-visit.result c.visit-visit.ensures in
     let below : c.list.number < most_triples s = omega (arith, most, lt) in
@@ -42,7 +48,7 @@ list-smaller g c =
 pub list-preserved : goal.list-preserved
 list-preserved g c =
     let s : Scope = scope c.args.old.now c.args.new.now c.args.roots.now c.args.marks.now c.args.old_classes.now c.args.new_classes.now in
-    let ok = ground s c.requires c.known.ensures c.known-2.ensures c.known-3.ensures c.known-4.ensures in
+    let ok = ground s (record { exact = c.steps_lead_to_nodes.ensures.exact s.task; inside = c.steps_lead_to_nodes.ensures.inside s.task }) c.requires c.known.ensures c.known-2.ensures c.known-3.ensures c.known-4.ensures in
     let more = IsGoing-more s ok c.list.explored.visits c.list.number c.list.explored.breaks c.visit-visit.result c.visit-visit.ensures c.list.invariant.going in
     record {
       going = rw (c.in_ok-expand.ensures.visits, c.in_ok-expand.ensures.breaks, add-one) more;
@@ -56,12 +62,12 @@ returns-clause-exploration g c =
 pub returns-clause-few : goal.returns-clause-few
 returns-clause-few g c =
     let s : Scope = scope c.args.old.now c.args.new.now c.args.roots.now c.args.marks.now c.args.old_classes.now c.args.new_classes.now in
-    let ok = ground s c.requires c.known.ensures c.known-2.ensures c.known-3.ensures c.known-4.ensures in
+    let ok = ground s (record { exact = c.steps_lead_to_nodes.ensures.exact s.task; inside = c.steps_lead_to_nodes.ensures.inside s.task }) c.requires c.known.ensures c.known-2.ensures c.known-3.ensures c.known-4.ensures in
     length-visited-le s c.list.explored.visits ok c.list.invariant.going.visited
 
 pub returns-clause-bound : goal.returns-clause-bound
 returns-clause-bound g c =
     let s : Scope = scope c.args.old.now c.args.new.now c.args.roots.now c.args.marks.now c.args.old_classes.now c.args.new_classes.now in
-    let ok = ground s c.requires c.known.ensures c.known-2.ensures c.known-3.ensures c.known-4.ensures in
+    let ok = ground s (record { exact = c.steps_lead_to_nodes.ensures.exact s.task; inside = c.steps_lead_to_nodes.ensures.inside s.task }) c.requires c.known.ensures c.known-2.ensures c.known-3.ensures c.known-4.ensures in
     let most = length-visited-le s c.list.explored.visits ok c.list.invariant.going.visited in
     omega (arith, most, c.list.invariant.cost, c.list.invariant.going.place)

@@ -31,8 +31,8 @@ loop-number-preserved c =
 all : (c : goal.After-new) → c.loop-number.number ≡ c.args.len
 all c = omega arith
 
-whole : (bs pushed : List Block) (n : ℕ) → bs ≡ [] → pushed ≡ bs ++ record { first = 0; middle = 0; end = n; base = 0 } ∷ [] → pushed ≡ record { first = 0; middle = 0; end = n; base = 0 } ∷ []
-whole bs pushed n none push = push ∙ ap (λ (xs : List Block). xs ++ record { first = 0; middle = 0; end = n; base = 0 } ∷ []) none
+whole : (bs pushed : List Block) (n : ℕ) → bs ≡ [] → pushed ≡ bs ++ record { first = 0; middle = 0; end = n } ∷ [] → pushed ≡ record { first = 0; middle = 0; end = n } ∷ []
+whole bs pushed n none push = push ∙ ap (λ (xs : List Block). xs ++ record { first = 0; middle = 0; end = n } ∷ []) none
 
 pub returns-clause-len : goal.returns-clause-len
 returns-clause-len c = ap length c.loop-number.invariant.order ∙ length-range_with_len 0 c.loop-number.number ∙ all c

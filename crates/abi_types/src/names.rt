@@ -1,0 +1,108 @@
+// The exports of a library in order of their names.
+ghost use Rattle.std.specs.Prelude.{◌≡◌, ◌≤◌, ◌-◌, false, true, length, take, drop, IfOk};
+ghost use Rattle.std.specs.List.{range_with_len};
+ghost use Rattle.std.specs.List.Sorted.{IsPartitionPoint};
+ghost use Rattle.std.specs.Ordering.{is_lt, is_le};
+ghost use Rattle.abi_types.specs.Plain.{plain_exports};
+ghost use Rattle.abi_types.specs.Names.{name_at as the_name_at, named_cmp, place_cmp, IsNameOrder, AreNamed};
+
+use crate::export::Export;
+use abi_base::NoMemory;
+use std::alloc::Global;
+use std::cmp::Ordering;
+
+// The name of the export at a position, empty past the last one.
+fn name_at<'a>(exports: &[Export<'a>], k: usize) -> &'a [u8]
+    ensures { result.now ≡ the_name_at (plain_exports exports.now) k }
+{
+    if k < exports.len() {
+        exports[k].name
+    } else {
+        &[]
+    }
+}
+
+// How the name of the export at a position compares with a name.
+fn name_order(exports: &[Export], k: usize, name: &[u8]) -> Ordering
+    ensures { result ≡ named_cmp (plain_exports exports.now) name.now k }
+{
+    name_at(exports, k).cmp(name)
+}
+
+// Whether the name of the export at a position stands before a name.
+fn stands_before(exports: &[Export], k: usize, name: &[u8]) -> bool
+    ensures { result ≡ is_lt (named_cmp (plain_exports exports.now) name.now k) }
+{
+    name_order(exports, k, name).is_lt()
+}
+
+// Whether the name of the export at a position does not stand behind a name.
+fn stands_upto(exports: &[Export], k: usize, name: &[u8]) -> bool
+    ensures { result ≡ is_le (named_cmp (plain_exports exports.now) name.now k) }
+{
+    name_order(exports, k, name).is_le()
+}
+
+// How two positions compare: by the names there, and where these are equal, by themselves.
+fn place_order(exports: &[Export], a: usize, b: usize) -> Ordering
+    ensures { result ≡ place_cmp (plain_exports exports.now) a b }
+{
+    name_order(exports, a, name_at(exports, b)).then(a.cmp(&b))
+}
+
+// The numbers below a count.
+fn numbers(alloc: Global, count: usize) -> Result<Vec<usize>, NoMemory>
+    ensures { IfOk result (λ numbers. numbers.items ≡ range_with_len 0 count) }
+{
+    let mut numbers = Vec::new(alloc);
+    for i in 0..count {
+        numbers.push(i)?;
+    }
+    Ok(numbers)
+}
+
+/// The positions of all exports, in order of names.
+pub fn name_order_of(alloc: Global, exports: &[Export]) -> Result<Vec<usize>, NoMemory>
+    ensures { IfOk result (λ places. IsNameOrder places.items (plain_exports exports.now)) }
+{
+    let mut places = numbers(alloc, exports.len())?;
+    places.sort_unstable_by(|a, b| place_order(exports, *a, *b));
+    Ok(places)
+}
+
+// How many positions stand before those of a name.
+fn count_before(exports: &[Export], places: &[usize], name: &[u8]) -> usize
+    requires { IsNameOrder places.now (plain_exports exports.now) }
+    ensures inside { result ≤ length places.now }
+    ensures parts { IsPartitionPoint (λ k. is_lt (named_cmp (plain_exports exports.now) name.now k) ≡ true) (λ k. is_lt (named_cmp (plain_exports exports.now) name.now k) ≡ false) places.now result }
+{
+    places.partition_point(|k| stands_before(exports, *k, name))
+}
+
+// How many positions do not stand behind those of a name.
+fn count_upto(exports: &[Export], places: &[usize], name: &[u8]) -> usize
+    requires { IsNameOrder places.now (plain_exports exports.now) }
+    ensures inside { result ≤ length places.now }
+    ensures parts { IsPartitionPoint (λ k. is_le (named_cmp (plain_exports exports.now) name.now k) ≡ true) (λ k. is_le (named_cmp (plain_exports exports.now) name.now k) ≡ false) places.now result }
+{
+    places.partition_point(|k| stands_upto(exports, *k, name))
+}
+
+// The positions from one place on up to another.
+fn between(places: &[usize], start: usize, end: usize) -> &[usize]
+    requires rises { start ≤ end }
+    requires inside { end ≤ length places.now }
+    ensures { result.now ≡ take (end - start) (drop start places.now) }
+{
+    &places[start..end]
+}
+
+/// The positions of the exports of a name, in ascending order, by two binary searches.
+pub fn named_in<'a>(exports: &[Export], places: &'a [usize], name: &[u8]) -> &'a [usize]
+    requires { IsNameOrder places.now (plain_exports exports.now) }
+    ensures { AreNamed (plain_exports exports.now) name.now result.now }
+{
+    let start = count_before(exports, places, name);
+    let end = count_upto(exports, places, name);
+    between(places, start, end)
+}

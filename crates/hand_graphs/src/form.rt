@@ -1,0 +1,229 @@
+// The test whether a view has the form of its kind.
+ghost use Rattle.std.specs.Prelude.{◌≡◌, ◌↔◌, false, true, [], map, IsTrue, IfSome};
+ghost use Rattle.std.specs.List.{list_all};
+ghost use Rattle.abi_types.specs.Parts.{plain_part};
+ghost use Rattle.abi_types.specs.Forms.{has_tag as the_kind_has_tag, has_elements as the_kind_has_elements, is_scalar, is_function, size_of_kind as the_size_of_kind, is_member as the_part_is_member, is_enumerator as the_part_is_enumerator, is_param as the_part_is_param, is_one_target as they_are_one_target, is_one_element as they_are_one_element, are_of_function as they_are_of_function, parts_fit as they_fit, no_call, HasForm};
+
+use abi_types::{CallShape, Group, Index, Kind, Part, Place, View};
+
+// Whether the types of a kind have tags.
+fn has_tag(kind: Kind) -> bool
+    ensures { result ≡ the_kind_has_tag kind }
+{
+    matches!(kind, Kind::Enumeration | Kind::Structure | Kind::Union)
+}
+
+/// Whether the types of a kind hold elements of one type.
+pub fn has_elements(kind: Kind) -> bool
+    ensures { result ≡ the_kind_has_elements kind }
+{
+    matches!(kind, Kind::Array | Kind::Vector)
+}
+
+// The size of a pointer in bytes.
+const POINTER_SIZE: u64 = 8;
+
+// The size that all types of a kind have, where they have one.
+fn size_of_kind(kind: Kind) -> Option<u64>
+    ensures { result ≡ the_size_of_kind kind }
+{
+    match kind {
+        Kind::Void | Kind::Function => Some(0),
+        Kind::Pointer => Some(POINTER_SIZE),
+        _ => None,
+    }
+}
+
+fn is_member<Ix: Index>(part: &Part<Ix>) -> bool
+    ensures { result ≡ the_part_is_member (plain_part Ix.number_of part.now) }
+{
+    match part {
+        Part::Member { .. } => true,
+        _ => false,
+    }
+}
+
+fn is_enumerator<Ix: Index>(part: &Part<Ix>) -> bool
+    ensures { result ≡ the_part_is_enumerator (plain_part Ix.number_of part.now) }
+{
+    match part {
+        Part::Enumerator { .. } => true,
+        _ => false,
+    }
+}
+
+/// Whether the part is a parameter.
+pub fn is_param<Ix: Index>(part: &Part<Ix>) -> bool
+    ensures { result ≡ the_part_is_param (plain_part Ix.number_of part.now) }
+{
+    match part {
+        Part::Param { .. } => true,
+        _ => false,
+    }
+}
+
+fn are_members<Ix: Index>(parts: &[Part<Ix>]) -> bool
+    ensures { result ≡ list_all the_part_is_member (map (plain_part Ix.number_of) parts.now) }
+{
+    parts.iter().all(|part| is_member(part))
+}
+
+fn are_enumerators<Ix: Index>(parts: &[Part<Ix>]) -> bool
+    ensures { result ≡ list_all the_part_is_enumerator (map (plain_part Ix.number_of) parts.now) }
+{
+    parts.iter().all(|part| is_enumerator(part))
+}
+
+fn are_params<Ix: Index>(parts: &[Part<Ix>]) -> bool
+    ensures { result ≡ list_all the_part_is_param (map (plain_part Ix.number_of) parts.now) }
+{
+    parts.iter().all(|part| is_param(part))
+}
+
+fn is_one_target<Ix: Index>(parts: &[Part<Ix>]) -> bool
+    ensures { result ≡ they_are_one_target (map (plain_part Ix.number_of) parts.now) }
+{
+    match parts {
+        [Part::Target { .. }] => true,
+        _ => false,
+    }
+}
+
+fn is_one_element<Ix: Index>(parts: &[Part<Ix>]) -> bool
+    ensures { result ≡ they_are_one_element (map (plain_part Ix.number_of) parts.now) }
+{
+    match parts {
+        [Part::Element { .. }] => true,
+        _ => false,
+    }
+}
+
+// Whether the parts are a result and parameters after it.
+fn are_of_function<Ix: Index>(parts: &[Part<Ix>]) -> bool
+    ensures { result ≡ they_are_of_function (map (plain_part Ix.number_of) parts.now) }
+{
+    match parts {
+        [Part::Outcome { .. }, params @ ..] => are_params(params),
+        _ => false,
+    }
+}
+
+// Whether the parts are those that a type of this kind has.
+fn parts_fit<Ix: Index>(kind: Kind, parts: &[Part<Ix>]) -> bool
+    ensures { result ≡ they_fit kind (map (plain_part Ix.number_of) parts.now) }
+{
+    match kind {
+        Kind::Void | Kind::Scalar => parts.is_empty(),
+        Kind::Pointer => is_one_target(parts),
+        Kind::Enumeration => are_enumerators(parts),
+        Kind::Structure | Kind::Union => are_members(parts),
+        Kind::Array | Kind::Vector => is_one_element(parts),
+        Kind::Function => are_of_function(parts),
+    }
+}
+
+// Whether the shape has no places.
+fn is_no_call(call: &CallShape) -> bool
+    ensures { IsTrue result ↔ (call.now ≡ no_call) }
+{
+    match call.outcome {
+        Place::Nothing => call.params.as_slice().is_empty(),
+        _ => false,
+    }
+}
+
+// Whether only a type whose kind has tags has one, or is declared only.
+fn tag_fits<Ix: Index>(view: &View<Ix>) -> bool
+    ensures { IsTrue result ↔ (the_kind_has_tag view.now.kind ≡ false → (view.now.tag ≡ []) × (view.now.declared_only ≡ false)) }
+{
+    if has_tag(view.kind) {
+        return true;
+    }
+    if view.declared_only {
+        return false;
+    }
+    view.tag.is_empty()
+}
+
+// Whether the size is that of the kind, where the kind has one.
+fn size_fits<Ix: Index>(view: &View<Ix>) -> bool
+    ensures { IsTrue result ↔ IfSome (the_size_of_kind view.now.kind) (λ size. view.now.size ≡ size) }
+{
+    match size_of_kind(view.kind) {
+        Some(size) => view.size == size,
+        None => true,
+    }
+}
+
+// Whether only a scalar has a group.
+fn group_fits<Ix: Index>(view: &View<Ix>) -> bool
+    ensures { IsTrue result ↔ (is_scalar view.now.kind ≡ false → view.now.group ≡ Group.Bool) }
+{
+    match view.kind {
+        Kind::Scalar => true,
+        _ => view.group == Group::Bool,
+    }
+}
+
+// Whether only an array or a vector has a count.
+fn count_fits<Ix: Index>(view: &View<Ix>) -> bool
+    ensures { IsTrue result ↔ (the_kind_has_elements view.now.kind ≡ false → view.now.count ≡ 0) }
+{
+    if has_elements(view.kind) {
+        return true;
+    }
+    view.count == 0
+}
+
+// Whether only a function takes further arguments and has places of a call.
+fn call_fits<Ix: Index>(view: &View<Ix>) -> bool
+    ensures { IsTrue result ↔ (is_function view.now.kind ≡ false → (view.now.variadic ≡ false) × (view.now.call ≡ no_call)) }
+{
+    match view.kind {
+        Kind::Function => true,
+        _ => {
+            if view.variadic {
+                return false;
+            }
+            is_no_call(&view.call)
+        }
+    }
+}
+
+// Whether a type that is declared only has no size and no parts.
+fn declaration_fits<Ix: Index>(view: &View<Ix>) -> bool
+    ensures { IsTrue result ↔ (view.now.declared_only ≡ true → (view.now.size ≡ 0) × (view.now.parts ≡ [])) }
+{
+    if !view.declared_only {
+        return true;
+    }
+    if view.size != 0 {
+        return false;
+    }
+    view.parts.is_empty()
+}
+
+/// Whether the view has the form of its kind.
+pub fn has_form<Ix: Index>(view: &View<Ix>) -> bool
+    ensures { IsTrue result ↔ HasForm view.now }
+{
+    if !tag_fits(view) {
+        return false;
+    }
+    if !size_fits(view) {
+        return false;
+    }
+    if !group_fits(view) {
+        return false;
+    }
+    if !count_fits(view) {
+        return false;
+    }
+    if !call_fits(view) {
+        return false;
+    }
+    if !declaration_fits(view) {
+        return false;
+    }
+    parts_fit(view.kind, view.parts.as_slice())
+}

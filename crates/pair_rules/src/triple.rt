@@ -1,0 +1,40 @@
+// An old type and the new type in its place.
+ghost use Rattle.std.specs.Prelude.{◌++◌};
+ghost use Rattle.std.proofs.Common.{rules};
+ghost use Rattle.std.specs.Hash as fed;
+ghost use Rattle.std.specs.Cmp.Rules.{hashing};
+ghost use Rattle.pair_rules.specs.Steps.{is_pointer as the_way_is_pointer};
+
+use abi_types::{Index, NewIx, OldIx, Way};
+use std::hash::{Hash, Hasher};
+use std::marker::Model;
+
+/// An old type, a new type in its place, and the way by which they are reached.
+#[derive(Clone, Copy, Debug, PartialEq, Eq)]
+pub struct Triple {
+    pub old: OldIx,
+    pub new: NewIx,
+    pub way: Way,
+}
+
+impl Model for Triple {
+    ghost use Rattle.pair_rules.specs.Steps.{Triple as PlainTriple};
+
+    ghost Value = { PlainTriple };
+
+    ghost view = { λ x. record { old = x.old; new = x.new; way = x.way } };
+
+    ghost inverse = { λ x. record { old = x.old; new = x.new; way = x.way } };
+}
+
+impl Hash for Triple {
+    ghost hash_input = { λ x. fed.usize x.old ++ fed.usize x.new ++ fed.bool (the_way_is_pointer x.way) };
+
+    ghost respects_eq = { Prim.search (hashing, rules) };
+
+    fn hash<H: Hasher>(&self, state: &mut H) {
+        self.old.number().hash(state);
+        self.new.number().hash(state);
+        matches!(self.way, Way::Pointer).hash(state);
+    }
+}
