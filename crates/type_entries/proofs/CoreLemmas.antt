@@ -4,7 +4,7 @@ use Rattle.std.specs.Prelude.{Contains, IfSome, zip, flat_map}
 use Rattle.dw_tree.specs.Trees.{PlainTree}
 use Rattle.dw_entries.specs.Debug.{PlainDwarf}
 use Rattle.abi_base.specs.Limits.{depth_limit}
-use Rattle.abi_types.specs.Graphs.{size_limit}
+use Rattle.abi_types.specs.Limits.{size_limit}
 use Rattle.abi_types.specs.Types.{PlainLabel}
 use Rattle.type_entries.specs.declared.facts.Facts.{Facts}
 use Rattle.type_entries.specs.declared.role.Role.{Role}

@@ -9,7 +9,7 @@ use Rattle.std.proofs.lemmas.List.{append-nil}
 use Rattle.std.proofs.lemmas.List.Elements.{Contains-append_cases, Contains-append_left, Contains-append_right}
 use Rattle.abi_base.proofs.StepLemmas.{bool_cases}
 use Rattle.abi_base.specs.Limits.{depth_limit}
-use Rattle.abi_types.specs.Graphs.{bit_limit}
+use Rattle.abi_types.specs.Limits.{bit_limit}
 use Rattle.dw_entries.specs.Chains.{name_of}
 use Rattle.dw_entries.specs.Debug.{PlainDwarf}
 use Rattle.type_entries.specs.declared.facts.Facts.{Facts}

@@ -3,7 +3,7 @@ use Rattle.std.proofs.Common.{◌≡◌, ◌<◌, ◌≤◌, ◌+◌, ◌*◌, �
 use Rattle.std.specs.Prelude.{All, List, [], ◌∷◌, length, ℤ, pos, negsuc, neg_ℤ, ◌+ℤ◌, ◌≤ℤ◌, ◌<ℤ◌, nat_le, Option, Some, None, IfSome}
 use Rattle.std.specs.Int.{int_min, int_max}
 use Rattle.std.proofs.lemmas.Int.{ints, clamps}
-use Rattle.abi_types.specs.Graphs.{bit_limit}
+use Rattle.abi_types.specs.Limits.{bit_limit}
 use Rattle.type_entries.specs.declared.facts.Facts.{Facts}
 use Rattle.type_entries.specs.declared.facts.Span.{Span}
 use Rattle.type_entries.specs.Placement.{member_reach, is_beyond, IsNear}

@@ -4,7 +4,7 @@ use Rattle.std.specs.Option.{unwrap_or}
 use Rattle.abi_base.specs.Dwarf.{dw_at_byte_size, dw_at_bit_offset, dw_at_bit_size, dw_at_data_member_location, dw_at_data_bit_offset}
 use Rattle.dw_entries.specs.Chains.{attribute_along, name_of}
 use Rattle.dw_entries.specs.Debug.{PlainDwarf}
-use Rattle.abi_types.specs.Graphs.{bit_limit}
+use Rattle.abi_types.specs.Limits.{bit_limit}
 use Rattle.type_entries.specs.Values.{place_of, is_there, number_at}
 
 -- the byte at which a member begins

@@ -3,7 +3,7 @@ use Rattle.std.specs.Prelude.{◌≡◌, ◌<◌, ◌≤◌, ◌*◌, ◌||◌, 
 use Rattle.std.specs.List.{list_any}
 use Rattle.abi_base.specs.Limits.{depth_limit}
 use Rattle.dw_entries.specs.Debug.{PlainDwarf}
-use Rattle.abi_types.specs.Graphs.{size_limit}
+use Rattle.abi_types.specs.Limits.{size_limit}
 use Rattle.type_entries.specs.declared.role.Role.TheVariants as role
 use Rattle.type_entries.specs.References.{Type_, role_of, type_of, members_of, steps_of}
 use Rattle.type_entries.specs.ByValue.{steps_from, IsTooDeep, IsClosed}

@@ -12,7 +12,7 @@ ghost use Rattle.type_entries.specs.Facts.{facts_from, facts_of};
 ghost use Rattle.type_entries.specs.Flat.{Flat, core_of, labels_made, labels_of, flat_made, flat_of};
 ghost use Rattle.type_entries.specs.Cores.{IsCore, IsFound, IsLower};
 ghost use Rattle.abi_base.specs.Limits.{depth_limit};
-ghost use Rattle.abi_types.specs.Graphs.{size_limit};
+ghost use Rattle.abi_types.specs.Limits.{size_limit};
 ghost use Rattle.type_entries.specs.declared.role.Role.TheVariants as role;
 ghost use Rattle.type_entries.specs.Sizes.{begins_beyond, has_member_beyond};
 ghost use Rattle.type_entries.specs.TypeLaws.{TypeLaws};

@@ -10,9 +10,12 @@ use Rattle.type_entries.specs.References.{Type_, type_of, members_of, steps_of}
 use Rattle.type_entries.specs.ByValue.{IsTooDeep, IsClosed}
 use Rattle.type_entries.specs.Placement.{width_of}
 use Rattle.type_entries.specs.Facts.{facts_of}
-use Rattle.type_entries.specs.Flat.{Flat, moved, declared_bit, given_by, flat_of, member_gives}
+use Rattle.type_entries.specs.Flat.{Flat, core_of, moved, declared_bit, given_by, flat_of, member_gives}
 use Rattle.type_entries.specs.Cores.{StandsForNone, IsFound, IsCore}
 use Rattle.type_entries.specs.TypeLaws.{IsShallow, TypeLaws}
+use Rattle.abi_base.proofs.StepLemmas.{bool_cases}
+use Rattle.std.proofs.lemmas.Option.{none-some}
+use Rattle.type_views.specs.Placed.{replacing}
 use Rattle.type_views.proofs.ListLemmas.{map-map, map-same}
 use Rattle.type_views.proofs.ViewLemmas.{found-shallow}
 
@@ -27,11 +30,11 @@ flat_map-push f (y ∷ ys) x = ap (λ zs. f y ++ zs) (flat_map-push f ys x) ∙ 
 pub IsPut-start : (d : PlainDwarf) (before : List Flat) (base : ℤ) (members : List ℕ) → IsPut d before base members 0 before
 IsPut-start d before base members = sym (append-nil before)
 
-pub IsPut-more : (d : PlainDwarf) (before : List Flat) (base : ℤ) (members : List ℕ) (k m : ℕ) (out new : List Flat) → IsPut d before base members k out → k < length members → m ≡ get_or members k m → new ≡ out ++ map (moved base) (member_gives d m) → IsPut d before base members (k + 1) new
+pub IsPut-more : (d : PlainDwarf) (before : List Flat) (base : ℤ) (members : List ℕ) (k m : ℕ) (out new : List Flat) → IsPut d before base members k out → k < length members → m ≡ get_or members k 0 → new ≡ out ++ map (moved base) (member_gives d m) → IsPut d before base members (k + 1) new
 IsPut-more d before base members k m out new was lt read grown =
     let f : ℕ → List Flat = member_gives d in
     let firsts : List Flat = flat_map f (take k members) in
-    let more : take (k + 1) members ≡ take k members ++ m ∷ [] = take_more members k m lt ∙ ap (λ x. take k members ++ x ∷ []) (sym read) in
+    let more : take (k + 1) members ≡ take k members ++ m ∷ [] = take_more members k 0 lt ∙ ap (λ x. take k members ++ x ∷ []) (sym read) in
     grown
     ∙ ap (λ xs. xs ++ map (moved base) (f m)) was
     ∙ append_assoc before (map (moved base) firsts) (map (moved base) (f m))
@@ -50,24 +53,33 @@ pub gives-named : (d : PlainDwarf) (m : ℕ) (base : ℤ) (name : List ℕ) → 
     → map (moved base) (member_gives d m) ≡ record { name = name; bit = base +ℤ declared_bit d m; width = width_of d m; to = type_of d.tree m } ∷ []
 gives-named d m base name is = ap (λ o. map (moved base) (given_by d m o (flat_of d (type_of d.tree m)))) is
 
-pub gives-none : (d : PlainDwarf) (m : ℕ) (base : ℤ) → name_of d m ≡ None → (facts_of d (type_of d.tree m)).aggregate ≡ false → map (moved base) (member_gives d m) ≡ []
-gives-none d m base is other = ap (λ o. map (moved base) (given_by d m o (flat_of d (type_of d.tree m)))) is ∙ (rw other refl)
-
 moved-twice : (a b : ℤ) (x : Flat) → moved a (moved b x) ≡ moved (a +ℤ b) x
 moved-twice a b x = ap (λ z. record x { bit = z }) (sym (+ℤ_assoc a b x.bit))
 
--- a nameless structure or union gives the members of its core
-pub gives-nested : (d : PlainDwarf) → TypeLaws d → (m : ℕ) (base : ℤ) (c : Type_) → IsShallow d (type_of d.tree m) → name_of d m ≡ None → (facts_of d (type_of d.tree m)).aggregate ≡ true → (facts_of d (type_of d.tree m)).core ≡ c
-    → map (moved base) (member_gives d m) ≡ map (moved (base +ℤ declared_bit d m)) (flat_of d c)
-gives-nested d laws m base c shallow is yes' core =
+-- a nameless structure or union gives the members of its core, and any other nameless member nothing
+gives-of : (d : PlainDwarf) → TypeLaws d → (m : ℕ) (base : ℤ) → IsShallow d (type_of d.tree m) → name_of d m ≡ None → (facts_of d (type_of d.tree m)).aggregate ≡ true
+    → map (moved base) (member_gives d m) ≡ map (moved (base +ℤ declared_bit d m)) (flat_of d (core_of d (type_of d.tree m)))
+gives-of d laws m base shallow is yes' =
     let ty : Type_ = type_of d.tree m in
     ap (λ o. map (moved base) (given_by d m o (flat_of d ty))) is
     ∙ (rw yes' (map-map (moved base) (moved (declared_bit d m)) (flat_of d ty)))
     ∙ map-same (λ x. moved base (moved (declared_bit d m) x)) (moved (base +ℤ declared_bit d m)) (flat_of d ty) (λ x h. moved-twice base (declared_bit d m) x)
-    ∙ ap (map (moved (base +ℤ declared_bit d m))) ((laws.cores ty shallow).flat ∙ ap (flat_of d) core)
+    ∙ ap (map (moved (base +ℤ declared_bit d m))) (laws.cores ty shallow).flat
 
-pub gives-void : (d : PlainDwarf) → TypeLaws d → (m : ℕ) (base : ℤ) → IsShallow d (type_of d.tree m) → name_of d m ≡ None → (facts_of d (type_of d.tree m)).aggregate ≡ true → (facts_of d (type_of d.tree m)).core ≡ None → map (moved base) (member_gives d m) ≡ []
-gives-void d laws m base shallow is yes' core = gives-nested d laws m base None shallow is yes' core ∙ ap (map (moved (base +ℤ declared_bit d m))) laws.flats_void
+pub gives-nested : (d : PlainDwarf) → TypeLaws d → (m inner : ℕ) (base : ℤ) → IsShallow d (type_of d.tree m) → name_of d m ≡ None → replacing (facts_of d (type_of d.tree m)) ≡ Some inner
+    → map (moved base) (member_gives d m) ≡ map (moved (base +ℤ declared_bit d m)) (flat_of d (Some inner))
+gives-nested d laws m inner base shallow none is =
+    let ty : Type_ = type_of d.tree m in
+    bool_cases (facts_of d ty).aggregate
+    (λ yes'. gives-of d laws m base shallow none yes' ∙ ap (λ c. map (moved (base +ℤ declared_bit d m)) (flat_of d c)) (rw yes' at is))
+    (λ no'. absurd (none-some inner (rw no' at is)))
+
+pub gives-nothing : (d : PlainDwarf) → TypeLaws d → (m : ℕ) (base : ℤ) → IsShallow d (type_of d.tree m) → name_of d m ≡ None → replacing (facts_of d (type_of d.tree m)) ≡ None → map (moved base) (member_gives d m) ≡ []
+gives-nothing d laws m base shallow none is =
+    let ty : Type_ = type_of d.tree m in
+    bool_cases (facts_of d ty).aggregate
+    (λ yes'. gives-of d laws m base shallow none yes' ∙ ap (λ c. map (moved (base +ℤ declared_bit d m)) (flat_of d c)) (rw yes' at is) ∙ ap (map (moved (base +ℤ declared_bit d m))) laws.flats_void)
+    (λ no'. ap (λ o. map (moved base) (given_by d m o (flat_of d ty))) none ∙ (rw no' refl))
 
 -- what holds of the core of a member's type
 pub record IsNested (d : PlainDwarf) (found : List ℕ) (c m inner : ℕ) : Type 0 where
@@ -82,11 +94,12 @@ module _ (d : PlainDwarf) (laws : TypeLaws d) (found : List ℕ) (closed : IsClo
   pub member_shallow : (c m : ℕ) → Contains found c → Contains (members_of d.tree c) m → IsShallow d (type_of d.tree m)
   member_shallow c m there has = found-shallow d laws found closed shallow (type_of d.tree m) (member_found c m there has)
 
-  pub nested-is : (c m inner : ℕ) → Contains found c → Contains (members_of d.tree c) m → (facts_of d (type_of d.tree m)).core ≡ Some inner → IsNested d found c m inner
-  nested-is c m inner there has is =
+  pub nested-is : (c m inner : ℕ) → Contains found c → Contains (members_of d.tree c) m → replacing (facts_of d (type_of d.tree m)) ≡ Some inner → IsNested d found c m inner
+  nested-is c m inner there has replaced =
       let ty : Type_ = type_of d.tree m in
       let ty_there = member_found c m there has in
       let ty_shallow = member_shallow c m there has in
+      let is : core_of d ty ≡ Some inner = bool_cases (facts_of d ty).aggregate (λ yes'. rw yes' at replaced) (λ no'. absurd (none-some inner (rw no' at replaced))) in
       let core = subst (IsCore d ty) is (laws.cores ty ty_shallow) in
       let falls = laws.falls (Some c) ty (shallow c there) (laws.member_step c m has) in
       record {

@@ -1,6 +1,7 @@
 mod FlattenLemmas
 mod FormLemmas
 mod GraphLemmas
+mod JudgeLemmas
 mod LabelLemmas
 mod LimitLemmas
 mod ListLemmas

@@ -10,12 +10,13 @@ use Rattle.std.proofs.lemmas.List.Elements.{Contains-append_cases}
 use Rattle.std.proofs.lemmas.Option.{same_Some}
 use Rattle.abi_base.proofs.StepLemmas.{bool_cases}
 use Rattle.abi_base.specs.Limits.{depth_limit, weight_limit}
+use Rattle.abi_types.specs.Limits.{size_limit, bit_limit, align_limit, room_limit}
 use Rattle.dw_tree.specs.Trees.{PlainTree, entry_at, IsOrdered}
 use Rattle.dw_entries.specs.Debug.{PlainDwarf}
 use Rattle.abi_types.specs.declared.kind.Kind.TheVariants as kind
 use Rattle.abi_types.specs.Types.{PlainPart, Member, Target, Element, Outcome, Param, PlainNode, PlainView}
 use Rattle.abi_types.specs.Forms.{HasForm, has_elements}
-use Rattle.abi_types.specs.Graphs.{size_limit, bit_limit, align_limit, void_node, void_view, node_at, view_at, part_at, no_part, to_of, KeepsBits, KeepsLimits, IsWhole, IsGraph, room_of}
+use Rattle.abi_types.specs.Graphs.{void_node, void_view, node_at, view_at, part_at, no_part, to_of, KeepsBits, KeepsLimits, IsWhole, IsGraph, room_of}
 use Rattle.type_entries.specs.declared.facts.Facts.{Facts}
 use Rattle.type_entries.specs.declared.role.Role.{Role}
 use Rattle.type_entries.specs.declared.role.Role.TheVariants as role
@@ -32,7 +33,7 @@ use Rattle.type_entries.specs.Facts.{cut, total, room_of as facts_room, rooms_fo
 use Rattle.type_entries.specs.Flat.{Flat, core_of, moved, declared_bit, given_by, flat_of, member_gives}
 use Rattle.type_entries.specs.Cores.{StandsForNone, IsFound}
 use Rattle.type_entries.specs.TypeLaws.{TypeLaws}
-use Rattle.type_entries.specs.Sizes.{rooms_limit, begins_beyond, has_member_beyond, is_too_large}
+use Rattle.type_entries.specs.Sizes.{begins_beyond, has_member_beyond, is_too_large}
 use Rattle.type_entries.specs.Views.{bit_number, member_part, enumerator_part, param_part, enumerators_of, parts_under, kind_of, core_view, view_by}
 use Rattle.type_views.specs.Nodes.{number_in, made_nodes}
 use Rattle.type_views.proofs.ListLemmas.{in_front, first_of_all, behind_first, not_in_none, from_map, get-cases, map-map}
@@ -57,7 +58,7 @@ pub record Fits (d : PlainDwarf) (e : ℕ) : Type 0 where
   pub size : (facts_of d (Some e)).size ≤ size_limit
   pub count : (facts_of d (Some e)).count ≤ size_limit
   pub align : (facts_of d (Some e)).align ≤ align_limit
-  pub rooms : (facts_of d (Some e)).rooms ≤ rooms_limit
+  pub rooms : (facts_of d (Some e)).rooms ≤ room_limit
   pub near : list_any begins_beyond (flat_of d (Some e)) ≡ false
 
 pub fits_from : (d : PlainDwarf) (e : ℕ) → is_too_large d e ≡ false → Fits d e
@@ -68,9 +69,9 @@ fits_from d e is =
     let b = or_parts (nat_lt size_limit x.count) _ a.1 in
     let w = or_parts (nat_lt weight_limit x.weight) _ b.1 in
     let g = or_parts (nat_lt align_limit x.align) _ w.1 in
-    let r = or_parts (nat_lt rooms_limit x.rooms) _ g.1 in
+    let r = or_parts (nat_lt room_limit x.rooms) _ g.1 in
     let n = or_parts (has_member_beyond d (core_of d (Some e))) (list_any begins_beyond (flat_of d (Some e))) r.1 in
-    record { size = not_lt size_limit x.size a.0; count = not_lt size_limit x.count b.0; align = not_lt align_limit x.align g.0; rooms = not_lt rooms_limit x.rooms r.0; near = n.1 }
+    record { size = not_lt size_limit x.size a.0; count = not_lt size_limit x.count b.0; align = not_lt align_limit x.align g.0; rooms = not_lt room_limit x.rooms r.0; near = n.1 }
 
 -- ---- widths
 
@@ -207,7 +208,7 @@ module _ (d : PlainDwarf) (laws : TypeLaws d) (found : List ℕ) (closed : IsClo
       go None same = sym (same ∙ ap (λ (x : Facts). x.size) laws.facts_void)
       go (Some c) same = sym same
 
-  params-fit : (c : ℕ) → Contains found c → (ps : List ℕ) → ((p : ℕ) → Contains ps p → Contains (parts_of d.tree c) p) → total (map facts_room (map (facts_of d) (map (type_of d.tree) ps))) ≤ rooms_limit
+  params-fit : (c : ℕ) → Contains found c → (ps : List ℕ) → ((p : ℕ) → Contains ps p → Contains (parts_of d.tree c) p) → total (map facts_room (map (facts_of d) (map (type_of d.tree) ps))) ≤ room_limit
       → sum_by (room_of (made_nodes d found)) (map (param_part (number_in found) d.tree) ps) ≤ total (map facts_room (map (facts_of d) (map (type_of d.tree) ps)))
   unfolding total
   params-fit c there [] inside le = omega arith
@@ -215,7 +216,7 @@ module _ (d : PlainDwarf) (laws : TypeLaws d) (found : List ℕ) (closed : IsClo
       let ty_there = type_found d.tree found c (type_of d.tree p) closed there (part_there d.tree c p (inside p (first_of_all p ps))) in
       let here = node-size (type_of d.tree p) ty_there in
       let rest : ℕ = total (map facts_room (map (facts_of d) (map (type_of d.tree) ps))) in
-      let small : rest ≤ rooms_limit = omega (arith, le) in
+      let small : rest ≤ room_limit = omega (arith, le) in
       let later = params-fit c there ps (λ q h. inside q (behind_first p ps q h)) small in
       let sum = sum_by-cons (room_of (made_nodes d found)) (Param (number_in found (type_of d.tree p))) (map (param_part (number_in found) d.tree) ps) in
       omega (arith, sum, here, later, le)
@@ -227,12 +228,12 @@ module _ (d : PlainDwarf) (laws : TypeLaws d) (found : List ℕ) (closed : IsClo
       ∙ ap (λ k. rooms_for k (map (facts_of d) (steps_of d.tree c))) is
       ∙ (rw is refl)
 
-  rooms-fit : (c : ℕ) (k : Role) → role_of d.tree c ≡ k → Contains found c → sum_by (room_of (made_nodes d found)) (parts_under k (number_in found) d c) ≤ 2 ^ 62
+  rooms-fit : (c : ℕ) (k : Role) → role_of d.tree c ≡ k → Contains found c → sum_by (room_of (made_nodes d found)) (parts_under k (number_in found) d c) ≤ room_limit
   rooms-fit c role.Function is there =
       let sum = sum_by-cons (room_of (made_nodes d found)) (Outcome (number_in found (type_of d.tree c))) (map (param_part (number_in found) d.tree) (parts_of d.tree c)) in
       let all = function-rooms c (shallow c there) is in
       let le = (fits_from d c (fits c there)).rooms in
-      let small : total (map facts_room (map (facts_of d) (map (type_of d.tree) (parts_of d.tree c)))) ≤ rooms_limit = omega (arith, all, le) in
+      let small : total (map facts_room (map (facts_of d) (map (type_of d.tree) (parts_of d.tree c)))) ≤ room_limit = omega (arith, all, le) in
       let params = params-fit c there (parts_of d.tree c) (λ p h. h) small in
       omega (arith, sum, params, small)
   rooms-fit c role.Aggregate is there = rw (member-rooms (made_nodes d found) (number_in found) (flat_of d (Some c))) (omega arith)

@@ -1,6 +1,7 @@
 -- What stands in lists.
 use Rattle.std.proofs.Common.{◌≡◌, ◌<◌, ◌≤◌, ◌+◌, ℕ, zero, suc, List, [], ◌∷◌, ◌++◌, length, map, get_or, slice_get, Option, Some, None, refl, sym, ◌∙◌, ap, subst, arith, inl, inr, ◌⊎◌}
 use Rattle.std.specs.Prelude.{Contains}
+use Rattle.std.proofs.lemmas.List.{get_or_default}
 use Rattle.std.proofs.lemmas.Option.{same_Some, none-some, slice_get_within, get_or_from_slice_get}
 
 pub in_front : {X : Type 0} (x : X) (xs : List X) (y : X) → Contains (x ∷ xs) y → (x ≡ y) ⊎ Contains xs y
@@ -58,3 +59,7 @@ pub get-cases : {X : Type 0} (xs : List X) (k : ℕ) (d : X) → Contains xs (ge
 get-cases [] k d = inr refl
 get-cases (x ∷ xs) zero d = inl (first_of_all x xs)
 get-cases (x ∷ xs) (suc k) d = elim (get-cases xs k d) [ inl there ↦ inl (behind_first x xs (get_or xs k d) there) | inr past ↦ inr past ]
+
+-- what stands in a list of numbers at a place
+pub at-place : (xs : List ℕ) (k : ℕ) → k < length xs → Contains xs (get_or xs k 0)
+at-place xs k lt = (k, lt, sym (get_or_default xs k 0 (get_or xs k 0) lt))

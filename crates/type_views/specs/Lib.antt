@@ -1,2 +1,3 @@
+pub mod Large
 pub mod Nodes
 pub mod Placed

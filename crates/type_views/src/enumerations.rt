@@ -79,7 +79,7 @@ pub(crate) fn good_enumerators(alloc: Global, dwarf: &Dwarf, e: usize) -> Result
 fn is_quad_name(name: &[u8]) -> bool
     ensures { result ≡ the_name_is_of_a_quad name.now }
 {
-    name == b"_Float128" || name == b"__float128"
+    name == b"_Float128".as_slice() || name == b"__float128".as_slice()
 }
 
 /// What the bits of a base type of a size mean.

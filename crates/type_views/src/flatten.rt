@@ -6,7 +6,7 @@ ghost use Rattle.type_entries.specs.Placement.{IsNear};
 ghost use Rattle.type_entries.specs.Facts.{AreAllFacts, facts_of};
 ghost use Rattle.type_entries.specs.Cores.{StandsForNone};
 ghost use Rattle.type_entries.specs.Flat.{moved, flat_of};
-ghost use Rattle.type_views.specs.Placed.{plain_members};
+ghost use Rattle.type_views.specs.Placed.{replacing as the_replacing, plain_members};
 
 use abi_base::NoMemory;
 use dw_entries::Dwarf;
@@ -33,6 +33,13 @@ fn later(base: i128, bit: i128, members: u32) -> i128
     ensures near { IsNear (members + 1) result }
 {
     base + bit
+}
+
+// The structure or union whose members replace a nameless member, by the facts of its type.
+fn replacing(of_type: &Facts) -> Option<usize>
+    ensures { result ≡ the_replacing of_type.now }
+{
+    if of_type.aggregate { of_type.core } else { None }
 }
 
 // Puts the flat members of a structure or a union last, each so much later.
@@ -73,10 +80,7 @@ pub(crate) fn push_flat<'a>(
             })?;
             continue;
         }
-        if !of_type.aggregate {
-            continue;
-        }
-        match of_type.core {
+        match replacing(&of_type) {
             Some(inner) => push_flat(alloc, dwarf, found, facts, out, inner, bit, budget - 1)?,
             None => {}
         }

@@ -6,6 +6,7 @@ ghost use Rattle.type_entries.specs.Facts.{AreAllFacts, facts_of};
 ghost use Rattle.type_entries.specs.TypeLaws.{IsShallow};
 ghost use Rattle.type_entries.specs.Shapes.{has_shape as the_entry_has_a_shape};
 ghost use Rattle.type_entries.specs.Sizes.{is_too_large as the_entry_is_too_large};
+ghost use Rattle.type_views.specs.Large.{are_too_large as the_facts_are_too_large};
 ghost use Rattle.type_entries.specs.Faults.{shape_fault, large_fault};
 
 use crate::limits::{ALIGN_LIMIT, ROOMS_LIMIT, SIZE_LIMIT, WEIGHT_LIMIT};
@@ -33,6 +34,18 @@ pub(crate) fn ask_shapes(alloc: Global, dwarf: &Dwarf, order: &[usize]) -> Resul
     Ok(())
 }
 
+// Whether facts pass the limits.
+fn are_too_large(facts: &Facts) -> bool
+    ensures { result ≡ the_facts_are_too_large facts.now }
+{
+    SIZE_LIMIT < facts.size
+        || SIZE_LIMIT < facts.count
+        || WEIGHT_LIMIT < facts.weight
+        || ALIGN_LIMIT < facts.align
+        || ROOMS_LIMIT < facts.rooms
+        || facts.beyond
+}
+
 // Whether an entry with these facts is too large.
 fn is_too_large(dwarf: &Dwarf, e: usize, facts: &Facts) -> bool
     requires facts { facts.now ≡ facts_of dwarf.now (Some e) }
@@ -40,12 +53,7 @@ fn is_too_large(dwarf: &Dwarf, e: usize, facts: &Facts) -> bool
     ensures { result ≡ the_entry_is_too_large dwarf.now e }
 {
     laws_of_types();
-    facts.size > SIZE_LIMIT
-        || facts.count > SIZE_LIMIT
-        || facts.weight > WEIGHT_LIMIT
-        || facts.align > ALIGN_LIMIT
-        || facts.rooms > ROOMS_LIMIT
-        || facts.beyond
+    are_too_large(facts)
 }
 
 /// Asks the sizes of entries that were found, in their order.
