@@ -53,12 +53,13 @@ unfolding large_fault
 large-some d e at is place = rw is (ap (λ a. Some (record { kind = fault.TooLarge; at = a })) (sym place))
 
 -- where no entry has a fault, each passes the test
+pass-one : (g : ℕ → Option Fault) (x e : ℕ) (xs : List ℕ) (o : Option Fault) → (first (map g xs) ≡ None → Contains xs e → g e ≡ None) → Contains (x ∷ xs) e → g x ≡ o → first (o ∷ map g xs) ≡ None → g e ≡ None
+pass-one g x e xs None later h is rest = elim (in_front x xs e h) [ inl same ↦ ap g (sym same) ∙ is | inr behind ↦ later rest behind ]
+pass-one g x e xs (Some f) later h is rest = absurd (none-some f (sym rest))
+
 all-pass : (g : ℕ → Option Fault) (xs : List ℕ) (e : ℕ) → first (map g xs) ≡ None → Contains xs e → g e ≡ None
 all-pass g [] e none h = absurd (not_in_none e h)
-all-pass g (x ∷ xs) e none h = go (g x) refl none where
-  go : (o : Option Fault) → g x ≡ o → first (o ∷ map g xs) ≡ None → g e ≡ None
-  go None is rest = elim (in_front x xs e h) [ inl same ↦ ap g (sym same) ∙ is | inr later ↦ all-pass g xs e rest later ]
-  go (Some f) is rest = absurd (none-some f (sym rest))
+all-pass g (x ∷ xs) e none h = pass-one g x e xs (g x) (all-pass g xs e) h refl none
 
 shape-back : (d : PlainDwarf) (e : ℕ) → shape_fault d e ≡ None → has_shape d e ≡ true
 unfolding shape_fault

@@ -5,4 +5,5 @@ mod JudgeLemmas
 mod LabelLemmas
 mod LimitLemmas
 mod ListLemmas
+mod NodeLemmas
 mod ViewLemmas

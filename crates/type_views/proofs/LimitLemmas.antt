@@ -133,22 +133,23 @@ shaped-members d e m shape has = go (role_of d.tree e) (and_parts (has_shape_for
   go role.Unknown is h = absurd (not_in_none m h)
 
 module _ (d : PlainDwarf) (laws : TypeLaws d) (found : List ℕ) (closed : IsClosed d.tree found) (shallow : (e : ℕ) → Contains found e → IsTooDeep d.tree (Some e) → ⊥) (shaped : (e : ℕ) → Contains found e → has_shape d e ≡ true) where
+  narrow-core : (r c : Type_) (n : ℕ) → ((ty : Type_) → IsFound found ty → rank_of d ty < n → (x : Flat) → Contains (flat_of d ty) x → IsNarrow x) → IsFound found c → IfSome c (StandsForNone d) → (IsTooDeep d.tree c → ⊥) → rank_of d c < suc n
+      → (x : Flat) → Contains (flat_of d c) x → IsNarrow x
+  narrow-core r None n below there last core_shallow low x has = absurd (not_in_none x (subst (λ xs. Contains xs x) laws.flats_void has))
+  narrow-core r (Some c) n below there last core_shallow low x has =
+      let from = from_flat_map (member_gives d) (members_of d.tree c) x (subst (λ xs. Contains xs x) (laws.members c core_shallow last) has) in
+      let m = from.0 in
+      let step = laws.member_step c m from.1 in
+      let ty_there = laws.step_found found (Some c) (type_of d.tree m) closed there step in
+      let falls = laws.falls (Some c) (type_of d.tree m) core_shallow step in
+      given-narrow d m (name_of d m) (good-width d m (shaped-members d c m (shaped c there) from.1)) (below (type_of d.tree m) ty_there (omega (arith, falls, low))) x from.2
+
   narrow-within : (n : ℕ) (r : Type_) → IsFound found r → rank_of d r < n → (x : Flat) → Contains (flat_of d r) x → IsNarrow x
   narrow-within zero r there low x h = absurd (omega arith)
   narrow-within (suc n) r there low x h =
       let deep = found-shallow d laws found closed shallow r there in
       let core = laws.cores r deep in
-      go (core_of d r) (laws.found found r closed deep there) core.last core.shallow core.low (subst (λ xs. Contains xs x) core.flat h)
-    where
-      go : (c : Type_) → IsFound found c → IfSome c (StandsForNone d) → (IsTooDeep d.tree c → ⊥) → rank_of d c ≤ rank_of d r → Contains (flat_of d c) x → IsNarrow x
-      go None core_there last core_shallow le has = absurd (not_in_none x (subst (λ xs. Contains xs x) laws.flats_void has))
-      go (Some c) core_there last core_shallow le has =
-          let from = from_flat_map (member_gives d) (members_of d.tree c) x (subst (λ xs. Contains xs x) (laws.members c core_shallow last) has) in
-          let m = from.0 in
-          let step = laws.member_step c m from.1 in
-          let ty_there = laws.step_found found (Some c) (type_of d.tree m) closed core_there step in
-          let falls = laws.falls (Some c) (type_of d.tree m) core_shallow step in
-          given-narrow d m (name_of d m) (good-width d m (shaped-members d c m (shaped c core_there) from.1)) (narrow-within n (type_of d.tree m) ty_there (omega (arith, falls, le, low))) x from.2
+      narrow-core r (core_of d r) n (narrow-within n) (laws.found found r closed deep there) core.last core.shallow (omega (arith, core.low, low)) x (subst (λ xs. Contains xs x) core.flat h)
 
   pub narrow : (r : Type_) → IsFound found r → (x : Flat) → Contains (flat_of d r) x → IsNarrow x
   narrow r there = narrow-within (suc (rank_of d r)) r there (omega arith)

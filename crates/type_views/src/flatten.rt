@@ -2,7 +2,7 @@
 ghost use Rattle.std.specs.Prelude.{◌≡◌, ◌<◌, ◌≤◌, ◌+◌, ◌-◌, ◌+ℤ◌, ◌++◌, length, map, Contains, Some, OnOk};
 ghost use Rattle.abi_base.specs.Limits.{depth_limit};
 ghost use Rattle.type_entries.specs.ByValue.{IsClosed};
-ghost use Rattle.type_entries.specs.Placement.{IsNear};
+ghost use Rattle.type_entries.specs.Placement.{bit_of as the_bit_of, IsNear};
 ghost use Rattle.type_entries.specs.Facts.{AreAllFacts, facts_of};
 ghost use Rattle.type_entries.specs.Cores.{StandsForNone};
 ghost use Rattle.type_entries.specs.Flat.{moved, flat_of};
@@ -24,15 +24,23 @@ pub(crate) struct Placed<'a> {
     pub(crate) to: Option<usize>,
 }
 
-// A bit so much later.
-fn later(base: i128, bit: i128, members: u32) -> i128
-    requires base { IsNear members base }
-    requires bit { IsNear 1 bit }
-    requires members { members < 1000 }
-    ensures is { result ≡ base +ℤ bit }
-    ensures near { IsNear (members + 1) result }
+/// Where something begins, in bits.
+#[derive(Clone, Copy)]
+pub(crate) struct Start {
+    pub(crate) bit: i128,
+}
+
+// Where a member begins, whose type has these facts.
+fn start_of(dwarf: &Dwarf, m: usize, of_type: &Facts, base: Start, depth: u32) -> Start
+    requires inside { m < length dwarf.now.tree.entries }
+    requires base { IsNear depth base.bit }
+    requires depth { depth < 1000 }
+    ensures is { result.bit ≡ base.bit +ℤ the_bit_of dwarf.now m of_type.now.size }
+    ensures near { IsNear (depth + 1) result.bit }
 {
-    base + bit
+    Start {
+        bit: base.bit + bit_of(dwarf, m, of_type.size),
+    }
 }
 
 // The structure or union whose members replace a nameless member, by the facts of its type.
@@ -50,7 +58,7 @@ pub(crate) fn push_flat<'a>(
     facts: &[Facts],
     out: &mut Vec<Placed<'a>>,
     c: usize,
-    base: i128,
+    base: Start,
     budget: u32,
 ) -> Result<(), NoMemory>
     requires closed { IsClosed dwarf.now.tree found.now }
@@ -59,29 +67,30 @@ pub(crate) fn push_flat<'a>(
     requires last { StandsForNone dwarf.now c }
     requires low { (facts_of dwarf.now (Some c)).rank ≤ budget }
     requires budget { budget ≤ depth_limit }
-    requires base { IsNear (depth_limit - budget) base }
-    ensures { OnOk result (plain_members out.new.items ≡ plain_members out.old.items ++ map (moved base) (flat_of dwarf.now (Some c))) }
+    requires base { IsNear (depth_limit - budget) base.bit }
+    ensures { OnOk result (plain_members out.new.items ≡ plain_members out.old.items ++ map (moved base.bit) (flat_of dwarf.now (Some c))) }
 {
     laws_of_types();
+    let depth = DEPTH_LIMIT - budget;
     let parts = parts_of(alloc, dwarf, c)?;
     let members = members_among(dwarf, c, parts.as_slice());
     'members: for k in 0..members.len() {
         let m = members[k];
         let to = type_of(dwarf, m);
         let of_type = facts_at(dwarf, found, facts, to);
-        let bit = later(base, bit_of(dwarf, m, of_type.size), DEPTH_LIMIT - budget);
+        let start = start_of(dwarf, m, &of_type, base, depth);
         if let Some(name) = dwarf.name_of(m) {
             let width = width_of(dwarf, m);
             out.push(Placed {
                 name,
-                bit,
+                bit: start.bit,
                 width,
                 to,
             })?;
             continue;
         }
         match replacing(&of_type) {
-            Some(inner) => push_flat(alloc, dwarf, found, facts, out, inner, bit, budget - 1)?,
+            Some(inner) => push_flat(alloc, dwarf, found, facts, out, inner, start, budget - 1)?,
             None => {}
         }
     }

@@ -11,11 +11,26 @@ ghost use Rattle.type_entries.specs.Faults.{shape_fault, large_fault};
 
 use crate::limits::{ALIGN_LIMIT, ROOMS_LIMIT, SIZE_LIMIT, WEIGHT_LIMIT};
 use crate::shapes::has_shape;
-use abi_base::{Fault, FaultKind, Refusal};
+use abi_base::{Fault, FaultKind, NoMemory, Refusal};
 use dw_entries::Dwarf;
 use std::alloc::Global;
 use type_entries::laws::laws_of_types;
 use type_entries::{Facts, Found, facts_at};
+
+// The fault of an entry's shape.
+#[tactic(auto, unfolding(type_entries::specs::Faults::shape_fault))]
+fn shape_fault_of(alloc: Global, dwarf: &Dwarf, e: usize) -> Result<Option<Fault>, NoMemory>
+    requires { e < length dwarf.now.tree.entries }
+    ensures { IfOk result (λ fault. fault ≡ shape_fault dwarf.now e) }
+{
+    if has_shape(alloc, dwarf, e)? {
+        return Ok(None);
+    }
+    Ok(Some(Fault {
+        kind: FaultKind::Shape,
+        at: dwarf.offset(e),
+    }))
+}
 
 /// Asks the shapes of entries, in their order.
 pub(crate) fn ask_shapes(alloc: Global, dwarf: &Dwarf, order: &[usize]) -> Result<(), Refusal>
@@ -23,12 +38,9 @@ pub(crate) fn ask_shapes(alloc: Global, dwarf: &Dwarf, order: &[usize]) -> Resul
     ensures { Judges result (first (map (shape_fault dwarf.now) order.now)) }
 {
     'order: for k in 0..order.len() {
-        let e = order[k];
-        if !has_shape(alloc, dwarf, e)? {
-            return Err(Refusal::Fault(Fault {
-                kind: FaultKind::Shape,
-                at: dwarf.offset(e),
-            }));
+        match shape_fault_of(alloc, dwarf, order[k])? {
+            Some(fault) => return Err(Refusal::Fault(fault)),
+            None => {}
         }
     }
     Ok(())
@@ -56,6 +68,23 @@ fn is_too_large(dwarf: &Dwarf, e: usize, facts: &Facts) -> bool
     are_too_large(facts)
 }
 
+// The fault of an entry's size.
+#[tactic(auto, unfolding(type_entries::specs::Faults::large_fault))]
+fn large_fault_of(dwarf: &Dwarf, e: usize, facts: &Facts) -> Option<Fault>
+    requires inside { e < length dwarf.now.tree.entries }
+    requires facts { facts.now ≡ facts_of dwarf.now (Some e) }
+    requires shallow { IsShallow dwarf.now (Some e) }
+    ensures { result ≡ large_fault dwarf.now e }
+{
+    if !is_too_large(dwarf, e, facts) {
+        return None;
+    }
+    Some(Fault {
+        kind: FaultKind::TooLarge,
+        at: dwarf.offset(e),
+    })
+}
+
 /// Asks the sizes of entries that were found, in their order.
 pub(crate) fn ask_sizes(
     dwarf: &Dwarf,
@@ -71,11 +100,9 @@ pub(crate) fn ask_sizes(
     'order: for k in 0..order.len() {
         let e = order[k];
         let of_entry = facts_at(dwarf, found, facts, Some(e));
-        if is_too_large(dwarf, e, &of_entry) {
-            return Err(Fault {
-                kind: FaultKind::TooLarge,
-                at: dwarf.offset(e),
-            });
+        match large_fault_of(dwarf, e, &of_entry) {
+            Some(fault) => return Err(fault),
+            None => {}
         }
     }
     Ok(())

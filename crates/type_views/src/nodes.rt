@@ -20,7 +20,7 @@ ghost use Rattle.type_views.specs.Nodes.{number_in, made_node, made_nodes};
 ghost use Rattle.type_views.specs.Placed.{plain_members};
 
 use crate::enumerations::group_of;
-use crate::flatten::{Placed, push_flat};
+use crate::flatten::{Placed, Start, push_flat};
 use crate::labels::{labels_of, name_or_empty};
 use abi_base::{List, NoMemory};
 use abi_base::dwarf::{
@@ -97,9 +97,11 @@ fn aggregate_parts<'a, Ix: Index>(
     requires near { list_any begins_beyond (flat_of dwarf.now (Some c)) ≡ false }
     ensures { IfOk result (λ parts. map (plain_part Ix.number_of) parts.items ≡ map (member_part (number_in found.now)) (flat_of dwarf.now (Some c))) }
 {
+    laws_of_types();
     let mut members = Vec::new(alloc);
-    push_flat(alloc, dwarf, found, facts, &mut members, c, 0, DEPTH_LIMIT)?;
-    member_parts(alloc, found, members.as_slice())
+    push_flat(alloc, dwarf, found, facts, &mut members, c, Start { bit: 0 }, DEPTH_LIMIT)?;
+    let parts = member_parts(alloc, found, members.as_slice())?;
+    Ok(parts)
 }
 
 // The parts of a function.

@@ -50,7 +50,7 @@ push_flat-requires t c =
     let of_type = c.facts_at-of_type.ensures ∙ ap (facts_of d) c.type_of-to.ensures.found in
     let is = nested-is d (c.laws_of_types.ensures d) c.args.found.now c.requires.closed c.requires.facts.shallow c.args.c m c.in-Some-replacing.inner c.requires.there has (sym (c.replacing.ensures ∙ ap replacing of_type) ∙ c.in-Some-replacing.is) in
     let deeper : depth_limit - c.args.budget + 1 ≡ depth_limit - (c.args.budget - 1) = omega (arith, is.low, c.requires.low, c.requires.budget) in
-    (omega (arith, c.decreases, is.low, c.requires.low), (c.requires.closed, (c.requires.facts, (is.there, (is.last, (omega (arith, is.low, c.requires.low), (omega (arith, c.requires.budget), subst (λ n. IsNear n c.later-bit.result) deeper c.later-bit.ensures.near)))))))
+    (omega (arith, c.decreases, is.low, c.requires.low), (c.requires.closed, (c.requires.facts, (is.there, (is.last, (omega (arith, is.low, c.requires.low), (omega (arith, c.requires.budget), subst (λ n. IsNear n c.start_of-start.result.bit) deeper c.start_of-start.ensures.near)))))))
 
 pub members-preserved : goal.members-preserved
 members-preserved t c =
@@ -62,23 +62,23 @@ members-preserved t c =
     let of_type = c.facts_at-of_type.ensures ∙ ap (facts_of d) c.type_of-to.ensures.found in
     let shallow = member_shallow d laws c.args.found.now c.requires.closed c.requires.facts.shallow c.args.c m c.requires.there has in
     let no_name : name_of d m ≡ None = sym c.name_of.ensures ∙ ap option_copied c.in_default.is in
-    let bit : c.later-bit.result ≡ c.args.base +ℤ declared_bit d m = c.later-bit.ensures.is ∙ ap (λ z. c.args.base +ℤ z) (c.bit_of.ensures.is ∙ ap (λ (x : Facts). bit_of d m x.size) of_type) in
+    let bit : c.start_of-start.result.bit ≡ c.args.base.bit +ℤ declared_bit d m = c.start_of-start.ensures.is ∙ ap (λ (x : Facts). c.args.base.bit +ℤ bit_of d m x.size) of_type in
     let put : List Flat = plain_members c.members.out.items in
     let before : List Flat = plain_members c.args.out.now.items in
     elim c.match-replacing.branch [
       | in-Some-replacing+in_ok-push_flat-in-Some-replacing w ↦
           let inner = w.in-Some-replacing.inner in
-          let gives = gives-nested d laws m inner c.args.base shallow no_name (sym (c.replacing.ensures ∙ ap replacing of_type) ∙ w.in-Some-replacing.is) in
-          IsPut-more d before c.args.base items c.members.k m put (plain_members c.match-replacing.out.items) c.members.invariant c.members-test.true refl
+          let gives = gives-nested d laws m inner c.args.base.bit shallow no_name (sym (c.replacing.ensures ∙ ap replacing of_type) ∙ w.in-Some-replacing.is) in
+          IsPut-more d before c.args.base.bit items c.members.k m put (plain_members c.match-replacing.out.items) c.members.invariant c.members-test.true refl
           (ap (λ v. plain_members v.items) w.out-is ∙ w.in_ok-push_flat-in-Some-replacing.ensures
           ∙ ap (λ z. put ++ map (moved z) (flat_of d (Some inner))) bit
           ∙ ap (λ xs. put ++ xs) (sym gives))
       | in-None w ↦
-          IsPut-more d before c.args.base items c.members.k m put (plain_members c.match-replacing.out.items) c.members.invariant c.members-test.true refl
-          (ap (λ v. plain_members v.items) w.out-is ∙ sym (append-nil put) ∙ ap (λ xs. put ++ xs) (sym (gives-nothing d laws m c.args.base shallow no_name (sym (c.replacing.ensures ∙ ap replacing of_type) ∙ w.in-None.is))))
+          IsPut-more d before c.args.base.bit items c.members.k m put (plain_members c.match-replacing.out.items) c.members.invariant c.members-test.true refl
+          (ap (λ v. plain_members v.items) w.out-is ∙ sym (append-nil put) ∙ ap (λ xs. put ++ xs) (sym (gives-nothing d laws m c.args.base.bit shallow no_name (sym (c.replacing.ensures ∙ ap replacing of_type) ∙ w.in-None.is))))
     ]
 
 pub returns : goal.returns
 returns t c =
     let d = c.args.dwarf.now in
-    IsPut-end d (c.laws_of_types.ensures d) (plain_members c.args.out.now.items) c.args.base c.args.c c.members_among-members.result.now c.members.k (plain_members c.members.out.items) c.members.invariant c.members-test.false c.members_among-members.ensures.members (c.requires.facts.shallow c.args.c c.requires.there) c.requires.last
+    IsPut-end d (c.laws_of_types.ensures d) (plain_members c.args.out.now.items) c.args.base.bit c.args.c c.members_among-members.result.now c.members.k (plain_members c.members.out.items) c.members.invariant c.members-test.false c.members_among-members.ensures.members (c.requires.facts.shallow c.args.c c.requires.there) c.requires.last

@@ -8,7 +8,7 @@ use Rattle.type_views.proofs.labels.labels_of.Given as goal
 
 abbrev pub invariant-passed : goal.invariant-passed
 invariant-passed l = record {
-  is : map plain_label l.labels.items ++ labels_of l.dwarf l.next ≡ labels_of l.dwarf l.ty;
+  is : map plain_label l.labels.items ++ labels_of l.dwarf l.next ≡ labels_of l.dwarf l.fn.ty;
   shallow : IsShallow l.dwarf l.next;
   inside : IfSome l.next (λ e. e < length l.dwarf.tree.entries);
 }
