@@ -47,7 +47,7 @@ not_lt a b is = elim (cases_lt a b) [ inl lt ↦ absurd (false≢true (sym is �
 not_le : (a b : ℕ) → nat_le a b ≡ false → b < a
 not_le a b is = elim (cases_lt b a) [ inl lt ↦ lt | inr le ↦ absurd (false≢true (sym is ∙ le-leb a b le)) ]
 
-none_beyond : (xs : List Flat) (x : Flat) → list_any begins_beyond xs ≡ false → Contains xs x → is_beyond x.bit ≡ false
+pub none_beyond : (xs : List Flat) (x : Flat) → list_any begins_beyond xs ≡ false → Contains xs x → is_beyond x.bit ≡ false
 none_beyond [] x none h = absurd (not_in_none x h)
 none_beyond (y ∷ ys) x none h =
     let both = or_parts (is_beyond y.bit) (list_any begins_beyond ys) none in

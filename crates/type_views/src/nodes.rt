@@ -15,7 +15,7 @@ ghost use Rattle.type_entries.specs.Cores.{StandsForNone};
 ghost use Rattle.dw_entries.specs.Chains.{name_of};
 ghost use Rattle.type_entries.specs.Flat.{text_or_empty, flat_of};
 ghost use Rattle.type_entries.specs.Sizes.{begins_beyond, is_too_large};
-ghost use Rattle.type_entries.specs.Views.{bit_number as the_bit_number, kind_of as the_kind_of, group_for, is_vector as the_array_is_a_vector, member_part, param_part, enumerator_part, enumerators_of as the_enumerators_of, parts_under, variadic_for, core_view, view_by};
+ghost use Rattle.type_entries.specs.Views.{offset_of as the_offset_of, bit_number as the_bit_number, kind_of as the_kind_of, group_for, is_vector as the_array_is_a_vector, member_part, param_part, enumerator_part, enumerators_of as the_enumerators_of, parts_under, variadic_for, core_view, view_by};
 ghost use Rattle.type_views.specs.Nodes.{number_in, made_node, made_nodes};
 ghost use Rattle.type_views.specs.Placed.{plain_members};
 
@@ -363,6 +363,17 @@ fn view<'a, Ix: Index>(
     }
 }
 
+// Where the entry of a type lies, and 0 for void.
+fn offset_of(dwarf: &Dwarf, ty: Option<usize>) -> u64
+    requires { IfSome ty (λ e. e < length dwarf.now.tree.entries) }
+    ensures { result ≡ the_offset_of dwarf.now.tree ty }
+{
+    match ty {
+        Some(e) => dwarf.offset(e),
+        None => 0,
+    }
+}
+
 // The node of a type.
 fn node<'a, Ix: Index>(
     alloc: Global,
@@ -379,10 +390,7 @@ fn node<'a, Ix: Index>(
 {
     laws_of_types();
     let own = facts_at(dwarf, found, facts, ty);
-    let entry = match ty {
-        Some(e) => dwarf.offset(e),
-        None => 0,
-    };
+    let entry = offset_of(dwarf, ty);
     let view = view(alloc, dwarf, found, facts, ty)?;
     let labels = labels_of(alloc, dwarf, ty)?;
     Ok(Node {

@@ -48,7 +48,7 @@ returns-in-Err-ask_sizes-clause-judged g c =
     let order = c.in_ok-order.order.items in
     let is : order ≡ reached_of d.tree roots = c.walks_find_the_list.ensures d.tree roots c.in_ok-found.found order inside c.in_ok-found.ensures.walk c.in_ok-order.ensures.same c.in_ok-order.ensures.order in
     let shapes : first (map (shape_fault d) order) ≡ None = ap (λ xs. first (map (shape_fault d) xs)) (sym c.as_slice.ensures.value) ∙ c.in-Ok.ensures in
-    let depths = c.in-Ok-facts.ensures.judged roots inside c.in_ok-found.ensures.walk in
+    let depths = c.in-Ok-learn_all.ensures.judged roots inside c.in_ok-found.ensures.walk in
     let sizes : first (map (large_fault d) order) ≡ Some c.in-Err-ask_sizes.fault = ap (λ xs. first (map (large_fault d) xs)) (sym c.as_slice-3.ensures.value) ∙ c.in-Err-ask_sizes.ensures in
     by-size d roots order is (Some c.in-Err-ask_sizes.fault) shapes depths sizes
 
@@ -64,7 +64,7 @@ of_nodes-requires g c =
     let d = c.args.dwarf.now in
     let found = c.in_ok-found.found in
     let order = c.in_ok-order.order.items in
-    let facts = c.in-Ok-facts.ensures.facts in
+    let facts = c.in-Ok-learn_all.ensures.facts in
     let shapes : first (map (shape_fault d) order) ≡ None = ap (λ xs. first (map (shape_fault d) xs)) (sym c.as_slice.ensures.value) ∙ c.in-Ok.ensures in
     let sizes : first (map (large_fault d) order) ≡ None = ap (λ xs. first (map (large_fault d) xs)) (sym c.as_slice-3.ensures.value) ∙ c.in-Ok-ask_sizes.ensures in
     let shaped = found-each (λ e. has_shape d e ≡ true) found order c.in_ok-order.ensures.same (shapes-hold d order shapes) in
@@ -79,7 +79,7 @@ returns-clause-judged g c =
     let order = c.in_ok-order.order.items in
     let is : order ≡ reached_of d.tree roots = c.walks_find_the_list.ensures d.tree roots c.in_ok-found.found order inside c.in_ok-found.ensures.walk c.in_ok-order.ensures.same c.in_ok-order.ensures.order in
     let shapes : first (map (shape_fault d) order) ≡ None = ap (λ xs. first (map (shape_fault d) xs)) (sym c.as_slice.ensures.value) ∙ c.in-Ok.ensures in
-    let depths = c.in-Ok-facts.ensures.judged roots inside c.in_ok-found.ensures.walk in
+    let depths = c.in-Ok-learn_all.ensures.judged roots inside c.in_ok-found.ensures.walk in
     let sizes : first (map (large_fault d) order) ≡ None = ap (λ xs. first (map (large_fault d) xs)) (sym c.as_slice-3.ensures.value) ∙ c.in-Ok-ask_sizes.ensures in
     by-size d roots order is None shapes depths sizes
 
@@ -88,5 +88,5 @@ returns-clause-nodes g c =
     let d = c.args.dwarf.now in
     let roots = c.args.roots.now in
     let found = c.in_ok-found.found in
-    let facts = c.in-Ok-facts.ensures.facts in
+    let facts = c.in-Ok-learn_all.ensures.facts in
     subst (AreNodesOf d roots) (sym (c.in_ok-graph.ensures ∙ c.in_ok-nodes.ensures)) (c.made_nodes_stand_for_entries.ensures d (c.laws_of_types.ensures d) roots found c.in_ok-found.ensures.walk c.in_ok-found.ensures.closed facts.shallow)

@@ -20,20 +20,20 @@ passed-preserved c =
     let e = c.in-Some.e in
     let was = c.passed.invariant in
     let shallow = subst (IsShallow d) c.in-Some.is was.shallow in
-    let next = is-next d (c.laws_of_types.ensures d) e c.passed_to.result shallow c.passed_to.ensures.passed c.passed_to.ensures.last in
+    let next = is-next d (c.laws_of_types.ensures d) e c.passed_to-next.result shallow c.passed_to-next.ensures.passed c.passed_to-next.ensures.last in
     record {
       is =
-          ap (λ xs. xs ++ labels_of d c.passed_to.result) c.in_ok-push_label.ensures
-          ∙ append_assoc (map plain_label c.passed.labels.items) (own_label d e) (labels_of d c.passed_to.result)
+          ap (λ xs. xs ++ labels_of d c.passed_to-next.result) c.in_ok-push_label.ensures
+          ∙ append_assoc (map plain_label c.passed.labels.items) (own_label d e) (labels_of d c.passed_to-next.result)
           ∙ ap (λ ls. map plain_label c.passed.labels.items ++ ls) (next.labels ∙ ap (labels_of d) (sym c.in-Some.is))
           ∙ was.is;
       shallow = next.shallow;
-      inside = c.passed_to.ensures.inside;
+      inside = c.passed_to-next.ensures.inside;
     }
 
 pub passed-smaller : goal.passed-smaller
 passed-smaller c =
     let d = c.args.dwarf.now in
     let shallow = subst (IsShallow d) c.in-Some.is c.passed.invariant.shallow in
-    let next = is-next d (c.laws_of_types.ensures d) c.in-Some.e c.passed_to.result shallow c.passed_to.ensures.passed c.passed_to.ensures.last in
+    let next = is-next d (c.laws_of_types.ensures d) c.in-Some.e c.passed_to-next.result shallow c.passed_to-next.ensures.passed c.passed_to-next.ensures.last in
     rw c.in-Some.is next.fewer
