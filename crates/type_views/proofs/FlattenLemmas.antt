@@ -1,12 +1,11 @@
 -- Flat members one after the other.
-use Rattle.std.proofs.Common.{◌≡◌, ◌<◌, ◌≤◌, ◌+◌, ◌-◌, ℕ, zero, suc, true, false, List, [], ◌∷◌, ◌++◌, length, map, take, get_or, Some, None, refl, sym, ◌∙◌, ap, subst, arith}
+use Rattle.std.proofs.Common.{◌≡◌, ◌<◌, ◌≤◌, ◌+◌, ℕ, true, List, [], ◌∷◌, ◌++◌, length, map, take, get_or, Some, None, refl, sym, ◌∙◌, ap, subst, arith}
 use Rattle.std.specs.Prelude.{Contains, flat_map, ℤ, ◌+ℤ◌}
 use Rattle.std.proofs.Math.IntN.{+ℤ_assoc}
 use Rattle.std.proofs.lemmas.List.{take_more, take_all, map-append, append_assoc, append-nil}
 use Rattle.dw_entries.specs.Chains.{name_of}
 use Rattle.dw_entries.specs.Debug.{PlainDwarf}
-use Rattle.type_entries.specs.declared.facts.Facts.{Facts}
-use Rattle.type_entries.specs.References.{Type_, type_of, members_of, steps_of}
+use Rattle.type_entries.specs.References.{Type_, type_of, members_of}
 use Rattle.type_entries.specs.ByValue.{IsTooDeep, IsClosed}
 use Rattle.type_entries.specs.Placement.{width_of}
 use Rattle.type_entries.specs.Facts.{facts_of}

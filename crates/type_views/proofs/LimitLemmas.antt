@@ -1,5 +1,5 @@
 -- The nodes keep the limits, and so are a graph.
-use Rattle.std.proofs.Common.{◌≡◌, ◌<◌, ◌≤◌, ◌+◌, ◌^◌, ◌*◌, ◌∙◌, ℕ, zero, suc, Bool, true, false, List, [], ◌∷◌, length, map, drop, get_or, Option, Some, None, refl, sym, ap, subst, arith, inl, inr}
+use Rattle.std.proofs.Common.{◌≡◌, ◌<◌, ◌≤◌, ◌^◌, ◌*◌, ◌∙◌, ℕ, zero, suc, Bool, true, false, List, [], ◌∷◌, length, map, get_or, Option, Some, None, refl, sym, ap, subst, arith, inl, inr}
 use Rattle.std.specs.Prelude.{flat_map, Contains, IfSome, nat_lt, nat_le, nat_eq, sum_by, ℤ, pos, negsuc}
 use Rattle.std.specs.List.{list_any, list_all, IsDistinct}
 use Rattle.std.proofs.lemmas.Bool.{cases_lt, lt-ltb, ltb-true, le-leb, or_parts, and_parts, false≢true}
@@ -11,12 +11,12 @@ use Rattle.std.proofs.lemmas.Option.{same_Some}
 use Rattle.abi_base.proofs.StepLemmas.{bool_cases}
 use Rattle.abi_base.specs.Limits.{depth_limit, weight_limit}
 use Rattle.abi_types.specs.Limits.{size_limit, bit_limit, align_limit, room_limit}
-use Rattle.dw_tree.specs.Trees.{PlainTree, entry_at, IsOrdered}
+use Rattle.dw_tree.specs.Trees.{entry_at, IsOrdered}
 use Rattle.dw_entries.specs.Debug.{PlainDwarf}
 use Rattle.abi_types.specs.declared.kind.Kind.TheVariants as kind
-use Rattle.abi_types.specs.Types.{PlainPart, Member, Target, Element, Outcome, Param, PlainNode, PlainView}
-use Rattle.abi_types.specs.Forms.{HasForm, has_elements}
-use Rattle.abi_types.specs.Graphs.{void_node, void_view, node_at, view_at, part_at, no_part, to_of, KeepsBits, KeepsLimits, IsWhole, IsGraph, room_of}
+use Rattle.abi_types.specs.Types.{PlainPart, Target, Element, Outcome, Param, PlainNode}
+use Rattle.abi_types.specs.Forms.{HasForm}
+use Rattle.abi_types.specs.Graphs.{void_node, void_view, view_at, no_part, to_of, KeepsBits, KeepsLimits, IsWhole, IsGraph, room_of}
 use Rattle.type_entries.specs.declared.facts.Facts.{Facts}
 use Rattle.type_entries.specs.declared.role.Role.{Role}
 use Rattle.type_entries.specs.declared.role.Role.TheVariants as role
@@ -27,18 +27,18 @@ use Rattle.dw_forms.specs.declared.values.Value.{Value}
 use Rattle.type_entries.specs.Values.{natural_of, is_small, is_small_if_there, number_at}
 use Rattle.type_entries.specs.Shapes.{is_type, has_place, has_width, is_good_member, has_size_unless_declared, has_shape_for, has_shape}
 use Rattle.type_entries.specs.References.{Type_, role_of, has_type, type_of, parts_of, members_for, members_of, types_of, steps_of, own_types}
-use Rattle.type_entries.specs.ByValue.{steps_from, IsTooDeep, IsClosed}
+use Rattle.type_entries.specs.ByValue.{IsTooDeep, IsClosed}
 use Rattle.type_entries.specs.Placement.{width_of, is_beyond}
-use Rattle.type_entries.specs.Facts.{cut, total, room_of as facts_room, rooms_for, facts_from, facts_of}
+use Rattle.type_entries.specs.Facts.{total, room_of as facts_room, rooms_for, facts_from, facts_of}
 use Rattle.type_entries.specs.Flat.{Flat, core_of, moved, declared_bit, given_by, flat_of, member_gives}
 use Rattle.type_entries.specs.Cores.{StandsForNone, IsFound}
 use Rattle.type_entries.specs.TypeLaws.{TypeLaws}
 use Rattle.type_entries.specs.Sizes.{begins_beyond, has_member_beyond, is_too_large}
 use Rattle.type_entries.specs.Views.{bit_number, member_part, enumerator_part, param_part, enumerators_of, parts_under, kind_of, core_view, view_by}
 use Rattle.type_views.specs.Nodes.{number_in, made_nodes}
-use Rattle.type_views.proofs.ListLemmas.{in_front, first_of_all, behind_first, not_in_none, from_map, get-cases, map-map}
+use Rattle.type_views.proofs.ListLemmas.{in_front, first_of_all, behind_first, not_in_none, from_map, get-cases}
 use Rattle.type_views.proofs.ViewLemmas.{made_at, made_length, stands_at, type_found, own_there, part_there, found-shallow}
-use Rattle.type_views.proofs.FormLemmas.{form-void, form-core, count-from, elements-of}
+use Rattle.type_views.proofs.FormLemmas.{form-void, form-core, elements-of}
 use Rattle.type_views.proofs.GraphLemmas.{rank_of, node-cases, graph-inside, graph-falls, graph-apart}
 
 not_lt : (a b : ℕ) → nat_lt a b ≡ false → b ≤ a

@@ -1,5 +1,5 @@
 -- A view read through its nodes is the view that names entries.
-use Rattle.std.proofs.Common.{◌≡◌, ◌<◌, ◌+◌, ℕ, zero, suc, List, [], ◌∷◌, ◌++◌, length, map, slice_get, Some, None, refl, sym, ◌∙◌, ap, arith, inl, inr}
+use Rattle.std.proofs.Common.{◌≡◌, ◌<◌, ◌+◌, ℕ, zero, suc, List, [], ◌∷◌, length, map, slice_get, Some, None, refl, sym, ◌∙◌, ap, arith, inl, inr}
 use Rattle.std.specs.Prelude.{true, Contains, IfSome, nat_eq, slice_index_or}
 use Rattle.std.specs.List.{position_or_len}
 use Rattle.std.proofs.lemmas.Bool.{eqb-true, eq-eqb}
@@ -9,7 +9,7 @@ use Rattle.std.proofs.lemmas.Option.{same_Some, none-some}
 use Rattle.dw_tree.specs.Trees.{PlainTree}
 use Rattle.dw_entries.specs.Debug.{PlainDwarf}
 use Rattle.abi_base.proofs.StepLemmas.{bool_cases}
-use Rattle.abi_types.specs.Types.{Member, Target, Element, Outcome, Param, PlainNode}
+use Rattle.abi_types.specs.Types.{Target, Element, Outcome, Param, PlainNode}
 use Rattle.abi_types.specs.Graphs.{void_node, node_at}
 use Rattle.type_entries.specs.declared.role.Role.{Role}
 use Rattle.type_entries.specs.declared.role.Role.TheVariants as role

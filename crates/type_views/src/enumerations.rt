@@ -7,6 +7,8 @@ ghost use Rattle.type_entries.specs.Facts.{facts_of};
 ghost use Rattle.type_entries.specs.Views.{is_quad_name as the_name_is_of_a_quad, group_of as the_group_of};
 ghost use Rattle.type_entries.specs.Shapes.{group_by as the_group_by, encoding_group, is_good_enumerator as the_enumerator_is_good};
 
+use crate::labels::name_or_empty;
+use crate::limits::QUAD_SIZE;
 use abi_base::NoMemory;
 use abi_base::dwarf::{DW_AT_const_value, DW_AT_encoding, DW_TAG_enumerator};
 use abi_types::Group;
@@ -17,9 +19,6 @@ use type_entries::constants::{
     DW_ATE_signed, DW_ATE_signed_char, DW_ATE_unsigned, DW_ATE_unsigned_char,
 };
 use type_entries::{natural_of, wrapped_of};
-
-use crate::labels::name_or_empty;
-use crate::limits::QUAD_SIZE;
 
 // What the bits of a base type mean, by its encoding.
 #[tactic(auto, unfolding(type_entries::specs::Shapes::group_by))]

@@ -47,7 +47,11 @@ fn start_of(dwarf: &Dwarf, m: usize, of_type: &Facts, base: Start, depth: u32) -
 fn replacing(of_type: &Facts) -> Option<usize>
     ensures { result ≡ the_replacing of_type.now }
 {
-    if of_type.aggregate { of_type.core } else { None }
+    if of_type.aggregate {
+        of_type.core
+    } else {
+        None
+    }
 }
 
 // Puts the flat members of a structure or a union last, each so much later.

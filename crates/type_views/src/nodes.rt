@@ -22,11 +22,11 @@ ghost use Rattle.type_views.specs.Placed.{plain_members};
 use crate::enumerations::group_of;
 use crate::flatten::{Placed, Start, push_flat};
 use crate::labels::{labels_of, name_or_empty};
-use abi_base::{List, NoMemory};
 use abi_base::dwarf::{
     DW_AT_GNU_vector, DW_AT_const_value, DW_TAG_enumerator, DW_TAG_structure_type,
     DW_TAG_unspecified_parameters,
 };
+use abi_base::{List, NoMemory};
 use abi_types::{CallShape, Group, Index, Kind, Node, Part, Parts, Place, View};
 use dw_entries::Dwarf;
 use std::alloc::Global;
@@ -99,7 +99,16 @@ fn aggregate_parts<'a, Ix: Index>(
 {
     laws_of_types();
     let mut members = Vec::new(alloc);
-    push_flat(alloc, dwarf, found, facts, &mut members, c, Start { bit: 0 }, DEPTH_LIMIT)?;
+    push_flat(
+        alloc,
+        dwarf,
+        found,
+        facts,
+        &mut members,
+        c,
+        Start { bit: 0 },
+        DEPTH_LIMIT,
+    )?;
     let parts = member_parts(alloc, found, members.as_slice())?;
     Ok(parts)
 }

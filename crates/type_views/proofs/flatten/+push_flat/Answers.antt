@@ -1,15 +1,14 @@
 -- The members of one part after the other.
-use Rattle.std.proofs.Common.{◌≡◌, ◌<◌, ◌+◌, ◌-◌, ◌∙◌, ℕ, None, Some, List, map, length, get_or, refl, sym, ap, subst, arith, ◌++◌}
+use Rattle.std.proofs.Common.{◌≡◌, ◌+◌, ◌-◌, ◌∙◌, ℕ, None, Some, List, map, get_or, refl, sym, ap, subst, arith, ◌++◌}
 use Rattle.std.specs.Prelude.{Contains, ◌+ℤ◌}
 use Rattle.std.specs.Option.{option_copied}
 use Rattle.std.proofs.lemmas.List.{append-nil}
 use Rattle.abi_base.specs.Limits.{depth_limit}
 use Rattle.dw_entries.specs.Chains.{name_of}
 use Rattle.type_entries.specs.declared.facts.Facts.{Facts}
-use Rattle.type_entries.specs.References.{type_of, members_of}
 use Rattle.type_entries.specs.Placement.{IsNear, bit_of}
 use Rattle.type_entries.specs.Facts.{facts_of}
-use Rattle.type_entries.specs.Flat.{Flat, moved, declared_bit, flat_of, member_gives}
+use Rattle.type_entries.specs.Flat.{Flat, moved, declared_bit, flat_of}
 use Rattle.type_entries.specs.Cores.{IsFound}
 use Rattle.type_views.specs.Placed.{replacing, plain_members}
 use Rattle.type_views.proofs.ListLemmas.{at-place}

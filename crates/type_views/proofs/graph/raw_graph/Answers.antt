@@ -1,5 +1,5 @@
 -- The faults come row by row, and what has none is a graph.
-use Rattle.std.proofs.Common.{◌≡◌, ◌<◌, ℕ, Some, None, List, map, length, sym, ◌∙◌, ap, subst}
+use Rattle.std.proofs.Common.{◌≡◌, ◌<◌, ℕ, Some, None, map, length, sym, ◌∙◌, ap, subst}
 use Rattle.std.specs.Prelude.{true, false, All, Contains}
 use Rattle.std.proofs.lemmas.List.Elements.{All-contains}
 use Rattle.abi_base.specs.Outcome.{first}
@@ -8,7 +8,7 @@ use Rattle.type_entries.specs.ReachedList.{reached_of}
 use Rattle.type_entries.specs.Shapes.{has_shape}
 use Rattle.type_entries.specs.Sizes.{is_too_large}
 use Rattle.type_entries.specs.Faults.{shape_fault, large_fault, depth_fault, types_fault}
-use Rattle.type_views.specs.Nodes.{AreNodesOf, made_nodes}
+use Rattle.type_views.specs.Nodes.{AreNodesOf}
 use Rattle.type_views.proofs.JudgeLemmas.{order-all, found-each, shapes-hold, sizes-hold, by-shape, by-depth, by-size, refuses-too}
 use Rattle.type_views.proofs.graph.raw_graph.Goals as goal
 

@@ -1,10 +1,9 @@
-use Rattle.std.proofs.Common.{◌≡◌, ◌<◌, ◌++◌, ◌∙◌, map, length, ap, sym, subst, Some, None}
-use Rattle.std.specs.Prelude.{IfSome}
-use Rattle.std.proofs.lemmas.List.{append_assoc, append-nil}
+use Rattle.std.proofs.Common.{◌++◌, ◌∙◌, map, ap, sym, subst}
+use Rattle.std.proofs.lemmas.List.{append_assoc}
 use Rattle.abi_types.specs.Plain.{plain_label}
 use Rattle.type_entries.specs.Flat.{own_label, labels_of}
 use Rattle.type_entries.specs.TypeLaws.{IsShallow}
-use Rattle.type_views.proofs.LabelLemmas.{left, is-next}
+use Rattle.type_views.proofs.LabelLemmas.{is-next}
 use Rattle.type_views.proofs.labels.labels_of.Goals as goal
 
 pub passed-init : goal.passed-init

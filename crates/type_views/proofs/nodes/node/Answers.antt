@@ -1,6 +1,3 @@
-use Rattle.std.proofs.Common.{subst}
-use Rattle.std.specs.Prelude.{IfSome, Contains}
-use Rattle.type_entries.specs.Cores.{IsFound}
 use Rattle.type_views.proofs.NodeLemmas.{found-inside}
 use Rattle.type_views.proofs.nodes.node.Goals as goal
 
