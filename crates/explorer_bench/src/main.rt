@@ -6,11 +6,9 @@
 ghost use Rattle.std.specs.Prelude.{◌≡◌, ◌<◌};
 
 use abi_base::{List, NoMemory};
-use abi_types::{
-    CallShape, Graph, Group, Index, Kind, Marks, NewIx, Node, OldIx, Part, Parts, Place, View,
-};
+use abi_types::{Graph, Index, NewIx, Node, OldIx};
 use graph_alike::plain;
-use hand_graphs::is_graph;
+use hand_graphs::{function, graph, member, no_marks, pointer, scalar, structure, void};
 use pair_explorer::{Root, explore, is_scope};
 use pair_rules::Steps;
 use std::alloc::Global;
@@ -19,92 +17,48 @@ use std::sync::ledger::{Blank, Ledger};
 use std::{env, io};
 
 // The numbers of the nodes: void, then an integer, then each structure with the pointer to it, then the function.
+const VOID: usize = 0;
+
 const INTEGER: usize = 1;
 
 const FIRST: usize = 2;
 
-fn node<'a, Ix: Index>(
-    alloc: Global,
-    number: usize,
-    rank: u32,
-    kind: Kind,
-    size: u64,
-    parts: Vec<Part<'a, Ix>>,
-) -> Result<Node<'a, Ix>, NoMemory> {
-    Ok(Node {
-        entry: number as u64,
-        rank,
-        view: View {
-            kind,
-            declared_only: false,
-            tag: &[],
-            size,
-            group: Group::Bool,
-            align: 0,
-            count: 0,
-            variadic: false,
-            parts: Parts::of(alloc, parts)?,
-            call: CallShape {
-                outcome: Place::Nothing,
-                params: List::new(alloc),
-            },
-        },
-        labels: List::new(alloc),
-    })
-}
+// Sizes in bytes, and how many bits a pointer has.
+const INTEGER_SIZE: u64 = 4;
 
-fn pointer<'a, Ix: Index>(
-    alloc: Global,
-    number: usize,
-    to: usize,
-) -> Result<Node<'a, Ix>, NoMemory> {
-    let mut parts = Vec::new(alloc);
-    parts.push(Part::Target { to: Ix::of(to) })?;
-    node(alloc, number, 0, Kind::Pointer, 8, parts)
-}
+const STRUCTURE_SIZE: u64 = 16;
+
+const POINTER_BITS: u64 = 64;
+
+// The ranks of structures and of functions over them. All other nodes have 0.
+const STRUCTURE_RANK: u32 = 1;
+
+const FUNCTION_RANK: u32 = 2;
 
 // A structure with a pointer to the next one and an integer.
-fn structure<'a, Ix: Index>(
+fn linked<'a, Ix: Index>(
     alloc: Global,
     number: usize,
     next: usize,
 ) -> Result<Node<'a, Ix>, NoMemory> {
-    let mut parts = Vec::new(alloc);
-    parts.push(Part::Member {
-        name: b"next",
-        bit: 0,
-        width: 0,
-        to: Ix::of(next),
-    })?;
-    parts.push(Part::Member {
-        name: b"value",
-        bit: 64,
-        width: 0,
-        to: Ix::of(INTEGER),
-    })?;
-    node(alloc, number, 1, Kind::Structure, 16, parts)
-}
-
-// A function without a result that takes a pointer.
-fn function<'a, Ix: Index>(
-    alloc: Global,
-    number: usize,
-    pointer: usize,
-) -> Result<Node<'a, Ix>, NoMemory> {
-    let mut parts = Vec::new(alloc);
-    parts.push(Part::Outcome { to: Ix::of(0) })?;
-    parts.push(Part::Param {
-        to: Ix::of(pointer),
-    })?;
-    node(alloc, number, 2, Kind::Function, 0, parts)
+    let mut members = Vec::new(alloc);
+    members.push(member::<Ix>(b"next", 0, next))?;
+    members.push(member::<Ix>(b"value", POINTER_BITS, INTEGER))?;
+    structure(
+        alloc,
+        number as u64,
+        STRUCTURE_RANK,
+        STRUCTURE_SIZE,
+        members,
+    )
 }
 
 // The types of a function that takes a pointer into a ring of so many structures.
 fn ring<'a, Ix: Index>(alloc: Global, count: u32) -> Result<List<Node<'a, Ix>>, NoMemory> {
     let mut nodes = List::new(alloc);
-    let void = node(alloc, 0, 0, Kind::Void, 0, Vec::new(alloc))?;
+    let void = void::<Ix>(alloc)?;
     nodes.push(void)?;
-    let integer = node(alloc, INTEGER, 0, Kind::Scalar, 4, Vec::new(alloc))?;
+    let integer = scalar(alloc, INTEGER as u64, INTEGER_SIZE)?;
     nodes.push(integer)?;
     let mut number = FIRST;
     for i in 0..count {
@@ -114,40 +68,16 @@ fn ring<'a, Ix: Index>(alloc: Global, count: u32) -> Result<List<Node<'a, Ix>>, 
         } else {
             number.saturating_add(3)
         };
-        let item = structure(alloc, number, next)?;
+        let item = linked(alloc, number, next)?;
         nodes.push(item)?;
-        let item = pointer(alloc, number.saturating_add(1), number)?;
+        let item = pointer(alloc, number.saturating_add(1) as u64, number)?;
         nodes.push(item)?;
         number = number.saturating_add(2);
     }
-    let function = function(alloc, number, FIRST.saturating_add(1))?;
+    let taken = [FIRST.saturating_add(1)];
+    let function = function(alloc, number as u64, FUNCTION_RANK, VOID, taken.as_slice())?;
     nodes.push(function)?;
     Ok(nodes)
-}
-
-fn graph<'a, Ix: Index>(alloc: Global, count: u32) -> Result<Option<Graph<'a, Ix>>, NoMemory> {
-    let nodes = ring(alloc, count)?;
-    if !is_graph(alloc, nodes.as_slice())? {
-        return Ok(None);
-    }
-    let graph = Graph::of_nodes(alloc, nodes)?;
-    Ok(Some(graph))
-}
-
-// No node is marked.
-fn no_marks(alloc: Global, nodes: usize) -> Result<Marks, NoMemory> {
-    let mut direct = List::new(alloc);
-    let mut pointer = List::new(alloc);
-    for _ in 0..nodes {
-        direct.push(false)?;
-        pointer.push(false)?;
-    }
-    Ok(Marks {
-        digest: [0; 32],
-        exports: List::new(alloc),
-        direct,
-        pointer,
-    })
 }
 
 // How many triples there are and how many breaks, over all rounds.
@@ -168,7 +98,7 @@ fn explored<L: Ledger>(
         old: OldIx::of(old.len().saturating_sub(1)),
         new: NewIx::of(new.len().saturating_sub(1)),
     }];
-    let marks = no_marks(alloc, old.len())?;
+    let marks = no_marks(alloc, 0, old.len())?;
     let old_classes = plain(alloc, old)?;
     let new_classes = plain(alloc, new)?;
     let mut triples = 0usize;
@@ -211,11 +141,11 @@ fn count<L: Ledger>(
     requires parts { blank.parts ≡ L.parts }
     requires some { 0 < blank.parts }
 {
-    let old = match graph::<OldIx>(alloc, old)? {
+    let old = match graph::<OldIx>(alloc, ring(alloc, old)?)? {
         Some(graph) => graph,
         None => return Ok((0, 0)),
     };
-    let new = match graph::<NewIx>(alloc, new)? {
+    let new = match graph::<NewIx>(alloc, ring(alloc, new)?)? {
         Some(graph) => graph,
         None => return Ok((0, 0)),
     };

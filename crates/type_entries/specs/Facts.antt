@@ -4,6 +4,7 @@ use Rattle.std.specs.Prelude.{length, Contains, ◌<◌, ◌≤◌, ◌≡◌, �
 use Rattle.std.specs.List.{list_any}
 use Rattle.std.specs.Int.{int_min, int_max}
 use Rattle.abi_base.specs.Dwarf.{dw_tag_subrange_type, dw_at_byte_size, dw_at_upper_bound, dw_at_count, dw_at_alignment}
+use Rattle.abi_types.specs.Limits.{align_room}
 use Rattle.dw_tree.specs.Trees.{PlainTree}
 use Rattle.dw_entries.specs.Addresses.{is_declared_only}
 use Rattle.dw_entries.specs.Chains.{attribute_along}
@@ -113,7 +114,7 @@ aggregate_for _ facts = false
 -- ---- what a function asks of its callers: for each parameter its size, and room for its alignment
 
 abbrev pub room_of : Facts → ℕ
-room_of x = x.size + 2 ^ 33
+room_of x = x.size + align_room
 
 -- the parameters of the core, where it is a function; the first step from one leads to its result
 abbrev pub rooms_for : Role → List Facts → ℕ

@@ -1,17 +1,13 @@
 -- What makes a type too large.
-use Rattle.std.specs.Prelude.{ℕ, ◌^◌, ◌||◌, Bool, false, nat_lt, List, Some, Option, None}
+use Rattle.std.specs.Prelude.{ℕ, ◌||◌, Bool, false, nat_lt, List, Some, Option, None}
 use Rattle.std.specs.List.{list_any}
 use Rattle.abi_base.specs.Limits.{weight_limit}
 use Rattle.dw_entries.specs.Debug.{PlainDwarf}
-use Rattle.abi_types.specs.Limits.{size_limit, align_limit}
+use Rattle.abi_types.specs.Limits.{size_limit, align_limit, room_limit}
 use Rattle.type_entries.specs.References.{Type_, members_of}
 use Rattle.type_entries.specs.Placement.{is_beyond}
 use Rattle.type_entries.specs.Facts.{facts_of}
 use Rattle.type_entries.specs.Flat.{Flat, core_of, declared_bit, flat_of}
-
--- the most room that the parameters of a function may ask for
-abbrev pub rooms_limit : ℕ
-rooms_limit = 2 ^ 62
 
 abbrev pub begins_beyond : Flat → Bool
 begins_beyond m = is_beyond m.bit
@@ -28,5 +24,5 @@ is_too_large d e =
     || (nat_lt size_limit (facts_of d (Some e)).count
     || (nat_lt weight_limit (facts_of d (Some e)).weight
     || (nat_lt align_limit (facts_of d (Some e)).align
-    || (nat_lt rooms_limit (facts_of d (Some e)).rooms
+    || (nat_lt room_limit (facts_of d (Some e)).rooms
     || (has_member_beyond d (core_of d (Some e)) || list_any begins_beyond (flat_of d (Some e)))))))

@@ -1,6 +1,7 @@
 -- What holds of all types of debug information, for crates above: each of these is a law of its own, too.
 use Rattle.std.specs.Prelude.{◌≡◌, ◌<◌, ◌≤◌, ◌*◌, ◌||◌, ℕ, List, [], ◌++◌, map, flat_map, Contains, Some, None}
 use Rattle.std.specs.List.{list_any}
+use Rattle.abi_base.specs.Limits.{depth_limit}
 use Rattle.dw_entries.specs.Debug.{PlainDwarf}
 use Rattle.abi_types.specs.Limits.{size_limit}
 use Rattle.type_entries.specs.declared.role.Role.TheVariants as role
@@ -18,6 +19,7 @@ IsShallow d r = IsTooDeep d.tree r → ⊥
 pub record TypeLaws (d : PlainDwarf) : Type 0 where
   pub shallow : (r s : Type_) → IsShallow d r → Contains (steps_from d.tree r) s → IsShallow d s
   pub falls : (r s : Type_) → IsShallow d r → Contains (steps_from d.tree r) s → (facts_of d s).rank < (facts_of d r).rank
+  pub ranks : (r : Type_) → IsShallow d r → (facts_of d r).rank ≤ depth_limit
   pub facts : (r : Type_) → IsShallow d r → facts_of d r ≡ facts_from d r (map (facts_of d) (steps_from d.tree r))
   pub labels : (r : Type_) → IsShallow d r → labels_of d r ≡ labels_made d r (map (labels_of d) (steps_from d.tree r))
   pub flats : (r : Type_) → IsShallow d r → flat_of d r ≡ flat_made d r (map (flat_of d) (steps_from d.tree r))

@@ -11,6 +11,7 @@ ghost use Rattle.type_entries.specs.ByValue.{steps_from, StepsOn, IsTooDeep, IsC
 ghost use Rattle.type_entries.specs.Facts.{facts_from, facts_of};
 ghost use Rattle.type_entries.specs.Flat.{Flat, core_of, labels_made, labels_of, flat_made, flat_of};
 ghost use Rattle.type_entries.specs.Cores.{IsCore, IsFound, IsLower};
+ghost use Rattle.abi_base.specs.Limits.{depth_limit};
 ghost use Rattle.abi_types.specs.Limits.{size_limit};
 ghost use Rattle.type_entries.specs.declared.role.Role.TheVariants as role;
 ghost use Rattle.type_entries.specs.Sizes.{begins_beyond, has_member_beyond};
@@ -37,9 +38,10 @@ pub fn depth_is_a_chain()
     ensures { (t : PlainTree) (n : ℕ) (r : Type_) → (steps_on t n r ≡ true) ↔ StepsOn t n r }
 {}
 
-/// From what a type holds by value no more steps lead on than from the type, and fewer than its rank.
+/// From what a type holds by value fewer steps lead on than from the type, and from none more than the limit.
 pub fn ranks_fall()
     ensures shallow { (t : PlainTree) (r s : Type_) → (IsTooDeep t r → ⊥) → Contains (steps_from t r) s → IsTooDeep t s → ⊥ }
+    ensures bound { (d : PlainDwarf) (r : Type_) → (IsTooDeep d.tree r → ⊥) → (facts_of d r).rank ≤ depth_limit }
     ensures falls { (d : PlainDwarf) (r s : Type_) → (IsTooDeep d.tree r → ⊥) → Contains (steps_from d.tree r) s → (facts_of d s).rank < (facts_of d r).rank }
 {}
 

@@ -1,5 +1,7 @@
+use Rattle.std.proofs.Common.{arith}
+use Rattle.abi_base.specs.Limits.{depth_limit}
 use Rattle.type_entries.proofs.CoreLemmas.{labels_of-is, flat_of-is, core-is, core-found, array-whole, passed-step, step_found, void_shallow}
-use Rattle.type_entries.proofs.FactLemmas.{shallow-step, rank-falls, facts_of-is, facts_of-void}
+use Rattle.type_entries.proofs.FactLemmas.{shallow-step, rank-falls, rank-bound, facts_of-is, facts_of-void}
 use Rattle.type_entries.proofs.FlatLemmas.{flat-lower, flat-void, labels-void, labels-passed, labels-last, member-step, members-of-last}
 use Rattle.type_entries.proofs.HullLemmas.{beyond-is}
 use Rattle.type_entries.proofs.laws.laws_of_types.Goals as goal
@@ -8,6 +10,7 @@ pub returns : goal.returns
 returns c = λ d. record {
   shallow = shallow-step d.tree;
   falls = rank-falls d;
+  ranks = λ r shallow. rank-bound d depth_limit r (omega arith) shallow;
   facts = facts_of-is d;
   labels = labels_of-is d;
   flats = flat_of-is d;

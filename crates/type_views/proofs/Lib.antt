@@ -1,0 +1,9 @@
+mod FlattenLemmas
+mod FormLemmas
+mod GraphLemmas
+mod JudgeLemmas
+mod LabelLemmas
+mod LimitLemmas
+mod ListLemmas
+mod NodeLemmas
+mod ViewLemmas

@@ -1,0 +1,3 @@
+pub mod Large
+pub mod Nodes
+pub mod Placed

@@ -1,0 +1,16 @@
+-- Members of the code, without where their names lie in memory.
+use Rattle.std.specs.Prelude.{if◌then◌else◌, List, map, None}
+use Rattle.type_entries.specs.declared.facts.Facts.{Facts}
+use Rattle.type_entries.specs.References.{Type_}
+use Rattle.type_entries.specs.Flat.{Flat}
+use Rattle.type_views.specs.declared.flatten.Placed.{Placed}
+
+abbrev pub plain_member : Placed → Flat
+plain_member p = record { name = p.name.now; bit = p.bit; width = p.width; to = p.to }
+
+abbrev pub plain_members : List Placed → List Flat
+plain_members = map plain_member
+
+-- the structure or union whose members replace a nameless member, by the facts of its type
+abbrev pub replacing : Facts → Type_
+replacing x = if x.aggregate then x.core else None

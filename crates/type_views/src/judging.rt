@@ -1,0 +1,109 @@
+// The faults of reached types, each row in order of offset.
+ghost use Rattle.std.specs.Prelude.{◌≡◌, ◌<◌, ℕ, length, map, All, Contains, Some, OnOk, IfOk};
+ghost use Rattle.abi_base.specs.Outcome.{first, Judges, Settles};
+ghost use Rattle.type_entries.specs.ByValue.{IsClosed};
+ghost use Rattle.type_entries.specs.Facts.{AreAllFacts, facts_of};
+ghost use Rattle.type_entries.specs.TypeLaws.{IsShallow};
+ghost use Rattle.type_entries.specs.Shapes.{has_shape as the_entry_has_a_shape};
+ghost use Rattle.type_entries.specs.Sizes.{is_too_large as the_entry_is_too_large};
+ghost use Rattle.type_views.specs.Large.{are_too_large as the_facts_are_too_large};
+ghost use Rattle.type_entries.specs.Faults.{shape_fault, large_fault};
+
+use crate::limits::{ALIGN_LIMIT, ROOMS_LIMIT, SIZE_LIMIT, WEIGHT_LIMIT};
+use crate::shapes::has_shape;
+use abi_base::{Fault, FaultKind, NoMemory, Refusal};
+use dw_entries::Dwarf;
+use std::alloc::Global;
+use type_entries::laws::laws_of_types;
+use type_entries::{Facts, Found, facts_at};
+
+// The fault of an entry's shape.
+#[tactic(auto, unfolding(type_entries::specs::Faults::shape_fault))]
+fn shape_fault_of(alloc: Global, dwarf: &Dwarf, e: usize) -> Result<Option<Fault>, NoMemory>
+    requires { e < length dwarf.now.tree.entries }
+    ensures { IfOk result (λ fault. fault ≡ shape_fault dwarf.now e) }
+{
+    if has_shape(alloc, dwarf, e)? {
+        return Ok(None);
+    }
+    Ok(Some(Fault {
+        kind: FaultKind::Shape,
+        at: dwarf.offset(e),
+    }))
+}
+
+/// Asks the shapes of entries, in their order.
+pub(crate) fn ask_shapes(alloc: Global, dwarf: &Dwarf, order: &[usize]) -> Result<(), Refusal>
+    requires { All (λ e. e < length dwarf.now.tree.entries) order.now }
+    ensures { Judges result (first (map (shape_fault dwarf.now) order.now)) }
+{
+    'order: for k in 0..order.len() {
+        match shape_fault_of(alloc, dwarf, order[k])? {
+            Some(fault) => return Err(Refusal::Fault(fault)),
+            None => {}
+        }
+    }
+    Ok(())
+}
+
+// Whether facts pass the limits.
+fn are_too_large(facts: &Facts) -> bool
+    ensures { result ≡ the_facts_are_too_large facts.now }
+{
+    SIZE_LIMIT < facts.size
+        || SIZE_LIMIT < facts.count
+        || WEIGHT_LIMIT < facts.weight
+        || ALIGN_LIMIT < facts.align
+        || ROOMS_LIMIT < facts.rooms
+        || facts.beyond
+}
+
+// Whether an entry with these facts is too large.
+fn is_too_large(dwarf: &Dwarf, e: usize, facts: &Facts) -> bool
+    requires facts { facts.now ≡ facts_of dwarf.now (Some e) }
+    requires shallow { IsShallow dwarf.now (Some e) }
+    ensures { result ≡ the_entry_is_too_large dwarf.now e }
+{
+    laws_of_types();
+    are_too_large(facts)
+}
+
+// The fault of an entry's size.
+#[tactic(auto, unfolding(type_entries::specs::Faults::large_fault))]
+fn large_fault_of(dwarf: &Dwarf, e: usize, facts: &Facts) -> Option<Fault>
+    requires inside { e < length dwarf.now.tree.entries }
+    requires facts { facts.now ≡ facts_of dwarf.now (Some e) }
+    requires shallow { IsShallow dwarf.now (Some e) }
+    ensures { result ≡ large_fault dwarf.now e }
+{
+    if !is_too_large(dwarf, e, facts) {
+        return None;
+    }
+    Some(Fault {
+        kind: FaultKind::TooLarge,
+        at: dwarf.offset(e),
+    })
+}
+
+/// Asks the sizes of entries that were found, in their order.
+pub(crate) fn ask_sizes(
+    dwarf: &Dwarf,
+    found: &Found,
+    facts: &[Facts],
+    order: &[usize],
+) -> Result<(), Fault>
+    requires closed { IsClosed dwarf.now.tree found.now }
+    requires facts { AreAllFacts dwarf.now found.now facts.now }
+    requires there { All (Contains found.now) order.now }
+    ensures { Settles result (first (map (large_fault dwarf.now) order.now)) }
+{
+    'order: for k in 0..order.len() {
+        let e = order[k];
+        let of_entry = facts_at(dwarf, found, facts, Some(e));
+        match large_fault_of(dwarf, e, &of_entry) {
+            Some(fault) => return Err(fault),
+            None => {}
+        }
+    }
+    Ok(())
+}

@@ -1,0 +1,432 @@
+// What nodes look like.
+ghost use Rattle.std.specs.Prelude.{◌≡◌, ◌<◌, ◌≤◌, [], ◌∷◌, ◌++◌, ℕ, if◌then◌else◌, false, length, map, All, Contains, Some, IfOk, OnOk, IfSome};
+ghost use Rattle.std.specs.List.{list_any};
+ghost use Rattle.abi_base.specs.Limits.{depth_limit};
+ghost use Rattle.abi_types.specs.Graphs.{void_view};
+ghost use Rattle.abi_types.specs.Forms.{has_tag as the_kind_has_a_tag, no_call as the_empty_call};
+ghost use Rattle.abi_types.specs.Parts.{plain_part};
+ghost use Rattle.abi_types.specs.Types.{Target, Element, Outcome};
+ghost use Rattle.type_entries.specs.declared.role.Role.TheVariants as role;
+ghost use Rattle.type_entries.specs.References.{role_of as the_role_of, parts_of as the_parts_of, type_of as the_type_of};
+ghost use Rattle.type_entries.specs.ByValue.{IsClosed};
+ghost use Rattle.type_entries.specs.Placement.{is_beyond};
+ghost use Rattle.type_entries.specs.Facts.{AreAllFacts, facts_of};
+ghost use Rattle.type_entries.specs.Cores.{StandsForNone};
+ghost use Rattle.dw_entries.specs.Chains.{name_of};
+ghost use Rattle.type_entries.specs.Flat.{text_or_empty, flat_of};
+ghost use Rattle.type_entries.specs.Sizes.{begins_beyond, is_too_large};
+ghost use Rattle.type_entries.specs.Views.{offset_of as the_offset_of, bit_number as the_bit_number, kind_of as the_kind_of, group_for, is_vector as the_array_is_a_vector, member_part, param_part, enumerator_part, enumerators_of as the_enumerators_of, parts_under, variadic_for, core_view, view_by};
+ghost use Rattle.type_views.specs.Nodes.{number_in, made_node, made_nodes};
+ghost use Rattle.type_views.specs.Placed.{plain_members};
+
+use crate::enumerations::group_of;
+use crate::flatten::{Placed, Start, push_flat};
+use crate::labels::{labels_of, name_or_empty};
+use abi_base::dwarf::{
+    DW_AT_GNU_vector, DW_AT_const_value, DW_TAG_enumerator, DW_TAG_structure_type,
+    DW_TAG_unspecified_parameters,
+};
+use abi_base::{List, NoMemory};
+use abi_types::{CallShape, Group, Index, Kind, Node, Part, Parts, Place, View};
+use dw_entries::Dwarf;
+use std::alloc::Global;
+use type_entries::constants::DEPTH_LIMIT;
+use type_entries::laws::laws_of_types;
+use type_entries::{Facts, Found, Role, body_of, facts_at, parts_of, role_of, type_of, wrapped_of};
+
+// The node of a type: void is the first one, and the entries stand in the order in which they were found.
+fn node_of<Ix: Index>(found: &Found, ty: Option<usize>) -> Ix
+    requires { IfSome ty (λ e. Contains found.now e) }
+    ensures { Ix.number_of result ≡ number_in found.now ty }
+{
+    match ty {
+        None => Ix::of(0),
+        Some(e) => {
+            let _many = found.len();
+            match found.number(e) {
+                Some(number) => Ix::of(number + 1),
+                None => unreachable!(),
+            }
+        }
+    }
+}
+
+// A bit that is not out of range.
+fn bit_number(bit: i128) -> u64
+    requires { is_beyond bit ≡ false }
+    ensures { result ≡ the_bit_number bit }
+{
+    u64::try_from(bit).unwrap_or(0)
+}
+
+// The members as parts.
+fn member_parts<'a, Ix: Index>(
+    alloc: Global,
+    found: &Found,
+    members: &[Placed<'a>],
+) -> Result<Vec<Part<'a, Ix>>, NoMemory>
+    requires near { All (λ m. is_beyond m.bit ≡ false) members.now }
+    requires there { All (λ m. IfSome m.to (λ e. Contains found.now e)) members.now }
+    ensures { IfOk result (λ parts. map (plain_part Ix.number_of) parts.items ≡ map (member_part (number_in found.now)) (plain_members members.now)) }
+{
+    let mut parts = Vec::with_capacity(alloc, members.len())?;
+    'members: for k in 0..members.len() {
+        let member = members[k];
+        parts.push(Part::Member {
+            name: member.name,
+            bit: bit_number(member.bit),
+            width: member.width,
+            to: node_of(found, member.to),
+        })?;
+    }
+    Ok(parts)
+}
+
+// The parts of a structure or a union.
+fn aggregate_parts<'a, Ix: Index>(
+    alloc: Global,
+    dwarf: &Dwarf<'a>,
+    found: &Found,
+    facts: &[Facts],
+    c: usize,
+) -> Result<Vec<Part<'a, Ix>>, NoMemory>
+    requires closed { IsClosed dwarf.now.tree found.now }
+    requires facts { AreAllFacts dwarf.now found.now facts.now }
+    requires there { Contains found.now c }
+    requires last { StandsForNone dwarf.now c }
+    requires near { list_any begins_beyond (flat_of dwarf.now (Some c)) ≡ false }
+    ensures { IfOk result (λ parts. map (plain_part Ix.number_of) parts.items ≡ map (member_part (number_in found.now)) (flat_of dwarf.now (Some c))) }
+{
+    laws_of_types();
+    let mut members = Vec::new(alloc);
+    push_flat(
+        alloc,
+        dwarf,
+        found,
+        facts,
+        &mut members,
+        c,
+        Start { bit: 0 },
+        DEPTH_LIMIT,
+    )?;
+    let parts = member_parts(alloc, found, members.as_slice())?;
+    Ok(parts)
+}
+
+// The parts of a function.
+fn function_parts<'a, Ix: Index>(
+    alloc: Global,
+    dwarf: &Dwarf<'a>,
+    found: &Found,
+    c: usize,
+) -> Result<Vec<Part<'a, Ix>>, NoMemory>
+    requires closed { IsClosed dwarf.now.tree found.now }
+    requires there { Contains found.now c }
+    requires role { the_role_of dwarf.now.tree c ≡ role.Function }
+    ensures { IfOk result (λ parts. map (plain_part Ix.number_of) parts.items ≡ Outcome (number_in found.now (the_type_of dwarf.now.tree c)) ∷ map (param_part (number_in found.now) dwarf.now.tree) (the_parts_of dwarf.now.tree c)) }
+{
+    let mut parts = Vec::new(alloc);
+    parts.push(Part::Outcome {
+        to: node_of(found, type_of(dwarf, c)),
+    })?;
+    let params = parts_of(alloc, dwarf, c)?;
+    'params: for k in 0..params.len() {
+        parts.push(Part::Param {
+            to: node_of(found, type_of(dwarf, params[k])),
+        })?;
+    }
+    Ok(parts)
+}
+
+// The enumerators of an enumeration, of which a declaration has none.
+#[tactic(auto, unfolding(type_entries::specs::Views::enumerators_of, type_entries::specs::References::tagged_children))]
+fn enumerators_of(alloc: Global, dwarf: &Dwarf, c: usize) -> Result<Vec<usize>, NoMemory>
+    requires { c < length dwarf.now.tree.entries }
+    ensures enumerators { IfOk result (λ list. list.items ≡ the_enumerators_of dwarf.now.tree c) }
+    ensures inside { IfOk result (λ list. All (λ e. e < length dwarf.now.tree.entries) list.items) }
+{
+    if dwarf.is_declaration(c) {
+        return Ok(Vec::new(alloc));
+    }
+    dwarf.tagged(alloc, c, DW_TAG_enumerator)
+}
+
+// The parts of an enumeration.
+fn enumerator_parts<'a, Ix: Index>(
+    alloc: Global,
+    dwarf: &Dwarf<'a>,
+    c: usize,
+) -> Result<Vec<Part<'a, Ix>>, NoMemory>
+    requires { c < length dwarf.now.tree.entries }
+    ensures { IfOk result (λ parts. map (plain_part Ix.number_of) parts.items ≡ map (enumerator_part dwarf.now) (the_enumerators_of dwarf.now.tree c)) }
+{
+    let enumerators = enumerators_of(alloc, dwarf, c)?;
+    let mut parts = Vec::with_capacity(alloc, enumerators.len())?;
+    'enumerators: for k in 0..enumerators.len() {
+        let e = enumerators[k];
+        let name = name_or_empty(dwarf, e);
+        let value = wrapped_of(dwarf.attr(e, DW_AT_const_value)).unwrap_or(0);
+        parts.push(Part::Enumerator { name, value })?;
+    }
+    Ok(parts)
+}
+
+// The parts of a core.
+fn parts_of_core<'a, Ix: Index>(
+    alloc: Global,
+    dwarf: &Dwarf<'a>,
+    found: &Found,
+    facts: &[Facts],
+    c: usize,
+) -> Result<Vec<Part<'a, Ix>>, NoMemory>
+    requires closed { IsClosed dwarf.now.tree found.now }
+    requires facts { AreAllFacts dwarf.now found.now facts.now }
+    requires there { Contains found.now c }
+    requires last { StandsForNone dwarf.now c }
+    requires near { list_any begins_beyond (flat_of dwarf.now (Some c)) ≡ false }
+    ensures { IfOk result (λ parts. map (plain_part Ix.number_of) parts.items ≡ parts_under (the_role_of dwarf.now.tree c) (number_in found.now) dwarf.now c) }
+{
+    let mut parts = Vec::new(alloc);
+    match role_of(dwarf, c) {
+        Role::Aggregate => return aggregate_parts(alloc, dwarf, found, facts, c),
+        Role::Function => return function_parts(alloc, dwarf, found, c),
+        Role::Enumeration => return enumerator_parts(alloc, dwarf, c),
+        Role::Pointer => parts.push(Part::Target {
+            to: node_of(found, type_of(dwarf, c)),
+        })?,
+        Role::Array => parts.push(Part::Element {
+            to: node_of(found, type_of(dwarf, c)),
+        })?,
+        _ => {}
+    }
+    Ok(parts)
+}
+
+// Whether an array is a vector of the machine.
+#[tactic(auto, unfolding(type_entries::specs::Views::is_vector))]
+fn is_vector(dwarf: &Dwarf, c: usize) -> bool
+    requires { c < length dwarf.now.tree.entries }
+    ensures { result ≡ the_array_is_a_vector dwarf.now.tree c }
+{
+    dwarf.flag(c, DW_AT_GNU_vector)
+}
+
+// What sort of type a core is.
+#[tactic(auto, unfolding(type_entries::specs::Views::kind_of))]
+fn kind_of(dwarf: &Dwarf, c: usize) -> Kind
+    requires { c < length dwarf.now.tree.entries }
+    ensures { result ≡ the_kind_of dwarf.now.tree c }
+{
+    match role_of(dwarf, c) {
+        Role::Aggregate => {
+            if dwarf.tag(c) == DW_TAG_structure_type {
+                Kind::Structure
+            } else {
+                Kind::Union
+            }
+        }
+        Role::Function => Kind::Function,
+        Role::Pointer => Kind::Pointer,
+        Role::Array => {
+            if is_vector(dwarf, c) {
+                Kind::Vector
+            } else {
+                Kind::Array
+            }
+        }
+        Role::Enumeration => Kind::Enumeration,
+        Role::Base => Kind::Scalar,
+        _ => Kind::Void,
+    }
+}
+
+// Whether types of a kind have a tag.
+fn has_tag(kind: Kind) -> bool
+    ensures { result ≡ the_kind_has_a_tag kind }
+{
+    matches!(kind, Kind::Structure | Kind::Union | Kind::Enumeration)
+}
+
+// Whether a function takes further arguments.
+#[tactic(auto, unfolding(type_entries::specs::References::tagged_children))]
+fn variadic(alloc: Global, dwarf: &Dwarf, c: usize, role: Role) -> Result<bool, NoMemory>
+    requires { c < length dwarf.now.tree.entries }
+    ensures { IfOk result (λ further. further ≡ variadic_for role dwarf.now.tree c) }
+{
+    match role {
+        Role::Function => {
+            let further = dwarf.tagged(alloc, body_of(dwarf, c), DW_TAG_unspecified_parameters)?;
+            Ok(!further.is_empty())
+        }
+        _ => Ok(false),
+    }
+}
+
+// What the bits of a core mean, of a size.
+fn group(dwarf: &Dwarf, c: usize, role: Role, size: u64) -> Group
+    requires inside { c < length dwarf.now.tree.entries }
+    requires size { size ≡ (facts_of dwarf.now (Some c)).size }
+    ensures { result ≡ group_for role dwarf.now c }
+{
+    match role {
+        Role::Base => group_of(dwarf, c, size),
+        _ => Group::Bool,
+    }
+}
+
+// The view of a core, with an explicit alignment.
+fn view_of_core<'a, Ix: Index>(
+    alloc: Global,
+    dwarf: &Dwarf<'a>,
+    found: &Found,
+    facts: &[Facts],
+    c: usize,
+    align: u64,
+) -> Result<View<'a, Ix>, NoMemory>
+    requires closed { IsClosed dwarf.now.tree found.now }
+    requires facts { AreAllFacts dwarf.now found.now facts.now }
+    requires there { Contains found.now c }
+    requires last { StandsForNone dwarf.now c }
+    requires near { list_any begins_beyond (flat_of dwarf.now (Some c)) ≡ false }
+    ensures { IfOk result (λ view. view ≡ core_view (number_in found.now) dwarf.now align (Some c)) }
+{
+    let own = facts_at(dwarf, found, facts, Some(c));
+    let role = role_of(dwarf, c);
+    let kind = kind_of(dwarf, c);
+    let variadic = variadic(alloc, dwarf, c, role)?;
+    let parts = parts_of_core(alloc, dwarf, found, facts, c)?;
+    Ok(View {
+        kind,
+        declared_only: has_tag(kind) && dwarf.is_declaration(c),
+        tag: tag(dwarf, c, kind),
+        size: own.size,
+        group: group(dwarf, c, role, own.size),
+        align,
+        count: own.count,
+        variadic,
+        parts: Parts::of(alloc, parts)?,
+        call: no_call(alloc),
+    })
+}
+
+// The tag of a core of a kind, or nothing.
+fn tag<'a>(dwarf: &Dwarf<'a>, c: usize, kind: Kind) -> &'a [u8]
+    requires { c < length dwarf.now.tree.entries }
+    ensures { result.now ≡ (if the_kind_has_a_tag kind then text_or_empty (name_of dwarf.now c) else []) }
+{
+    if has_tag(kind) {
+        name_or_empty(dwarf, c)
+    } else {
+        &[]
+    }
+}
+
+// A call without places.
+fn no_call(alloc: Global) -> CallShape
+    ensures { result ≡ the_empty_call }
+{
+    CallShape {
+        outcome: Place::Nothing,
+        params: List::new(alloc),
+    }
+}
+
+// The view of void, with an explicit alignment.
+fn view_of_void<'a, Ix: Index>(alloc: Global, align: u64) -> View<'a, Ix>
+    ensures { result ≡ record void_view { align = align } }
+{
+    View {
+        kind: Kind::Void,
+        declared_only: false,
+        tag: &[],
+        size: 0,
+        group: Group::Bool,
+        align,
+        count: 0,
+        variadic: false,
+        parts: Parts::new(alloc),
+        call: no_call(alloc),
+    }
+}
+
+// The view of a type.
+#[tactic(auto, unfolding(type_entries::specs::Views::view_by))]
+fn view<'a, Ix: Index>(
+    alloc: Global,
+    dwarf: &Dwarf<'a>,
+    found: &Found,
+    facts: &[Facts],
+    ty: Option<usize>,
+) -> Result<View<'a, Ix>, NoMemory>
+    requires closed { IsClosed dwarf.now.tree found.now }
+    requires facts { AreAllFacts dwarf.now found.now facts.now }
+    requires there { IfSome ty (λ e. Contains found.now e) }
+    requires fits { (e : ℕ) → Contains found.now e → is_too_large dwarf.now e ≡ false }
+    ensures { IfOk result (λ view. view ≡ view_by (number_in found.now) dwarf.now ty) }
+{
+    laws_of_types();
+    let own = facts_at(dwarf, found, facts, ty);
+    match own.core {
+        None => Ok(view_of_void(alloc, own.align)),
+        Some(c) => view_of_core(alloc, dwarf, found, facts, c, own.align),
+    }
+}
+
+// Where the entry of a type lies, and 0 for void.
+fn offset_of(dwarf: &Dwarf, ty: Option<usize>) -> u64
+    requires { IfSome ty (λ e. e < length dwarf.now.tree.entries) }
+    ensures { result ≡ the_offset_of dwarf.now.tree ty }
+{
+    match ty {
+        Some(e) => dwarf.offset(e),
+        None => 0,
+    }
+}
+
+// The node of a type.
+fn node<'a, Ix: Index>(
+    alloc: Global,
+    dwarf: &Dwarf<'a>,
+    found: &Found,
+    facts: &[Facts],
+    ty: Option<usize>,
+) -> Result<Node<'a, Ix>, NoMemory>
+    requires closed { IsClosed dwarf.now.tree found.now }
+    requires facts { AreAllFacts dwarf.now found.now facts.now }
+    requires there { IfSome ty (λ e. Contains found.now e) }
+    requires fits { (e : ℕ) → Contains found.now e → is_too_large dwarf.now e ≡ false }
+    ensures { IfOk result (λ node. node ≡ made_node dwarf.now found.now ty) }
+{
+    laws_of_types();
+    let own = facts_at(dwarf, found, facts, ty);
+    let entry = offset_of(dwarf, ty);
+    let view = view(alloc, dwarf, found, facts, ty)?;
+    let labels = labels_of(alloc, dwarf, ty)?;
+    Ok(Node {
+        entry,
+        rank: own.rank,
+        view,
+        labels,
+    })
+}
+
+/// The nodes of void and of all that was found, in the order in which it was.
+pub(crate) fn nodes<'a, Ix: Index>(
+    alloc: Global,
+    dwarf: &Dwarf<'a>,
+    found: &Found,
+    facts: &[Facts],
+) -> Result<List<Node<'a, Ix>>, NoMemory>
+    requires closed { IsClosed dwarf.now.tree found.now }
+    requires facts { AreAllFacts dwarf.now found.now facts.now }
+    requires fits { (e : ℕ) → Contains found.now e → is_too_large dwarf.now e ≡ false }
+    ensures { IfOk result (λ nodes. nodes ≡ made_nodes dwarf.now found.now) }
+{
+    let mut nodes = List::new(alloc);
+    nodes.push(node(alloc, dwarf, found, facts, None)?)?;
+    'found: for number in 0..found.len() {
+        let e = found.at(number);
+        nodes.push(node(alloc, dwarf, found, facts, Some(e))?)?;
+    }
+    Ok(nodes)
+}
