@@ -1,22 +1,21 @@
 -- Types and their cores.
-use Rattle.std.proofs.Common.{◌≡◌, ◌<◌, ◌≤◌, ◌+◌, ◌*◌, ℕ, zero, suc, List, [], ◌∷◌, map, Some, None, refl, sym, ◌∙◌, ap, subst, arith, ◌⊎◌, inl, inr}
-use Rattle.std.specs.Prelude.{Contains, IfSome, zip, flat_map}
+use Rattle.std.proofs.Common.{◌≡◌, ◌≤◌, ◌+◌, ◌*◌, ℕ, zero, suc, List, [], ◌∷◌, map, Some, None, refl, sym, ◌∙◌, ap, subst, arith, ◌⊎◌, inl, inr}
+use Rattle.std.specs.Prelude.{Contains, IfSome}
 use Rattle.dw_tree.specs.Trees.{PlainTree}
 use Rattle.dw_entries.specs.Debug.{PlainDwarf}
 use Rattle.abi_base.specs.Limits.{depth_limit}
 use Rattle.abi_types.specs.Limits.{size_limit}
-use Rattle.abi_types.specs.Types.{PlainLabel}
 use Rattle.type_entries.specs.declared.facts.Facts.{Facts}
 use Rattle.type_entries.specs.declared.role.Role.{Role}
 use Rattle.type_entries.specs.declared.role.Role.TheVariants as role
-use Rattle.type_entries.specs.References.{Type_, role_of, type_of, members_of, steps_of}
+use Rattle.type_entries.specs.References.{Type_, role_of, type_of, steps_of}
 use Rattle.type_entries.specs.ByValue.{steps_from, StepsOn, IsTooDeep, IsClosed}
-use Rattle.type_entries.specs.Facts.{cut, array_count, void_facts, size_for, count_for, rooms_for, span_for, beyond_for, core_for, aggregate_for, facts_from, facts_of}
-use Rattle.type_entries.specs.Flat.{Flat, core_of, labels_made, labels_of, given, flat_for, flat_made, flat_of}
+use Rattle.type_entries.specs.Facts.{cut, array_count, size_for, count_for, rooms_for, span_for, beyond_for, core_for, aggregate_for, facts_from, facts_of}
+use Rattle.type_entries.specs.Flat.{core_of, labels_made, labels_of, flat_for, flat_made, flat_of}
 use Rattle.type_entries.specs.Cores.{ShareCore, StandsForNone, IsCore, IsFound}
 use Rattle.type_entries.proofs.GrowLemmas.{first_of_all, not_in_none}
 use Rattle.type_entries.proofs.ByValueLemmas.{StepsOn-none, StepsOn-more, by_value-is}
-use Rattle.type_entries.proofs.FactLemmas.{rank_of, rank-falls, facts_of-is, facts_of-void, shallow-step, step_there, void_ends}
+use Rattle.type_entries.proofs.FactLemmas.{rank-falls, facts_of-is, facts_of-void, shallow-step, step_there, void_ends}
 use Rattle.type_entries.proofs.StepLemmas.{passed-steps, array-steps}
 
 -- ---- the equations

@@ -1,9 +1,9 @@
 -- Rank, size and weight.
-use Rattle.std.proofs.Common.{◌≡◌, ◌<◌, ◌≤◌, ◌+◌, ◌-◌, ℕ, zero, suc, max, List, [], ◌∷◌, ◌++◌, length, map, take, drop, set, get_or, slice_get, Option, Some, None, refl, sym, ◌∙◌, ap, subst, arith, inl, inr, ◌⊎◌}
-use Rattle.std.specs.Prelude.{Contains, All, nat_eq, position, IfSome, ◌==◌}
+use Rattle.std.proofs.Common.{◌≡◌, ◌<◌, ◌≤◌, ◌+◌, ℕ, zero, suc, List, [], ◌∷◌, ◌++◌, length, map, take, set, get_or, slice_get, Option, Some, None, refl, sym, ◌∙◌, ap, subst, arith, inl, inr, ◌⊎◌}
+use Rattle.std.specs.Prelude.{Contains, All, nat_eq, position, IfSome}
 use Rattle.std.specs.List.{position_or_len}
 use Rattle.std.proofs.lemmas.Bool.{cases_lt, eqb-true, eq-eqb, lt-ltb}
-use Rattle.std.proofs.lemmas.List.{at_drop_more, at_drop_all, take_more, take_all, map-append}
+use Rattle.std.proofs.lemmas.List.{take_more, take_all, map-append}
 use Rattle.std.proofs.lemmas.List.Elements.{All-contains}
 use Rattle.std.proofs.lemmas.List.Quantifiers.{position-Some}
 use Rattle.std.proofs.lemmas.Option.{same_Some, slice_get_within, slice_get_read}
@@ -15,7 +15,7 @@ use Rattle.dw_entries.specs.Debug.{PlainDwarf}
 use Rattle.type_entries.specs.References.{Type_, role_of, holds_none, types_of, steps_of}
 use Rattle.type_entries.specs.ByValue.{steps_from, StepsOn, IsTooDeep, IsNoDeeper, IsClosed}
 use Rattle.type_entries.specs.Facts.{above, rank_in, nothing, void_facts, facts_from, facts_of, IsSpanNear, AreFacts}
-use Rattle.type_entries.proofs.GrowLemmas.{in_front, first_of_all, behind_first, not_in_none}
+use Rattle.type_entries.proofs.GrowLemmas.{in_front, not_in_none}
 use Rattle.type_entries.proofs.ByValueLemmas.{StepsOn-none, StepsOn-more, StepsOn-cases, StepsOn-fewer, by_value-is}
 use Rattle.type_entries.proofs.RankLemmas.{above-le, above-reached}
 use Rattle.type_entries.proofs.WalkLemmas.{Contains-map, from_map}

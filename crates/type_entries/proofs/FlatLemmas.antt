@@ -1,6 +1,6 @@
 -- Flat members of what is no entry that stands for its type.
-use Rattle.std.proofs.Common.{◌≡◌, ◌<◌, ◌≤◌, ◌+◌, ℕ, zero, suc, Bool, true, false, List, [], ◌∷◌, ◌++◌, map, Option, Some, None, refl, sym, ◌∙◌, ap, subst, arith, ◌⊎◌, inl, inr}
-use Rattle.std.specs.Prelude.{Contains, IfSome, zip, flat_map, ◌||◌}
+use Rattle.std.proofs.Common.{◌≡◌, ◌+◌, ℕ, zero, suc, List, [], ◌∷◌, ◌++◌, map, Option, Some, None, refl, sym, ◌∙◌, ap, subst, arith, ◌⊎◌, inl, inr}
+use Rattle.std.specs.Prelude.{Contains, zip, flat_map, ◌||◌}
 use Rattle.std.specs.List.{list_any}
 use Rattle.std.proofs.lemmas.List.{append-nil}
 use Rattle.std.proofs.lemmas.List.Elements.{Contains-append_cases}
@@ -22,7 +22,7 @@ use Rattle.type_entries.specs.Cores.{StandsForNone, IsFound, IsLower}
 use Rattle.type_entries.proofs.GrowLemmas.{in_front, first_of_all, behind_first, not_in_none}
 use Rattle.type_entries.proofs.ByValueLemmas.{StepsOn-none, StepsOn-more}
 use Rattle.type_entries.proofs.WalkLemmas.{from_map, Contains-map}
-use Rattle.type_entries.proofs.FactLemmas.{rank_of, rank-falls, shallow-step}
+use Rattle.type_entries.proofs.FactLemmas.{rank-falls, shallow-step}
 use Rattle.type_entries.proofs.StepLemmas.{passed-steps, aggregate-steps, members-beside}
 use Rattle.type_entries.proofs.CoreLemmas.{flat_of-is, labels_of-is, void_shallow, passed-flat, passed-step, step_found}
 

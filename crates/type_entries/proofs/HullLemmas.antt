@@ -1,6 +1,6 @@
 -- The span of a type reaches from the least to the greatest bit of its flat members.
-use Rattle.std.proofs.Common.{◌≡◌, ◌<◌, ◌≤◌, ◌+◌, ◌^◌, ℕ, zero, suc, Bool, true, false, cond, List, [], ◌∷◌, ◌++◌, map, Option, Some, None, refl, sym, ◌∙◌, ap, subst, arith, ◌⊎◌, inl, inr}
-use Rattle.std.specs.Prelude.{Contains, IfSome, flat_map, ◌||◌, ℤ, pos, negsuc, ◌+ℤ◌, ◌≤ℤ◌, ◌<ℤ◌, nat_le, int_lt}
+use Rattle.std.proofs.Common.{◌≡◌, ◌+◌, ℕ, zero, suc, Bool, true, false, List, [], ◌∷◌, ◌++◌, map, Option, Some, None, refl, sym, ◌∙◌, ap, subst, arith, ◌⊎◌, inl, inr}
+use Rattle.std.specs.Prelude.{Contains, flat_map, ◌||◌, ℤ, pos, negsuc, ◌+ℤ◌, ◌≤ℤ◌, ◌<ℤ◌, nat_le, int_lt}
 use Rattle.std.specs.List.{list_any}
 use Rattle.std.specs.Int.{int_min, int_max}
 use Rattle.std.proofs.lemmas.Bool.{cases_lt, or_parts, le-leb, leb-true, false≢true}
@@ -18,7 +18,7 @@ use Rattle.type_entries.specs.References.{Type_, role_of, type_of, members_of, s
 use Rattle.type_entries.specs.ByValue.{StepsOn, IsTooDeep}
 use Rattle.type_entries.specs.Placement.{is_beyond, is_nameless}
 use Rattle.type_entries.specs.Facts.{facts_from, facts_of, moved_span, joined, spread, bit_span, member_span, own_span, span_beyond, member_beyond}
-use Rattle.type_entries.specs.Flat.{Flat, moved, declared_bit, given_by, given, core_of, flat_of, member_gives}
+use Rattle.type_entries.specs.Flat.{Flat, moved, declared_bit, given_by, core_of, flat_of, member_gives}
 use Rattle.type_entries.specs.Cores.{IsCore}
 use Rattle.type_entries.specs.Sizes.{begins_beyond, has_member_beyond}
 use Rattle.type_entries.proofs.GrowLemmas.{in_front, first_of_all, behind_first, not_in_none}
@@ -26,7 +26,7 @@ use Rattle.type_entries.proofs.ByValueLemmas.{StepsOn-none, StepsOn-more}
 use Rattle.type_entries.proofs.WalkLemmas.{from_map, Contains-map}
 use Rattle.type_entries.proofs.FactLemmas.{facts_of-is, facts_of-void, shallow-step}
 use Rattle.type_entries.proofs.StepLemmas.{members-beside}
-use Rattle.type_entries.proofs.CoreLemmas.{void_shallow, passed-step, passed-shares, passed-flat, core-is}
+use Rattle.type_entries.proofs.CoreLemmas.{passed-step, passed-shares, passed-flat, core-is}
 use Rattle.type_entries.proofs.FlatLemmas.{IsLast, passed_or_last, members-flat, member-step, flat-void}
 
 -- no member begins before the low end or after the high one, and some member begins at each

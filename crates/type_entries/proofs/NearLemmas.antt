@@ -1,12 +1,11 @@
 -- Bits that are near 0.
-use Rattle.std.proofs.Common.{◌≡◌, ◌<◌, ◌≤◌, ◌+◌, ◌*◌, ◌^◌, ℕ, Bool, true, false, refl, arith}
-use Rattle.std.specs.Prelude.{All, List, [], ◌∷◌, length, ℤ, pos, negsuc, neg_ℤ, ◌+ℤ◌, ◌≤ℤ◌, ◌<ℤ◌, nat_le, Option, Some, None, IfSome}
+use Rattle.std.proofs.Common.{◌<◌, ◌≤◌, ◌+◌, ℕ, arith}
+use Rattle.std.specs.Prelude.{All, List, [], ◌∷◌, ℤ, ◌+ℤ◌, Option, Some, None, IfSome}
 use Rattle.std.specs.Int.{int_min, int_max}
 use Rattle.std.proofs.lemmas.Int.{ints, clamps}
-use Rattle.abi_types.specs.Limits.{bit_limit}
 use Rattle.type_entries.specs.declared.facts.Facts.{Facts}
 use Rattle.type_entries.specs.declared.facts.Span.{Span}
-use Rattle.type_entries.specs.Placement.{member_reach, is_beyond, IsNear}
+use Rattle.type_entries.specs.Placement.{IsNear}
 use Rattle.type_entries.specs.Facts.{joined, nothing, first_of, IsSpanNear}
 
 pub near-more : (n m : ℕ) (bit : ℤ) → n ≤ m → IsNear n bit → IsNear m bit

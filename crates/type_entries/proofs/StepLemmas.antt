@@ -1,12 +1,12 @@
 -- The steps from entries of each role.
-use Rattle.std.proofs.Common.{◌≡◌, ℕ, List, [], ◌∷◌, map, refl, ap, ◌∙◌, arith}
-use Rattle.std.specs.Prelude.{zip, flat_map}
+use Rattle.std.proofs.Common.{◌≡◌, ℕ, List, [], ◌∷◌, map, refl, ap, ◌∙◌}
+use Rattle.std.specs.Prelude.{zip}
 use Rattle.abi_base.proofs.StepLemmas.{bool_cases}
 use Rattle.dw_tree.specs.Trees.{PlainTree}
 use Rattle.dw_entries.specs.Addresses.{is_declared_only}
 use Rattle.type_entries.specs.declared.role.Role.{Role}
 use Rattle.type_entries.specs.declared.role.Role.TheVariants as role
-use Rattle.type_entries.specs.References.{Type_, role_of, type_of, own_types, types_of, steps_of, parts_for, parts_of, members_for, members_of}
+use Rattle.type_entries.specs.References.{Type_, role_of, type_of, own_types, types_of, steps_of, parts_of, members_for, members_of}
 
 pub passed-steps : (t : PlainTree) (e : ℕ) → role_of t e ≡ role.Passed → steps_of t e ≡ type_of t e ∷ []
 unfolding steps_of types_of own_types parts_of

@@ -2,7 +2,6 @@
 use Rattle.std.specs.Prelude.{◌≡◌, ◌<◌, ◌≤◌, ℕ, List, Contains, IfSome}
 use Rattle.dw_entries.specs.Debug.{PlainDwarf}
 use Rattle.type_entries.specs.declared.facts.Facts.{Facts}
-use Rattle.type_entries.specs.declared.role.Role.{Role}
 use Rattle.type_entries.specs.declared.role.Role.TheVariants as role
 use Rattle.type_entries.specs.References.{Type_, role_of}
 use Rattle.type_entries.specs.ByValue.{IsTooDeep}

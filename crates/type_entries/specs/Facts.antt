@@ -1,6 +1,6 @@
 -- What is made of a type from the same of the types that it holds by value: its depth, size, weight, core, explicit alignment,
 -- and what the limits of types ask. Numbers that may grow beyond 64 bits stop at 2^64 - 1, which is above every limit.
-use Rattle.std.specs.Prelude.{length, Contains, ◌<◌, ◌≤◌, ◌≡◌, ◌+◌, ◌-◌, ◌*◌, ◌%◌, ◌^◌, ◌==◌, ◌&&◌, ◌||◌, ℕ, ℤ, Bool, true, false, if◌then◌else◌, min, max, List, [], ◌∷◌, map, zip, drop, slice_index_or, slice_get, Option, Some, None, IfSome, ◌+ℤ◌}
+use Rattle.std.specs.Prelude.{length, Contains, ◌<◌, ◌≡◌, ◌+◌, ◌-◌, ◌*◌, ◌^◌, ◌&&◌, ◌||◌, ℕ, ℤ, Bool, true, false, if◌then◌else◌, min, max, List, [], ◌∷◌, map, zip, drop, slice_index_or, slice_get, Option, Some, None, IfSome, ◌+ℤ◌}
 use Rattle.std.specs.List.{list_any}
 use Rattle.std.specs.Int.{int_min, int_max}
 use Rattle.abi_base.specs.Dwarf.{dw_tag_subrange_type, dw_at_byte_size, dw_at_upper_bound, dw_at_count, dw_at_alignment}

@@ -1,7 +1,6 @@
 -- Labels and flat members of types: each is made from what is made of the types that a type holds by value.
-use Rattle.std.specs.Prelude.{◌==◌, ◌+ℤ◌, ℕ, ℤ, Bool, if◌then◌else◌, List, [], ◌∷◌, ◌++◌, map, flat_map, zip, slice_index_or, Option, Some, None}
+use Rattle.std.specs.Prelude.{◌==◌, ◌+ℤ◌, ℕ, ℤ, if◌then◌else◌, List, [], ◌∷◌, ◌++◌, map, flat_map, zip, slice_index_or, Option, Some, None}
 use Rattle.abi_base.specs.Dwarf.{dw_tag_structure_type, dw_tag_union_type, dw_tag_enumeration_type, dw_tag_base_type, dw_tag_typedef}
-use Rattle.dw_tree.specs.Trees.{PlainTree}
 use Rattle.dw_entries.specs.Addresses.{tag_at}
 use Rattle.dw_entries.specs.Chains.{name_of}
 use Rattle.dw_entries.specs.Debug.{PlainDwarf}

@@ -1,5 +1,5 @@
 -- Where a member stands in its aggregate, in bits from the aggregate's begin (DWARF 5, section 5.7.6 "Data Member Entries").
-use Rattle.std.specs.Prelude.{ℕ, ℤ, ◌+◌, ◌*◌, nat_le, Bool, true, false, if◌then◌else◌, is_none, Option, Some, None, pos, negsuc, neg_ℤ, ◌-ℤ◌, ◌≤ℤ◌, ◌^◌}
+use Rattle.std.specs.Prelude.{ℕ, ℤ, ◌+◌, ◌*◌, nat_le, Bool, true, if◌then◌else◌, is_none, pos, negsuc, neg_ℤ, ◌-ℤ◌, ◌≤ℤ◌, ◌^◌}
 use Rattle.std.specs.Option.{unwrap_or}
 use Rattle.abi_base.specs.Dwarf.{dw_at_byte_size, dw_at_bit_offset, dw_at_bit_size, dw_at_data_member_location, dw_at_data_bit_offset}
 use Rattle.dw_entries.specs.Chains.{attribute_along, name_of}

@@ -1,5 +1,5 @@
 -- What makes a type too large.
-use Rattle.std.specs.Prelude.{ℕ, ◌||◌, Bool, false, nat_lt, List, Some, Option, None}
+use Rattle.std.specs.Prelude.{ℕ, ◌||◌, Bool, false, nat_lt, Some, None}
 use Rattle.std.specs.List.{list_any}
 use Rattle.abi_base.specs.Limits.{weight_limit}
 use Rattle.dw_entries.specs.Debug.{PlainDwarf}

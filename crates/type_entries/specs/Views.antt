@@ -1,5 +1,5 @@
 -- What a type looks like. Parts name types by whatever a name is: the offset of an entry, or the number of a node.
-use Rattle.std.specs.Prelude.{ℕ, ℤ, ◌==◌, ◌&&◌, ◌||◌, not, Bool, true, false, if◌then◌else◌, is_none, List, [], ◌∷◌, map, Option, Some, None, pos, negsuc, codes}
+use Rattle.std.specs.Prelude.{ℕ, ℤ, ◌==◌, ◌&&◌, ◌||◌, not, Bool, true, false, if◌then◌else◌, List, [], ◌∷◌, map, Option, Some, None, pos, negsuc, codes}
 use Rattle.std.specs.Option.{unwrap_or}
 use Rattle.std.specs.Str.{bytes_eq}
 use Rattle.abi_base.specs.Dwarf.{dw_tag_enumerator, dw_tag_unspecified_parameters, dw_tag_structure_type, dw_at_const_value, dw_at_gnu_vector}

@@ -12,3 +12,6 @@ mod nodes;
 mod shapes;
 
 pub use graph::raw_graph;
+
+#[cfg(test)]
+mod tests;

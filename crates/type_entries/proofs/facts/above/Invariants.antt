@@ -1,7 +1,6 @@
-use Rattle.std.proofs.Common.{◌≡◌, ◌≤◌, ◌<◌, ℕ, map, drop, length, get_or}
+use Rattle.std.proofs.Common.{◌≡◌, ◌≤◌, map, drop, length}
 use Rattle.abi_base.specs.Limits.{depth_limit}
-use Rattle.type_entries.specs.declared.facts.Facts.{Facts}
-use Rattle.type_entries.specs.Facts.{above as the_above, rank_in, nothing}
+use Rattle.type_entries.specs.Facts.{above as the_above, rank_in}
 use Rattle.type_entries.proofs.facts.above.Given as goal
 
 abbrev pub invariant-down : goal.invariant-down

@@ -1,4 +1,4 @@
-use Rattle.std.proofs.Common.{arith, sym, ap, ◌∙◌, ◌≡◌, ◌-◌, ℕ, Bool, true, List, drop, get_or}
+use Rattle.std.proofs.Common.{arith, sym, ap, ◌∙◌, ℕ, Bool, List, drop}
 use Rattle.std.specs.Prelude.{zip, ◌||◌}
 use Rattle.std.specs.List.{list_any}
 use Rattle.type_entries.specs.declared.facts.Facts.{Facts}

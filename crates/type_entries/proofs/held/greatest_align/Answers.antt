@@ -1,4 +1,4 @@
-use Rattle.std.proofs.Common.{arith, sym, map, ℕ, List, get_or, ◌-◌}
+use Rattle.std.proofs.Common.{arith, sym, map, ℕ, List}
 use Rattle.type_entries.specs.declared.facts.Facts.{Facts}
 use Rattle.type_entries.specs.Facts.{most, member_align, nothing}
 use Rattle.type_entries.proofs.ZipLemmas.{zip-down, zip-none}

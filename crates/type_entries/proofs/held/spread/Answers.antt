@@ -1,4 +1,4 @@
-use Rattle.std.proofs.Common.{arith, sym, ap, subst, ◌∙◌, ◌+◌, ◌-◌, ◌<◌, ◌≤◌, map, ℕ, List, get_or, length}
+use Rattle.std.proofs.Common.{arith, sym, ap, subst, ◌∙◌, ◌+◌, ◌-◌, ◌≤◌, map, ℕ, List, get_or}
 use Rattle.type_entries.specs.declared.facts.Facts.{Facts}
 use Rattle.type_entries.specs.Facts.{spread, joined, member_span, nothing}
 use Rattle.type_entries.proofs.NearLemmas.{NearLow, NearHigh, joined-low, joined-high, low-more, high-more}

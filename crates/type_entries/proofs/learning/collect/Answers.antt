@@ -1,6 +1,5 @@
 use Rattle.std.proofs.Common.{◌≡◌, ℕ, Some, arith, subst}
-use Rattle.std.specs.Prelude.{Contains, IfSome}
-use Rattle.type_entries.specs.ByValue.{IsTooDeep}
+use Rattle.std.specs.Prelude.{IfSome}
 use Rattle.type_entries.specs.Facts.{facts_of}
 use Rattle.type_entries.proofs.LearnLemmas.{map-step, AreAllFacts-end}
 use Rattle.type_entries.proofs.learning.collect.Goals as goal

@@ -1,4 +1,4 @@
-use Rattle.std.proofs.Common.{subst, sym, Some, ℕ}
+use Rattle.std.proofs.Common.{subst, Some, ℕ}
 use Rattle.std.specs.Prelude.{Contains, IfSome, IfNone}
 use Rattle.type_entries.specs.ByValue.{IsTooDeep}
 use Rattle.type_entries.specs.Facts.{IsFirstTooDeep}

@@ -1,4 +1,4 @@
-use Rattle.std.proofs.Common.{◌≡◌, ℕ, Option, Some, None, List, refl, sym}
+use Rattle.std.proofs.Common.{◌≡◌, ℕ, Option, Some, None, List}
 use Rattle.std.specs.Prelude.{Contains, IfSome, IfNone, position, nat_eq, slice_get}
 use Rattle.type_entries.proofs.FactLemmas.{number_is, number_there}
 use Rattle.type_entries.proofs.found.Found.number.Goals as goal
