@@ -9,7 +9,8 @@ title="debug entries"
 tools="gcc readelf awk"
 . "$(dirname "$0")/common.bash"
 
-# entries LIBRARY: a line for each entry of .debug_info, as readelf has them: offset, depth, and tag in hexadecimal.
+# entries LIBRARY: a line for each entry of .debug_info, as readelf has them, which prints depths in decimal: offset, depth,
+# and tag in hexadecimal.
 entries() {
     readelf --wide --debug-dump=info "$1" | awk '
         function value(text,    i, sum) {
@@ -40,7 +41,7 @@ entries() {
             sub(/.*\(/, "", name)
             sub(/\).*/, "", name)
             if (!(name in tag)) { print "no number is known of " name; exit }
-            printf "%d %d %s\n", value(part[3]), value(part[2]), tag[name]
+            printf "%d %d %s\n", value(part[3]), part[2], tag[name]
         }'
 }
 
