@@ -110,7 +110,7 @@ typed() {
             split($0, field, /[<>]+/)
             entry = field[3]
             order[++entries] = entry
-            depth[entry] = value(field[2])
+            depth[entry] = field[2] + 0
             unit_of[entry] = unit
             tag[entry] = $0
             sub(/.*\(/, "", tag[entry])
