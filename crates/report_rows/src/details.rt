@@ -88,57 +88,44 @@ fn says(rt: &impl Abort, row: &Row, wanted: &str) {
     assert_eq!(rt; row.detail.as_slice(), wanted.as_bytes());
 }
 
+// A structure that has nothing of what a scalar of four bytes without a name has.
+fn changed<'a, Ix: Index>(alloc: Global) -> Result<View<'a, Ix>, NoMemory> {
+    let mut view = scalar(alloc, b"a b")?;
+    view.kind = Kind::Structure;
+    view.size = 8;
+    view.group = Group::Unsigned;
+    view.align = 16;
+    view.count = 3;
+    view.variadic = true;
+    Ok(view)
+}
+
+// Of a scalar that became something else, the row of this rule says this.
+fn says_of_scalar(
+    rt: &impl Abort,
+    alloc: Global,
+    rule: RuleName,
+    wanted: &str,
+) -> Result<(), NoMemory>
+    requires { speaks_of_parts rule ≡ false }
+{
+    let old = scalar(alloc, b"")?;
+    let new = changed(alloc)?;
+    says(rt, &whole(alloc, rule, &old, &new)?, wanted);
+    Ok(())
+}
+
 #[test]
 fn whole_types(rt: HostRuntime) -> Result<(), Fail> {
     let alloc = rt.alloc();
-    let old = scalar(alloc, b"")?;
-    let mut new = scalar(alloc, b"a b")?;
-    new.kind = Kind::Structure;
-    new.size = 8;
-    new.group = Group::Unsigned;
-    new.align = 16;
-    new.count = 3;
-    new.variadic = true;
-    says(
-        &rt,
-        &whole(alloc, RuleName::L1, &old, &new)?,
-        "kind scalar, now struct",
-    );
-    says(
-        &rt,
-        &whole(alloc, RuleName::L2, &old, &new)?,
-        "size 4, now 8",
-    );
-    says(
-        &rt,
-        &whole(alloc, RuleName::L3, &old, &new)?,
-        "scalar signed, now unsigned",
-    );
-    says(
-        &rt,
-        &whole(alloc, RuleName::L4, &old, &new)?,
-        "alignment 0, now 16",
-    );
-    says(
-        &rt,
-        &whole(alloc, RuleName::L5, &old, &new)?,
-        "tag none, now a\\x20b",
-    );
-    says(
-        &rt,
-        &whole(alloc, RuleName::L11, &old, &new)?,
-        "count 2, now 3",
-    );
-    says(
-        &rt,
-        &whole(alloc, RuleName::L12, &old, &new)?,
-        "parameters 0, now 0",
-    );
-    says(
-        &rt,
-        &whole(alloc, RuleName::L13, &old, &new)?,
-        "variadic no, now yes",
-    );
+    says_of_scalar(&rt, alloc, RuleName::L1, "kind scalar, now struct")?;
+    says_of_scalar(&rt, alloc, RuleName::L2, "size 4, now 8")?;
+    says_of_scalar(&rt, alloc, RuleName::L3, "scalar signed, now unsigned")?;
+    says_of_scalar(&rt, alloc, RuleName::L4, "alignment 0, now 16")?;
+    says_of_scalar(&rt, alloc, RuleName::L5, "tag none, now a\\x20b")?;
+    says_of_scalar(&rt, alloc, RuleName::L11, "count 2, now 3")?;
+    says_of_scalar(&rt, alloc, RuleName::L12, "parameters 0, now 0")?;
+    says_of_scalar(&rt, alloc, RuleName::L13, "variadic no, now yes")?;
     Ok(())
 }
 
@@ -165,31 +152,27 @@ fn pair_of<'a, Ix: Index>(
     made(alloc, Kind::Structure, name, parts)
 }
 
+// Of the second member `v`, which moved and became a bit field, or of the first one, the row of this rule says this.
+fn says_of_member(
+    rt: &impl Abort,
+    alloc: Global,
+    rule: RuleName,
+    part: usize,
+    wanted: &str,
+) -> Result<(), NoMemory> {
+    let old = pair_of(alloc, b"v", 32, 0)?;
+    let new = pair_of(alloc, b"v", 40, 3)?;
+    says(rt, &at_part(rt, alloc, rule, part, &old, &new)?, wanted);
+    Ok(())
+}
+
 #[test]
 fn members(rt: HostRuntime) -> Result<(), Fail> {
     let alloc = rt.alloc();
-    let old = pair_of(alloc, b"v", 32, 0)?;
-    let new = pair_of(alloc, b"v", 40, 3)?;
-    says(
-        &rt,
-        &at_part(&rt, alloc, RuleName::L6, 0, &old, &new)?,
-        "member v gone",
-    );
-    says(
-        &rt,
-        &at_part(&rt, alloc, RuleName::L6, 1, &old, &new)?,
-        "member v#2 gone",
-    );
-    says(
-        &rt,
-        &at_part(&rt, alloc, RuleName::L7, 1, &old, &new)?,
-        "member v#2 at bit 32, now 40",
-    );
-    says(
-        &rt,
-        &at_part(&rt, alloc, RuleName::L8, 1, &old, &new)?,
-        "member v#2 width 0, now 3",
-    );
+    says_of_member(&rt, alloc, RuleName::L6, 0, "member v gone")?;
+    says_of_member(&rt, alloc, RuleName::L6, 1, "member v#2 gone")?;
+    says_of_member(&rt, alloc, RuleName::L7, 1, "member v#2 at bit 32, now 40")?;
+    says_of_member(&rt, alloc, RuleName::L8, 1, "member v#2 width 0, now 3")?;
     Ok(())
 }
 
@@ -207,21 +190,24 @@ fn enumeration<'a, Ix: Index>(
     Ok(view)
 }
 
+// Of an enumerator of one byte whose value was the greatest one, the row of this rule says this.
+fn says_of_enumerator(
+    rt: &impl Abort,
+    alloc: Global,
+    rule: RuleName,
+    wanted: &str,
+) -> Result<(), NoMemory> {
+    let old = enumeration(alloc, b"A", 1, u64::MAX)?;
+    let new = enumeration(alloc, b"A", 1, 258)?;
+    says(rt, &at_part(rt, alloc, rule, 0, &old, &new)?, wanted);
+    Ok(())
+}
+
 #[test]
 fn enumerators(rt: HostRuntime) -> Result<(), Fail> {
     let alloc = rt.alloc();
-    let old = enumeration(alloc, b"A", 1, u64::MAX)?;
-    let new = enumeration(alloc, b"A", 1, 258)?;
-    says(
-        &rt,
-        &at_part(&rt, alloc, RuleName::L9, 0, &old, &new)?,
-        "enumerator A gone",
-    );
-    says(
-        &rt,
-        &at_part(&rt, alloc, RuleName::L10, 0, &old, &new)?,
-        "enumerator A 255, now 2",
-    );
+    says_of_enumerator(&rt, alloc, RuleName::L9, "enumerator A gone")?;
+    says_of_enumerator(&rt, alloc, RuleName::L10, "enumerator A 255, now 2")?;
     Ok(())
 }
 
@@ -243,14 +229,19 @@ fn function<'a, Ix: Index>(
     parts.push(Part::Outcome { to: Ix::of(0) })?;
     parts.push(Part::Param { to: Ix::of(0) })?;
     let mut view = made(alloc, Kind::Function, tag, parts)?;
-    view.call.outcome = outcome;
-    view.call.params.push(param)?;
+    let mut params = List::new(alloc);
+    params.push(param)?;
+    view.call = CallShape { outcome, params };
     Ok(view)
 }
 
-#[test]
-fn places(rt: HostRuntime) -> Result<(), Fail> {
-    let alloc = rt.alloc();
+// Of a function whose result went to memory and whose parameter went to the stack, the row says this of a part.
+fn says_of_place(
+    rt: &impl Abort,
+    alloc: Global,
+    part: usize,
+    wanted: &str,
+) -> Result<(), NoMemory> {
     let old = function(alloc, b"", register(6), register(0))?;
     let stack = Place::Stack {
         offset: 0,
@@ -258,15 +249,18 @@ fn places(rt: HostRuntime) -> Result<(), Fail> {
     };
     let new = function(alloc, b"", Place::Hidden, stack)?;
     says(
-        &rt,
-        &at_part(&rt, alloc, RuleName::L14, 0, &old, &new)?,
-        "result in rax, now memory",
+        rt,
+        &at_part(rt, alloc, RuleName::L14, part, &old, &new)?,
+        wanted,
     );
-    says(
-        &rt,
-        &at_part(&rt, alloc, RuleName::L14, 1, &old, &new)?,
-        "param 1 in rdi, now stack+0:24",
-    );
+    Ok(())
+}
+
+#[test]
+fn places(rt: HostRuntime) -> Result<(), Fail> {
+    let alloc = rt.alloc();
+    says_of_place(&rt, alloc, 0, "result in rax, now memory")?;
+    says_of_place(&rt, alloc, 1, "param 1 in rdi, now stack+0:24")?;
     Ok(())
 }
 

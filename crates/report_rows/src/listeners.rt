@@ -1,5 +1,5 @@
 // Listeners that are written outside the crate of reports: told, closed and dropped in their order.
-ghost use Rattle.std.specs.Prelude.{◌≡◌, [], All};
+ghost use Rattle.std.specs.Prelude.{◌≡◌, [], All, IfOk};
 
 use abi_base::{List, NoMemory};
 use abi_types::RuleName;
@@ -98,10 +98,10 @@ fn gone(alloc: Global) -> Result<Row, NoMemory> {
     row(alloc, RuleName::X2, b"f@V1", b"", b"gone")
 }
 
-#[test]
-fn each_style_has_its_text(rt: HostRuntime) -> Result<(), Fail> {
-    let alloc = rt.alloc();
-    let rows = vec![in alloc; gone(alloc)?, grown(alloc)?]?;
+// A listener of each style of the library, which heard nothing yet.
+fn of_each_style(alloc: Global) -> Result<Vec<Box<dyn Listener>>, NoMemory>
+    ensures { IfOk result (λ listeners. All (λ listener. heard listener ≡ []) listeners.items) }
+{
     let mut listeners: Vec<Box<dyn Listener>> = Vec::new(alloc);
     add_listener(&mut listeners, Box::new(alloc, TextListener::new(alloc))?)?;
     add_listener(&mut listeners, Box::new(alloc, TableListener::new(alloc))?)?;
@@ -114,8 +114,40 @@ fn each_style_has_its_text(rt: HostRuntime) -> Result<(), Fail> {
         &mut listeners,
         Box::new(alloc, FirstListener::new(alloc, 0))?,
     )?;
+    Ok(listeners)
+}
+
+// A listener of this number that keeps so many rows, and none yet.
+fn keeping(
+    alloc: Global,
+    number: u8,
+    most: usize,
+    dropped: &Rc<RefCell<Vec<u8>>>,
+) -> Result<Counting, Fail>
+    ensures { IfOk result (λ listener. listener.rows.items ≡ []) }
+{
+    let note = Note {
+        number,
+        dropped: dropped.clone()?,
+    };
+    Ok(Counting {
+        alloc,
+        most,
+        rows: Vec::new(alloc),
+        note,
+    })
+}
+
+#[test]
+fn each_style_has_its_text(rt: HostRuntime) -> Result<(), Fail> {
+    let alloc = rt.alloc();
+    let rows = vec![in alloc; gone(alloc)?, grown(alloc)?]?;
+    let mut listeners = of_each_style(alloc)?;
     let dropped = Rc::new(alloc, RefCell::new(Vec::new(alloc)))?;
-    add_counting(alloc, &mut listeners, 1, 2, &dropped)?;
+    add_listener(
+        &mut listeners,
+        Box::new(alloc, keeping(alloc, 1, 2, &dropped)?)?,
+    )?;
     let mut out = Vec::new(alloc);
     assert_eq!(rt; tell_all(listeners, &rows, &mut out), Ok(()));
     let wanted = b"\
@@ -132,40 +164,24 @@ X2 f@V1: gone
     Ok(())
 }
 
-// Puts a listener that keeps so many rows behind the others.
-fn add_counting(
-    alloc: Global,
-    listeners: &mut Vec<Box<dyn Listener>>,
-    number: u8,
-    most: usize,
-    dropped: &Rc<RefCell<Vec<u8>>>,
-) -> Result<(), Fail>
-    requires { All (λ listener. heard listener ≡ []) listeners.old.items }
-    ensures { All (λ listener. heard listener ≡ []) listeners.new.items }
-{
-    let note = Note {
-        number,
-        dropped: dropped.clone()?,
-    };
-    let listener = Counting {
-        alloc,
-        most,
-        rows: Vec::new(alloc),
-        note,
-    };
-    add_listener(listeners, Box::new(alloc, listener)?)?;
-    Ok(())
-}
-
 #[test]
 fn want_of_memory_keeps_the_texts_before_it(rt: HostRuntime) -> Result<(), Fail> {
     let alloc = rt.alloc();
     let rows = vec![in alloc; gone(alloc)?, grown(alloc)?]?;
     let dropped = Rc::new(alloc, RefCell::new(Vec::new(alloc)))?;
     let mut listeners: Vec<Box<dyn Listener>> = Vec::new(alloc);
-    add_counting(alloc, &mut listeners, 1, 2, &dropped)?;
-    add_counting(alloc, &mut listeners, 2, 1, &dropped)?;
-    add_counting(alloc, &mut listeners, 3, 2, &dropped)?;
+    add_listener(
+        &mut listeners,
+        Box::new(alloc, keeping(alloc, 1, 2, &dropped)?)?,
+    )?;
+    add_listener(
+        &mut listeners,
+        Box::new(alloc, keeping(alloc, 2, 1, &dropped)?)?,
+    )?;
+    add_listener(
+        &mut listeners,
+        Box::new(alloc, keeping(alloc, 3, 2, &dropped)?)?,
+    )?;
     let mut out = b"no\n".to_vec(alloc)?;
     assert_eq!(rt; tell_all(listeners, &rows, &mut out), Err(NoMemory));
     assert_eq!(rt; out.as_slice(), b"no\n2".as_slice());
