@@ -9,8 +9,8 @@ title="debug entries"
 tools="gcc readelf awk"
 . "$(dirname "$0")/common.bash"
 
-# entries LIBRARY: a line for each entry of .debug_info, as readelf has them, which prints depths in decimal and is not to list what
-# .gnu_debuglink names: offset, depth, and tag in hexadecimal.
+# entries LIBRARY: a line for each entry of .debug_info, as readelf has them: offset, depth, and tag in hexadecimal. It prints
+# depths in decimal, and left alone it lists the file that .gnu_debuglink names too.
 entries() {
     readelf --wide --debug-dump=info,no-follow-links "$1" | awk '
         function value(text,    i, sum) {
