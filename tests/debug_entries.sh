@@ -9,10 +9,10 @@ title="debug entries"
 tools="gcc readelf awk"
 . "$(dirname "$0")/common.bash"
 
-# entries LIBRARY: a line for each entry of .debug_info, as readelf has them, which prints depths in decimal: offset, depth,
-# and tag in hexadecimal.
+# entries LIBRARY: a line for each entry of .debug_info, as readelf has them: offset, depth, and tag in hexadecimal. It prints
+# depths in decimal, and left alone it lists the file that .gnu_debuglink names too.
 entries() {
-    readelf --wide --debug-dump=info "$1" | awk '
+    readelf --wide --debug-dump=info,no-follow-links "$1" | awk '
         function value(text,    i, sum) {
             for (i = 1; i <= length(text); i++) sum = 16 * sum + index("0123456789abcdef", substr(text, i, 1)) - 1
             return sum
