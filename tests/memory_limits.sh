@@ -21,7 +21,7 @@ limited() {
 
 # The least limit, in steps of 64 kilobytes, under which the program starts: without words it then says how it is used.
 least=64
-until limited "$least"; [ $? -eq 64 ]; do
+until { limited "$least"; } 2>/dev/null; [ $? -eq 64 ]; do
     least=$((least + 64))
     [ "$least" -le 262144 ] || fail "the program does not start in 256 megabytes"
 done
@@ -49,10 +49,11 @@ under_limits() {
     passed "$name: out of memory under $refused limits, the answer from there on"
 }
 
-gcc -shared -nostdlib -fPIC -o old.so "$sources/old.c"
-gcc -shared -nostdlib -fPIC -o less.so "$sources/less.c"
+# The libraries are large enough that a program which can start may yet want memory for them.
 for i in $(seq 5000); do echo "int exported_$i(void) { return $i; }"; done >many.c
 gcc -shared -nostdlib -fPIC -w -o many.so many.c
+head -n 4000 many.c >fewer.c
+gcc -shared -nostdlib -fPIC -w -o fewer.so fewer.c
 awk -v first=1 -v last=200 -f "$sources/entries.awk" >entries.c
 gcc -shared -fPIC -w -g -O1 -o entries.so entries.c
 
@@ -65,10 +66,9 @@ answered() {
     under_limits "$name" "$status" "$step" "$@"
 }
 
-answered "a yes" 0 16 check old.so old.so
-answered "a no" 1 16 check old.so less.so
-answered "5,000 exports" 0 128 check many.so many.so
+answered "a yes" 0 128 check many.so many.so
+answered "a no" 1 128 check many.so fewer.so
 answered "entries" 0 128 entries entries.so
-answered "an unreadable library" 2 16 check old.so "$sources/old.c"
+answered "an unreadable library" 2 128 check many.so many.c
 
 finished
