@@ -1,10 +1,11 @@
 # What the scripts beside this one share: which tools they need, which program they run, how they fail and count, and what an
 # answer must be by sha256sum and readelf. A script sets `title` and the `tools` that it needs, and then takes this file in. One
-# that runs another program than `abi` sets its `crate`, the path that it is `given`, and the `usage_status` of a run without words.
+# that runs another program than `abi` sets its `crate`, the path that it is `given`, and the `usage_status` of a run without
+# words; one that runs no program of this repository sets an empty `crate`.
 #
 # A missing tool is a failure. Where SKIP_MISSING_TOOLS is set, what needs it is left out, and the last line names the tool.
 export LC_ALL=C
-crate=${crate:-abi_cli}
+crate=${crate-abi_cli}
 given=${given-${ABI:-}}
 usage_status=${usage_status:-64}
 
@@ -40,7 +41,9 @@ done
 
 # The program, which only rt builds, and only where it is proved: a run without words ends with the status of wrong words. One
 # that is given must not be older than the sources beside this script.
-if [ -n "$given" ]; then
+if [ -z "$crate" ]; then
+    program=
+elif [ -n "$given" ]; then
     program=$(cd "$(dirname "$given")" && pwd)/$(basename "$given")
     [ -x "$program" ] || fail "there is no program at $program"
     newer=$(find "$root/crates" "$root/crates.txt" -name out -prune -o \( -name '*.rt' -o -name '*.antt' -o -name crates.txt \) \
@@ -71,15 +74,30 @@ passed() {
     echo "ok: $1"
 }
 
-# expect NAME STATUS WORD..: the program, given the words, must end with the status and print what the file `want` holds.
-expect() {
+# answers NAME STATUS WORD..: the program, given the words, must end with the status; what it prints is in the file `got`. It
+# writes to standard error exactly where an input is unreadable or something fails.
+answers() {
     local name=$1 status=$2 ended=0
     shift 2
     "$program" "$@" >got 2>errors || ended=$?
-    [ "$ended" -eq "$status" ] || fail "$name: status $ended, not $status: $(head -n 1 got)"
-    diff -u want got >differences || { head -n 40 differences >&2 && fail "$name: another text"; }
-    [ ! -s errors ] || fail "$name: it wrote to standard error"
-    passed "$name"
+    [ "$ended" -eq "$status" ] || { head -n 20 got >&2 && fail "$name: status $ended, not $status"; }
+    # People are told what is wrong with an input; beside an answer there is nothing to be told.
+    case $ended in
+    2 | 3 | 4 | 6) grep -q '^abi: ' errors || fail "$name: nothing tells what is wrong" ;;
+    *) [ ! -s errors ] || fail "$name: it wrote to standard error" ;;
+    esac
+}
+
+# same NAME: what the program printed must be what the file `want` holds.
+same() {
+    diff -u want got >differences || { head -n 40 differences >&2 && fail "$1: another text"; }
+}
+
+# expect NAME STATUS WORD..: the program, given the words, must end with the status and print what the file `want` holds.
+expect() {
+    answers "$@"
+    same "$1"
+    passed "$1"
 }
 
 # exports LIBRARY: a line for each export, in order of the numbers, as readelf has them. Its fields, parted by tabs, are the
@@ -147,6 +165,11 @@ digest() {
 bound() {
     exports "$1" >old_exports
     exports "$2" >new_exports
+    bound_exports
+}
+
+# bound_exports: the same, of the exports in the files `old_exports` and `new_exports`.
+bound_exports() {
     awk -F '\t' '
         function is_function(kind) { return kind == "FUNC" || kind == "IFUNC" }
         function is_object(kind) { return kind == "OBJECT" || kind == "COMMON" }

@@ -69,6 +69,8 @@ answered() {
 answered "a yes" 0 128 check many.so many.so
 answered "a no" 1 128 check many.so fewer.so
 answered "entries" 0 128 entries entries.so
+answered "exports" 0 512 exports entries.so
+answered "a yes on types" 0 512 check entries.so entries.so
 answered "an unreadable library" 2 128 check many.so many.c
 
 finished

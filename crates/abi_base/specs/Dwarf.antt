@@ -386,6 +386,35 @@ type_offset_at = 20
 abbrev pub x86_64_address_size : ℕ
 x86_64_address_size = 8
 
+-- ---- how a base type is encoded (section 7.8 "Base Type Attribute Encodings")
+
+abbrev pub dw_ate_boolean : ℕ
+dw_ate_boolean = 0x02
+
+abbrev pub dw_ate_complex_float : ℕ
+dw_ate_complex_float = 0x03
+
+abbrev pub dw_ate_float : ℕ
+dw_ate_float = 0x04
+
+abbrev pub dw_ate_signed : ℕ
+dw_ate_signed = 0x05
+
+abbrev pub dw_ate_signed_char : ℕ
+dw_ate_signed_char = 0x06
+
+abbrev pub dw_ate_unsigned : ℕ
+dw_ate_unsigned = 0x07
+
+abbrev pub dw_ate_unsigned_char : ℕ
+dw_ate_unsigned_char = 0x08
+
+abbrev pub dw_ate_decimal_float : ℕ
+dw_ate_decimal_float = 0x0f
+
+abbrev pub dw_ate_utf : ℕ
+dw_ate_utf = 0x10
+
 -- ---- operations (section 7.7.1 "DWARF Expressions")
 
 -- the operation whose operand is an address
@@ -395,6 +424,10 @@ dw_op_addr = 0x03
 -- the operation whose operand is the index of an address
 abbrev pub dw_op_addrx : ℕ
 dw_op_addrx = 0xa1
+
+-- the operation that adds its operand to the address of the whole
+abbrev pub dw_op_plus_uconst : ℕ
+dw_op_plus_uconst = 0x23
 
 -- ---- range lists (section 7.25 "Non-Contiguous Address Ranges"; DWARF 4, section 2.17.3 of the same name)
 

@@ -218,3 +218,27 @@ pub const DW_UT_partial: u8 = 0x03;
 pub const DW_CHILDREN_no: u8 = 0x00;
 
 pub const DW_CHILDREN_yes: u8 = 0x01;
+
+// How a base type is encoded (section 7.8 "Base Type Attribute Encodings").
+
+pub const DW_ATE_boolean: u64 = 0x02;
+
+pub const DW_ATE_complex_float: u64 = 0x03;
+
+pub const DW_ATE_float: u64 = 0x04;
+
+pub const DW_ATE_signed: u64 = 0x05;
+
+pub const DW_ATE_signed_char: u64 = 0x06;
+
+pub const DW_ATE_unsigned: u64 = 0x07;
+
+pub const DW_ATE_unsigned_char: u64 = 0x08;
+
+pub const DW_ATE_decimal_float: u64 = 0x0f;
+
+pub const DW_ATE_UTF: u64 = 0x10;
+
+// The operation that adds its operand to the address of the whole (section 7.7.1 "DWARF Expressions").
+
+pub const DW_OP_plus_uconst: u8 = 0x23;

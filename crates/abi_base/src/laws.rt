@@ -1,6 +1,6 @@
 // The numbers of the code are those of the standards, as the tables of `specs/` give them.
 ghost use Rattle.std.specs.Prelude.{◌≡◌};
-ghost use Rattle.abi_base.specs.Dwarf.{dw_form_addr, dw_form_block2, dw_form_block4, dw_form_data2, dw_form_data4, dw_form_data8, dw_form_string, dw_form_block, dw_form_block1, dw_form_data1, dw_form_flag, dw_form_sdata, dw_form_strp, dw_form_udata, dw_form_ref_addr, dw_form_ref1, dw_form_ref2, dw_form_ref4, dw_form_ref8, dw_form_ref_udata, dw_form_indirect, dw_form_sec_offset, dw_form_exprloc, dw_form_flag_present, dw_form_strx, dw_form_addrx, dw_form_ref_sup4, dw_form_strp_sup, dw_form_data16, dw_form_line_strp, dw_form_ref_sig8, dw_form_implicit_const, dw_form_loclistx, dw_form_rnglistx, dw_form_ref_sup8, dw_form_strx1, dw_form_strx2, dw_form_strx3, dw_form_strx4, dw_form_addrx1, dw_form_addrx2, dw_form_addrx3, dw_form_addrx4, dw_form_gnu_ref_alt, dw_form_gnu_strp_alt, dw_tag_array_type, dw_tag_enumeration_type, dw_tag_formal_parameter, dw_tag_member, dw_tag_pointer_type, dw_tag_compile_unit, dw_tag_structure_type, dw_tag_subroutine_type, dw_tag_typedef, dw_tag_union_type, dw_tag_unspecified_parameters, dw_tag_subrange_type, dw_tag_base_type, dw_tag_const_type, dw_tag_enumerator, dw_tag_subprogram, dw_tag_variable, dw_tag_volatile_type, dw_tag_restrict_type, dw_tag_partial_unit, dw_tag_type_unit, dw_tag_atomic_type, dw_at_location, dw_at_name, dw_at_byte_size, dw_at_bit_offset, dw_at_bit_size, dw_at_low_pc, dw_at_language, dw_at_const_value, dw_at_upper_bound, dw_at_abstract_origin, dw_at_count, dw_at_data_member_location, dw_at_declaration, dw_at_encoding, dw_at_specification, dw_at_type, dw_at_entry_pc, dw_at_ranges, dw_at_signature, dw_at_data_bit_offset, dw_at_str_offsets_base, dw_at_addr_base, dw_at_rnglists_base, dw_at_alignment, dw_at_gnu_vector, dw_lang_c89, dw_lang_c, dw_lang_c99, dw_lang_c11, dw_lang_c17, dw_lang_mips_assembler, dw_ut_compile, dw_ut_type, dw_ut_partial, dw_children_no, dw_children_yes};
+ghost use Rattle.abi_base.specs.Dwarf.{dw_form_addr, dw_form_block2, dw_form_block4, dw_form_data2, dw_form_data4, dw_form_data8, dw_form_string, dw_form_block, dw_form_block1, dw_form_data1, dw_form_flag, dw_form_sdata, dw_form_strp, dw_form_udata, dw_form_ref_addr, dw_form_ref1, dw_form_ref2, dw_form_ref4, dw_form_ref8, dw_form_ref_udata, dw_form_indirect, dw_form_sec_offset, dw_form_exprloc, dw_form_flag_present, dw_form_strx, dw_form_addrx, dw_form_ref_sup4, dw_form_strp_sup, dw_form_data16, dw_form_line_strp, dw_form_ref_sig8, dw_form_implicit_const, dw_form_loclistx, dw_form_rnglistx, dw_form_ref_sup8, dw_form_strx1, dw_form_strx2, dw_form_strx3, dw_form_strx4, dw_form_addrx1, dw_form_addrx2, dw_form_addrx3, dw_form_addrx4, dw_form_gnu_ref_alt, dw_form_gnu_strp_alt, dw_tag_array_type, dw_tag_enumeration_type, dw_tag_formal_parameter, dw_tag_member, dw_tag_pointer_type, dw_tag_compile_unit, dw_tag_structure_type, dw_tag_subroutine_type, dw_tag_typedef, dw_tag_union_type, dw_tag_unspecified_parameters, dw_tag_subrange_type, dw_tag_base_type, dw_tag_const_type, dw_tag_enumerator, dw_tag_subprogram, dw_tag_variable, dw_tag_volatile_type, dw_tag_restrict_type, dw_tag_partial_unit, dw_tag_type_unit, dw_tag_atomic_type, dw_at_location, dw_at_name, dw_at_byte_size, dw_at_bit_offset, dw_at_bit_size, dw_at_low_pc, dw_at_language, dw_at_const_value, dw_at_upper_bound, dw_at_abstract_origin, dw_at_count, dw_at_data_member_location, dw_at_declaration, dw_at_encoding, dw_at_specification, dw_at_type, dw_at_entry_pc, dw_at_ranges, dw_at_signature, dw_at_data_bit_offset, dw_at_str_offsets_base, dw_at_addr_base, dw_at_rnglists_base, dw_at_alignment, dw_at_gnu_vector, dw_lang_c89, dw_lang_c, dw_lang_c99, dw_lang_c11, dw_lang_c17, dw_lang_mips_assembler, dw_ut_compile, dw_ut_type, dw_ut_partial, dw_children_no, dw_children_yes, dw_ate_boolean, dw_ate_complex_float, dw_ate_float, dw_ate_signed, dw_ate_signed_char, dw_ate_unsigned, dw_ate_unsigned_char, dw_ate_decimal_float, dw_ate_utf, dw_op_plus_uconst};
 ghost use Rattle.abi_base.specs.Limits.{input_limit};
 
 use crate::INPUT_LIMIT;
@@ -136,4 +136,22 @@ pub fn unit_types_have_their_numbers()
 pub fn children_have_their_numbers()
     ensures { (DW_CHILDREN_no ≡ dw_children_no)
         × (DW_CHILDREN_yes ≡ dw_children_yes) }
+{}
+
+/// Each encoding of a base type has its number of DWARF 5, section 7.8 "Base Type Attribute Encodings".
+pub fn encodings_have_their_numbers()
+    ensures { (DW_ATE_boolean ≡ dw_ate_boolean)
+        × (DW_ATE_complex_float ≡ dw_ate_complex_float)
+        × (DW_ATE_float ≡ dw_ate_float)
+        × (DW_ATE_signed ≡ dw_ate_signed)
+        × (DW_ATE_signed_char ≡ dw_ate_signed_char)
+        × (DW_ATE_unsigned ≡ dw_ate_unsigned)
+        × (DW_ATE_unsigned_char ≡ dw_ate_unsigned_char)
+        × (DW_ATE_decimal_float ≡ dw_ate_decimal_float)
+        × (DW_ATE_UTF ≡ dw_ate_utf) }
+{}
+
+/// The operation that adds has its number of DWARF 5, section 7.7.1 "DWARF Expressions".
+pub fn operations_have_their_numbers()
+    ensures { DW_OP_plus_uconst ≡ dw_op_plus_uconst }
 {}

@@ -1,9 +1,16 @@
-//! The program `abi`: the words of the command line, files and standard output in, and the exit number of the status out.
+//! The program `abi`: the words of the command line, files and standard output in, and the exit number of the status out. Beside
+//! the answer it tells people on standard error what is wrong with an input.
 #![tactic(auto)]
 
-use abi_base::{FileInputs, StdSink};
+mod notes;
+
+use crate::notes::note;
+use abi_base::{FileInputs, NoMemory, StdSink};
 use abi_top::{Status, run};
-use std::alloc::AllocError;
+use break_report::{
+    CountsListener, FirstListener, Listener, TableListener, TextListener, add_listener,
+};
+use explain::NotedSink;
 use std::io::ErrorKind;
 use std::process::ExitCode;
 use std::rt::{Env, Files};
@@ -14,7 +21,7 @@ fn main(rt: HostRuntime) -> ExitCode {
 }
 
 // Arguments that are no text are taken as no words, which are wrong ones.
-fn status_of_process<R: Files + Print + Env + AllocGlobal>(rt: &R) -> Status {
+fn status_of_process<R: Files + Print + Eprint + Env + AllocGlobal>(rt: &R) -> Status {
     let arguments = match arguments_of(rt) {
         Ok(arguments) => arguments,
         Err(error) => {
@@ -36,15 +43,38 @@ fn arguments_of<R: Env + AllocGlobal>(rt: &R) -> io::Result<Vec<String>> {
     Ok(arguments)
 }
 
-fn status_of<R: Files + Print + AllocGlobal>(
+// How many rows the style of the first rows prints.
+const FIRST_ROWS: u32 = 10;
+
+// The listeners are made here, as a function that handed them out could promise nothing of them.
+fn status_of<R: Files + Print + Eprint + AllocGlobal>(
     rt: &R,
     arguments: &[String],
-) -> Result<Status, AllocError> {
+) -> Result<Status, NoMemory> {
     let mut words = Vec::new(rt.alloc());
     for argument in arguments {
         words.push(argument.as_str())?;
     }
     let mut inputs = FileInputs::new(rt);
-    let mut sink = StdSink::new(rt);
-    Ok(run(rt.alloc(), &words, &mut inputs, &mut sink))
+    let mut sink = NotedSink::new(StdSink::new(rt));
+    // A listener for each style of a report but one's own.
+    let alloc = rt.alloc();
+    let mut listeners: Vec<Box<dyn Listener>> = Vec::new(alloc);
+    add_listener(&mut listeners, Box::new(alloc, TextListener::new(alloc))?)?;
+    add_listener(&mut listeners, Box::new(alloc, TableListener::new(alloc))?)?;
+    add_listener(&mut listeners, Box::new(alloc, CountsListener::new(alloc))?)?;
+    add_listener(
+        &mut listeners,
+        Box::new(alloc, FirstListener::new(alloc, FIRST_ROWS))?,
+    )?;
+    let status = run(alloc, &words, &mut inputs, &mut sink, listeners);
+    tell(rt, &words, status, sink.text().unwrap_or_default());
+    Ok(status)
+}
+
+// Tells on standard error what the answer does not say. Where that fails, the answer stands.
+fn tell<R: Files + Eprint + AllocGlobal>(rt: &R, words: &[&str], status: Status, text: &str) {
+    if let Ok(Some(note)) = note(rt, words, status, text) {
+        let _ = eprintln!(rt; "abi: {note}");
+    }
 }

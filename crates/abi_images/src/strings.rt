@@ -41,12 +41,14 @@ impl StringTable {
         Ok(offset)
     }
 
+    /// The bytes of the table so far.
     pub fn as_slice(&self) -> &[u8]
         ensures { result.now ≡ self.now }
     {
         self.bytes.as_slice()
     }
 
+    /// The bytes of the table, given away.
     pub fn into_bytes(self) -> Vec<u8>
         ensures { result.items ≡ self }
     {

@@ -1,5 +1,5 @@
 // The answers about libraries that are readable, and about words that are wrong.
-use crate::fixture::{CHECK, checks, inputs, library_of, runs};
+use crate::fixture::{CHECK, checks, inputs, library_of, listeners, runs};
 use abi_base::MemSink;
 use abi_images::{ImageSymbol, library, library_with_soname};
 use abi_top::{Status, run};
@@ -155,10 +155,22 @@ fn exports_are_told_from_other_symbols(rt: HostRuntime) -> Result<(), Fail> {
         let other_library = library_of(alloc, &[symbol])?;
         let mut sink = MemSink::new(alloc, 4096, Vec::new(alloc))?;
         let files: [(&str, &[u8]); 2] = [("old", &other_library), ("new", &none)];
-        let gone = run(alloc, CHECK, &mut inputs(alloc, &files, &[])?, &mut sink);
+        let gone = run(
+            alloc,
+            CHECK,
+            &mut inputs(alloc, &files, &[])?,
+            &mut sink,
+            listeners(alloc)?,
+        );
         let files: [(&str, &[u8]); 2] = [("old", &function), ("new", &other_library)];
         let mut sink = MemSink::new(alloc, 4096, Vec::new(alloc))?;
-        run(alloc, CHECK, &mut inputs(alloc, &files, &[])?, &mut sink);
+        run(
+            alloc,
+            CHECK,
+            &mut inputs(alloc, &files, &[])?,
+            &mut sink,
+            listeners(alloc)?,
+        );
         let is_there = str::from_utf8(sink.held()).ok() != Some("no\nX2 s: gone\n");
         let wanted = if is_export { Status::No } else { Status::Yes };
         assert_eq!(rt; gone, wanted, "old {info} {other} {section}");

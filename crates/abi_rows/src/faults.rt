@@ -161,16 +161,15 @@ fn unusual_libraries_are_readable(rt: HostRuntime) -> Result<(), Fail> {
 fn debug_and_version_sections_are_refused(rt: HostRuntime) -> Result<(), Fail> {
     let alloc = rt.alloc();
     let good = good_library(alloc)?;
-    let (packed, not_built) = ("11 Compressed 7", "19 NotBuilt 7");
+    let (packed, no_unit) = ("11 Compressed 7", "20 UnitHeader 0");
     // The section's name, its type, its flags and the fault. It is the seventh, as four others go before it.
     for (name, kind, flags, fault) in [
         (".debug_info", 1, 0x800, packed),
         (".debug_info", 1, 0xfff, packed),
         (".debug_", 1, 0x800, packed),
         (".zdebug_info", 1, 0, packed),
-        (".debug_info", 1, 0, not_built),
-        (".debug_info", 1, 0x7ff, not_built),
-        (".debug_info", 8, 0x1000, not_built),
+        (".debug_info", 1, 0, no_unit),
+        (".debug_info", 1, 0x7ff, no_unit),
         // Its four bytes are two indexes, and there is one symbol.
         ("v", 0x6fff_ffff, 0, "15 VersionTable 0"),
         // It has no string table.
@@ -198,6 +197,8 @@ fn other_sections_are_passed_over(rt: HostRuntime) -> Result<(), Fail> {
         (".text", 1, 0x800),
         (".debug_", 1, 0x1000),
         (".debug_abbrev", 1, 0),
+        // Its contents are in no file.
+        (".debug_info", 8, 0x1000),
         (".debug_info2", 1, 0),
         (".gnu.version", 1, 0),
         (".gnu.version_r", 0x6fff_fffe, 0),

@@ -1,7 +1,10 @@
 // What the rows share: inputs and images, and the run of `check` over them.
-use abi_base::{Inputs, MemInputs, MemSink};
+ghost use Rattle.std.specs.Prelude.{◌≡◌, [], All, IfOk};
+
+use abi_base::{Inputs, MemInputs, MemSink, NoMemory};
 use abi_images::{Image, ImageSection, ImageSymbol, library_with_soname};
 use abi_top::{Status, run};
+use break_report::{Listener, TextListener, add_listener};
 use std::alloc::{AllocError, Global};
 use std::process::Abort;
 use std::test::Fail;
@@ -25,6 +28,15 @@ pub(crate) fn inputs(
     Ok(MemInputs::new(held, failing.to_vec(alloc)?))
 }
 
+/// A listener that makes a line of each row.
+pub(crate) fn listeners(alloc: Global) -> Result<Vec<Box<dyn Listener>>, NoMemory>
+    ensures { IfOk result (λ listeners. All (λ listener. heard listener ≡ []) listeners.items) }
+{
+    let mut listeners: Vec<Box<dyn Listener>> = Vec::new(alloc);
+    add_listener(&mut listeners, Box::new(alloc, TextListener::new(alloc))?)?;
+    Ok(listeners)
+}
+
 /// A run of the words over the inputs must end with the status, and write the text.
 pub(crate) fn runs<R: Abort + AllocGlobal, I: Inputs>(
     rt: &R,
@@ -35,7 +47,7 @@ pub(crate) fn runs<R: Abort + AllocGlobal, I: Inputs>(
 ) -> Result<(), Fail> {
     let alloc = rt.alloc();
     let mut sink = MemSink::new(alloc, 4096, Vec::new(alloc))?;
-    let ended = run(alloc, words, inputs, &mut sink);
+    let ended = run(alloc, words, inputs, &mut sink, listeners(alloc)?);
     assert_eq!(rt; str::from_utf8(sink.held()).ok(), Some(text));
     assert_eq!(rt; ended, status, "for {text}");
     Ok(())

@@ -15,4 +15,6 @@ mod fixture;
 #[cfg(test)]
 mod sources;
 #[cfg(test)]
+mod typed;
+#[cfg(test)]
 mod versions;

@@ -1,7 +1,7 @@
 // Inputs and sinks that fail, and inputs that are long.
 ghost use Rattle.std.specs.Prelude.{List, ℕ, None};
 
-use crate::fixture::{CHECK, checks, inputs, runs};
+use crate::fixture::{CHECK, checks, inputs, listeners, runs};
 use abi_base::{Failed, FileInputs, Inputs, MemSink};
 use abi_images::library;
 use abi_top::{Status, run};
@@ -14,7 +14,13 @@ fn a_failed_write_leaves_a_front(rt: HostRuntime) -> Result<(), Fail> {
     let new = library(alloc, &["g", "f"])?;
     let files: [(&str, &[u8]); 2] = [("old", &old), ("new", &new)];
     let mut sink = MemSink::new(alloc, 10, vec![in alloc; 2]?)?;
-    let status = run(alloc, CHECK, &mut inputs(alloc, &files, &[])?, &mut sink);
+    let status = run(
+        alloc,
+        CHECK,
+        &mut inputs(alloc, &files, &[])?,
+        &mut sink,
+        listeners(alloc)?,
+    );
     assert_eq!(rt; status, Status::WriteFault);
     assert_eq!(rt; sink.held(), b"yes 2\nold ".as_slice());
     Ok(())

@@ -1,6 +1,6 @@
 // Symbols with versions: what they bind to, how reports name them, and the faults of their tables.
 use crate::entries::{ABBREVS, UNIT};
-use crate::fixture::{CHECK, are_refused, change, checks, inputs, library_of};
+use crate::fixture::{CHECK, are_refused, change, checks, inputs, library_of, listeners};
 use abi_base::MemSink;
 use abi_images::constants::{VER_FLG_BASE, VER_NDX_GLOBAL, VER_NDX_LOCAL, VERSYM_HIDDEN};
 use abi_images::{Image, ImageSection, ImageSymbol, ImageVersion, library};
@@ -76,7 +76,7 @@ fn is_yes<R: Abort + AllocGlobal>(rt: &R, old: &[u8], new: &[u8], binds: &str) -
     let alloc = rt.alloc();
     let mut sink = MemSink::new(alloc, 4096, Vec::new(alloc))?;
     let mut inputs = inputs(alloc, &[("old", old), ("new", new)], &[])?;
-    let ended = run(alloc, CHECK, &mut inputs, &mut sink);
+    let ended = run(alloc, CHECK, &mut inputs, &mut sink, listeners(alloc)?);
     let rules = "rules e3b0c44298fc1c149afbf4c8996fb92427ae41e4649b934ca495991b7852b855";
     let lines = format!(in alloc; "{rules}\n{binds}end\n")?;
     assert_eq!(rt; sink.held().get(BEFORE_RULES..), Some(lines.as_bytes()));
@@ -332,17 +332,11 @@ fn library_with_debug_information(alloc: Global) -> Result<Vec<u8>, AllocError> 
 }
 
 #[test]
-fn debug_information_is_not_read_yet(rt: HostRuntime) -> Result<(), Fail> {
+fn exports_with_versions_have_types(rt: HostRuntime) -> Result<(), Fail> {
     let alloc = rt.alloc();
     let file = library_with_debug_information(alloc)?;
-    let refused = "unreadable old 19 NotBuilt 7\n";
-    checks(&rt, &file, &file, Status::Unreadable, refused)?;
-    let refused = "unreadable new 19 NotBuilt 7\n";
-    checks(
-        &rt,
-        &library(alloc, &["f"])?,
-        &file,
-        Status::Unreadable,
-        refused,
-    )
+    let lines = "bind 1 1\npair 15 15 direct\npair 22 22 direct\n";
+    is_yes(&rt, &file, &file, lines)?;
+    // An export without a type asks for none.
+    is_yes(&rt, &library(alloc, &["f"])?, &file, "bind 1 1\n")
 }

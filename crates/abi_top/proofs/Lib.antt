@@ -1,5 +1,4 @@
 mod Endings
 mod InOrder
-pub mod Lines
-pub mod Judging
 mod Single
+mod Verdicts

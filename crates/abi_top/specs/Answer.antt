@@ -10,32 +10,42 @@ use Rattle.abi_top.specs.declared.judge.Verdict.TheVariants as verdict
 use Rattle.abi_top.specs.declared.status.Input.{Input}
 use Rattle.abi_top.specs.declared.status.Status.{Status}
 use Rattle.abi_top.specs.declared.status.Status.TheVariants.{Yes, No, Done, Unreadable, ReadFault, NoMemory, WriteFault, Usage}
-use Rattle.abi_top.specs.Asked.{Asked, check, entries, asked_by, wanted_by}
+use Rattle.abi_top.specs.Asked.{Asked, check, entries, exports, asked_by, wanted_by}
 use Rattle.abi_top.specs.Check.{CheckJudges}
-use Rattle.abi_top.specs.Listing.{ListingJudges}
-use Rattle.abi_top.specs.Faults.{FirstFault, AreReadable}
+use Rattle.break_report.specs.declared.style.Style.{Style}
+use Rattle.library_check.specs.declared.wanted.ReportStyle.TheVariants.{Text}
+use Rattle.library_check.specs.Wanted.{wanted_styles}
+use Rattle.abi_top.specs.Listing.{IsListed}
+use Rattle.abi_top.specs.Faults.{FirstFault, AreReadable, fault_of}
 use Rattle.abi_top.specs.Reading.{Gives, Reaches}
 use Rattle.abi_top.specs.Text.{usage_text, unreadable_text, read_fault_text}
 use Rattle.abi_top.specs.Words.{texts}
+use Rattle.entry_list.specs.EntryLines.{listing_of}
+use Rattle.export_list.specs.ExportLines.{exports_text}
+use Rattle.lib_graph.specs.Libraries.{library_of}
 
--- A call, as far as its answer depends on it: its words, the bytes told of each name, the count of faults of each name
--- before the call and after it, and how many bytes the input that was read last has given.
+-- A call, as far as its answer depends on it: its words, the styles of the listeners that were handed in, the bytes told of
+-- each name, the count of faults of each name before the call and after it, and how many bytes the input that was read last has
+-- given.
 pub record Call : Type 0 where
   pub words : List (List ℕ)
+  pub styles : List Style
   pub told : List ℕ → Option (List ℕ)
   pub before : List ℕ → ℕ
   pub after : List ℕ → ℕ
   pub given : ℕ
 
--- the call of a run with these words that leaves inputs I as it does
-abbrev pub call_of : {I : Type 0} → (I → List ℕ → Option (List ℕ)) → (I → List ℕ → ℕ) → (I → ℕ) → List (Bor (List ℕ)) → I → I → Call
-call_of told faults given words old new = record { words = texts words; told = told old; before = faults old; after = faults new; given = given new }
+-- the call of a run with these words and listeners of these styles that leaves inputs I as it does
+abbrev pub call_of : {I : Type 0} → (I → List ℕ → Option (List ℕ)) → (I → List ℕ → ℕ) → (I → ℕ) → List Style → List (Bor (List ℕ)) → I → I → Call
+call_of told faults given styles words old new = record { words = texts words; styles = styles; told = told old; before = faults old; after = faults new; given = given new }
 
--- the verdict of each command on the bytes of its inputs, with its text
-abbrev pub Judges : Asked → List (List ℕ) → Verdict → List ℕ → Type 0
-Judges (check old_name new_name) (old ∷ new ∷ []) v text = CheckJudges old new v text
-Judges (entries name) (library ∷ []) v text = ListingJudges library v text
-Judges asked all v text = ⊥
+-- The verdict of each command on the bytes of its inputs, with its text. Of the listeners those are told the rows that make a
+-- line of each.
+abbrev pub Judges : List Style → Asked → List (List ℕ) → Verdict → List ℕ → Type 0
+Judges styles (check old_name new_name) (old ∷ new ∷ []) v text = CheckJudges (wanted_styles Text styles) old new v text
+Judges styles (entries name) (library ∷ []) v text = IsListed (listing_of library) v text
+Judges styles (exports name) (library ∷ []) v text = IsListed (exports_text (library_of library)) v text
+Judges styles asked all v text = ⊥
 
 -- the inputs that are read, in order
 abbrev pub inputs_of : Asked → List Input
@@ -60,13 +70,13 @@ OnBytes call P asked = (all : List (List ℕ)) × Gives call.told (wanted_by ask
 
 -- the inputs are readable, and the command gives this verdict on their bytes
 abbrev pub IsJudged : Call → Verdict → List ℕ → Type 0
-IsJudged call v text = Asks call (λ asked. OnBytes call (λ all. AreReadable (inputs_of asked) all × Judges asked all v text) asked)
+IsJudged call v text = Asks call (λ asked. OnBytes call (λ all. AreReadable (fault_of asked) (inputs_of asked) all × Judges call.styles asked all v text) asked)
 
 -- an input has this fault, by its length or by its bytes, and none before it has one; a length goes before all bytes
 abbrev pub IsFaulty : Call → Input → Fault → Asked → Type 0
 IsFaulty call which fault asked =
     ((fault ≡ record { kind = TooLong; at = input_limit }) × IsTooLong call which asked)
-    ⊎ OnBytes call (λ all. FirstFault (inputs_of asked) all which fault) asked
+    ⊎ OnBytes call (λ all. FirstFault (fault_of asked) (inputs_of asked) all which fault) asked
 
 -- The text with which a status comes. `NoMemory` and `WriteFault` have none.
 abbrev pub Answers : Call → Status → List ℕ → Type 0

@@ -1,34 +1,35 @@
 -- The faults of inputs, and which one comes first.
 use Rattle.std.specs.Prelude.{◌≡◌, ◌⊎◌, ℕ, List, ◌∷◌, Option, Some, None}
 use Rattle.abi_base.specs.declared.fault.Fault.{Fault}
+use Rattle.abi_top.specs.Asked.{Asked, check, entries, exports}
 use Rattle.abi_top.specs.declared.status.Input.{Input}
-use Rattle.abi_top.specs.declared.status.Input.TheVariants.{Old, New, Library}
 use Rattle.abi_top.specs.declared.judge.Stop.{Stop}
 use Rattle.abi_top.specs.declared.judge.Stop.TheVariants.{NoMemory, Fault as Faulty}
-use Rattle.abi_top.specs.Library.{library_fault}
-use Rattle.abi_top.specs.Listing.{listing_fault}
+use Rattle.entry_list.specs.EntryLines.{listing_fault}
+use Rattle.lib_graph.specs.Faults.{library_fault}
 
--- the first fault of an input, by what it is
-abbrev pub fault_of : Input → List ℕ → Option Fault
-fault_of Old bytes = library_fault bytes
-fault_of New bytes = library_fault bytes
-fault_of Library bytes = listing_fault bytes
+-- the first fault of an input of a request, by its bytes: all faults of a library are asked, but for `entries` those alone that
+-- its lines need
+abbrev pub fault_of : Asked → Input → List ℕ → Option Fault
+fault_of (check old new) which bytes = library_fault bytes
+fault_of (entries library) which bytes = listing_fault bytes
+fault_of (exports library) which bytes = library_fault bytes
 
 -- the first input that has a fault, and that fault
-abbrev pub FirstFault : List Input → List (List ℕ) → Input → Fault → Type 0
-FirstFault (input ∷ inputs) (bytes ∷ all) which fault =
-    ((input ≡ which) × (fault_of input bytes ≡ Some fault)) ⊎ ((fault_of input bytes ≡ None) × FirstFault inputs all which fault)
-FirstFault inputs all which fault = ⊥
+abbrev pub FirstFault : (Input → List ℕ → Option Fault) → List Input → List (List ℕ) → Input → Fault → Type 0
+FirstFault fault_in (input ∷ inputs) (bytes ∷ all) which fault =
+    ((input ≡ which) × (fault_in input bytes ≡ Some fault)) ⊎ ((fault_in input bytes ≡ None) × FirstFault fault_in inputs all which fault)
+FirstFault fault_in inputs all which fault = ⊥
 
 -- no input has a fault
-abbrev pub AreReadable : List Input → List (List ℕ) → Type 0
-AreReadable (input ∷ inputs) (bytes ∷ all) = (fault_of input bytes ≡ None) × AreReadable inputs all
-AreReadable inputs all = Unit {0}
+abbrev pub AreReadable : (Input → List ℕ → Option Fault) → List Input → List (List ℕ) → Type 0
+AreReadable fault_in (input ∷ inputs) (bytes ∷ all) = (fault_in input bytes ≡ None) × AreReadable fault_in inputs all
+AreReadable fault_in inputs all = Unit {0}
 
 -- a judgement stops at the first fault, or for want of memory
-abbrev pub StopsAt : List Input → List (List ℕ) → Stop → Type 0
-StopsAt inputs all NoMemory = Unit {0}
-StopsAt inputs all (Faulty which fault) = FirstFault inputs all which fault
+abbrev pub StopsAt : (Input → List ℕ → Option Fault) → List Input → List (List ℕ) → Stop → Type 0
+StopsAt fault_in inputs all NoMemory = Unit {0}
+StopsAt fault_in inputs all (Faulty which fault) = FirstFault fault_in inputs all which fault
 
 -- one input stops a judgement: at its first fault, or for want of memory
 abbrev pub IsStopFor : Input → Option Fault → Stop → Type 0

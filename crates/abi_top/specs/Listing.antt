@@ -1,34 +1,9 @@
--- What `entries` prints of a library, and its first fault.
-use Rattle.std.specs.Prelude.{◌≡◌, ℕ, false, List, [], ◌∷◌, flat_map, Option, codes, decimal}
-use Rattle.std.specs.Fmt.{digits}
-use Rattle.std.specs.List.{concat}
-use Rattle.abi_base.specs.declared.fault.Fault.{Fault}
-use Rattle.abi_base.specs.Outcome.{first}
-use Rattle.dw_units.specs.declared.entry.Entry.{Entry}
-use Rattle.dw_units.specs.Sequence.{all_entries, entries_fault}
-use Rattle.elf_debug.specs.DebugSections.{debug_info, debug_abbrev}
-use Rattle.elf_file.specs.Elf.{elf_fault}
+-- What the commands print that list what stands in a library.
+use Rattle.std.specs.Prelude.{◌≡◌, ℕ, List}
 use Rattle.abi_top.specs.declared.judge.Verdict.{Verdict}
-use Rattle.abi_top.specs.declared.judge.Verdict.TheVariants.{Yes, No, Done}
-use Rattle.abi_top.specs.Text.{newline}
+use Rattle.abi_top.specs.declared.judge.Verdict.TheVariants.{Done}
 
--- the first fault of a library whose entries are printed: of its header and sections, then of its units and entries
-unfoldable pub listing_fault : List ℕ → Option Fault
-listing_fault f = first (elf_fault f ∷ entries_fault (debug_info f) (debug_abbrev f) ∷ [])
-
--- the line of an entry: its offset, its depth, and its tag in hexadecimal
-abbrev pub line_of : ℕ → ℕ → ℕ → List ℕ
-line_of offset depth tag = concat (decimal offset ∷ codes " " ∷ decimal depth ∷ codes " " ∷ digits 16 false tag ∷ newline ∷ [])
-
-abbrev pub entry_line : Entry → List ℕ
-entry_line e = line_of e.offset e.depth e.tag
-
--- the lines of all entries, in order of offset
-unfoldable pub listing_of : List ℕ → List ℕ
-listing_of f = flat_map entry_line (all_entries (debug_info f) (debug_abbrev f))
-
--- the verdict on a readable library, with its text
-abbrev pub ListingJudges : List ℕ → Verdict → List ℕ → Type 0
-ListingJudges library Done text = text ≡ listing_of library
-ListingJudges library Yes text = ⊥
-ListingJudges library No text = ⊥
+-- the verdict on a readable library is that it was listed, with this text
+pub record IsListed (listing : List ℕ) (v : Verdict) (text : List ℕ) : Type 0 where
+  pub done : v ≡ Done
+  pub is : text ≡ listing

@@ -1,19 +1,20 @@
 // What each command says of the bytes of its inputs.
-ghost use Rattle.std.specs.Prelude.{◌≡◌, ◌≤◌, ℕ, List, length, map, All, OnOk, IfOk, IfErr, string_bytes};
+ghost use Rattle.std.specs.Prelude.{◌≡◌, ◌≤◌, [], ℕ, List, length, map, All, OnOk, IfOk, IfErr};
 ghost use Rattle.abi_base.specs.Limits.{input_limit};
 ghost use Rattle.abi_top.specs.Answer.{Judges, inputs_of};
 ghost use Rattle.abi_top.specs.Asked.{wanted_by};
-ghost use Rattle.abi_top.specs.Faults.{AreReadable, StopsAt};
+ghost use Rattle.abi_top.specs.Faults.{AreReadable, StopsAt, fault_of};
 ghost use Rattle.abi_top.specs.Reading.{items_of};
 ghost use Rattle.abi_top.specs.Requests.{plain_request};
 ghost use Rattle.abi_top.specs.Verdicts.{status_of};
 ghost use Rattle.abi_top.specs.declared.judge.Stop.TheVariants.{NoMemory as OutOfMemory};
 
-use crate::check::check;
-use crate::listing::list_entries;
+use crate::listing::{list_entries, list_exports};
+use crate::pair::check_pair;
 use crate::words::Request;
 use crate::{Input, Status};
 use abi_base::{Fault, NoMemory};
+use break_report::Listener;
 use std::alloc::{AllocError, Global};
 
 /// What a command says where all its inputs are readable.
@@ -42,7 +43,8 @@ impl Verdict {
 #[derive(Drop)]
 pub struct Judgement {
     pub verdict: Verdict,
-    pub text: String,
+    /// Its bytes.
+    pub text: Vec<u8>,
 }
 
 /// Why a command gives no verdict.
@@ -68,21 +70,31 @@ impl From<NoMemory> for Stop {
     }
 }
 
-/// The judgement of a request on the bytes of its inputs.
-pub fn judge(alloc: Global, request: &Request, all: &[Vec<u8>]) -> Result<Judgement, Stop>
+/// The judgement of a request on the bytes of its inputs. Listeners are told the breaks of a `check` that ends with no.
+pub fn judge(
+    alloc: Global,
+    request: &Request,
+    all: &[Vec<u8>],
+    listeners: Vec<Box<dyn Listener>>,
+) -> Result<Judgement, Stop>
     requires each { length all.now ≡ length (wanted_by (plain_request request.now)) }
+    requires unheard { All (λ listener. heard listener ≡ []) listeners.items }
     requires short { All (λ (bytes : List ℕ). length bytes ≤ input_limit) (map items_of all.now) }
-    ensures readable { OnOk result (AreReadable (inputs_of (plain_request request.now)) (map items_of all.now)) }
-    ensures judged { IfOk result (λ j. Judges (plain_request request.now) (map items_of all.now) j.verdict (string_bytes j.text)) }
-    ensures stops { IfErr result (StopsAt (inputs_of (plain_request request.now)) (map items_of all.now)) }
+    ensures readable { OnOk result (AreReadable (fault_of (plain_request request.now)) (inputs_of (plain_request request.now)) (map items_of all.now)) }
+    ensures judged { IfOk result (λ j. Judges (map asks listeners.items) (plain_request request.now) (map items_of all.now) j.verdict j.text.items) }
+    ensures stops { IfErr result (StopsAt (fault_of (plain_request request.now)) (inputs_of (plain_request request.now)) (map items_of all.now)) }
 {
     match request {
         Request::Check { .. } => match all {
-            [old, new] => check(alloc, old, new),
+            [old, new] => check_pair(alloc, old, new, listeners),
             _ => unreachable!(),
         },
         Request::Entries { .. } => match all {
             [library] => list_entries(alloc, library),
+            _ => unreachable!(),
+        },
+        Request::Exports { .. } => match all {
+            [library] => list_exports(alloc, library),
             _ => unreachable!(),
         },
     }

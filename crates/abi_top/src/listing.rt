@@ -1,91 +1,69 @@
-// Prints the debugging information entries of a library.
-ghost use Rattle.std.specs.Prelude.{◌≡◌, ◌≤◌, [], ◌∷◌, ◌++◌, None, flat_map, length, OnOk, IfOk, IfErr, string_bytes};
+// Prints what stands in a library.
+ghost use Rattle.std.specs.Prelude.{◌≡◌, ◌≤◌, List, ℕ, Option, None, length, OnOk, IfOk, IfErr, string_bytes};
+ghost use Rattle.abi_base.specs.declared.fault.Fault.{Fault as AnyFault};
 ghost use Rattle.abi_base.specs.Limits.{input_limit};
 ghost use Rattle.abi_base.specs.Outcome.{Judges};
-ghost use Rattle.dw_units.specs.Plain.{plain_unit};
-ghost use Rattle.dw_units.specs.Sequence.{all_entries, entries_fault};
-ghost use Rattle.dw_units.specs.Units.{entries_of};
-ghost use Rattle.abi_top.specs.Faults.{AreReadable, StopsAt};
-ghost use Rattle.abi_top.specs.Listing.{ListingJudges, entry_line, line_of, listing_fault, listing_of};
+ghost use Rattle.abi_top.specs.Faults.{IsStopFor};
+ghost use Rattle.abi_top.specs.Listing.{IsListed};
+ghost use Rattle.entry_list.specs.EntryLines.{listing_fault, listing_of};
+ghost use Rattle.export_list.specs.ExportLines.{exports_text};
+ghost use Rattle.lib_graph.specs.Faults.{library_fault};
+ghost use Rattle.lib_graph.specs.Libraries.{library_of};
 
 use crate::Input;
 use crate::judge::{Judgement, Stop, Verdict};
 use abi_base::Refusal;
-use dw_forms::Sections;
-use dw_units::{Entry, Unit, entries, units};
-use elf_debug::debug_sections;
-use elf_file::read_elf;
-use std::alloc::{AllocError, Global};
-use std::fmt::Write;
+use abi_types::{Library, OldIx};
+use entry_list::entry_lines;
+use export_list::export_lines;
+use lib_graph::read_library;
+use std::alloc::Global;
 
-// Appends a line of an entry's offset and depth, and of its tag in hexadecimal.
-fn push_line(text: &mut String, offset: u64, depth: u32, tag: u64) -> Result<(), AllocError>
-    ensures { OnOk result (string_bytes text.new ≡ string_bytes text.old ++ line_of offset depth tag) }
+// The judgement that a library was listed.
+fn listed(lines: Result<String, Refusal>) -> Result<Judgement, Stop>
+    ensures listed { (fault : Option AnyFault) (text : List ℕ) → Judges lines fault → IfOk lines (λ l. string_bytes l ≡ text) → IfOk result (λ j. IsListed text j.verdict j.text.items) }
+    ensures readable { (fault : Option AnyFault) → Judges lines fault → OnOk result (fault ≡ None) }
+    ensures stops { (fault : Option AnyFault) → Judges lines fault → IfErr result (IsStopFor Input.Library fault) }
 {
-    writeln!(text, "{offset} {depth} {tag:x}")
-}
-
-// Appends a line for each entry of a unit.
-fn push_unit(alloc: Global, text: &mut String, unit: &Unit<'_>) -> Result<(), Refusal>
-    ensures judged { Judges result (entries_of (plain_unit unit.now)).end }
-    ensures lines { OnOk result (string_bytes text.new ≡ string_bytes text.old ++ flat_map entry_line (entries_of (plain_unit unit.now)).items) }
-{
-    let mut left = entries(unit);
-    'list: loop {
-        match left.next_entry(alloc) {
-            Ok(Some(entry)) => push_line(text, entry.offset, entry.depth, entry.tag)?,
-            Ok(None) => return Ok(()),
-            Err(refused) => return Err(refused),
-        }
+    match lines {
+        Ok(text) => Ok(Judgement {
+            verdict: Verdict::Done,
+            text: text.into_bytes(),
+        }),
+        Err(Refusal::Fault(fault)) => Err(Stop::Fault(Input::Library, fault)),
+        Err(Refusal::NoMemory) => Err(Stop::NoMemory),
     }
-}
-
-// A line for each entry of all units.
-#[tactic(auto, using(crate::proofs::Lines::section_done, crate::proofs::Lines::section_lines))]
-fn lines_of(alloc: Global, sections: &Sections<'_>) -> Result<String, Refusal>
-    ensures judged { Judges result (entries_fault sections.now.info.now sections.now.abbrev.now) }
-    ensures lines { IfOk result (λ text. string_bytes text ≡ flat_map entry_line (all_entries sections.now.info.now sections.now.abbrev.now)) }
-{
-    let mut text = String::new(alloc);
-    let mut left = units(sections);
-    'list: loop {
-        match left.next_unit(alloc) {
-            Ok(Some(unit)) => match push_unit(alloc, &mut text, &unit) {
-                Ok(()) => {}
-                Err(refused) => return Err(refused),
-            },
-            Ok(None) => return Ok(text),
-            Err(refused) => return Err(refused),
-        }
-    }
-}
-
-// The lines of a library, or its first fault.
-#[tactic(auto, unfolding(crate::specs::Listing::listing_fault, crate::specs::Listing::listing_of))]
-fn listing(alloc: Global, library: &[u8]) -> Result<String, Refusal>
-    requires { length library.now ≤ input_limit }
-    ensures judged { Judges result (listing_fault library.now) }
-    ensures lines { IfOk result (λ text. string_bytes text ≡ listing_of library.now) }
-{
-    let file = read_elf(library)?;
-    let sections = debug_sections(&file);
-    lines_of(alloc, &sections)
 }
 
 /// The judgement of `entries` on the bytes of a library: a line for each debugging information entry, in order of offset.
 /// Only the faults of the header, the sections, the units and the entries are asked.
 pub fn list_entries(alloc: Global, library: &[u8]) -> Result<Judgement, Stop>
     requires { length library.now ≤ input_limit }
-    ensures readable { OnOk result (AreReadable (Input.Library ∷ []) (library.now ∷ [])) }
-    ensures judged { IfOk result (λ j. ListingJudges library.now j.verdict (string_bytes j.text)) }
-    ensures stops { IfErr result (StopsAt (Input.Library ∷ []) (library.now ∷ [])) }
+    ensures readable { OnOk result (listing_fault library.now ≡ None) }
+    ensures listed { IfOk result (λ j. IsListed (listing_of library.now) j.verdict j.text.items) }
+    ensures stops { IfErr result (IsStopFor Input.Library (listing_fault library.now)) }
 {
-    match listing(alloc, library) {
-        Ok(text) => Ok(Judgement {
-            verdict: Verdict::Done,
-            text,
-        }),
-        Err(Refusal::Fault(fault)) => Err(Stop::Fault(Input::Library, fault)),
-        Err(Refusal::NoMemory) => Err(Stop::NoMemory),
-    }
+    listed(entry_lines(alloc, library))
+}
+
+// The lines of the exports of a library.
+fn exports_of(alloc: Global, bytes: &[u8]) -> Result<String, Refusal>
+    requires { length bytes.now ≤ input_limit }
+    ensures judged { Judges result (library_fault bytes.now) }
+    ensures lines { IfOk result (λ text. string_bytes text ≡ exports_text (library_of bytes.now)) }
+{
+    let library: Library<OldIx> = read_library(alloc, bytes)?;
+    let text = export_lines(alloc, &library)?;
+    Ok(text)
+}
+
+/// The judgement of `exports` on the bytes of a library: a line for each export, in order of their symbols, with the places of
+/// its arguments and of its result. All faults of a library are asked.
+pub fn list_exports(alloc: Global, library: &[u8]) -> Result<Judgement, Stop>
+    requires { length library.now ≤ input_limit }
+    ensures readable { OnOk result (library_fault library.now ≡ None) }
+    ensures listed { IfOk result (λ j. IsListed (exports_text (library_of library.now)) j.verdict j.text.items) }
+    ensures stops { IfErr result (IsStopFor Input.Library (library_fault library.now)) }
+{
+    listed(exports_of(alloc, library))
 }

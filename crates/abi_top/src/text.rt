@@ -1,5 +1,5 @@
 // The texts that go with a status.
-ghost use Rattle.std.specs.Prelude.{◌≡◌, IfOk, string_bytes};
+ghost use Rattle.std.specs.Prelude.{◌≡◌, IfOk};
 ghost use Rattle.abi_top.specs.Text.{usage_text, unreadable_text, read_fault_text};
 
 use crate::Input;
@@ -15,27 +15,27 @@ usage: abi check [--rules FILE] [--report text|table|counts|first|own] OLD NEW
 ";
 
 /// The usage lines.
-pub fn usage(alloc: Global) -> Result<String, NoMemory>
-    ensures { IfOk result (λ text. string_bytes text ≡ usage_text) }
+pub fn usage(alloc: Global) -> Result<Vec<u8>, NoMemory>
+    ensures { IfOk result (λ text. text.items ≡ usage_text) }
 {
-    Ok(String::from_str(alloc, USAGE)?)
+    Ok(String::from_str(alloc, USAGE)?.into_bytes())
 }
 
 /// The line that names the first fault of an input.
-pub fn unreadable(alloc: Global, which: Input, fault: Fault) -> Result<String, NoMemory>
-    ensures { IfOk result (λ text. string_bytes text ≡ unreadable_text which fault) }
+pub fn unreadable(alloc: Global, which: Input, fault: Fault) -> Result<Vec<u8>, NoMemory>
+    ensures { IfOk result (λ text. text.items ≡ unreadable_text which fault) }
 {
     let input = which.word();
     let number = fault.kind.number();
     let name = fault.kind.name();
     let at = fault.at;
-    Ok(format!(in alloc; "unreadable {input} {number} {name} {at}\n")?)
+    Ok(format!(in alloc; "unreadable {input} {number} {name} {at}\n")?.into_bytes())
 }
 
 /// The line that names the input whose reading failed.
-pub fn read_fault(alloc: Global, which: Input) -> Result<String, NoMemory>
-    ensures { IfOk result (λ text. string_bytes text ≡ read_fault_text which) }
+pub fn read_fault(alloc: Global, which: Input) -> Result<Vec<u8>, NoMemory>
+    ensures { IfOk result (λ text. text.items ≡ read_fault_text which) }
 {
     let input = which.word();
-    Ok(format!(in alloc; "read fault {input}\n")?)
+    Ok(format!(in alloc; "read fault {input}\n")?.into_bytes())
 }

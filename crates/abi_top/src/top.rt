@@ -1,70 +1,86 @@
 // The top call.
-ghost use Rattle.std.specs.Prelude.{◌≡◌, ◌≢◌, ◌⊎◌, List, ℕ, None, Some, IfOk, string_bytes};
+ghost use Rattle.std.specs.Prelude.{◌≡◌, ◌≢◌, ◌⊎◌, List, [], ℕ, None, Some, map, All, IfOk};
 ghost use Rattle.std.specs.Io.KnownBytes.{Appends};
 ghost use Rattle.abi_base.specs.Causes.{Rose, AppendsFront};
 ghost use Rattle.abi_base.specs.declared.fault.Fault.{Fault as AnyFault};
 ghost use Rattle.abi_top.specs.Answer.{Answers, Asks, Call, FailsToRead, IsFaulty, call_of};
-ghost use Rattle.abi_top.specs.Asked.{asked_by, check, entries};
-ghost use Rattle.abi_top.specs.Certificate.{certificate_of};
-ghost use Rattle.abi_top.specs.Check.{Compatible};
+ghost use Rattle.abi_top.specs.Asked.{asked_by, check, entries, exports};
 ghost use Rattle.abi_top.specs.Ends.{IsStopAnswer, IsUnreadAnswer};
-ghost use Rattle.abi_top.specs.Headline.{OnLibraries, OnLibrary, IsServed, IsVerdict};
-ghost use Rattle.abi_top.specs.Listing.{listing_of};
-ghost use Rattle.abi_top.specs.Report.{breaks_of, report_of};
+ghost use Rattle.abi_top.specs.Headline.{OnLibraries, OnListing, IsServed, IsVerdict};
 ghost use Rattle.abi_top.specs.Text.{usage_text, unreadable_text, read_fault_text};
 ghost use Rattle.abi_top.specs.Words.{texts};
 ghost use Rattle.abi_top.specs.declared.status.Input.{Input as AnyInput};
 ghost use Rattle.abi_top.specs.declared.status.Status.{Status as AnyStatus};
+ghost use Rattle.entry_list.specs.EntryLines.{listing_fault};
+ghost use Rattle.lib_graph.specs.Faults.{library_fault};
+ghost use Rattle.library_check.specs.Checks.{Compatible, IsCertificateText, IsReportText};
+ghost use Rattle.library_check.specs.declared.wanted.ReportStyle.TheVariants.{Text};
+ghost use Rattle.library_check.specs.Wanted.{wanted_styles};
 
 use crate::judge::{Stop, judge};
 use crate::reading::{Unread, read_all};
 use crate::words::request_of;
 use crate::{Input, Status, text};
 use abi_base::{Fault, FaultKind, INPUT_LIMIT, Inputs, NoMemory, Sink, write_all};
+use break_report::Listener;
+use library_check::laws::a_file_may_replace_itself;
 use std::alloc::Global;
 
 /// Does what the words ask for, and says how it ended. The words are those after the program's name. The inputs that they
 /// name are read whole, in order; then the first one with a fault decides; then the command gives its verdict. All that
 /// is to be printed is built before the first write.
 ///
-/// In the clauses `call` is this call: its words, the bytes told of each name, the count of faults of each name before the
+/// The listeners that make a line of each break are told all breaks, in the order in which they were handed in; the others are
+/// dropped unheard.
+///
+/// In the clauses `call` is this call: its words, the styles of its listeners, the bytes told of each name, the count of faults of each name before the
 /// call and after it, and how many bytes the input that was read last has given.
 pub fn run<I: Inputs, S: Sink>(
     alloc: Global,
     words: &[&str],
     inputs: &mut I,
     sink: &mut S,
+    listeners: Vec<Box<dyn Listener>>,
 ) -> Status
+    requires { All (λ listener. heard listener ≡ []) listeners.items }
+
     // Every status but want of memory and a write fault comes with its row of the table `Answers`, whose text was
     // appended whole.
-    ensures answered { let call : Call = call_of I.told I.faults I.given words.now inputs.old inputs.new in
+    ensures answered { let call : Call = call_of I.told I.faults I.given (map asks listeners.items) words.now inputs.old inputs.new in
         result ≢ Status.NoMemory → result ≢ Status.WriteFault
         → (text : List ℕ) × Answers call result text × Appends (S.held sink.old) (S.held sink.new) text }
 
-    // Yes: both libraries are readable, the new one may replace the old one, and the certificate was printed.
-    ensures yes { let call : Call = call_of I.told I.faults I.given words.now inputs.old inputs.new in
+    // Yes: both libraries are readable, the new one may replace the old one, and the certificate was printed, which a checker
+    // accepts.
+    ensures yes { let call : Call = call_of I.told I.faults I.given (map asks listeners.items) words.now inputs.old inputs.new in
         result ≡ Status.Yes
-        → OnLibraries call (λ old new. Compatible old new × Appends (S.held sink.old) (S.held sink.new) (certificate_of old new)) }
+        → OnLibraries call (λ old new. Compatible old new × (text : List ℕ) × IsCertificateText old new text × Appends (S.held sink.old) (S.held sink.new) text) }
 
-    // No: both libraries are readable, the new one may not replace the old one, and all breaks were printed.
-    ensures no { let call : Call = call_of I.told I.faults I.given words.now inputs.old inputs.new in
+    // No: both libraries are readable, the new one may not replace the old one, and what listeners make of all breaks was
+    // printed, each break of types with the first path to it from an export.
+    ensures no { let call : Call = call_of I.told I.faults I.given (map asks listeners.items) words.now inputs.old inputs.new in
         result ≡ Status.No
-        → OnLibraries call (λ old new. (Compatible old new → ⊥) × Appends (S.held sink.old) (S.held sink.new) (report_of (breaks_of old new))) }
+        → OnLibraries call (λ old new. (Compatible old new → ⊥) × (text : List ℕ) × IsReportText (wanted_styles Text call.styles) old new text × Appends (S.held sink.old) (S.held sink.new) text) }
 
-    // Done: the library is readable, and a line was printed for each of its entries.
-    ensures done { let call : Call = call_of I.told I.faults I.given words.now inputs.old inputs.new in
+    // A library may replace itself: where both names tell the same readable bytes, the answer is not no.
+    ensures itself { let call : Call = call_of I.told I.faults I.given (map asks listeners.items) words.now inputs.old inputs.new in
+        (old_name new_name bytes : List ℕ) → asked_by (texts words.now) ≡ Some (check old_name new_name)
+        → I.told inputs.old old_name ≡ Some bytes → I.told inputs.old new_name ≡ Some bytes → result ≢ Status.No }
+
+    // Done: the library is readable, and a line was printed for each of its entries, or for each of its exports.
+    ensures done { let call : Call = call_of I.told I.faults I.given (map asks listeners.items) words.now inputs.old inputs.new in
         result ≡ Status.Done
-        → OnLibrary call (λ library. Appends (S.held sink.old) (S.held sink.new) (listing_of library)) }
+        → OnListing call (λ text. Appends (S.held sink.old) (S.held sink.new) text) }
 
     // Unreadable: the text names the first fault of the first input that has one, too long before all others.
-    ensures unreadable { let call : Call = call_of I.told I.faults I.given words.now inputs.old inputs.new in
+    ensures unreadable { let call : Call = call_of I.told I.faults I.given (map asks listeners.items) words.now inputs.old inputs.new in
         result ≡ Status.Unreadable
         → (which : AnyInput) × (fault : AnyFault) × Asks call (IsFaulty call which fault)
         × Appends (S.held sink.old) (S.held sink.new) (unreadable_text which fault) }
 
     // Read fault: the count of the name that the words give for that input rose in this call, and no input before it is
     // told to be too long.
-    ensures read_fault { let call : Call = call_of I.told I.faults I.given words.now inputs.old inputs.new in
+    ensures read_fault { let call : Call = call_of I.told I.faults I.given (map asks listeners.items) words.now inputs.old inputs.new in
         result ≡ Status.ReadFault
         → (which : AnyInput) × Asks call (FailsToRead call which)
         × Appends (S.held sink.old) (S.held sink.new) (read_fault_text which) }
@@ -76,7 +92,7 @@ pub fn run<I: Inputs, S: Sink>(
 
     // A write failed in this call, behind a front of a text with which another status could have come.
     ensures write_fault { result ≡ Status.WriteFault → Rose (S.faults sink.old) (S.faults sink.new) }
-    ensures front { let call : Call = call_of I.told I.faults I.given words.now inputs.old inputs.new in
+    ensures front { let call : Call = call_of I.told I.faults I.given (map asks listeners.items) words.now inputs.old inputs.new in
         result ≡ Status.WriteFault
         → (status : AnyStatus) × (text : List ℕ) × Answers call status text × AppendsFront (S.held sink.old) (S.held sink.new) text }
 
@@ -85,20 +101,27 @@ pub fn run<I: Inputs, S: Sink>(
 
     // Where the words are right, both inputs tell readable bytes and did not fail, and the sink did not fail, the answer
     // is the verdict, or want of memory.
-    ensures complete { let call : Call = call_of I.told I.faults I.given words.now inputs.old inputs.new in
+    ensures complete { let call : Call = call_of I.told I.faults I.given (map asks listeners.items) words.now inputs.old inputs.new in
         (old_name new_name old new : List ℕ) → asked_by (texts words.now) ≡ Some (check old_name new_name)
-        → IsServed call Input.Old old_name old → IsServed call Input.New new_name new → (Rose (S.faults sink.old) (S.faults sink.new) → ⊥)
+        → IsServed call library_fault old_name old → IsServed call library_fault new_name new → (Rose (S.faults sink.old) (S.faults sink.new) → ⊥)
         → result ≢ Status.NoMemory → IsVerdict old new result }
 
     // The same of the entries of one library.
-    ensures complete_entries { let call : Call = call_of I.told I.faults I.given words.now inputs.old inputs.new in
+    ensures complete_entries { let call : Call = call_of I.told I.faults I.given (map asks listeners.items) words.now inputs.old inputs.new in
         (name library : List ℕ) → asked_by (texts words.now) ≡ Some (entries name)
-        → IsServed call Input.Library name library → (Rose (S.faults sink.old) (S.faults sink.new) → ⊥)
+        → IsServed call listing_fault name library → (Rose (S.faults sink.old) (S.faults sink.new) → ⊥)
+        → result ≢ Status.NoMemory → result ≡ Status.Done }
+
+    // And of its exports.
+    ensures complete_exports { let call : Call = call_of I.told I.faults I.given (map asks listeners.items) words.now inputs.old inputs.new in
+        (name library : List ℕ) → asked_by (texts words.now) ≡ Some (exports name)
+        → IsServed call library_fault name library → (Rose (S.faults sink.old) (S.faults sink.new) → ⊥)
         → result ≢ Status.NoMemory → result ≡ Status.Done }
 {
-    match answer_to(alloc, words, inputs) {
+    a_file_may_replace_itself();
+    match answer_to(alloc, words, inputs, listeners) {
         Err(NoMemory) => Status::NoMemory,
-        Ok(answer) => match write_all(sink, answer.text.as_bytes()) {
+        Ok(answer) => match write_all(sink, &answer.text) {
             Ok(()) => answer.status,
             Err(_) => Status::WriteFault,
         },
@@ -109,12 +132,18 @@ pub fn run<I: Inputs, S: Sink>(
 #[derive(Drop)]
 struct Answer {
     status: Status,
-    text: String,
+    text: Vec<u8>,
 }
 
 // The answer to the words, built whole.
-fn answer_to<I: Inputs>(alloc: Global, words: &[&str], inputs: &mut I) -> Result<Answer, NoMemory>
-    ensures { IfOk result (λ a. Answers (call_of I.told I.faults I.given words.now inputs.old inputs.new) a.status (string_bytes a.text)) }
+fn answer_to<I: Inputs>(
+    alloc: Global,
+    words: &[&str],
+    inputs: &mut I,
+    listeners: Vec<Box<dyn Listener>>,
+) -> Result<Answer, NoMemory>
+    requires { All (λ listener. heard listener ≡ []) listeners.items }
+    ensures { IfOk result (λ a. Answers (call_of I.told I.faults I.given (map asks listeners.items) words.now inputs.old inputs.new) a.status a.text.items) }
 {
     let Some(request) = request_of(words) else {
         return Ok(Answer {
@@ -125,7 +154,7 @@ fn answer_to<I: Inputs>(alloc: Global, words: &[&str], inputs: &mut I) -> Result
     let wanted = request.wanted(alloc)?;
     match read_all(alloc, inputs, &wanted) {
         Err(unread) => unread_answer(alloc, unread),
-        Ok(all) => match judge(alloc, &request, &all) {
+        Ok(all) => match judge(alloc, &request, &all, listeners) {
             Ok(judgement) => Ok(Answer {
                 status: judgement.verdict.status(),
                 text: judgement.text,
@@ -137,7 +166,7 @@ fn answer_to<I: Inputs>(alloc: Global, words: &[&str], inputs: &mut I) -> Result
 
 // The answer where an input can't be read whole.
 fn unread_answer(alloc: Global, unread: Unread) -> Result<Answer, NoMemory>
-    ensures { IfOk result (λ a. IsUnreadAnswer unread a.status (string_bytes a.text)) }
+    ensures { IfOk result (λ a. IsUnreadAnswer unread a.status a.text.items) }
 {
     match unread {
         Unread::NoMemory => Err(NoMemory),
@@ -160,7 +189,7 @@ fn unread_answer(alloc: Global, unread: Unread) -> Result<Answer, NoMemory>
 
 // The answer where an input has a fault.
 fn stop_answer(alloc: Global, stop: Stop) -> Result<Answer, NoMemory>
-    ensures { IfOk result (λ a. IsStopAnswer stop a.status (string_bytes a.text)) }
+    ensures { IfOk result (λ a. IsStopAnswer stop a.status a.text.items) }
 {
     match stop {
         Stop::NoMemory => Err(NoMemory),

@@ -1,6 +1,6 @@
 // What the words ask for.
 ghost use Rattle.std.specs.Prelude.{◌≡◌, map, option_map, IfOk};
-ghost use Rattle.abi_top.specs.Asked.{asked_by, wanted_by};
+ghost use Rattle.abi_top.specs.Asked.{asked_by, asked_of_one, wanted_by};
 ghost use Rattle.abi_top.specs.Reading.{named};
 ghost use Rattle.abi_top.specs.Requests.{plain_request};
 ghost use Rattle.abi_top.specs.Words.{texts};
@@ -13,6 +13,21 @@ use std::alloc::{AllocError, Global};
 pub enum Request<'a> {
     Check { old: &'a str, new: &'a str },
     Entries { library: &'a str },
+    Exports { library: &'a str },
+}
+
+// What a command on one library asks for.
+#[tactic(auto, unfolding(crate::specs::Asked::asked_of_one))]
+fn request_of_one<'a>(command: &str, library: &'a str) -> Option<Request<'a>>
+    ensures { option_map plain_request result ≡ asked_of_one command.now library.now }
+{
+    if command == "entries" {
+        return Some(Request::Entries { library });
+    }
+    if command == "exports" {
+        return Some(Request::Exports { library });
+    }
+    None
 }
 
 /// What the words ask for, if they are right.
@@ -27,13 +42,7 @@ pub fn request_of<'a>(words: &[&'a str]) -> Option<Request<'a>>
                 None
             }
         }
-        [command, library] => {
-            if *command == "entries" {
-                Some(Request::Entries { library })
-            } else {
-                None
-            }
-        }
+        [command, library] => request_of_one(command, library),
         _ => None,
     }
 }
@@ -45,7 +54,9 @@ impl<'a> Request<'a> {
     {
         let wanted = match self {
             Request::Check { old, new } => vec![in alloc; (Input::Old, *old), (Input::New, *new)]?,
-            Request::Entries { library } => vec![in alloc; (Input::Library, *library)]?,
+            Request::Entries { library } | Request::Exports { library } => {
+                vec![in alloc; (Input::Library, *library)]?
+            }
         };
         Ok(wanted)
     }

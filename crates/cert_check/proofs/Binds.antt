@@ -21,7 +21,7 @@ use Rattle.std.specs.declared.cmp.Ordering.TheVariants.{Less, Equal, Greater}
 use Rattle.std.proofs.lemmas.Cmp.{ranked, nat_cmp_total}
 use Rattle.cert_text.specs.Certs.{Ascend, first_cmp}
 use Rattle.cert_check.specs.Compatible.{IsCompared, bound}
-use Rattle.cert_check.specs.Accepted.{Case, Place, Binding, Keeps, HasBinding, KeepsBinding, each, binding_places, refused, line_of, second, Settles}
+use Rattle.cert_check.specs.Accepted.{Case, Place, Binding, Keeps, HasBinding, KeepsBinding, each, binding_places, refused, line_of}
 use Rattle.cert_check.specs.Bindings.{AreBound, AreOwned, IsOwned, IsWrongAt, IsFirstUnbound, IsFirstUnowned, FindsUnbound, FindsUnowned, least}
 use Rattle.cert_check.proofs.First.{each-from}
 use Rattle.cert_check.proofs.Lines.{line_of-some}

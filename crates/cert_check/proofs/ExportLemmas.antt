@@ -1,8 +1,8 @@
 -- Exports as the code reads them.
-use Rattle.std.proofs.Common.{◌≡◌, ◌<◌, ◌≤◌, ◌&&◌, not, ℕ, Bool, true, false, List, length, map, get_or, Option, Some, None, refl, sym, ◌∙◌, ap, subst, slice_get, slice_index_or}
+use Rattle.std.proofs.Common.{◌≡◌, ◌&&◌, not, ℕ, Bool, true, false, List, Some, None, refl, sym, ◌∙◌, ap, subst, slice_get, slice_index_or}
 use Rattle.std.specs.Prelude.{◌↔◌, option_and_then}
 use Rattle.std.specs.Option.{option_map}
-use Rattle.std.proofs.lemmas.Option.{none-some, same_Some, slice_get-map, slice_get_read}
+use Rattle.std.proofs.lemmas.Option.{none-some, same_Some, slice_get-map}
 use Rattle.abi_types.specs.declared.export.Export.{Export}
 use Rattle.abi_types.specs.Exports.{PlainExport}
 use Rattle.abi_types.specs.Plain.{plain_export, plain_exports}

@@ -1,5 +1,5 @@
 -- The first position that fails, as the first place.
-use Rattle.std.proofs.Common.{◌≡◌, ◌<◌, ◌≤◌, ◌+◌, ◌-◌, ℕ, suc, List, [], ◌∷◌, ◌++◌, map, Option, Some, None, refl, sym, ◌∙◌, ap, subst, arith, append-nil}
+use Rattle.std.proofs.Common.{◌≡◌, ◌<◌, ◌+◌, ◌-◌, ℕ, suc, List, [], ◌∷◌, ◌++◌, map, refl, sym, ◌∙◌, ap, subst, arith, append-nil}
 use Rattle.std.specs.List.{range_with_len, AllByRecursion}
 use Rattle.cert_check.specs.declared.refused.Refused.{Refused}
 use Rattle.std.specs.Prelude.{Result, Ok, Err}

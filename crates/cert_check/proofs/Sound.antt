@@ -1,7 +1,8 @@
 -- An accepted certificate is a proof.
-use Rattle.std.proofs.Common.{◌≡◌, ◌<◌, ◌&&◌, ◌==◌, ℕ, Bool, true, false, List, length, slice_get, Option, Some, None, refl, sym, ◌∙◌, ap, inl, inr, arith}
-use Rattle.std.specs.Prelude.{slice_index_or}
-use Rattle.std.specs.List.{range_with_len, AllByRecursion}
+use Rattle.std.proofs.Common.{◌≡◌, ◌<◌, ◌&&◌, ◌==◌, ℕ, Bool, true, false, List, [], ◌∷◌, length, slice_get, Option, Some, None, refl, sym, ◌∙◌, ap, subst, inl, inr, arith}
+use Rattle.std.specs.Prelude.{slice_index_or, ◌↔◌}
+use Rattle.abi_base.proofs.ListLemmas.{at_contains}
+use Rattle.std.specs.List.{range_with_len, AllByRecursion, Contains}
 use Rattle.std.proofs.lemmas.Bool.{cases_Bool, and_parts, and_from, eqb-true, lt-ltb}
 use Rattle.std.proofs.lemmas.Option.{same_Some, none-some, slice_get_within}
 use Rattle.abi_types.specs.declared.kind.Way.TheVariants.{Direct}
@@ -17,8 +18,12 @@ use Rattle.pair_rules.specs.Stable.{IsStable, AreEven, AreClasses, IsInside, is_
 use Rattle.cert_check.specs.Compatible.{Sides, IsCompared, IsCompatible, bound, is_typed, root_with, root_to, root_from, typed_root, typed_roots, task_of}
 use Rattle.abi_types.specs.Limits.{symbol_limit}
 use Rattle.abi_types.specs.Libraries.{AreNumbered}
-use Rattle.cert_check.specs.Accepted.{Sonames, Binding, Rules, AlikeOld, AlikeNew, Root, Rule, Partners, groups, places, binding_places, pair_places, IsAccepted, Case, line_of, rep, class_in, old_class, new_class, listed, is_line, KeepsAlike, KeepsBinding, KeepsRules, KeepsRoot, KeepsRule, KeepsPartners, Keeps}
-use Rattle.cert_check.proofs.First.{grouped, each-at, twos-at, find_range, filter_map-given}
+use Rattle.cert_check.specs.Kept.{KeepsAll}
+use Rattle.cert_check.specs.Relation.{relation_of}
+use Rattle.cert_check.specs.TypedPairs.{IsTypedPair, HasTypes}
+use Rattle.cert_check.specs.Accepted.{Place, heads, joined, Binding, Rules, AlikeOld, AlikeNew, Root, Rule, Partners, groups, places, binding_places, pair_places, IsAccepted, Case, line_of, rep, class_in, old_class, new_class, listed, is_line, KeepsAlike, KeepsBinding, KeepsRule, KeepsPartners, Keeps}
+use Rattle.cert_check.proofs.First.{grouped, join, each-at, each-from, twos-at, twos-from, find_range, filter_map-given}
+use Rattle.cert_check.proofs.Given.{given_there, given_ascends}
 use Rattle.cert_check.proofs.Lines.{line_of-some, rep-some, rep-none, is_line-at}
 
 -- ---- the node of an entry
@@ -80,36 +85,26 @@ module _ (nodes : List PlainNode) (graph : IsGraph nodes) (lines : List (ℕ × 
 
 -- ---- typed pairs
 
--- what a typed pair is
-pub record IsTypedPair (s : Sides) (k : ℕ) (root : PlainRoot) : Type 0 where
-  pub old : PlainExport
-  pub new : PlainExport
-  pub compared : IsCompared s k old
-  pub binds : bound s old ≡ Some new
-  pub old_typed : is_typed old ≡ true
-  pub new_typed : is_typed new ≡ true
-  pub old_node : node_of s.old.graph old.entry ≡ Some root.old
-  pub new_node : node_of s.new.graph new.entry ≡ Some root.new
-
-root_with-parts : (k : ℕ) (o m : Option ℕ) (root : PlainRoot) → root_with k o m ≡ Some root → (o ≡ Some root.old) × (m ≡ Some root.new)
+-- the place and the nodes of a root
+root_with-parts : (k : ℕ) (o m : Option ℕ) (root : PlainRoot) → root_with k o m ≡ Some root → (k ≡ root.export) × (o ≡ Some root.old) × (m ≡ Some root.new)
 root_with-parts k None m root e = absurd (none-some root e)
 root_with-parts k (Some a) None root e = absurd (none-some root e)
 root_with-parts k (Some a) (Some b) root e =
     let same = same_Some (record { export = k; old = a; new = b }) root e in
-    (ap (λ (r : PlainRoot). Some r.old) same, ap (λ (r : PlainRoot). Some r.new) same)
+    (ap (λ (r : PlainRoot). r.export) same, ap (λ (r : PlainRoot). Some r.old) same, ap (λ (r : PlainRoot). Some r.new) same)
 
-root_to-parts : (s : Sides) (k : ℕ) (e : PlainExport) (root : PlainRoot) (o : Option PlainExport) → IsCompared s k e → bound s e ≡ o → root_to s k e o ≡ Some root → IsTypedPair s k root
+root_to-parts : (s : Sides) (k : ℕ) (e : PlainExport) (root : PlainRoot) (o : Option PlainExport) → IsCompared s k e → bound s e ≡ o → root_to s k e o ≡ Some root → IsTypedPair s root
 root_to-parts s k e root None compared is h = absurd (none-some root h)
 root_to-parts s k e root (Some f) compared is h =
     elim (cases_Bool (is_typed e && is_typed f)) [
       | inl typed ↦
           let types = and_parts (is_typed e) (is_typed f) typed in
-          let nodes = root_with-parts k (node_of s.old.graph e.entry) (node_of s.new.graph f.entry) root (rw typed at h) in
-          record { old = e; new = f; compared = compared; binds = is; old_typed = types.0; new_typed = types.1; old_node = nodes.0; new_node = nodes.1 }
+          let parts = root_with-parts k (node_of s.old.graph e.entry) (node_of s.new.graph f.entry) root (rw typed at h) in
+          record { old = e; new = f; compared = subst (λ (j : ℕ). IsCompared s j e) parts.0 compared; binds = is; old_typed = types.0; new_typed = types.1; old_node = parts.1; new_node = parts.2 }
       | inr untyped ↦ absurd (none-some root (rw untyped at h))
     ]
 
-root_from-parts : (s : Sides) (k : ℕ) (root : PlainRoot) (o : Option PlainExport) → slice_get s.old.exports k ≡ o → root_from s k o ≡ Some root → IsTypedPair s k root
+root_from-parts : (s : Sides) (k : ℕ) (root : PlainRoot) (o : Option PlainExport) → slice_get s.old.exports k ≡ o → root_from s k o ≡ Some root → IsTypedPair s root
 root_from-parts s k root None is h = absurd (none-some root h)
 root_from-parts s k root (Some e) is h =
     elim (cases_Bool (slice_index_or s.marks.exports k false)) [
@@ -117,51 +112,117 @@ root_from-parts s k root (Some e) is h =
       | inr kept ↦ root_to-parts s k e root (bound s e) (record { at = is; kept = kept }) refl (rw kept at h)
     ]
 
-pub typed_root-parts : (s : Sides) (k : ℕ) (root : PlainRoot) → typed_root s k ≡ Some root → IsTypedPair s k root
+typed_root-parts : (s : Sides) (k : ℕ) (root : PlainRoot) → typed_root s k ≡ Some root → IsTypedPair s root
 unfolding typed_root
 typed_root-parts s k root e = root_from-parts s k root (slice_get s.old.exports k) refl e
 
-pub typed_roots-source : (s : Sides) (j : ℕ) (root : PlainRoot) → slice_get (typed_roots s) j ≡ Some root → (k : ℕ) × IsTypedPair s k root
+-- a root is at its own place
+root_to-place : (s : Sides) (k : ℕ) (e : PlainExport) (root : PlainRoot) (o : Option PlainExport) → root_to s k e o ≡ Some root → k ≡ root.export
+root_to-place s k e root None h = absurd (none-some root h)
+root_to-place s k e root (Some f) h =
+    elim (cases_Bool (is_typed e && is_typed f)) [
+      | inl typed ↦ (root_with-parts k (node_of s.old.graph e.entry) (node_of s.new.graph f.entry) root (rw typed at h)).0
+      | inr untyped ↦ absurd (none-some root (rw untyped at h))
+    ]
+
+root_from-place : (s : Sides) (k : ℕ) (root : PlainRoot) (o : Option PlainExport) → root_from s k o ≡ Some root → k ≡ root.export
+root_from-place s k root None h = absurd (none-some root h)
+root_from-place s k root (Some e) h =
+    elim (cases_Bool (slice_index_or s.marks.exports k false)) [
+      | inl dropped ↦ absurd (none-some root (rw dropped at h))
+      | inr kept ↦ root_to-place s k e root (bound s e) (rw kept at h)
+    ]
+
+typed_root-place : (s : Sides) (k : ℕ) (root : PlainRoot) → typed_root s k ≡ Some root → k ≡ root.export
+unfolding typed_root
+typed_root-place s k root e = root_from-place s k root (slice_get s.old.exports k) e
+
+-- and where there is a typed pair there is its root
+root_of_pair : (s : Sides) (root : PlainRoot) → IsTypedPair s root → typed_root s root.export ≡ Some root
+unfolding typed_root
+root_of_pair s root p =
+    let here : root_from s root.export (slice_get s.old.exports root.export) ≡ root_from s root.export (Some p.old) = ap (root_from s root.export) p.compared.at in
+    let kept : root_from s root.export (Some p.old) ≡ root_to s root.export p.old (bound s p.old) = rw p.compared.kept refl in
+    let there : root_to s root.export p.old (bound s p.old) ≡ root_to s root.export p.old (Some p.new) = ap (root_to s root.export p.old) p.binds in
+    let typed : is_typed p.old && is_typed p.new ≡ true = rw (p.old_typed, p.new_typed) refl in
+    let both : root_to s root.export p.old (Some p.new) ≡ root_with root.export (node_of s.old.graph p.old.entry) (node_of s.new.graph p.new.entry) = rw typed refl in
+    let nodes : root_with root.export (node_of s.old.graph p.old.entry) (node_of s.new.graph p.new.entry) ≡ root_with root.export (Some root.old) (Some root.new) =
+    ap (λ (o : Option ℕ). root_with root.export o (node_of s.new.graph p.new.entry)) p.old_node ∙ ap (root_with root.export (Some root.old)) p.new_node in
+    here ∙ kept ∙ there ∙ both ∙ nodes
+
+pub typed_roots-source : (s : Sides) (j : ℕ) (root : PlainRoot) → slice_get (typed_roots s) j ≡ Some root → IsTypedPair s root
 unfolding typed_roots
 typed_roots-source s j root e =
     let given = filter_map-given (typed_root s) (range_with_len 0 (length s.old.exports)) j root e in
-    (given.item, typed_root-parts s given.item root given.gives)
+    typed_root-parts s given.item root given.gives
+
+pub typed_roots-there : (s : Sides) (root : PlainRoot) → IsTypedPair s root → Contains (typed_roots s) root
+unfolding typed_roots
+typed_roots-there s root p = given_there (typed_root s) (length s.old.exports) root.export root (slice_get_within s.old.exports root.export p.old p.compared.at) (root_of_pair s root p)
+
+pub typed_roots_iff : (s : Sides) (root : PlainRoot) → Contains (typed_roots s) root ↔ IsTypedPair s root
+typed_roots_iff s root = (λ h. let there = at_contains (typed_roots s) root h in typed_roots-source s there.0 root there.1, typed_roots-there s root)
+
+pub typed_roots-ascend : (s : Sides) (j k : ℕ) (first later : PlainRoot) → j < k → slice_get (typed_roots s) j ≡ Some first → slice_get (typed_roots s) k ≡ Some later → first.export < later.export
+unfolding typed_roots
+typed_roots-ascend s j k first later less at there =
+    given_ascends (typed_root s) (λ (r t : PlainRoot). r.export < t.export)
+    (λ m n x y lt one other. omega (arith, lt, typed_root-place s m x one, typed_root-place s n y other))
+    0 (length s.old.exports) j k first later less at there
+
+pub typed_pair-inside : (s : Sides) (root : PlainRoot) → IsTypedPair s root → HasTypes s root
+typed_pair-inside s root p = record { old = (node_of-is s.old.graph p.old.entry root.old p.old_node).0; new = (node_of-is s.new.graph p.new.entry root.new p.new_node).0 }
 
 -- ---- what is accepted
-
--- what an accepted certificate keeps, condition by condition
-pub record AreKept (c : Case) : Type 0 where
-  pub sonames : Keeps c Sonames
-  pub bindings : (symbol : ℕ) → symbol < symbol_limit → KeepsBinding c symbol
-  pub rules : (k : ℕ) → k < length c.sides.old.exports → KeepsRules c k
-  pub alike_old : (k : ℕ) → KeepsAlike c.sides.old.graph c.cert.alike_old k
-  pub alike_new : (k : ℕ) → KeepsAlike c.sides.new.graph c.cert.alike_new k
-  pub roots : (k : ℕ) → k < length c.sides.old.exports → KeepsRoot c k
-  pub lines : (k : ℕ) → KeepsRule c k
-  pub partners : (k : ℕ) → KeepsPartners c k
 
 bindings-at : (c : Case) (symbol : ℕ) → AllByRecursion (Keeps c) binding_places → symbol < symbol_limit → KeepsBinding c symbol
 unfolding binding_places
 bindings-at c symbol all below = each-at (Keeps c) Binding 0 symbol_limit symbol all (omega arith) (omega arith)
 
+bindings-from : (c : Case) → ((symbol : ℕ) → symbol < symbol_limit → KeepsBinding c symbol) → AllByRecursion (Keeps c) binding_places
+unfolding binding_places
+bindings-from c all = each-from (Keeps c) Binding 0 symbol_limit (λ symbol from below. all symbol (omega (arith, below)))
+
 pairs-at : (c : Case) (n k : ℕ) → AllByRecursion (Keeps c) (pair_places n) → k < n → KeepsRule c k × KeepsPartners c k
 unfolding pair_places
 pairs-at c n k all below = twos-at (Keeps c) Rule Partners 0 n k all (omega arith) (omega arith)
 
-pub AreKept-from : (c : Case) → IsAccepted c → AreKept c
+pairs-from : (c : Case) (n : ℕ) → ((k : ℕ) → KeepsRule c k) → ((k : ℕ) → KeepsPartners c k) → AllByRecursion (Keeps c) (pair_places n)
+unfolding pair_places
+pairs-from c n lines partners = twos-from (Keeps c) Rule Partners 0 n (λ k from below. (lines k, partners k))
+
+pub KeepsAll-from : (c : Case) → IsAccepted c → KeepsAll c
 unfolding places
-AreKept-from c all =
+KeepsAll-from c all =
     let g = grouped (Keeps c) (groups c) all in
     record {
+      old_digest = g.0.0;
+      new_digest = g.0.1.0;
+      rules_digest = g.0.1.1.0;
       sonames = g.0.1.1.1.0;
       bindings = λ symbol below. bindings-at c symbol g.1.0 below;
-      rules = λ k below. each-at (Keeps c) Rules 0 (length c.sides.old.exports) k g.1.1.0 (omega arith) (omega arith);
+      rules = λ k e f compared. each-at (Keeps c) Rules 0 (length c.sides.old.exports) k g.1.1.0 (omega arith) (omega (arith, slice_get_within c.sides.old.exports k e compared.at)) e f compared;
       alike_old = λ k line at. each-at (Keeps c) AlikeOld 0 (length c.cert.alike_old) k g.1.1.1.0 (omega arith) (omega (arith, slice_get_within c.cert.alike_old k line at)) line at;
       alike_new = λ k line at. each-at (Keeps c) AlikeNew 0 (length c.cert.alike_new) k g.1.1.1.1.0 (omega arith) (omega (arith, slice_get_within c.cert.alike_new k line at)) line at;
-      roots = λ k below. each-at (Keeps c) Root 0 (length c.sides.old.exports) k g.1.1.1.1.1.0 (omega arith) (omega arith);
+      roots = λ k e f compared. each-at (Keeps c) Root 0 (length c.sides.old.exports) k g.1.1.1.1.1.0 (omega arith) (omega (arith, slice_get_within c.sides.old.exports k e compared.at)) e f compared;
       lines = λ k line at. (pairs-at c (length c.cert.pairs) k g.1.1.1.1.1.1.0 (slice_get_within c.cert.pairs k line at)).0 line at;
       partners = λ k line at. (pairs-at c (length c.cert.pairs) k g.1.1.1.1.1.1.0 (slice_get_within c.cert.pairs k line at)).1 line at;
     }
+
+-- group by group
+ungrouped : (c : Case) (pss : List (List Place)) → AllByRecursion (AllByRecursion (Keeps c)) pss → AllByRecursion (Keeps c) (joined pss)
+ungrouped c [] all = tt
+ungrouped c (ps ∷ pss) all = join (Keeps c) ps (joined pss) all.0 (ungrouped c pss all.1)
+
+pub IsAccepted-from : (c : Case) → KeepsAll c → IsAccepted c
+unfolding places
+IsAccepted-from c k =
+    let head : AllByRecursion (Keeps c) heads = (k.old_digest, (k.new_digest, (k.rules_digest, (k.sonames, tt)))) in
+    let rules = each-from (Keeps c) Rules 0 (length c.sides.old.exports) (λ n from below. k.rules n) in
+    let olds = each-from (Keeps c) AlikeOld 0 (length c.cert.alike_old) (λ n from below. k.alike_old n) in
+    let news = each-from (Keeps c) AlikeNew 0 (length c.cert.alike_new) (λ n from below. k.alike_new n) in
+    let roots = each-from (Keeps c) Root 0 (length c.sides.old.exports) (λ n from below. k.roots n) in
+    ungrouped c (groups c) (head, (bindings-from c k.bindings, (rules, (olds, (news, (roots, (pairs-from c (length c.cert.pairs) k.lines k.partners, tt)))))))
 
 -- ---- the proof
 
@@ -177,7 +238,7 @@ triple_eq x y a b c =
     let mk : ℕ → ℕ → Way → Triple = λ m n w. record { old = m; new = n; way = w } in
     ap (λ m. mk m x.new x.way) a ∙ ap (λ n. mk y.old n x.way) b ∙ ap (mk y.old y.new) c
 
-module _ (closes : Closes) (c : Case) (old_graph : IsGraph c.sides.old.graph) (new_graph : IsGraph c.sides.new.graph) (even : AreEven (task_of c.sides)) (kept : AreKept c) where
+module _ (closes : Closes) (c : Case) (old_graph : IsGraph c.sides.old.graph) (new_graph : IsGraph c.sides.new.graph) (even : AreEven (task_of c.sides)) (kept : KeepsAll c) where
   classes : AreClasses (task_of c.sides) (old_class c) (new_class c)
   classes = record {
     old_graph = old_graph;
@@ -206,21 +267,15 @@ module _ (closes : Closes) (c : Case) (old_graph : IsGraph c.sides.old.graph) (n
         leads_on = λ y i stepped. kept.partners k (old_class c x.old, new_class c x.new, x.way) at line.triple y i line.is stepped;
       }
 
-  -- the relation of the certificate
-  pub relation : Triple → Bool
-  relation = related (task_of c.sides) (old_class c) (new_class c) (listed c)
-
-  pub closed : IsClosed (task_of c.sides) relation
-  unfolding relation
+  pub closed : IsClosed (task_of c.sides) (relation_of c)
   closed = closes (task_of c.sides) (old_class c) (new_class c) (listed c) classes stands
 
-  pub roots : HoldsRoots (task_of c.sides) relation
-  unfolding relation
+  pub roots : HoldsRoots (task_of c.sides) (relation_of c)
   roots j root at =
-      let (k, pair) = typed_roots-source c.sides j root at in
+      let pair = typed_roots-source c.sides j root at in
       let one = node_of-is c.sides.old.graph pair.old.entry root.old pair.old_node in
       let other = node_of-is c.sides.new.graph pair.new.entry root.new pair.new_node in
-      let line = kept.roots k (slice_get_within c.sides.old.exports k pair.old pair.compared.at) pair.old pair.new pair.compared pair.binds pair.old_typed pair.new_typed in
+      let line = kept.roots root.export pair.old pair.new pair.compared pair.binds pair.old_typed pair.new_typed in
       and_from _ _ (is_inside-from (task_of c.sides) (root_triple root) (record { old = one.0; new = other.0 }))
       (ap (λ (e : ℕ). is_line c.cert.pairs (rep c.cert.alike_old e, new_class c root.new, Direct)) one.1
       ∙ ap (λ (e : ℕ). is_line c.cert.pairs (rep c.cert.alike_old pair.old.entry, rep c.cert.alike_new e, Direct)) other.1
@@ -231,9 +286,9 @@ module _ (closes : Closes) (c : Case) (old_graph : IsGraph c.sides.old.graph) (n
     sonames = kept.sonames;
     exports = λ k e compared.
         let binding = (kept.bindings e.symbol (numbered.below k e compared.at)).bound k e compared refl in
-        record { partner = binding.partner; binds = binding.binds; keeps = kept.rules k (slice_get_within c.sides.old.exports k e compared.at) e binding.partner compared binding.binds };
-    types = (relation, closed, roots);
+        record { partner = binding.partner; binds = binding.binds; keeps = kept.rules k e binding.partner compared binding.binds };
+    types = (relation_of c, closed, roots);
   }
 
 pub IsCompatible-from_accepted : Closes → (c : Case) → AreNumbered c.sides.old.exports → IsGraph c.sides.old.graph → IsGraph c.sides.new.graph → AreEven (task_of c.sides) → IsAccepted c → IsCompatible c.sides
-IsCompatible-from_accepted closes c numbered old_graph new_graph even accepted = compatible closes c old_graph new_graph even (AreKept-from c accepted) numbered
+IsCompatible-from_accepted closes c numbered old_graph new_graph even accepted = compatible closes c old_graph new_graph even (KeepsAll-from c accepted) numbered

@@ -1,6 +1,6 @@
 -- What is compared of two nodes that an alike line names: their labels, and their views in all but the nodes that parts name;
 -- of these, their classes.
-use Rattle.std.specs.Prelude.{◌≡◌, ◌<◌, ◌==◌, ◌&&◌, ℕ, Bool, true, false, List, map, length, Some}
+use Rattle.std.specs.Prelude.{◌≡◌, ◌<◌, ◌==◌, ◌&&◌, ℕ, Bool, true, false, List, length, Some}
 use Rattle.std.specs.Bool.{beq}
 use Rattle.std.specs.Str.{bytes_eq}
 use Rattle.abi_types.specs.declared.kind.LabelKind.{LabelKind}

@@ -1,12 +1,19 @@
 //! What an accepted certificate proves. Each law is the contract of a function that does nothing.
-ghost use Rattle.std.specs.Prelude.{◌≡◌};
+ghost use Rattle.std.specs.Prelude.{◌≡◌, ◌<◌, ◌↔◌, ℕ, true, List, Some, None, Contains, slice_get};
 ghost use Rattle.abi_types.specs.Graphs.{IsGraph};
 ghost use Rattle.abi_types.specs.Libraries.{AreNumbered};
+ghost use Rattle.pair_rules.specs.Steps.{PlainRoot};
 ghost use Rattle.pair_rules.specs.Stable.{AreEven};
-ghost use Rattle.cert_check.specs.Compatible.{IsCompatible, task_of};
-ghost use Rattle.cert_check.specs.Accepted.{Case, Place, IsAccepted, IsFirstFailing, places};
+ghost use Rattle.pair_rules.specs.Closed.{IsClosed, HoldsRoots};
+ghost use Rattle.cert_text.specs.Certs.{PairLine, PlainCert1};
+ghost use Rattle.cert_check.specs.Compatible.{Sides, IsCompatible, task_of, typed_roots};
+ghost use Rattle.cert_check.specs.TypedPairs.{IsTypedPair, HasTypes};
+ghost use Rattle.cert_check.specs.Accepted.{Case, Place, IsAccepted, IsFirstFailing, is_line, line_of, places};
+ghost use Rattle.cert_check.specs.Kept.{KeepsAll};
+ghost use Rattle.cert_check.specs.Relation.{relation_of};
+ghost use Rattle.cert_check.specs.FirstVersion.{AreOneMark, IsAccepted1, migrated_case};
 
-use pair_rules::laws::what_stands_for_classes_closes;
+use pair_rules::laws::{steps_lead_to_nodes, what_stands_for_classes_closes};
 
 /// Where old nodes with equal labels are marked alike at each way, an accepted certificate proves that the new library may
 /// stand in the place of the old one.
@@ -17,7 +24,46 @@ pub fn an_accepted_certificate_is_a_proof()
     what_stands_for_classes_closes();
 }
 
+/// Under the same premises the relation of an accepted certificate is such a relation as the theorem speaks of: it is closed, and
+/// holds the types of all exports that are compared, as reached by value.
+pub fn the_relation_of_an_accepted_certificate_is_closed()
+    ensures closed { (c : Case) → IsGraph c.sides.old.graph → IsGraph c.sides.new.graph → AreEven (task_of c.sides) → IsAccepted c
+        → IsClosed (task_of c.sides) (relation_of c) }
+    ensures roots { (c : Case) → IsGraph c.sides.old.graph → IsGraph c.sides.new.graph → AreEven (task_of c.sides) → IsAccepted c
+        → HoldsRoots (task_of c.sides) (relation_of c) }
+{
+    what_stands_for_classes_closes();
+}
+
 /// At most one place is the first that fails.
 pub fn one_place_fails_first()
     ensures { (c : Case) (one other : Place) → IsFirstFailing c (places c) one → IsFirstFailing c (places c) other → one ≡ other }
 {}
+
+/// A certificate is accepted exactly where it keeps all conditions.
+pub fn what_is_accepted_keeps_all()
+    ensures { (c : Case) → IsAccepted c ↔ KeepsAll c }
+{}
+
+/// What is found behind a number stands on a line with it, and where none is found no line begins with it. A pair line is found
+/// exactly where it is one of the lines.
+pub fn lines_are_found_where_they_stand()
+    ensures found { (lines : List (ℕ × ℕ)) (n m : ℕ) → line_of lines n ≡ Some m → Contains lines (n, m) }
+    ensures missing { (lines : List (ℕ × ℕ)) (n m : ℕ) → line_of lines n ≡ None → Contains lines (n, m) → ⊥ }
+    ensures pairs { (lines : List PairLine) (line : PairLine) → (is_line lines line ≡ true) ↔ Contains lines line }
+{}
+
+/// The roots that are explored are exactly the typed pairs, in strictly ascending order of their exports, and are nodes.
+pub fn roots_are_typed_pairs()
+    ensures exact { (s : Sides) (root : PlainRoot) → Contains (typed_roots s) root ↔ IsTypedPair s root }
+    ensures ascending { (s : Sides) (j k : ℕ) (first later : PlainRoot) → j < k
+        → slice_get (typed_roots s) j ≡ Some first → slice_get (typed_roots s) k ≡ Some later → first.export < later.export }
+    ensures nodes { (s : Sides) (root : PlainRoot) → IsTypedPair s root → HasTypes s root }
+{}
+
+/// Where the rules mark the same nodes at both ways, a certificate of version 1 that is accepted is accepted once it is migrated.
+pub fn a_migrated_certificate_is_accepted()
+    ensures { (s : Sides) (c : PlainCert1) → AreOneMark s → IsAccepted1 s c → IsAccepted (migrated_case s c) }
+{
+    steps_lead_to_nodes();
+}

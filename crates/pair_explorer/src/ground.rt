@@ -26,7 +26,7 @@ pub struct Ground<'x, 'o, 'n, 'og, 'oc, 'ng, 'nc> {
     pub new_classes: &'x Classes<'ng, 'nc, NewIx>,
 }
 
-// Whether an old node is marked at a way.
+/// Whether an old node is marked at a way.
 pub fn is_marked(ground: &Ground, node: OldIx, way: Way) -> bool
     ensures { result ≡ the_node_is_marked (scope_of ground.now).task node way }
 {
@@ -58,7 +58,7 @@ fn root_visit(ground: &Ground, k: usize) -> Visit
     }
 }
 
-// Adds the visits of the roots.
+/// Adds the visits of the roots.
 pub fn add_roots(ground: &Ground, visits: &mut Visits) -> Result<(), NoMemory>
     requires { HasNodes (scope_of ground.now) }
     ensures { OnOk result (visits.new ≡ entered (the_root_visit (scope_of ground.now)) (length ground.now.roots.now) visits.old) }
@@ -99,7 +99,7 @@ fn next_visit(
     })
 }
 
-// Adds all to which the visit of a number leads. Its old node is unmarked at its way.
+/// Adds all to which the visit of a number leads. Its old node is unmarked at its way.
 pub fn add_partners(
     ground: &Ground,
     visits: &mut Visits,

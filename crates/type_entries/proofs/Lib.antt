@@ -10,6 +10,7 @@ mod NearLemmas
 mod OrderLemmas
 mod RankLemmas
 mod ReachedLemmas
+mod ListedLemmas
 mod CoreLemmas
 mod ReferLemmas
 mod StepLemmas

@@ -18,11 +18,11 @@ use Rattle.type_entries.proofs.ReachedLemmas.{is_reached-is, any_found, any_ther
 use Rattle.type_entries.proofs.ByValueLemmas.{StepsOn-none, StepsOn-more, StepsOn-cases}
 
 -- numbers that rise, none below a bound
-Rising : ℕ → List ℕ → Type 0
+unfoldable pub Rising : ℕ → List ℕ → Type 0
 Rising low [] = Unit {0}
 Rising low (x ∷ xs) = (low ≤ x) × Rising (x + 1) xs
 
-rising-above : (low : ℕ) (xs : List ℕ) (e : ℕ) → Rising low xs → Contains xs e → low ≤ e
+pub rising-above : (low : ℕ) (xs : List ℕ) (e : ℕ) → Rising low xs → Contains xs e → low ≤ e
 unfolding Rising
 rising-above low [] e r h = absurd (not_in_none e h)
 rising-above low (x ∷ xs) e r h = elim (in_front x xs e h) [ inl same ↦ omega (arith, r.0, same) | inr later ↦ omega (arith, r.0, rising-above (x + 1) xs e r.1 later) ]
@@ -47,7 +47,7 @@ unfolding Rising
 rising-weaker low more [] le r = tt
 rising-weaker low more (x ∷ xs) le r = (omega (arith, r.0), r.1)
 
-rising-filter : (p : ℕ → Bool) (a n : ℕ) → Rising a (filter p (range_with_len a n))
+pub rising-filter : (p : ℕ → Bool) (a n : ℕ) → Rising a (filter p (range_with_len a n))
 unfolding Rising
 rising-filter p a zero = tt
 rising-filter p a (suc n) =
@@ -63,14 +63,14 @@ rising-list low (x ∷ xs) above rises = (
       (λ i j d lt inside. rises (suc i) (suc j) d (omega arith) (omega arith)),
 )
 
-filter-there : (p : ℕ → Bool) (xs : List ℕ) (e : ℕ) → Contains xs e → p e ≡ true → Contains (filter p xs) e
+pub filter-there : (p : ℕ → Bool) (xs : List ℕ) (e : ℕ) → Contains xs e → p e ≡ true → Contains (filter p xs) e
 filter-there p [] e h is = absurd (not_in_none e h)
 filter-there p (x ∷ xs) e h is = elim (in_front x xs e h) [
   | inl same ↦ let kept : p x ≡ true = ap p same ∙ is in rw kept (subst (Contains (x ∷ filter p xs)) same (first_of_all x (filter p xs)))
   | inr later ↦ bool_cases (p x) (λ kept. rw kept (behind_first x (filter p xs) e (filter-there p xs e later is))) (λ passed. rw passed (filter-there p xs e later is))
 ]
 
-filter-from : (p : ℕ → Bool) (xs : List ℕ) (e : ℕ) → Contains (filter p xs) e → p e ≡ true
+pub filter-from : (p : ℕ → Bool) (xs : List ℕ) (e : ℕ) → Contains (filter p xs) e → p e ≡ true
 filter-from p [] e h = absurd (not_in_none e h)
 filter-from p (x ∷ xs) e h =
     bool_cases (p x)

@@ -3,7 +3,6 @@ pub mod Cores
 pub mod Facts
 pub mod Faults
 pub mod Flat
-pub mod Numbers
 pub mod Placement
 pub mod Reached
 pub mod ReachedList

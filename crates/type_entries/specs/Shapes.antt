@@ -1,7 +1,7 @@
 -- What the shape of an entry must be for it to be read as a type.
 use Rattle.std.specs.Prelude.{ℕ, ◌==◌, ◌&&◌, ◌||◌, not, Bool, true, false, is_some, List, [], ◌∷◌, Option, Some, None, if◌then◌else◌}
 use Rattle.std.specs.List.{list_any, list_all}
-use Rattle.abi_base.specs.Dwarf.{dw_tag_array_type, dw_tag_enumeration_type, dw_tag_enumerator, dw_tag_pointer_type, dw_tag_structure_type, dw_tag_subroutine_type, dw_tag_typedef, dw_tag_union_type, dw_tag_base_type, dw_tag_const_type, dw_tag_volatile_type, dw_tag_restrict_type, dw_tag_atomic_type, dw_at_byte_size, dw_at_bit_offset, dw_at_bit_size, dw_at_const_value, dw_at_data_member_location, dw_at_encoding, dw_at_data_bit_offset, dw_at_alignment}
+use Rattle.abi_base.specs.Dwarf.{dw_tag_array_type, dw_tag_enumeration_type, dw_tag_enumerator, dw_tag_pointer_type, dw_tag_structure_type, dw_tag_subroutine_type, dw_tag_typedef, dw_tag_union_type, dw_tag_base_type, dw_tag_const_type, dw_tag_volatile_type, dw_tag_restrict_type, dw_tag_atomic_type, dw_at_byte_size, dw_at_bit_offset, dw_at_bit_size, dw_at_const_value, dw_at_data_member_location, dw_at_encoding, dw_at_data_bit_offset, dw_at_alignment, dw_ate_boolean, dw_ate_complex_float, dw_ate_float, dw_ate_signed, dw_ate_signed_char, dw_ate_unsigned, dw_ate_unsigned_char, dw_ate_decimal_float, dw_ate_utf}
 use Rattle.dw_tree.specs.Trees.{PlainTree}
 use Rattle.dw_entries.specs.Addresses.{tag_at, is_declared_only}
 use Rattle.dw_entries.specs.Chains.{attribute_along}
@@ -10,7 +10,6 @@ use Rattle.abi_types.specs.declared.kind.Group.{Group}
 use Rattle.abi_types.specs.declared.kind.Group.TheVariants as group
 use Rattle.type_entries.specs.declared.role.Role.{Role}
 use Rattle.type_entries.specs.declared.role.Role.TheVariants as role
-use Rattle.type_entries.specs.Numbers.{dw_ate_boolean, dw_ate_complex_float, dw_ate_float, dw_ate_signed, dw_ate_signed_char, dw_ate_unsigned, dw_ate_unsigned_char, dw_ate_decimal_float, dw_ate_utf}
 use Rattle.type_entries.specs.Values.{natural_of, wrapped_of, place_of, is_there, is_small_if_there}
 use Rattle.type_entries.specs.References.{Type_, role_of, tagged_children, parts_of, types_of}
 

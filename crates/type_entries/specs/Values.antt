@@ -1,13 +1,13 @@
 -- What attributes say as numbers (DWARF 5, section 7.5.5 "Classes and Forms", class constant).
 use Rattle.std.specs.Prelude.{ℕ, ◌^◌, ◌==◌, nat_lt, Bool, true, false, if◌then◌else◌, is_some, List, length, slice_index_or, Option, Some, None}
 use Rattle.std.specs.Option.{unwrap_or}
+use Rattle.abi_base.specs.Dwarf.{dw_op_plus_uconst}
 use Rattle.abi_base.specs.Leb.{uleb_at}
 use Rattle.dw_forms.specs.declared.values.Value.{Value}
 use Rattle.dw_forms.specs.Constants.{number_of, word_of, count_up_to_of}
 use Rattle.dw_tree.specs.Trees.{PlainTree}
 use Rattle.dw_entries.specs.Chains.{attribute_along}
 use Rattle.dw_entries.specs.Said.{block_of}
-use Rattle.type_entries.specs.Numbers.{dw_op_plus_uconst}
 
 -- a constant that is not negative
 abbrev pub natural_of : Option Value → Option ℕ

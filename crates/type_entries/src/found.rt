@@ -1,6 +1,7 @@
-// Entries that were found, numbered in the order in which they were.
-ghost use Rattle.std.specs.Prelude.{◌≡◌, ◌<◌, [], length, nat_eq, slice_get, Contains, Some, OnOk, IfSome, IfNone};
+// Entries that were found, numbered in the order in which they were, or in order of offset.
+ghost use Rattle.std.specs.Prelude.{◌≡◌, ◌<◌, [], length, nat_eq, slice_get, Contains, Some, OnOk, IfSome, IfNone, IsPermutation};
 ghost use Rattle.std.specs.List.{IsDistinct};
+ghost use Rattle.std.specs.List.Sorted.{IsNonDecreasing};
 ghost use Rattle.std.specs.Prelude.{position};
 ghost use Rattle.type_entries.specs.Reached.{with_entry, with_type};
 
@@ -9,7 +10,7 @@ use indexmap::IndexSet;
 use std::alloc::Global;
 use std::marker::Model;
 
-/// Entries, each once, in the order in which they were found. Contracts see the list of their positions.
+/// Entries, each once: in the order in which they were found, or in order of offset. Contracts see the list of their positions.
 #[derive(Drop)]
 pub struct Found {
     entries: IndexSet<usize>,
@@ -92,5 +93,14 @@ impl Found {
             Some(e) => self.add(e),
             None => Ok(()),
         }
+    }
+
+    /// Puts the entries in order of offset.
+    pub(crate) fn sort(&mut self) -> Result<(), NoMemory>
+        ensures same { OnOk result (IsPermutation self.old self.new) }
+        ensures order { OnOk result (IsNonDecreasing self.new) }
+    {
+        self.entries.sort()?;
+        Ok(())
     }
 }

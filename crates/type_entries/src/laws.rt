@@ -33,6 +33,12 @@ pub fn walks_find_the_list()
     ensures { (t : PlainTree) (roots found order : List ℕ) → ((e : ℕ) → Contains roots e → e < length t.entries) → IsWalk t roots found → IsPermutation found order → IsNonDecreasing order → order ≡ reached_of t roots }
 {}
 
+/// The list of the definition holds exactly the reached entries, each once, and with an entry all to which it leads.
+pub fn the_list_holds_the_reached()
+    ensures walk { (t : PlainTree) (roots : List ℕ) → ((e : ℕ) → Contains roots e → e < length t.entries) → IsWalk t roots (reached_of t roots) }
+    ensures closed { (t : PlainTree) (roots : List ℕ) → ((e : ℕ) → Contains roots e → e < length t.entries) → IsClosed t (reached_of t roots) }
+{}
+
 /// The test of depth says that a chain of so many steps by value leads on.
 pub fn depth_is_a_chain()
     ensures { (t : PlainTree) (n : ℕ) (r : Type_) → (steps_on t n r ≡ true) ↔ StepsOn t n r }

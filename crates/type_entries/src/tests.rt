@@ -65,16 +65,23 @@ fn dwarf<'a>(alloc: Global, abbrev: &'a [u8], info: &'a [u8]) -> Result<Dwarf<'a
 }
 
 // What is reached from the entry at an offset, in order of discovery.
-fn reached(alloc: Global, dwarf: &Dwarf, offset: u64) -> Result<Found, NoMemory> {
+fn walked(alloc: Global, dwarf: &Dwarf, offset: u64) -> Result<Found, NoMemory> {
     match dwarf.find(offset) {
         Some(root) => walk(alloc, dwarf, &[root]),
         None => walk(alloc, dwarf, &[]),
     }
 }
 
-// The offsets of what is reached.
-fn offsets(alloc: Global, dwarf: &Dwarf, offset: u64) -> Result<Vec<u64>, NoMemory> {
-    let found = reached(alloc, dwarf, offset)?;
+// The same in order of offset.
+fn listed(alloc: Global, dwarf: &Dwarf, offset: u64) -> Result<Found, NoMemory> {
+    match dwarf.find(offset) {
+        Some(root) => reached(alloc, dwarf, &[root]),
+        None => reached(alloc, dwarf, &[]),
+    }
+}
+
+// The offsets of what was found.
+fn offsets(alloc: Global, dwarf: &Dwarf, found: &Found) -> Result<Vec<u64>, NoMemory> {
     let mut offsets = Vec::new(alloc);
     for number in 0..found.len() {
         let e = found.at(number);
@@ -99,8 +106,16 @@ fn facts(alloc: Global, dwarf: &Dwarf, offset: u64) -> Result<Option<Facts>, Ref
 fn a_function_leads_to_its_type(rt: HostRuntime) -> Result<(), Fail> {
     let alloc = rt.alloc();
     let dwarf = dwarf(alloc, ABBREVS, FUNCTION)?;
-    assert_eq!(rt; offsets(alloc, &dwarf, 22)?.as_slice(), [22, 15].as_slice());
-    assert_eq!(rt; offsets(alloc, &dwarf, 15)?.as_slice(), [15].as_slice());
+    let found = walked(alloc, &dwarf, 22)?;
+    assert_eq!(rt;
+        offsets(alloc, &dwarf, &found)?.as_slice(),
+        [22, 15].as_slice()
+    );
+    let found = listed(alloc, &dwarf, 22)?;
+    assert_eq!(rt;
+        offsets(alloc, &dwarf, &found)?.as_slice(),
+        [15, 22].as_slice()
+    );
     Ok(())
 }
 

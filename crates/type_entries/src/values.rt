@@ -2,7 +2,7 @@
 ghost use Rattle.std.specs.Prelude.{◌≡◌, ◌<◌, length};
 ghost use Rattle.type_entries.specs.Values.{natural_of as the_natural_of, wrapped_of as the_wrapped_of, counted_to as the_counted_to, added_by as the_added_by, place_of as the_place_of, is_there as the_value_is_there, number_at as the_number_at};
 
-use crate::constants::DW_OP_plus_uconst;
+use abi_base::dwarf::DW_OP_plus_uconst;
 use abi_base::uleb;
 use dw_entries::Dwarf;
 use dw_forms::Value;

@@ -2,9 +2,11 @@
 ghost use Rattle.std.specs.Prelude.{◌≡◌, ◌<◌, length, map, All, Some, IfOk, OnOk};
 ghost use Rattle.type_entries.specs.References.{types_of as the_types_of};
 ghost use Rattle.type_entries.specs.Reached.{with_types, IsWalk};
+ghost use Rattle.type_entries.specs.ReachedList.{reached_of};
 ghost use Rattle.type_entries.specs.ByValue.{IsClosed};
 
 use crate::found::Found;
+use crate::laws::{the_list_holds_the_reached, walks_find_the_list};
 use crate::references::{parts_of, types_of};
 use abi_base::NoMemory;
 use dw_entries::Dwarf;
@@ -49,5 +51,19 @@ pub fn walk(alloc: Global, dwarf: &Dwarf, roots: &[usize]) -> Result<Found, NoMe
         number += 1;
     }
     found.known();
+    Ok(found)
+}
+
+/// Exactly the entries that are reached from the roots, in order of offset.
+pub fn reached(alloc: Global, dwarf: &Dwarf, roots: &[usize]) -> Result<Found, NoMemory>
+    requires { All (λ root. root < length dwarf.now.tree.entries) roots.now }
+    ensures list { IfOk result (λ found. found ≡ reached_of dwarf.now.tree roots.now) }
+    ensures walk { IfOk result (λ found. IsWalk dwarf.now.tree roots.now found) }
+    ensures closed { IfOk result (λ found. IsClosed dwarf.now.tree found) }
+{
+    walks_find_the_list();
+    the_list_holds_the_reached();
+    let mut found = walk(alloc, dwarf, roots)?;
+    found.sort()?;
     Ok(found)
 }

@@ -1,8 +1,6 @@
 -- First faults, entry by entry and row by row.
 use Rattle.std.proofs.Common.{◌≡◌, ◌<◌, ◌≤◌, ◌+◌, ℕ, Bool, true, false, List, [], ◌∷◌, ◌++◌, length, map, drop, get_or, Option, Some, None, refl, sym, ◌∙◌, ap, inl, inr}
-use Rattle.std.specs.Prelude.{All, Contains, IsPermutation, not, nat_lt, ◌||◌}
-use Rattle.std.proofs.lemmas.List.Elements.{Contains-get_or}
-use Rattle.std.proofs.lemmas.List.Sorted.{Contains-permutation, IsPermutation-sym}
+use Rattle.std.specs.Prelude.{Contains, not, nat_lt, ◌||◌, ◌↔◌}
 use Rattle.std.proofs.lemmas.List.{at_drop_more, drop_all}
 use Rattle.std.proofs.lemmas.Option.{none-some}
 use Rattle.abi_base.specs.declared.fault.Fault.{Fault}
@@ -10,17 +8,20 @@ use Rattle.abi_base.specs.declared.fault.FaultKind.TheVariants as fault
 use Rattle.abi_base.specs.declared.fault.Refusal.{Refusal}
 use Rattle.abi_base.specs.declared.fault.Refusal.TheVariants as refusal
 use Rattle.abi_base.specs.Outcome.{first, fault_if, Refuses}
+use Rattle.dw_tree.specs.Trees.{PlainTree}
 use Rattle.dw_entries.specs.Debug.{PlainDwarf}
+use Rattle.type_entries.specs.References.{Type_}
+use Rattle.type_entries.specs.ByValue.{StepsOn, IsTooDeep}
 use Rattle.type_entries.specs.ReachedList.{reached_of}
 use Rattle.type_entries.specs.Shapes.{has_shape}
-use Rattle.abi_base.specs.Limits.{weight_limit}
+use Rattle.abi_base.specs.Limits.{depth_limit, weight_limit}
 use Rattle.abi_types.specs.Limits.{size_limit, align_limit, room_limit}
 use Rattle.type_entries.specs.declared.facts.Facts.{Facts}
 use Rattle.type_entries.specs.Facts.{facts_of}
 use Rattle.type_entries.specs.TypeLaws.{IsShallow, TypeLaws}
 use Rattle.type_entries.specs.Sizes.{is_too_large}
 use Rattle.type_views.specs.Large.{are_too_large}
-use Rattle.type_entries.specs.Faults.{at_entry, shape_fault, deep_fault, large_fault, depth_fault, types_fault}
+use Rattle.type_entries.specs.Faults.{steps_on, at_entry, shape_fault, deep_fault, large_fault, depth_fault, types_fault}
 use Rattle.type_views.proofs.ListLemmas.{in_front, not_in_none}
 
 -- ---- one entry after the other
@@ -121,13 +122,38 @@ pub refuses-too : (e : Refusal) (one other : Option Fault) → ((f : Fault) → 
 refuses-too (refusal.Fault f) one other on is = on f is
 refuses-too refusal.NoMemory one other on is = tt
 
--- ---- what was found, in order
+-- ---- no fault at all
 
-pub order-all : (P : ℕ → Type 0) (found order : List ℕ) → IsPermutation found order → ((e : ℕ) → Contains found e → P e) → All P order
-order-all P found order same each k d lt = each (get_or order k d) (Contains-permutation order found (get_or order k d) (IsPermutation-sym found order same) (Contains-get_or order k d lt))
+first-both : (xs ys : List (Option Fault)) → first (xs ++ ys) ≡ None → (first xs ≡ None) × (first ys ≡ None)
+first-both [] ys none = (refl, none)
+first-both (None ∷ xs) ys none = first-both xs ys none
+first-both (Some x ∷ xs) ys none = absurd (none-some x (sym none))
 
-pub found-each : (P : ℕ → Type 0) (found order : List ℕ) → IsPermutation found order → ((e : ℕ) → Contains order e → P e) → (e : ℕ) → Contains found e → P e
-found-each P found order same each e h = each e (Contains-permutation found order e same h)
+-- what types without a fault have
+pub record AreSound (d : PlainDwarf) (roots : List ℕ) : Type 0 where
+  pub shaped : (e : ℕ) → Contains (reached_of d.tree roots) e → has_shape d e ≡ true
+  pub shallow : (e : ℕ) → Contains (reached_of d.tree roots) e → IsTooDeep d.tree (Some e) → ⊥
+  pub fits : (e : ℕ) → Contains (reached_of d.tree roots) e → is_too_large d e ≡ false
+
+-- what the law says of chains of steps by value
+abbrev pub ChainsAreTested : Type 0
+ChainsAreTested = (t : PlainTree) (n : ℕ) (r : Type_) → (steps_on t n r ≡ true) ↔ StepsOn t n r
+
+deep-back : ChainsAreTested → (t : PlainTree) (e : ℕ) → deep_fault t e ≡ None → IsTooDeep t (Some e) → ⊥
+unfolding deep_fault
+deep-back chains t e none deep = none-some _ (sym none ∙ ap (λ b. fault_if b fault.TooDeep (at_entry t e)) ((chains t (depth_limit + 1) (Some e)).1 deep))
+
+pub are-sound : ChainsAreTested → (d : PlainDwarf) (roots : List ℕ) → types_fault d roots ≡ None → AreSound d roots
+unfolding types_fault
+are-sound chains d roots none =
+    let reached : List ℕ = reached_of d.tree roots in
+    let shapes = first-both (map (shape_fault d) reached) (map (deep_fault d.tree) reached ++ map (large_fault d) reached) none in
+    let others = first-both (map (deep_fault d.tree) reached) (map (large_fault d) reached) shapes.1 in
+    record {
+      shaped = shapes-hold d reached shapes.0;
+      shallow = λ e h. deep-back chains d.tree e (all-pass (deep_fault d.tree) reached e others.0 h);
+      fits = sizes-hold d reached others.1;
+    }
 
 -- what facts tell of limits is what the definitions say
 pub too-large-is : (d : PlainDwarf) → TypeLaws d → (e : ℕ) (x : Facts) → IsShallow d (Some e) → x ≡ facts_of d (Some e) → are_too_large x ≡ is_too_large d e

@@ -6,6 +6,7 @@ use Rattle.abi_types.specs.Types.{PlainPart, Member, Enumerator, Target, Element
 use Rattle.abi_types.specs.Graphs.{node_at, view_at}
 use Rattle.type_entries.specs.References.{Type_}
 use Rattle.type_entries.specs.Reached.{IsMet}
+use Rattle.type_entries.specs.ReachedList.{reached_of}
 use Rattle.type_entries.specs.Facts.{facts_of}
 use Rattle.type_entries.specs.Flat.{labels_of}
 use Rattle.type_entries.specs.Views.{offset_of, view_by, view_of}
@@ -42,9 +43,9 @@ pub record AreNodesOf (d : PlainDwarf) (roots : List ℕ) (nodes : List PlainNod
   pub all : (r : Type_) → IsMet d.tree roots r → (i : ℕ) × IsNodeOf d nodes i r
   pub only : (i : ℕ) → i < length nodes → (r : Type_) × IsMet d.tree roots r × IsNodeOf d nodes i r
 
--- ---- the nodes that are made of what a walk found
+-- ---- the nodes that are made of entries
 
--- the number of a type's node: void is 0, and the entries stand in the order in which they were found
+-- the number of a type's node: void is 0, and the entries stand in the order of the list
 abbrev pub number_in : List ℕ → Type_ → ℕ
 number_in found None = 0
 number_in found (Some e) = suc (position_or_len (nat_eq e) found)
@@ -57,3 +58,8 @@ found_types found = None ∷ map (λ e. Some e) found
 
 unfoldable pub made_nodes : PlainDwarf → List ℕ → List PlainNode
 made_nodes d found = map (made_node d found) (found_types found)
+
+-- THE GRAPH: void, and then the entries that are reached from the roots, in order of offset. A law says that these nodes stand
+-- for exactly the reached entries and void, where the types have no fault.
+abbrev pub nodes_of : PlainDwarf → List ℕ → List PlainNode
+nodes_of d roots = made_nodes d (reached_of d.tree roots)

@@ -10,14 +10,14 @@ ghost use Rattle.type_entries.specs.Shapes.{group_by as the_group_by, encoding_g
 use crate::labels::name_or_empty;
 use crate::limits::QUAD_SIZE;
 use abi_base::NoMemory;
-use abi_base::dwarf::{DW_AT_const_value, DW_AT_encoding, DW_TAG_enumerator};
+use abi_base::dwarf::{
+    DW_AT_const_value, DW_AT_encoding, DW_ATE_UTF, DW_ATE_boolean, DW_ATE_complex_float,
+    DW_ATE_decimal_float, DW_ATE_float, DW_ATE_signed, DW_ATE_signed_char, DW_ATE_unsigned,
+    DW_ATE_unsigned_char, DW_TAG_enumerator,
+};
 use abi_types::Group;
 use dw_entries::Dwarf;
 use std::alloc::Global;
-use type_entries::constants::{
-    DW_ATE_UTF, DW_ATE_boolean, DW_ATE_complex_float, DW_ATE_decimal_float, DW_ATE_float,
-    DW_ATE_signed, DW_ATE_signed_char, DW_ATE_unsigned, DW_ATE_unsigned_char,
-};
 use type_entries::{natural_of, wrapped_of};
 
 // What the bits of a base type mean, by its encoding.

@@ -1,5 +1,5 @@
 // The faults of reached types, each row in order of offset.
-ghost use Rattle.std.specs.Prelude.{◌≡◌, ◌<◌, ℕ, length, map, All, Contains, Some, OnOk, IfOk};
+ghost use Rattle.std.specs.Prelude.{◌≡◌, ◌<◌, length, map, Some, IfOk};
 ghost use Rattle.abi_base.specs.Outcome.{first, Judges, Settles};
 ghost use Rattle.type_entries.specs.ByValue.{IsClosed};
 ghost use Rattle.type_entries.specs.Facts.{AreAllFacts, facts_of};
@@ -32,13 +32,14 @@ fn shape_fault_of(alloc: Global, dwarf: &Dwarf, e: usize) -> Result<Option<Fault
     }))
 }
 
-/// Asks the shapes of entries, in their order.
-pub(crate) fn ask_shapes(alloc: Global, dwarf: &Dwarf, order: &[usize]) -> Result<(), Refusal>
-    requires { All (λ e. e < length dwarf.now.tree.entries) order.now }
-    ensures { Judges result (first (map (shape_fault dwarf.now) order.now)) }
+/// Asks the shapes of entries that were found, in their order.
+pub(crate) fn ask_shapes(alloc: Global, dwarf: &Dwarf, found: &Found) -> Result<(), Refusal>
+    requires { IsClosed dwarf.now.tree found.now }
+    ensures { Judges result (first (map (shape_fault dwarf.now) found.now)) }
 {
-    'order: for k in 0..order.len() {
-        match shape_fault_of(alloc, dwarf, order[k])? {
+    'found: for number in 0..found.len() {
+        let e = found.at(number);
+        match shape_fault_of(alloc, dwarf, e)? {
             Some(fault) => return Err(Refusal::Fault(fault)),
             None => {}
         }
@@ -86,19 +87,13 @@ fn large_fault_of(dwarf: &Dwarf, e: usize, facts: &Facts) -> Option<Fault>
 }
 
 /// Asks the sizes of entries that were found, in their order.
-pub(crate) fn ask_sizes(
-    dwarf: &Dwarf,
-    found: &Found,
-    facts: &[Facts],
-    order: &[usize],
-) -> Result<(), Fault>
+pub(crate) fn ask_sizes(dwarf: &Dwarf, found: &Found, facts: &[Facts]) -> Result<(), Fault>
     requires closed { IsClosed dwarf.now.tree found.now }
     requires facts { AreAllFacts dwarf.now found.now facts.now }
-    requires there { All (Contains found.now) order.now }
-    ensures { Settles result (first (map (large_fault dwarf.now) order.now)) }
+    ensures { Settles result (first (map (large_fault dwarf.now) found.now)) }
 {
-    'order: for k in 0..order.len() {
-        let e = order[k];
+    'found: for number in 0..found.len() {
+        let e = found.at(number);
         let of_entry = facts_at(dwarf, found, facts, Some(e));
         match large_fault_of(dwarf, e, &of_entry) {
             Some(fault) => return Err(fault),

@@ -34,7 +34,7 @@ use type_entries::constants::DEPTH_LIMIT;
 use type_entries::laws::laws_of_types;
 use type_entries::{Facts, Found, Role, body_of, facts_at, parts_of, role_of, type_of, wrapped_of};
 
-// The node of a type: void is the first one, and the entries stand in the order in which they were found.
+// The node of a type: void is the first one, and the entries stand in the order of their numbers.
 fn node_of<Ix: Index>(found: &Found, ty: Option<usize>) -> Ix
     requires { IfSome ty (λ e. Contains found.now e) }
     ensures { Ix.number_of result ≡ number_in found.now ty }
@@ -410,7 +410,7 @@ fn node<'a, Ix: Index>(
     })
 }
 
-/// The nodes of void and of all that was found, in the order in which it was.
+/// The nodes of void and of all that was found, in the order of the numbers.
 pub(crate) fn nodes<'a, Ix: Index>(
     alloc: Global,
     dwarf: &Dwarf<'a>,

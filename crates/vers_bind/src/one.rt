@@ -22,21 +22,21 @@ pub fn same_name(one: Option<&[u8]>, other: Option<&[u8]>) -> bool
     }
 }
 
-// Whether an export has this name and this version, or no version.
+/// Whether an export has this name and this version, or no version.
 pub fn has_version(export: &Export, name: &[u8], version: Option<&[u8]>) -> bool
     ensures { result ≡ it_has_version name.now (option_copied version.entry) (plain_export export.now) }
 {
     export.name == name && same_name(export.version, version)
 }
 
-// Whether an export has this name and is of the first version of its library.
+/// Whether an export has this name and is of the first version of its library.
 pub fn has_first_version(export: &Export, name: &[u8]) -> bool
     ensures { result ≡ it_has_first_version name.now (plain_export export.now) }
 {
     export.name == name && export.index == FIRST_VERSION
 }
 
-// Whether an export has this name and its version is the default one.
+/// Whether an export has this name and its version is the default one.
 pub fn is_default(export: &Export, name: &[u8]) -> bool
     ensures { result ≡ it_is_default name.now (plain_export export.now) }
 {

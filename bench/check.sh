@@ -1,0 +1,88 @@
+#!/usr/bin/env bash
+# Times `abi exports`, which reads a library whole and prints a short line for each export, and `abi check`, over libraries with
+# debug information: the C library of the running system joined with its debug information, where the package libc6-dbg and
+# elfutils are there, and libraries of generated C with 500,000 entries by gcc and clang, each checked against itself and against a
+# build in which one structure is changed. Beside them run readelf --debug-dump=info on one library, sha256sum on both, and abidw
+# and abidiff where they are there. Prints seconds of processor time, the least of five runs (of one for libabigail's tools),
+# ratios, and peak memory. Then it checks libraries of 1,000, 10,000 and 50,000 exported functions, to show how it grows.
+#
+# usage: bench/check.sh [ABI]   (default: the program that `rt run` built in crates/abi_cli/out)
+set -eu
+. "$(dirname "$0")/common.bash"
+source=$top/tests/c/entries.awk
+mkdir -p check
+cd check
+
+# beside OURS COMMAND..: the seconds and the peak memory of another command, and the ratio to it.
+beside() {
+    local ours=$1 theirs
+    shift
+    theirs=$(least "${runs:-5}" "$@")
+    echo "    $(basename "$1") $theirs s, peak $(peak_memory "$@") MB, ratio to it $(ratio "$ours" "$theirs")"
+}
+
+# answers STATUS COMMAND..: runs a command that must end with the status, and ends with 0 then.
+answers() {
+    local ended=0 status=$1
+    shift
+    "$@" >/dev/null 2>&1 || ended=$?
+    [ "$ended" -eq "$status" ]
+}
+export -f answers
+
+# read_whole NAME LIBRARY: a line of `abi exports` and those of the tools beside it.
+read_whole() {
+    local entries ours
+    entries=$("$abi" entries "$2" | wc -l)
+    ours=$(least 5 "$abi" exports "$2")
+    echo "$1: $entries entries, $(stat -c %s "$2") bytes, load $(cut -d ' ' -f 1 /proc/loadavg)"
+    echo "  abi exports $ours s, peak $(peak_memory "$abi" exports "$2") MB"
+    beside "$ours" readelf --debug-dump=info "$2"
+    if command -v abidw >/dev/null; then runs=1 beside "$ours" abidw --out-file /dev/null "$2"; fi
+}
+
+# checked NAME STATUS OLD NEW: a line of `abi check`, which must end with the status, and those of the tools beside it.
+checked() {
+    local ours
+    ours=$(least 5 bash -c "answers $2 '$abi' check '$3' '$4'")
+    echo "  $1: abi check $ours s, peak $(peak_memory bash -c "answers $2 '$abi' check '$3' '$4'") MB"
+    beside "$ours" readelf --debug-dump=info "$3"
+    beside "$ours" sha256sum "$3" "$4"
+    if command -v abidiff >/dev/null; then runs=1 beside "$ours" bash -c "abidiff '$3' '$4' >/dev/null 2>&1 || true"; fi
+}
+
+# built NAME COMMAND..: the library of a name, which the command makes where it is not there yet.
+built() {
+    local name=$1
+    shift
+    [ -e "$name" ] || "$@" -shared -fPIC -w -g -O1 -o "$name"
+}
+
+libc=/lib/x86_64-linux-gnu/libc.so.6
+if [ -e libc.so ] || "$top/tools/join-debug" "$libc" libc.so 2>/dev/null; then
+    read_whole "the C library of the system" libc.so
+    checked "against itself" 0 libc.so libc.so
+fi
+
+awk -v first=1 -v last=6500 -f "$source" >groups.c
+sed '0,/struct { short x, y; } place/s//struct { int x, y; } place/' groups.c >changed.c
+cmp -s groups.c changed.c && { echo "bench: nothing was changed in the sources" >&2; exit 1; }
+for compiler in gcc clang; do
+    command -v $compiler >/dev/null || continue
+    built "$compiler.so" $compiler groups.c
+    built "${compiler}_changed.so" $compiler changed.c
+    read_whole "generated C by $compiler" "$compiler.so"
+    checked "against itself" 0 "$compiler.so" "$compiler.so"
+    checked "against a changed build" 1 "$compiler.so" "${compiler}_changed.so"
+done
+
+for count in 1000 10000 50000; do
+    awk -v n=$count 'BEGIN {
+        for (i = 0; i < n; i++) {
+            if (i % 20 == 0) printf "struct s%d { int a; struct s%d *next; long b[%d]; };\n", i / 20, i / 20, i % 7 + 1
+            printf "int f%d(struct s%d *p, int x) { return x; }\n", i, i / 20
+        }
+    }' >functions.c
+    built "functions_$count.so" gcc functions.c
+    echo "$count exported functions: abi check $(least 3 "$abi" check "functions_$count.so" "functions_$count.so") s, peak $(peak_memory "$abi" check "functions_$count.so" "functions_$count.so") MB"
+done

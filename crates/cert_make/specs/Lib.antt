@@ -1,0 +1,4 @@
+pub mod Lines
+pub mod Certificates
+pub mod Searches
+pub mod LineLists

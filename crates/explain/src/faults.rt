@@ -1,0 +1,94 @@
+// What is wrong at a place.
+use abi_base::FaultKind;
+
+// What is wrong with a section, a symbol or a version.
+fn table_sentence(kind: FaultKind) -> &'static str {
+    match kind {
+        FaultKind::SectionRange => "does not lie inside the file, which may have been cut short",
+        FaultKind::SectionName => "has a name that does not end inside the section of names",
+        FaultKind::Compressed => {
+            "is compressed; uncompress it with: objcopy --decompress-debug-sections FILE NEW_FILE"
+        }
+        FaultKind::SymbolTable => "is damaged, or its name does not end inside the table of names",
+        FaultKind::VersionIndex => "has a version that is not defined",
+        FaultKind::DuplicateExport => "has the name and the version of an earlier export",
+        FaultKind::ImportVersion => "needs a version that is not named",
+        FaultKind::DynamicTable =>
+            "is damaged, or the soname does not end inside the table of names",
+        _ => "is damaged",
+    }
+}
+
+// What is wrong with a unit of debug information.
+fn unit_sentence(kind: FaultKind) -> &'static str {
+    match kind {
+        FaultKind::UnitHeader => "the header of the unit is damaged",
+        FaultKind::DwarfVersion => {
+            "the unit is of a version of DWARF that is not read; compile with -gdwarf-5 or -gdwarf-4"
+        }
+        FaultKind::UnitType => "the unit is split debug information; compile without -gsplit-dwarf",
+        FaultKind::AddressSize => "the unit has addresses that are not of eight bytes",
+        FaultKind::Dwarf64 => "the unit is in the 64-bit format of DWARF, which is not read",
+        FaultKind::TypeOffset => "the type unit has no entry where its type should stand",
+        _ => "the unit is in another language than C; only units in C and in assembler are read",
+    }
+}
+
+// What is wrong with an entry of debug information.
+fn entry_sentence(kind: FaultKind) -> &'static str {
+    match kind {
+        FaultKind::AbbrevCode => "the entry has an abbreviation that is not in its table",
+        FaultKind::Form => "the entry has an attribute of a form that is not known",
+        FaultKind::Cut => "the entry does not end inside its unit",
+        FaultKind::Tree => "the entries are not nested as they should be",
+        FaultKind::Text => "the name of the entry does not end inside its section",
+        FaultKind::Index => "an index of the entry leads out of its section",
+        FaultKind::Ranges => "the list of ranges of the entry is damaged",
+        FaultKind::Reference => "the entry refers to one that is not there",
+        FaultKind::Shape =>
+            "the type lacks something that describes it, or is of a kind that is not read",
+        FaultKind::TooDeep => "the type holds others by value more than 512 deep",
+        FaultKind::TooLarge => "the type, or the place of a member of it, is too large",
+        FaultKind::Supplementary => {
+            "the entry refers to a supplementary file (made by dwz -m), which is not read"
+        }
+        _ => "the entry has a chain of more than 8 origins",
+    }
+}
+
+/// What is wrong in `.debug_info`.
+pub(crate) fn info_sentence(kind: FaultKind) -> &'static str {
+    match kind {
+        FaultKind::UnitHeader
+        | FaultKind::DwarfVersion
+        | FaultKind::UnitType
+        | FaultKind::AddressSize
+        | FaultKind::Dwarf64
+        | FaultKind::TypeOffset
+        | FaultKind::Language => unit_sentence(kind),
+        _ => entry_sentence(kind),
+    }
+}
+
+/// What is wrong in a line of a rule file or of a certificate.
+pub(crate) fn line_sentence(kind: FaultKind) -> &'static str {
+    match kind {
+        FaultKind::BadText => "it is not UTF-8",
+        FaultKind::RuleLine => "it is no comment, no section and no property of a section",
+        FaultKind::Section => "there is no section of this name",
+        FaultKind::Property => "the section has no such property, or none with this value",
+        FaultKind::EmptyRule => "the section says nothing of what it leaves out",
+        FaultKind::BadPattern => "the pattern is no regular expression",
+        FaultKind::LongPattern => "the pattern has more than 256 bytes",
+        FaultKind::Repeated => "the section has this property twice",
+        FaultKind::Brace => "the pattern has a brace, which is not read",
+        FaultKind::CertLine => "it is no line of a certificate, or not the one that belongs there",
+        FaultKind::Order => "it is out of order",
+        _ => "the certificate does not end with its line 'end'",
+    }
+}
+
+/// What is wrong with the section, the symbol, the entry or the definition of a number.
+pub(crate) fn numbered_sentence(kind: FaultKind) -> &'static str {
+    table_sentence(kind)
+}

@@ -1,0 +1,18 @@
+//! Sentences for people, which go to standard error: what is wrong with an input, and what can be done about it. What the
+//! program promises stands in its exit number and on standard output; nothing here changes either.
+#![tactic(auto)]
+
+mod faults;
+mod files;
+mod kinds;
+mod noted;
+mod places;
+mod sections;
+mod told;
+
+pub use noted::NotedSink;
+pub use sections::section_name;
+pub use told::{push_fault, told_fault};
+
+#[cfg(test)]
+mod tests;

@@ -1,0 +1,63 @@
+// Where a fault stands.
+use abi_base::FaultKind;
+
+/// What the place of a fault counts.
+#[derive(Clone, Copy, Debug, PartialEq, Eq)]
+pub(crate) enum Place {
+    /// The file as a whole.
+    File,
+    /// Sections, by their numbers.
+    Section,
+    /// Dynamic symbols, by their numbers.
+    Symbol,
+    /// Entries of the dynamic table.
+    DynamicEntry,
+    /// Definitions of versions.
+    Definition,
+    /// Bytes of `.debug_info`.
+    Info,
+    /// Bytes of `.debug_abbrev`.
+    Abbreviations,
+    /// Lines, from 1 on.
+    Line,
+}
+
+/// What the place of a fault of this kind counts.
+pub(crate) fn place_of(kind: FaultKind) -> Place {
+    match kind {
+        FaultKind::ShortFile
+        | FaultKind::NotElf
+        | FaultKind::Class
+        | FaultKind::Data
+        | FaultKind::Version
+        | FaultKind::NotShared
+        | FaultKind::Machine
+        | FaultKind::SectionTable
+        | FaultKind::NoDynamicSymbols
+        | FaultKind::VersionTable
+        | FaultKind::VersionNeed
+        | FaultKind::NotBuilt
+        | FaultKind::TooLong => Place::File,
+        FaultKind::SectionRange | FaultKind::SectionName | FaultKind::Compressed => Place::Section,
+        FaultKind::SymbolTable
+        | FaultKind::VersionIndex
+        | FaultKind::DuplicateExport
+        | FaultKind::ImportVersion => Place::Symbol,
+        FaultKind::DynamicTable => Place::DynamicEntry,
+        FaultKind::VersionDefinition => Place::Definition,
+        FaultKind::Abbrev => Place::Abbreviations,
+        FaultKind::BadText
+        | FaultKind::RuleLine
+        | FaultKind::Section
+        | FaultKind::Property
+        | FaultKind::EmptyRule
+        | FaultKind::BadPattern
+        | FaultKind::LongPattern
+        | FaultKind::Repeated
+        | FaultKind::Brace
+        | FaultKind::CertLine
+        | FaultKind::Order
+        | FaultKind::End => Place::Line,
+        _ => Place::Info,
+    }
+}

@@ -1,0 +1,141 @@
+// Each kind of fault has a sentence, with its place.
+use crate::{push_fault, section_name, told_fault};
+use std::alloc::{AllocError, Global};
+use std::test::Fail;
+
+// The sentence of the line of an unreadable input, for a file of these bytes.
+fn sentence(alloc: Global, line: &str, bytes: &[u8]) -> Result<String, AllocError> {
+    let mut text = String::new(alloc);
+    if let Some((which, fault)) = told_fault(line) {
+        text.push_str(which)?;
+        text.push_str(": ")?;
+        push_fault(&mut text, fault, bytes)?;
+    }
+    Ok(text)
+}
+
+#[test]
+fn files_that_are_no_libraries_are_named(rt: HostRuntime) -> Result<(), Fail> {
+    let alloc = rt.alloc();
+    let object = b"\x7fELF\x02\x01\x01\x00\x00\x00\x00\x00\x00\x00\x00\x00\x01\x00";
+    let program = b"\x7fELF\x02\x01\x01\x00\x00\x00\x00\x00\x00\x00\x00\x00\x02\x00";
+    let core = b"\x7fELF\x02\x01\x01\x00\x00\x00\x00\x00\x00\x00\x00\x00\x04\x00";
+    let rows: [(&str, &[u8], &str); 13] = [
+        ("unreadable old 1 ShortFile 0", b"", "old: it is empty"),
+        (
+            "unreadable new 2 NotElf 0\n",
+            b"!<arch>\nlibx.o/",
+            "new: it is a static archive; give the shared object (.so) itself",
+        ),
+        (
+            "unreadable library 2 NotElf 0",
+            b"/* GNU ld script\n",
+            "library: it is a linker script; give the shared object that it names",
+        ),
+        (
+            "unreadable old 2 NotElf 0",
+            b"text",
+            "old: it is not an ELF file",
+        ),
+        (
+            "unreadable old 3 Class 4",
+            b"",
+            "old: it is a 32-bit file; only 64-bit shared objects for x86-64 are read",
+        ),
+        (
+            "unreadable old 6 NotShared 16",
+            object,
+            "old: it is an object file (.o), not a shared object",
+        ),
+        (
+            "unreadable old 6 NotShared 16",
+            program,
+            "old: it is an executable, not a shared object",
+        ),
+        (
+            "unreadable old 6 NotShared 16",
+            core,
+            "old: it is a core dump, not a shared object",
+        ),
+        (
+            "unreadable old 7 Machine 18",
+            b"",
+            "old: it is for another processor than x86-64",
+        ),
+        (
+            "unreadable old 40 TooLong 268435456",
+            b"",
+            "old: it is longer than 256 MiB",
+        ),
+        ("unreadable old 99 Nothing 0", b"", ""),
+        ("read fault old", b"", ""),
+        ("yes 2", b"", ""),
+    ];
+    for (line, bytes, wanted) in rows {
+        assert_eq!(rt; sentence(alloc, line, bytes)?.as_str(), wanted);
+    }
+    Ok(())
+}
+
+#[test]
+fn places_are_named(rt: HostRuntime) -> Result<(), Fail> {
+    let alloc = rt.alloc();
+    for (line, wanted) in [
+        (
+            "unreadable old 9 SectionRange 3",
+            "old: section 3 does not lie inside the file, which may have been cut short",
+        ),
+        (
+            "unreadable old 18 DuplicateExport 7",
+            "old: dynamic symbol 7 has the name and the version of an earlier export",
+        ),
+        (
+            "unreadable new 33 Language 12",
+            "new: offset 0xc of .debug_info: the unit is in another language than C; only units in C and in assembler are read",
+        ),
+        (
+            "unreadable new 25 Abbrev 18",
+            "new: offset 0x12 of .debug_abbrev: the abbreviation is damaged",
+        ),
+        (
+            "unreadable rules 52 Section 4",
+            "rules: line 4: there is no section of this name",
+        ),
+        (
+            "unreadable certificate 61 Order 7",
+            "certificate: line 7: it is out of order",
+        ),
+    ] {
+        assert_eq!(rt; sentence(alloc, line, b"")?.as_str(), wanted);
+    }
+    Ok(())
+}
+
+// Whether a section of a file has this name.
+fn is_named(file: &[u8], index: u64, name: &[u8]) -> bool {
+    match section_name(file, index) {
+        Some(found) => found == name,
+        None => false,
+    }
+}
+
+#[test]
+fn sections_are_named(rt: HostRuntime) -> Result<(), Fail> {
+    let alloc = rt.alloc();
+    // A header, its names, and two section headers, of which the first is that of the names.
+    let mut file = [0; 208];
+    file[40] = 80;
+    file[64..79].copy_from_slice(b"\0.names\0.zdebug");
+    file[80] = 1;
+    file[80 + 24] = 64;
+    file[144] = 8;
+    assert!(rt; is_named(&file, 0, b".names"));
+    assert!(rt; is_named(&file, 1, b".zdebug"));
+    assert!(rt; section_name(&file, 2).is_none());
+    assert!(rt; section_name(&file[..100], 1).is_none());
+    let text = sentence(alloc, "unreadable old 11 Compressed 1", &file)?;
+    let wanted =
+        "old: section 1 (.zdebug) is compressed; uncompress it with: objcopy --decompress-debug-sections FILE NEW_FILE";
+    assert_eq!(rt; text.as_str(), wanted);
+    Ok(())
+}

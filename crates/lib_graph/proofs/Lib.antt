@@ -1,0 +1,8 @@
+mod FaultLemmas
+pub mod DebugLemmas
+mod NumberLemmas
+mod TypedLemmas
+mod LibraryLemmas
+mod NoDebugLemmas
+mod EntryLemmas
+mod LoopLemmas

@@ -1,0 +1,5 @@
+pub mod Debug
+pub mod Exports
+pub mod Faults
+pub mod Laws
+pub mod Libraries

@@ -1,0 +1,42 @@
+-- What `check` says of two libraries as they were read.
+use Rattle.std.specs.Prelude.{◌≡◌, ℕ, List, [], ◌∷◌, codes}
+use Rattle.std.specs.List.{concat}
+use Rattle.abi_types.specs.Libraries.{PlainLibrary}
+use Rattle.break_report.specs.declared.row.Row.{Row}
+use Rattle.break_report.specs.declared.style.Style.{Style}
+use Rattle.break_report.specs.Listening.{Reports}
+use Rattle.break_report.specs.Render.{newline}
+use Rattle.cert_check.specs.Compatible.{Sides, sides, IsCompatible}
+use Rattle.cert_text.specs.Certs.{PlainCert}
+use Rattle.cert_text.specs.Grammar.{IsSpelled}
+use Rattle.lib_compare.specs.Judged.{IsProved, IsRefuted}
+use Rattle.lib_compare.specs.Marking.{no_marks}
+use Rattle.library_check.specs.declared.judging.Checked.{Checked}
+use Rattle.library_check.specs.declared.judging.Checked.TheVariants.{Yes, No}
+
+-- two libraries, of which nothing is left out: the rule text is empty
+abbrev pub whole : PlainLibrary → PlainLibrary → Sides
+whole old new = sides old new (no_marks old)
+
+-- The text of a yes spells the certificate of the two libraries, which a checker accepts.
+pub record IsCertificate (s : Sides) (text : List ℕ) : Type 0 where
+  pub cert : PlainCert
+  pub proved : IsProved s cert
+  pub spelled : IsSpelled text cert
+
+-- the line `no`, and then what listeners of these styles make of rows
+pub record IsReport (styles : List Style) (rows : List Row) (text : List ℕ) : Type 0 where
+  pub texts : List (List ℕ)
+  pub heard : Reports styles rows texts
+  pub is : text ≡ concat (codes "no" ∷ newline ∷ concat texts ∷ [])
+
+-- The text of a no is the report of the rows of a right report, which has some.
+pub record IsRefusal (styles : List Style) (s : Sides) (text : List ℕ) : Type 0 where
+  pub rows : List Row
+  pub refuted : IsRefuted s rows
+  pub report : IsReport styles rows text
+
+-- what `check` says of two libraries, where listeners of these styles are told the rows
+abbrev pub IsJudged : List Style → PlainLibrary → PlainLibrary → Checked → Type 0
+IsJudged styles old new (Yes text) = IsCompatible (whole old new) × IsCertificate (whole old new) text.items
+IsJudged styles old new (No text) = (IsCompatible (whole old new) → ⊥) × IsRefusal styles (whole old new) text.items

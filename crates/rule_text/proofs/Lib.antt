@@ -1,0 +1,5 @@
+mod LineLemmas
+mod PatternLemmas
+mod SectionLemmas
+mod ReadingLemmas
+mod FirstLemmas

@@ -1,0 +1,22 @@
+//! The rule file of a packager: its lines, its faults, and its sections with their patterns.
+#![tactic(auto)]
+
+mod judging;
+mod key;
+pub mod laws;
+mod line;
+mod pattern;
+mod property;
+mod reading;
+mod rules;
+mod section;
+
+pub use abi_base::Refusal as RuleRefusal;
+pub use key::{Key, SectionKind};
+pub use property::{Property, Test};
+pub use reading::read_rules;
+pub use rules::Rules;
+pub use section::Section;
+
+#[cfg(test)]
+mod tests;

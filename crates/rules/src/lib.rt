@@ -1,0 +1,15 @@
+//! What a packager's rule file means: which exports of the old library are not compared, and which of its types, by the way by
+//! which they are reached.
+#![tactic(auto)]
+
+pub mod laws;
+mod marking;
+mod names;
+mod ready;
+mod subject;
+
+pub use marking::{drops_export, drops_labels, marks};
+pub use rule_text::{RuleRefusal, Rules, read_rules};
+
+#[cfg(test)]
+mod tests;

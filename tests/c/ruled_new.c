@@ -1,0 +1,1 @@
+int kept(int a) { return a; }

@@ -1,0 +1,186 @@
+#!/usr/bin/env bash
+# Lets gcc and clang compile random functions and calls of them, reads out of the compiled code where each argument and result
+# stands (tests/c/places.c says how), and holds that against the places that the proved program prints of the same library.
+# docs/CALL_PLACES.md describes the kinds of types in which a compiler departs from the rules.
+#
+#   tests/call_places.sh                 builds the program of this repository
+#   ABI=/path/of/abi tests/call_places.sh    takes another one
+#
+# The functions are the same at each run. Of one whose places differ, the declarations are printed.
+set -eu
+title="call places"
+tools="gcc readelf awk python3"
+. "$(dirname "$0")/common.bash"
+
+# Kinds of functions, as tests/c/places.py has them, and how many functions of each: those in which all places are those of the
+# rules, and those in which a compiler departs from them.
+many=170
+kinds="scalars structures floats unions bits wide_bits packed packed_nested aligned typedefs arrays empty complexes vectors int128s
+    x87 large mixed"
+few=50
+odd_kinds="zero_arrays flexible unnamed_bits packed_unions packed_arrays packed_wide packed_aligned raised lowered int128_alone
+    x87_unions quads vector_unions vectors_32 vectors_64 vectors_variadic vectors_short vectors_of_one vectors_int128 transparent
+    atomic conventions"
+
+# Kinds that are a library each: a bit field may begin before the storage that debug information says it lies in. Such a library
+# may be refused.
+lone_kinds="crossing_bits aligned_bits packed_bits"
+
+# departures: a line for each kind in which a compiler departs from the rules: the compiler, `plain` for code without AVX, `wide`
+# for code with AVX-512 or `all`, the kind, and the reason.
+departures() {
+    cat <<'END'
+gcc all zero_arrays an array of no elements that begins inside an eightbyte has the class of its element there
+clang all flexible a structure with a flexible array is in memory
+gcc all unnamed_bits a bit field without a name is INTEGER, and debug information does not have it
+clang all aligned_bits debug information does not have the alignment of a bit field
+clang all packed_bits debug information does not say that a member as wide as its type is a bit field
+gcc all packed_unions a bit field in a union is taken as an object of its type, which packing may leave unaligned
+gcc all packed_arrays the elements of an array are taken as its first one is, though packing leaves others unaligned
+gcc all half_elements the elements of an array are taken as its first one is, though eightbytes hold other parts of others
+gcc all packed_wide packing lowers the alignment on the stack, and debug information does not say so
+clang all packed_wide packing lowers the alignment on the stack, and debug information does not say so
+gcc all packed_aligned packing lowers the alignment on the stack, and debug information does not say so
+clang all packed_aligned packing lowers the alignment on the stack, or a member that its type wants aligned is not
+gcc all raised the alignment of a typedef does not count on the stack
+clang all raised the alignment of a typedef does not count on the stack
+gcc all lowered a typedef that lowers the alignment of a member lowers that of the structure on the stack
+clang all lowered a typedef that lowers the alignment of a member lowers what the member needs to be aligned
+clang all int128_alone an __int128 may have the last register and the stack, and there has the alignment 8
+gcc all x87_unions a union in a union is cleaned up for itself, and a long double beside an integer makes it MEMORY
+clang all x87_unions a union in a union is cleaned up for itself, and a long double beside an integer makes it MEMORY
+clang all quads an aggregate with a __float128 is in memory
+gcc all complex_quads a complex _Float128 is returned in memory
+clang wide vector_unions a union of a vector and an array of vectors is taken as one vector
+gcc plain vectors_32 without AVX a vector of 32 bytes is in memory
+clang plain vectors_32 without AVX a vector of 32 bytes is in memory, and as a result in two registers
+gcc plain vectors_64 without AVX a vector of 64 bytes is in memory
+clang plain vectors_64 without AVX a vector of 64 bytes is in memory, and as a result in four registers
+gcc plain vectors_variadic without AVX a vector of 32 bytes is in memory
+clang plain vectors_variadic without AVX a vector of 32 bytes is in memory, and as a result in two registers
+clang wide vectors_variadic an argument with a vector of 32 bytes is in memory where the function takes unspecified parameters
+gcc all vectors_short a vector of two or four bytes is INTEGER
+clang all vectors_short a vector of two or four bytes is INTEGER
+gcc all vectors_of_one a vector of one float or one double is in memory
+clang all vectors_of_one a vector of one float is INTEGER, and one of one double is in memory, and as a result in xmm0
+gcc all vectors_int128 of a vector of one __int128 in a structure half is passed, and one of two is in memory
+clang all vectors_int128 a vector of two __int128 is in memory
+gcc all transparent a transparent union is passed as its first member is, and debug information may not have its members
+clang all transparent a transparent union is passed as its first member is
+clang all atomic an atomic structure or union is in memory
+clang all bit_precise a _BitInt of more than 64 bits has the alignment 8
+gcc all conventions debug information does not say that a function has the calling convention of another system
+clang all conventions the calling convention of another system is not asked for
+END
+}
+
+# as_exported LIBRARY: what `exports` must print of it, by readelf and by the places in the file `places`.
+as_exported() {
+    exports "$1" >numbers
+    awk -F '\t' '
+        FILENAME == "places" { name = $0; sub(/ .*/, "", name); place[name] = substr($0, length(name) + 1); next }
+        { print $1, $5, $6, $7 ($2 in place ? place[$2] : " untyped") }' places numbers
+}
+
+# compared: holds the file `got` against `want`. A function of a kind of the file `odd` may have other places. The names of others
+# that differ go to the file `wrong`, and the number of lines that agree to `agree`.
+compared() {
+    awk '
+        FILENAME == "odd" { kind = $1; sub(/^[^ ]* /, ""); reason[kind] = $0; next }
+        FILENAME == "want" { want[++lines] = $0; next }
+        {
+            split(want[FNR], wanted)
+            kind = wanted[2]
+            sub(/_[0-9]+$/, "", kind)
+            count[kind]++
+            if ($0 == want[FNR]) agree++
+            else if (kind in reason && $2 == wanted[2] && $5 == "params") departed[kind]++
+            else print wanted[2] == "" ? $2 : wanted[2] >"wrong"
+        }
+        END {
+            if (FNR < lines) print "only " FNR " lines of " lines >"wrong"
+            print agree + 0 >"agree"
+            for (kind in reason) printf "    %s: %d of %d depart: %s\n", kind, departed[kind], count[kind], reason[kind] | "sort"
+        }' odd want got
+}
+
+# shown: the first functions that differ, with what is expected and printed of them.
+shown() {
+    local name
+    head -n 5 wrong | while read -r name; do
+        case $name in *_[0-9]*) python3 "$sources/places.py" "${name%_*}" "$name" ;; *) echo "$name" ;; esac
+        awk -v name="$name" '$2 == name { print "compiled code: " $0 }' want
+        awk -v name="$name" '$2 == name { print "the program:   " $0 "\n" }' got
+    done
+}
+
+# before_storage LIBRARY: whether a bit field has a negative bit offset, which is that of its end from the end of its storage.
+before_storage() {
+    readelf --wide --debug-dump=info "$1" 2>/dev/null | grep -E 'DW_AT_bit_offset *:.*(0xffff|-)' >negative
+}
+
+# agree NAME COMPILER WIDTH KIND..: links the functions of these kinds, lets them say where their arguments and results stand, and
+# compares. WIDTH is how many bytes of a vector register calls use.
+agree() {
+    local name=$1 compiler=$2 width=$3 ended=0 all
+    shift 3
+    $compiler -shared -o places.so "${@/%/.o}"
+    gcc -O1 -o say_places "$sources/places.c" "$sources/places_call.S" "${@/%/.o}"
+    ./say_places "$width" >places || fail "$name: places cannot be read out of the code"
+    as_exported places.so >want
+    all=$(wc -l <want)
+    "$program" exports places.so >got 2>errors || ended=$?
+    if [ "$ended" -eq 2 ] && before_storage places.so && grep -q '^unreadable library 35 Shape [0-9]*$' got; then
+        echo "    $*: refused, since a bit field begins before its storage: $(cat got)"
+        return
+    fi
+    [ "$ended" -eq 0 ] || fail "$name: status $ended: $(head -n 1 got)"
+    [ ! -s errors ] || fail "$name: the program wrote to standard error"
+    rm -f wrong
+    compared
+    [ ! -s wrong ] || { shown >&2 && fail "$name: $(wc -l <wrong) functions of $all differ"; }
+    passed "$name: $(cat agree) functions of $all agree, and the others are of the kinds that depart"
+    total=$((total + $(cat agree)))
+}
+
+# built COMPILER BUILD WIDTH OPTION..: compiles the functions of all kinds, and holds their places against those of the program.
+built() {
+    local compiler=$1 build=$2 width=$3 own= odd="$odd_kinds bit_precise" quiet= kind count
+    shift 3
+    # gcc has other types, and says what it has changed.
+    if [ "$compiler" = gcc ]; then
+        own="decimals halves interchange empty_arrays"
+        odd="$odd_kinds complex_quads half_elements"
+        quiet="-Wno-psabi -Wno-packed-bitfield-compat"
+    fi
+    for kind in $kinds $own $odd $lone_kinds; do
+        count=$few
+        case " $(echo $kinds $own) " in *" $kind "*) count=$many ;; esac
+        python3 "$sources/places.py" "$kind" "$count" >"$kind.c"
+        # The options are words of their own.
+        $compiler -I"$sources" -fPIC -w $quiet "$@" -c -o "$kind.o" "$kind.c" || fail "$compiler $*: $kind.c does not compile"
+    done
+    departures | awk -v compiler="$compiler" -v build="$build" '
+        $1 == compiler && ($2 == "all" || $2 == build) { sub(/^[^ ]* [^ ]* /, ""); print }' >departing
+    for kind in $lone_kinds; do
+        grep "^$kind " departing >odd || true
+        agree "$compiler $*, $kind" $compiler $width $kind
+    done
+    # The kinds are words of their own.
+    grep -vE "^($(echo $lone_kinds | tr ' ' '|')) " departing >odd
+    agree "$compiler $*" $compiler $width $kinds $own $odd
+}
+
+total=0
+wide=
+if grep -qw avx512f /proc/cpuinfo; then wide="64 -mavx512f"; else left_out="$left_out AVX-512"; fi
+compilers=gcc
+if there clang; then compilers="gcc clang"; ran="clang"; fi
+for compiler in $compilers; do
+    built $compiler plain 16 -O0 -g -gdwarf-5
+    # The width and the option are words of their own.
+    [ -z "$wide" ] || built $compiler wide $wide -O1 -g -gdwarf-4
+done
+title="$title: $total functions"
+
+finished

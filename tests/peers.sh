@@ -1,0 +1,81 @@
+#!/usr/bin/env bash
+# Shows the edits of tests/c/edits.txt to abidiff, of the package abigail-tools, and holds the tables of docs/PEERS.md against what
+# it answers. It runs no program of this repository: what `abi` answers is what the table of edits says, and tests/typed_check.sh
+# holds the program against that.
+#
+#   tests/peers.sh           compares with the page; does nothing where there is no abidiff, or another one than the page's
+#   tests/peers.sh --print   prints the tables of the page
+set -eu
+title="peers"
+tools="gcc awk"
+crate=
+. "$(dirname "$0")/common.bash"
+. "$root/tests/edits.bash"
+
+page=$root/docs/PEERS.md
+if ! command -v abidiff >/dev/null; then
+    told "nothing ran, since there is no abidiff"
+    exit 0
+fi
+version=$(abidiff --version | awk '{ print $NF }')
+if [ "${1:-}" != --print ] && ! grep -q "abidiff $version\b" "$page"; then
+    told "nothing ran, since abidiff $version is not the one of docs/PEERS.md"
+    exit 0
+fi
+
+# shown STATUS: what abidiff's exit status tells: 4 a change, 8 an incompatible one, 1 and 2 a failure.
+shown() {
+    case $1 in
+    0) echo "no change" ;;
+    4) echo "change" ;;
+    12) echo "incompatible change" ;;
+    *) fail "abidiff ended with status $1" ;;
+    esac
+}
+
+cut_edits
+for edit in $(seq "$edits"); do
+    build_edit "$edit" gcc -gdwarf-5 -O0
+    ended=0
+    abidiff "edits/$edit/old.so" "edits/$edit/new.so" >abidiff_text 2>&1 || ended=$?
+    says=$(shown "$ended")
+    answer=$(answer_of "$edit" gcc -gdwarf-5 -O0 | head -n 1)
+    echo "$answer/$says" >>counted
+    differs=
+    case "$answer/$ended" in no/0 | yes/4 | yes/12) differs=1 ;; esac
+    if [ -n "$differs" ] && [ -f "edits/$edit/abidiff" ]; then
+        awk -v name="$(cat "edits/$edit/name")" -v answer="$answer" -v says="$says" '{
+            who = $0
+            sub(/:.*/, "", who)
+            sub(/^[^:]*: /, "")
+            printf "| %s | %s | %s | %s | %s |\n", name, answer, says, who, $0
+        }' "edits/$edit/abidiff" >>"differing_$answer"
+    elif [ -n "$differs" ] || [ -f "edits/$edit/abidiff" ]; then
+        fail "$(cat "edits/$edit/name"): $answer, and abidiff shows $says: the table of edits says something else"
+    fi
+done
+
+# many ANSWER SHOWN: how many edits have both.
+many() {
+    grep -c -x "$1/$2" counted || true
+}
+
+{
+    echo "| abi | abidiff: no change | change | incompatible change |"
+    echo "|---|---|---|---|"
+    for answer in yes no; do
+        echo "| $answer | $(many "$answer" "no change") | $(many "$answer" "change") | $(many "$answer" "incompatible change") |"
+    done
+    for answer in no yes; do
+        echo "| Edit | abi | abidiff | Right | Why |"
+        echo "|---|---|---|---|---|"
+        cat "differing_$answer"
+    done
+} >tables
+if [ "${1:-}" = --print ]; then
+    cat tables
+    exit 0
+fi
+grep '^|' "$page" | diff -u - tables >differences || { cat differences >&2 && fail "docs/PEERS.md has other tables"; }
+passed "docs/PEERS.md: $(cat differing_no differing_yes | wc -l) of $edits edits"
+finished
