@@ -1,8 +1,10 @@
 // What no clause says: that rules are asked where there is memory, and what rule files made by hand say of a library made by hand.
 use crate::{drops_export, drops_labels, marks, read_rules};
 use abi_base::{List, NoMemory};
-use abi_types::{Export, Graph, Label, LabelKind, Library, Marks, Node, OldIx, SymbolKind, Way};
-use hand_graphs::{graph, is_library, scalar, void};
+use abi_types::{
+    Export, Graph, Kind, Label, LabelKind, Library, Marks, Node, OldIx, SymbolKind, Way,
+};
+use hand_graphs::{graph, is_library, view, void};
 use rule_text::Rules;
 use std::alloc::Global;
 use std::process::Abort;
@@ -298,13 +300,26 @@ fn labels(alloc: Global, number: u64) -> Result<List<Label<'static>>, NoMemory> 
     Ok(labels)
 }
 
+// A scalar of four bytes.
+fn labelled(
+    alloc: Global,
+    entry: u64,
+    labels: List<Label<'static>>,
+) -> Result<Node<'static, OldIx>, NoMemory> {
+    Ok(Node {
+        entry,
+        rank: 0,
+        view: view::<OldIx>(alloc, Kind::Scalar, 4, Vec::new(alloc))?,
+        labels,
+    })
+}
+
 fn nodes(alloc: Global) -> Result<List<Node<'static, OldIx>>, NoMemory> {
     let mut nodes = List::new(alloc);
     nodes.push(void::<OldIx>(alloc)?)?;
     for number in 1..7u64 {
-        let mut node = scalar::<OldIx>(alloc, number * 8, 4)?;
-        node.labels = labels(alloc, number)?;
-        nodes.push(node)?;
+        let labels = labels(alloc, number)?;
+        nodes.push(labelled(alloc, number * 8, labels)?)?;
     }
     Ok(nodes)
 }
