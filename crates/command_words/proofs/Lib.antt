@@ -1,0 +1,10 @@
+mod OneKind
+mod LineLemmas
+mod HelpWords
+mod Samples
+mod Judging
+mod Lines
+mod Trials
+mod PlainWords
+mod Counting
+mod Commands

@@ -1,0 +1,16 @@
+-- How many structures a trial makes.
+use Rattle.std.specs.Prelude.{ℕ, Bool, not, List, Option, Some, None, ◌==◌, ◌&&◌, nat_le, if◌then◌else◌, slice_index}
+use Rattle.std.specs.List.{list_all}
+use Rattle.std.specs.Char.{is_ascii_digit}
+use Rattle.std.specs.Str.Parse.{digits_value}
+
+-- decimal digits alone, and no 0 (48) first
+abbrev pub is_decimal : List ℕ → Bool
+is_decimal word = list_all is_ascii_digit word && not (slice_index word 0 == 48)
+
+abbrev pub is_trial_count : ℕ → Bool
+is_trial_count n = nat_le 1 n && nat_le n 50000
+
+-- the number that the word writes in decimal without leading zeros, where it is from 1 to 50,000
+unfoldable pub trial_count_of : List ℕ → Option ℕ
+trial_count_of word = if is_decimal word && is_trial_count (digits_value 10 word) then Some (digits_value 10 word) else None
