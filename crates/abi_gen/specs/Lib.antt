@@ -1,0 +1,5 @@
+pub mod Bytes
+pub mod Symbols
+pub mod Abbreviations
+pub mod Units
+pub mod Libraries
