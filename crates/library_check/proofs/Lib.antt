@@ -1,3 +1,6 @@
-mod Choosing
 mod Itself
+mod Marked
+mod Settled
 mod Texts
+mod Verdicts
+mod Empty

@@ -10,13 +10,14 @@ use Rattle.cert_check.specs.Compatible.{Sides, sides, IsCompatible}
 use Rattle.cert_text.specs.Certs.{PlainCert}
 use Rattle.cert_text.specs.Grammar.{IsSpelled}
 use Rattle.lib_compare.specs.Judged.{IsProved, IsRefuted}
-use Rattle.lib_compare.specs.Marking.{no_marks}
+use Rattle.rule_text.specs.Rules.{PlainRules}
+use Rattle.rules.specs.Marks.{marks_of}
 use Rattle.library_check.specs.declared.judging.Checked.{Checked}
 use Rattle.library_check.specs.declared.judging.Checked.TheVariants.{Yes, No}
 
--- two libraries, of which nothing is left out: the rule text is empty
-abbrev pub whole : PlainLibrary → PlainLibrary → Sides
-whole old new = sides old new (no_marks old)
+-- two libraries, of which a rule file says what is not compared
+abbrev pub ruled : PlainLibrary → PlainLibrary → PlainRules → Sides
+ruled old new rules = sides old new (marks_of rules old)
 
 -- The text of a yes spells the certificate of the two libraries, which a checker accepts.
 pub record IsCertificate (s : Sides) (text : List ℕ) : Type 0 where
@@ -36,7 +37,7 @@ pub record IsRefusal (styles : List Style) (s : Sides) (text : List ℕ) : Type 
   pub refuted : IsRefuted s rows
   pub report : IsReport styles rows text
 
--- what `check` says of two libraries, where listeners of these styles are told the rows
-abbrev pub IsJudged : List Style → PlainLibrary → PlainLibrary → Checked → Type 0
-IsJudged styles old new (Yes text) = IsCompatible (whole old new) × IsCertificate (whole old new) text.items
-IsJudged styles old new (No text) = (IsCompatible (whole old new) → ⊥) × IsRefusal styles (whole old new) text.items
+-- what `check` says of two libraries and a rule file, where listeners of these styles are told the rows
+abbrev pub IsJudged : List Style → PlainLibrary → PlainLibrary → PlainRules → Checked → Type 0
+IsJudged styles old new rules (Yes text) = IsCompatible (ruled old new rules) × IsCertificate (ruled old new rules) text.items
+IsJudged styles old new rules (No text) = (IsCompatible (ruled old new rules) → ⊥) × IsRefusal styles (ruled old new rules) text.items

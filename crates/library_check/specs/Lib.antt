@@ -1,3 +1,3 @@
 pub mod Judgements
 pub mod Checks
-pub mod Wanted
+pub mod Verifications

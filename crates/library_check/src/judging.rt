@@ -1,13 +1,17 @@
 // What is said of two libraries as they were read.
 ghost use Rattle.std.specs.Prelude.{◌≡◌, [], map, All, IfOk};
+ghost use Rattle.lib_compare.specs.Marking.{AreMarksOf};
+ghost use Rattle.rules.specs.Marks.{marks_of};
 ghost use Rattle.library_check.specs.Judgements.{IsJudged, IsReport};
 
 use abi_base::NoMemory;
-use abi_types::{Library, NewIx, OldIx};
+use abi_types::{Library, Marks, NewIx, OldIx};
 use break_report::{Listener, Row, tell_all};
 use cert_text::write_cert;
-use lib_compare::laws::no_marks_are_even;
-use lib_compare::{Comparison, compare, unmarked};
+use lib_compare::{Comparison, compare};
+use mark_laws::flags_of_both_ways_are_even;
+use rule_text::Rules;
+use rules::marks;
 use std::alloc::Global;
 
 /// What `check` says of two readable libraries, with the text that shows it.
@@ -17,6 +21,19 @@ pub enum Checked {
     Yes(Vec<u8>),
     /// It may not. The text is the report.
     No(Vec<u8>),
+}
+
+// What a rule file leaves out of the old library.
+pub(crate) fn marks_by(
+    alloc: Global,
+    rules: &Rules,
+    old: &Library<OldIx>,
+) -> Result<Marks, NoMemory>
+    ensures marks { IfOk result (λ marks. marks ≡ marks_of rules.now old.now) }
+    ensures even { IfOk result (λ marks. AreMarksOf old.now marks) }
+{
+    flags_of_both_ways_are_even();
+    marks(alloc, rules, old)
 }
 
 // The line `no`, and the texts of the listeners.
@@ -34,18 +51,19 @@ fn report(
     Ok(text)
 }
 
-/// What `check` says of two libraries that were read, of which nothing is left out. It fails for want of memory alone.
-pub(crate) fn judge(
+/// What `check` says of two libraries and a rule file that were read: yes with the certificate, or no with the texts that
+/// listeners make of every break. It fails for want of memory alone.
+pub fn judge(
     alloc: Global,
     old: &Library<OldIx>,
     new: &Library<NewIx>,
+    rules: &Rules,
     listeners: Vec<Box<dyn Listener>>,
 ) -> Result<Checked, NoMemory>
     requires { All (λ listener. heard listener ≡ []) listeners.items }
-    ensures { IfOk result (IsJudged (map asks listeners.items) old.now new.now) }
+    ensures { IfOk result (IsJudged (map asks listeners.items) old.now new.now rules.now) }
 {
-    no_marks_are_even();
-    let marks = unmarked(alloc, old)?;
+    let marks = marks_by(alloc, rules, old)?;
     match compare(alloc, old, new, &marks)? {
         Comparison::Compatible(cert) => Ok(Checked::Yes(write_cert(alloc, &cert)?)),
         Comparison::Broken(rows) => Ok(Checked::No(report(alloc, listeners, rows.as_slice())?)),

@@ -1,31 +1,88 @@
-//! What `check` comes to. Each law is the contract of a function whose body only names the laws below it.
-ghost use Rattle.std.specs.Prelude.{◌≡◌, ◌≤◌, ℕ, List, None, length};
+//! What `check` and `verify` come to. Each law is the contract of a function whose body only names the laws below it.
+ghost use Rattle.std.specs.Prelude.{◌≡◌, ◌≢◌, ◌≤◌, ℕ, List, [], None, length};
 ghost use Rattle.abi_base.specs.Limits.{input_limit};
+ghost use Rattle.abi_types.specs.Libraries.{PlainLibrary};
 ghost use Rattle.break_report.specs.declared.style.Style.{Style as AnyStyle};
+ghost use Rattle.lib_compare.specs.Marking.{no_marks};
 ghost use Rattle.lib_graph.specs.Faults.{library_fault};
+ghost use Rattle.rule_text.specs.Faults.{rule_fault};
+ghost use Rattle.rule_text.specs.Rules.{rules_of};
+ghost use Rattle.rules.specs.Marks.{marks_of};
+ghost use Rattle.library_check.specs.declared.verifying.Unverified.{Unverified};
+ghost use Rattle.library_check.specs.declared.verifying.Unverified.TheVariants.{NoMemory};
+ghost use Rattle.library_check.specs.declared.verifying.Verified.{Verified};
+ghost use Rattle.library_check.specs.declared.verifying.Verified.TheVariants.{Accepted};
 ghost use Rattle.library_check.specs.Checks.{AreReadable, Compatible, IsCertificateText, IsReportText};
-ghost use Rattle.library_check.specs.declared.wanted.ReportStyle.TheVariants.{Text};
-ghost use Rattle.library_check.specs.Wanted.{wanted_styles};
+ghost use Rattle.library_check.specs.Verifications.{IsAcceptedText, IsUnverified, IsVerified, certificate_fault};
+ghost use Rattle.report_styles.specs.declared.wanted.ReportStyle.{ReportStyle as AnyWanted};
+ghost use Rattle.report_styles.specs.declared.wanted.ReportStyle.TheVariants.{Own};
+ghost use Rattle.report_styles.specs.Wanted.{wanted_styles};
 
+use cert_check::laws::one_place_fails_first;
+use cert_text::laws::{a_text_is_of_one_certificate, what_is_spelled_has_no_fault};
 use lib_compare::laws::{
     a_library_may_replace_itself, exports_without_a_fault_are_distinct,
     two_libraries_have_one_right_answer,
 };
-use lib_graph::laws::nodes_stand_for_what_exports_reach;
+use lib_graph::laws::{nodes_stand_for_what_exports_reach, readable_files_are_libraries};
+use mark_laws::flags_of_both_ways_are_even;
 
-/// A readable file may replace itself.
+/// A readable file may replace itself, whatever a rule file leaves out.
 pub fn a_file_may_replace_itself()
-    ensures { (bytes : List ℕ) → library_fault bytes ≡ None → Compatible bytes bytes }
+    ensures { (bytes rules : List ℕ) → library_fault bytes ≡ None → Compatible bytes bytes rules }
 {
     exports_without_a_fault_are_distinct();
     a_library_may_replace_itself();
 }
 
-/// The certificate of two readable libraries has one text, and so has the report of listeners that make a line of each row.
+/// The certificate of two readable libraries and a readable rule file has one text, and so has the report of listeners of each
+/// style but their own.
 pub fn a_check_has_one_text()
-    ensures certificate { (old new text other : List ℕ) → length old ≤ input_limit → length new ≤ input_limit → AreReadable old new → IsCertificateText old new text → IsCertificateText old new other → text ≡ other }
-    ensures report { (styles : List AnyStyle) (old new text other : List ℕ) → length old ≤ input_limit → length new ≤ input_limit → AreReadable old new → IsReportText (wanted_styles Text styles) old new text → IsReportText (wanted_styles Text styles) old new other → text ≡ other }
+    ensures certificate { (old new rules text other : List ℕ) → length old ≤ input_limit → length new ≤ input_limit → AreReadable old new rules
+        → IsCertificateText old new rules text → IsCertificateText old new rules other → text ≡ other }
+    ensures report { (wanted : AnyWanted) (styles : List AnyStyle) (old new rules text other : List ℕ) → wanted ≢ Own → length old ≤ input_limit → length new ≤ input_limit → AreReadable old new rules
+        → IsReportText (wanted_styles wanted styles) old new rules text → IsReportText (wanted_styles wanted styles) old new rules other → text ≡ other }
 {
     two_libraries_have_one_right_answer();
     nodes_stand_for_what_exports_reach();
 }
+
+/// Of one certificate for the same inputs `verify` says one thing: it accepts none that it refuses, and it refuses for one
+/// condition.
+pub fn a_verification_has_one_answer()
+    ensures { (old new rules certificate : List ℕ) (one other : Verified) → IsVerified old new rules certificate one → IsVerified old new rules certificate other → one ≡ other }
+{
+    a_text_is_of_one_certificate();
+    one_place_fails_first();
+}
+
+/// What `check` prints on yes is a certificate without a fault that is accepted for the same inputs; and of such a text
+/// `verify` can say nothing else, but for want of memory.
+pub fn what_check_prints_is_accepted()
+    ensures readable { (old new rules text : List ℕ) → IsCertificateText old new rules text → certificate_fault text ≡ None }
+    ensures accepted { (old new rules text : List ℕ) → IsCertificateText old new rules text → IsAcceptedText old new rules text }
+    ensures alone { (old new rules text : List ℕ) (verified : Verified) → IsCertificateText old new rules text → IsVerified old new rules text verified → verified ≡ Accepted }
+    ensures memory { (old new rules text : List ℕ) (unverified : Unverified) → AreReadable old new rules → IsCertificateText old new rules text
+        → IsUnverified old new rules text unverified → unverified ≡ NoMemory }
+{
+    what_is_spelled_has_no_fault();
+    a_verification_has_one_answer();
+}
+
+/// A certificate text that is accepted for readable libraries proves that the new one may replace the old one, but for what the
+/// rule file leaves out.
+pub fn an_accepted_certificate_is_a_proof()
+    ensures { (old new rules certificate : List ℕ) → length old ≤ input_limit → length new ≤ input_limit → library_fault old ≡ None → library_fault new ≡ None
+        → IsAcceptedText old new rules certificate → Compatible old new rules }
+{
+    cert_check::laws::an_accepted_certificate_is_a_proof();
+    flags_of_both_ways_are_even();
+    nodes_stand_for_what_exports_reach();
+    readable_files_are_libraries();
+}
+
+/// An empty rule file is readable, and leaves nothing out.
+pub fn no_rules_are_readable()
+    ensures readable { rule_fault [] ≡ None }
+    ensures unmarked { (old : PlainLibrary) → marks_of (rules_of []) old ≡ no_marks old }
+{}

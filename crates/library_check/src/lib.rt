@@ -1,12 +1,14 @@
-//! What `abi check` says of the bytes of two libraries: whether the new one may replace the old one, with the text that shows it.
-//! What it promises stands in `specs/Checks.antt`.
+//! What `abi check` says of the bytes of two libraries and of a rule file: whether the new library may replace the old one, with
+//! the text that shows it. And what `abi verify` says of the text of a certificate for them. What they promise stands in
+//! `specs/Checks.antt` and `specs/Verifications.antt`.
 #![tactic(auto)]
 
 mod checking;
 mod judging;
 pub mod laws;
-mod wanted;
+mod verifying;
 
+pub use cert_check::{Refused, RefusedKind};
 pub use checking::{Unchecked, check};
-pub use judging::Checked;
-pub use wanted::{ReportStyle, wanted_listeners};
+pub use judging::{Checked, judge};
+pub use verifying::{Unverified, Verified, verify};

@@ -1,12 +1,13 @@
-use Rattle.lib_compare.specs.Marking.{no_marks}
+use Rattle.elf_syms.specs.Symbols.{symbols_of}
 use Rattle.lib_graph.specs.Exports.{symbol_versions, typed_exports_of}
 use Rattle.lib_graph.specs.Libraries.{library_of}
-use Rattle.elf_syms.specs.Symbols.{symbols_of}
+use Rattle.rule_text.specs.Rules.{rules_of}
+use Rattle.rules.specs.Marks.{marks_of}
 use Rattle.library_check.proofs.Itself.{no_export_fault, named_alike}
 use Rattle.library_check.proofs.laws.a_file_may_replace_itself.Goals as goal
 
 pub returns : goal.returns
 unfolding library_of
-returns c = λ bytes none.
-    c.a_library_may_replace_itself.ensures.replaces (library_of bytes) (no_marks (library_of bytes))
+returns c = λ bytes rules none.
+    c.a_library_may_replace_itself.ensures.replaces (library_of bytes) (marks_of (rules_of rules) (library_of bytes))
     (c.exports_without_a_fault_are_distinct.ensures.read (symbols_of bytes) (symbol_versions bytes) (typed_exports_of bytes) (no_export_fault bytes none) (named_alike bytes))

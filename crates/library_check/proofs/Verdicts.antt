@@ -1,0 +1,71 @@
+-- What is said of the text of a certificate is one thing.
+use Rattle.std.proofs.Common.{◌≡◌, ℕ, List, [], ◌∷◌, ◌++◌, Option, Some, None, refl, sym, ◌∙◌, ap, subst}
+use Rattle.std.specs.List.{AllByRecursion}
+use Rattle.abi_base.specs.declared.fault.Fault.{Fault}
+use Rattle.cert_check.specs.Accepted.{Case, Place, Keeps, IsFirstFailing, places, refused}
+use Rattle.cert_check.specs.Compatible.{Sides}
+use Rattle.cert_check.specs.declared.refused.Refused.{Refused}
+use Rattle.cert_text.specs.Certs.{PlainCert}
+use Rattle.cert_text.specs.Grammar.{IsSpelled}
+use Rattle.library_check.specs.declared.verifying.Unverified.{Unverified}
+use Rattle.library_check.specs.declared.verifying.Unverified.TheVariants as unverified
+use Rattle.library_check.specs.declared.verifying.Verified.{Verified}
+use Rattle.library_check.specs.declared.verifying.Verified.TheVariants as verified
+use Rattle.library_check.specs.Checks.{AreReadable, sides_of}
+use Rattle.library_check.specs.Judgements.{IsCertificate}
+use Rattle.library_check.specs.Verifications.{IsAcceptance, IsFirstRefusal, IsRejection, IsUnverified, IsVerified, case_for, certificate_fault}
+
+-- a text is that of at most one certificate
+abbrev pub AreOneCertificate : Type 0
+AreOneCertificate = (bytes : List ℕ) (c d : PlainCert) → IsSpelled bytes c → IsSpelled bytes d → c ≡ d
+
+-- at most one place is the first that fails
+abbrev pub FailsOnce : Type 0
+FailsOnce = (c : Case) (one other : Place) → IsFirstFailing c (places c) one → IsFirstFailing c (places c) other → one ≡ other
+
+kept_within : (c : Case) (before : List Place) (place : Place) (after : List Place) → AllByRecursion (Keeps c) (before ++ place ∷ after) → Keeps c place
+kept_within c [] place after all = all.0
+kept_within c (p ∷ before) place after all = kept_within c before place after all.1
+
+module _ (one_text : AreOneCertificate) where
+  -- a text that is accepted is not refused
+  pub apart : (s : Sides) (text : List ℕ) (refusal : Refused) → IsAcceptance s text → IsRejection s text refusal → ⊥
+  apart s text refusal one other =
+      let same : one.cert ≡ other.cert = one_text text one.cert other.cert one.spelled other.spelled in
+      let c = case_for s other.cert in
+      let first = other.fails.first in
+      let all : AllByRecursion (Keeps c) (places c) = subst (λ (cert : PlainCert). AllByRecursion (Keeps (case_for s cert)) (places (case_for s cert))) same one.accepted in
+      first.fails (kept_within c first.before other.fails.place first.after (subst (AllByRecursion (Keeps c)) first.stands all))
+
+  -- it is refused for one condition
+  pub one_refusal : FailsOnce → (s : Sides) (text : List ℕ) (refusal another : Refused) → IsRejection s text refusal → IsRejection s text another → refusal ≡ another
+  one_refusal once s text refusal another one other =
+      let same : one.cert ≡ other.cert = one_text text one.cert other.cert one.spelled other.spelled in
+      let c = case_for s other.cert in
+      let first : IsFirstRefusal c refusal = subst (λ (cert : PlainCert). IsFirstRefusal (case_for s cert) refusal) same one.fails in
+      first.is ∙ ap (refused c) (once c first.place other.fails.place first.first other.fails.first) ∙ sym other.fails.is
+
+  pub one_answer : FailsOnce → (old new rules certificate : List ℕ) (one other : Verified) → IsVerified old new rules certificate one → IsVerified old new rules certificate other → one ≡ other
+  one_answer once old new rules certificate verified.Accepted verified.Accepted one other = refl
+  one_answer once old new rules certificate verified.Accepted (verified.Refused refusal) one other =
+      absurd (apart (sides_of old new rules) certificate refusal one.1 other)
+  one_answer once old new rules certificate (verified.Refused refusal) verified.Accepted one other =
+      absurd (apart (sides_of old new rules) certificate refusal other.1 one)
+  one_answer once old new rules certificate (verified.Refused refusal) (verified.Refused another) one other =
+      ap verified.Refused (one_refusal once (sides_of old new rules) certificate refusal another one other)
+
+-- ---- the text of a yes
+
+pub accepted : (s : Sides) (text : List ℕ) → IsCertificate s text → IsAcceptance s text
+accepted s text is = record { cert = is.cert; spelled = is.spelled; accepted = is.proved.accepted }
+
+no_fault : (o : Option Fault) (fault : Fault) → o ≡ None → o ≡ Some fault → ⊥
+no_fault o fault none some = let bad : None ≡ Some fault = sym none ∙ some in cc
+
+-- where all inputs are readable, and the certificate too, only memory can be lacking
+pub only_memory : (old new rules text : List ℕ) (said : Unverified) → AreReadable old new rules → certificate_fault text ≡ None → IsUnverified old new rules text said → said ≡ unverified.NoMemory
+only_memory old new rules text unverified.NoMemory readable none is = refl
+only_memory old new rules text (unverified.Old fault) readable none is = absurd (no_fault _ fault readable.old_readable is)
+only_memory old new rules text (unverified.New fault) readable none is = absurd (no_fault _ fault readable.new_readable is.1)
+only_memory old new rules text (unverified.Rules fault) readable none is = absurd (no_fault _ fault readable.rules_readable is.2)
+only_memory old new rules text (unverified.Certificate fault) readable none is = absurd (no_fault _ fault none is.1)

@@ -1,0 +1,82 @@
+-- What `verify` promises: when the text of a certificate is accepted for two libraries and a rule file, by their bytes, and
+-- which of its conditions fails first where it is not.
+use Rattle.std.specs.Prelude.{◌≡◌, ℕ, List, Option, Some, None}
+use Rattle.abi_base.specs.declared.fault.Fault.{Fault}
+use Rattle.cert_check.specs.declared.refused.Refused.{Refused}
+use Rattle.cert_check.specs.Accepted.{Case, Place, IsAccepted, IsFirstFailing, places, refused}
+use Rattle.cert_check.specs.Compatible.{Sides, IsCompatible}
+use Rattle.cert_text.specs.Certs.{PlainCert}
+use Rattle.cert_text.specs.Faults.{fault_of}
+use Rattle.cert_text.specs.Grammar.{IsSpelled}
+use Rattle.cert_text.specs.declared.line.Version.TheVariants.{Two}
+use Rattle.lib_graph.specs.Faults.{library_fault}
+use Rattle.rule_text.specs.Faults.{rule_fault}
+use Rattle.library_check.specs.declared.verifying.Verified.{Verified}
+use Rattle.library_check.specs.declared.verifying.Verified.TheVariants as verified
+use Rattle.library_check.specs.declared.verifying.Unverified.{Unverified}
+use Rattle.library_check.specs.declared.verifying.Unverified.TheVariants as unverified
+use Rattle.library_check.specs.Checks.{AreReadable, Compatible, sides_of}
+
+-- ---- one certificate
+
+-- a certificate for two libraries and what is not compared of them
+abbrev pub case_for : Sides → PlainCert → Case
+case_for s cert = record { sides = s; cert = cert }
+
+-- the refusal is that of the first condition that the certificate does not meet
+pub record IsFirstRefusal (c : Case) (refusal : Refused) : Type 0 where
+  pub place : Place
+  pub first : IsFirstFailing c (places c) place
+  pub is : refusal ≡ refused c place
+
+-- what is said of a certificate: accepted where it meets all conditions, which proves that the new library may replace the old
+-- one, and else refused
+abbrev pub IsSettled : Case → Verified → Type 0
+IsSettled c verified.Accepted = IsCompatible c.sides × IsAccepted c
+IsSettled c (verified.Refused refusal) = IsFirstRefusal c refusal
+
+-- ---- texts
+
+-- the text spells a certificate that is accepted
+pub record IsAcceptance (s : Sides) (text : List ℕ) : Type 0 where
+  pub cert : PlainCert
+  pub spelled : IsSpelled text cert
+  pub accepted : IsAccepted (case_for s cert)
+
+-- the text spells a certificate that is refused
+pub record IsRejection (s : Sides) (text : List ℕ) (refusal : Refused) : Type 0 where
+  pub cert : PlainCert
+  pub spelled : IsSpelled text cert
+  pub fails : IsFirstRefusal (case_for s cert) refusal
+
+-- the certificate text spells a certificate that is accepted for these libraries and this rule file
+abbrev pub IsAcceptedText : List ℕ → List ℕ → List ℕ → List ℕ → Type 0
+IsAcceptedText old new rules certificate = IsAcceptance (sides_of old new rules) certificate
+
+-- it spells one of which this condition is the first that it does not meet
+abbrev pub IsRefusedText : List ℕ → List ℕ → List ℕ → List ℕ → Refused → Type 0
+IsRefusedText old new rules certificate refusal = IsRejection (sides_of old new rules) certificate refusal
+
+-- what `verify` says of readable inputs
+abbrev pub IsVerified : List ℕ → List ℕ → List ℕ → List ℕ → Verified → Type 0
+IsVerified old new rules certificate verified.Accepted = Compatible old new rules × IsAcceptedText old new rules certificate
+IsVerified old new rules certificate (verified.Refused refusal) = IsRefusedText old new rules certificate refusal
+
+-- ---- faults
+
+-- the first fault of the text of a certificate
+abbrev pub certificate_fault : List ℕ → Option Fault
+certificate_fault certificate = fault_of Two certificate
+
+-- both libraries, the rule file and the certificate are readable
+pub record AreVerifiable (old new rules certificate : List ℕ) : Type 0 where
+  pub inputs : AreReadable old new rules
+  pub certificate_readable : certificate_fault certificate ≡ None
+
+-- why it says nothing: the first fault of the first input that has one, in the order old, new, rules, certificate
+abbrev pub IsUnverified : List ℕ → List ℕ → List ℕ → List ℕ → Unverified → Type 0
+IsUnverified old new rules certificate unverified.NoMemory = Unit {0}
+IsUnverified old new rules certificate (unverified.Old fault) = library_fault old ≡ Some fault
+IsUnverified old new rules certificate (unverified.New fault) = (library_fault old ≡ None) × (library_fault new ≡ Some fault)
+IsUnverified old new rules certificate (unverified.Rules fault) = (library_fault old ≡ None) × (library_fault new ≡ None) × (rule_fault rules ≡ Some fault)
+IsUnverified old new rules certificate (unverified.Certificate fault) = AreReadable old new rules × (certificate_fault certificate ≡ Some fault)

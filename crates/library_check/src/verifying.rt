@@ -1,0 +1,116 @@
+// Whether the text of a certificate proves that a new library may replace an old one, by their bytes and those of a rule file.
+ghost use Rattle.std.specs.Prelude.{◌≡◌, ◌≤◌, ℕ, List, None, length, OnOk, IfOk, IfErr};
+ghost use Rattle.abi_base.specs.Limits.{input_limit};
+ghost use Rattle.cert_text.specs.Grammar.{IsSpelled};
+ghost use Rattle.library_check.specs.Checks.{AreReadable, IsUnchecked};
+ghost use Rattle.library_check.specs.Judgements.{ruled};
+ghost use Rattle.library_check.specs.Verifications.{AreVerifiable, IsSettled, IsUnverified, IsVerified, case_for, certificate_fault};
+
+use crate::checking::{Unchecked, read_inputs};
+use crate::judging::marks_by;
+use abi_base::{Fault, NoMemory, Refusal};
+use abi_types::{Library, NewIx, OldIx};
+use cert_check::laws::an_accepted_certificate_is_a_proof;
+use cert_check::{Refused, check_cert};
+use cert_text::{Cert, read_cert};
+use rule_text::Rules;
+use std::alloc::Global;
+
+/// What `verify` says of a readable certificate.
+#[derive(Clone, Copy, Debug)]
+pub enum Verified {
+    /// It proves that the new library may replace the old one.
+    Accepted,
+    /// It does not, and this is the first condition that it does not meet.
+    Refused(Refused),
+}
+
+/// Why `verify` says nothing.
+#[derive(Clone, Copy, Debug)]
+pub enum Unverified {
+    /// The first fault of the old library.
+    Old(Fault),
+    /// The first fault of the new library, where the old one has none.
+    New(Fault),
+    /// The first fault of the rule file, where neither library has one.
+    Rules(Fault),
+    /// The first fault of the certificate, where no other input has one.
+    Certificate(Fault),
+    /// Memory ran out.
+    NoMemory,
+}
+
+// What `verify` says where one of the inputs that it has in common with `check` is not read.
+fn of_inputs(unread: Unchecked) -> Unverified
+    ensures { (old new rules certificate : List ℕ) → IsUnchecked old new rules unread → IsUnverified old new rules certificate result }
+{
+    match unread {
+        Unchecked::Old(fault) => Unverified::Old(fault),
+        Unchecked::New(fault) => Unverified::New(fault),
+        Unchecked::Rules(fault) => Unverified::Rules(fault),
+        Unchecked::NoMemory => Unverified::NoMemory,
+    }
+}
+
+// The certificate, where all other inputs are readable.
+fn read_certificate(alloc: Global, bytes: &[u8]) -> Result<Cert, Unverified>
+    ensures readable { OnOk result (certificate_fault bytes.now ≡ None) }
+    ensures spelled { IfOk result (λ cert. IsSpelled bytes.now cert) }
+    ensures unread { IfErr result (λ u. (old new rules : List ℕ) → AreReadable old new rules → IsUnverified old new rules bytes.now u) }
+{
+    match read_cert(alloc, bytes) {
+        Ok(cert) => Ok(cert),
+        Err(Refusal::Fault(fault)) => Err(Unverified::Certificate(fault)),
+        Err(Refusal::NoMemory) => Err(Unverified::NoMemory),
+    }
+}
+
+// What is said of a certificate for two libraries and a rule file that were read.
+fn settle(
+    alloc: Global,
+    old: &Library<OldIx>,
+    new: &Library<NewIx>,
+    rules: &Rules,
+    cert: &Cert,
+) -> Result<Verified, NoMemory>
+    ensures { IfOk result (IsSettled (case_for (ruled old.now new.now rules.now) cert.now)) }
+{
+    an_accepted_certificate_is_a_proof();
+    old.known();
+    old.graph().known();
+    new.graph().known();
+    let marks = marks_by(alloc, rules, old)?;
+    match check_cert(old, new, &marks, cert) {
+        Ok(()) => Ok(Verified::Accepted),
+        Err(refused) => Ok(Verified::Refused(refused)),
+    }
+}
+
+/// Whether the text of a certificate proves that a new library may replace an old one, but for what a rule file leaves out, by
+/// their bytes. A fault is that of the first input that has one, in the order old, new, rules, certificate.
+pub fn verify(
+    alloc: Global,
+    old: &[u8],
+    new: &[u8],
+    rules: &[u8],
+    certificate: &[u8],
+) -> Result<Verified, Unverified>
+    requires old_short { length old.now ≤ input_limit }
+    requires new_short { length new.now ≤ input_limit }
+    ensures readable { OnOk result (AreVerifiable old.now new.now rules.now certificate.now) }
+    ensures verified { IfOk result (IsVerified old.now new.now rules.now certificate.now) }
+    ensures unverified { IfErr result (IsUnverified old.now new.now rules.now certificate.now) }
+{
+    let inputs = match read_inputs(alloc, old, new, rules) {
+        Ok(inputs) => inputs,
+        Err(unread) => return Err(of_inputs(unread)),
+    };
+    let cert = match read_certificate(alloc, certificate) {
+        Ok(cert) => cert,
+        Err(unverified) => return Err(unverified),
+    };
+    match settle(alloc, &inputs.old, &inputs.new, &inputs.rules, &cert) {
+        Ok(verified) => Ok(verified),
+        Err(NoMemory) => Err(Unverified::NoMemory),
+    }
+}
