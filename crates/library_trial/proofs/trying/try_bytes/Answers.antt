@@ -1,0 +1,9 @@
+use Rattle.std.proofs.Common.{ℕ, List, [], subst}
+use Rattle.library_check.specs.Checks.{IsUnchecked}
+use Rattle.library_trial.specs.Trials.{new_library}
+use Rattle.library_trial.proofs.trying.try_bytes.Goals as goal
+
+pub returns-in-Err-clause-untried : goal.returns-in-Err-clause-untried
+returns-in-Err-clause-untried g c =
+    let P : List ℕ → Type 0 = λ bytes. IsUnchecked bytes (new_library c.args.n) [] c.in-Err.unread in
+    subst P c.requires.old (c.in-Err.ensures.unread (new_library c.args.n) [])

@@ -1,0 +1,153 @@
+// Two made libraries, and what is said of them.
+ghost use Rattle.std.specs.Prelude.{◌≡◌, ◌<◌, ◌≤◌, ℕ, List, [], None, length, map, All, OnOk, IfOk, IfErr};
+ghost use Rattle.abi_base.specs.Limits.{input_limit};
+ghost use Rattle.abi_gen.specs.Libraries.{library};
+ghost use Rattle.lib_graph.specs.Faults.{library_fault};
+ghost use Rattle.lib_graph.specs.Libraries.{library_of};
+ghost use Rattle.library_check.specs.Checks.{IsUnchecked};
+ghost use Rattle.library_trial.specs.Trials.{IsSaid, IsTrialText, IsUntried, new_library, old_library};
+ghost use Rattle.rule_text.specs.Faults.{rule_fault};
+ghost use Rattle.rule_text.specs.Rules.{rules_of};
+
+use crate::summary::summarize;
+use abi_base::{NoMemory, Refusal};
+use abi_gen::{GenRefusal, MOST_FUNCTIONS, Side, make};
+use abi_types::{Library, NewIx, OldIx};
+use break_report::Listener;
+use lib_graph::read_library;
+use library_check::laws::no_rules_are_readable;
+use library_check::{Checked, Unchecked, judge};
+use rule_text::{Rules, read_rules};
+use std::alloc::Global;
+
+// The made library of a side. It fails for want of memory alone.
+fn make_one(alloc: Global, n: u32, side: Side) -> Result<Vec<u8>, NoMemory>
+    requires some { 0 < n }
+    requires few { n ≤ MOST_FUNCTIONS }
+    ensures made { IfOk result (λ file. file.items ≡ library n side) }
+    ensures short { IfOk result (λ file. length file.items ≤ input_limit) }
+{
+    match make(alloc, n, side) {
+        Ok(file) => Ok(file),
+        Err(GenRefusal::Size) => unreachable!(),
+        Err(GenRefusal::NoMemory) => Err(NoMemory),
+    }
+}
+
+// The old library, as it is read.
+fn read_old(alloc: Global, bytes: &[u8]) -> Result<Library<'_, OldIx>, Unchecked>
+    requires { length bytes.now ≤ input_limit }
+    ensures readable { OnOk result (library_fault bytes.now ≡ None) }
+    ensures library { IfOk result (λ library. library ≡ library_of bytes.now) }
+    ensures unread { IfErr result (λ u. (new rules : List ℕ) → IsUnchecked bytes.now new rules u) }
+{
+    match read_library(alloc, bytes) {
+        Ok(library) => Ok(library),
+        Err(Refusal::Fault(fault)) => Err(Unchecked::Old(fault)),
+        Err(Refusal::NoMemory) => Err(Unchecked::NoMemory),
+    }
+}
+
+// The new library, as it is read, where the old one has no fault.
+fn read_new(alloc: Global, bytes: &[u8]) -> Result<Library<'_, NewIx>, Unchecked>
+    requires { length bytes.now ≤ input_limit }
+    ensures readable { OnOk result (library_fault bytes.now ≡ None) }
+    ensures library { IfOk result (λ library. library ≡ library_of bytes.now) }
+    ensures unread { IfErr result (λ u. (old rules : List ℕ) → library_fault old ≡ None → IsUnchecked old bytes.now rules u) }
+{
+    match read_library(alloc, bytes) {
+        Ok(library) => Ok(library),
+        Err(Refusal::Fault(fault)) => Err(Unchecked::New(fault)),
+        Err(Refusal::NoMemory) => Err(Unchecked::NoMemory),
+    }
+}
+
+// The rules of an empty rule file. It fails for want of memory alone.
+fn no_rules(alloc: Global) -> Result<Rules, NoMemory>
+    ensures { IfOk result (λ rules. rules ≡ rules_of []) }
+{
+    no_rules_are_readable();
+    match read_rules(alloc, b"") {
+        Ok(rules) => Ok(rules),
+        Err(Refusal::Fault(_)) => unreachable!(),
+        Err(Refusal::NoMemory) => Err(NoMemory),
+    }
+}
+
+// The lines of a trial of n functions, whose libraries are these.
+fn try_read(
+    alloc: Global,
+    n: u32,
+    old: &Library<OldIx>,
+    new: &Library<NewIx>,
+    listeners: Vec<Box<dyn Listener>>,
+) -> Result<Vec<u8>, NoMemory>
+    requires unheard { All (λ listener. heard listener ≡ []) listeners.items }
+    requires old { old.now ≡ library_of (old_library n) }
+    requires new { new.now ≡ library_of (new_library n) }
+    ensures { IfOk result (λ lines. IsSaid (map asks listeners.items) n lines.items) }
+{
+    let rules = no_rules(alloc)?;
+    let exports = old.exports().len();
+    match judge(alloc, old, new, &rules, listeners)? {
+        Checked::Yes(text) => Ok(summarize(alloc, n, "yes", exports, text.as_slice())?),
+        Checked::No(text) => Ok(summarize(alloc, n, "no", exports, text.as_slice())?),
+    }
+}
+
+// The lines of a trial of n functions, whose libraries have these bytes.
+fn try_bytes(
+    alloc: Global,
+    n: u32,
+    old: &[u8],
+    new: &[u8],
+    listeners: Vec<Box<dyn Listener>>,
+) -> Result<Vec<u8>, Unchecked>
+    requires unheard { All (λ listener. heard listener ≡ []) listeners.items }
+    requires old { old.now ≡ old_library n }
+    requires new { new.now ≡ new_library n }
+    requires old_short { length old.now ≤ input_limit }
+    requires new_short { length new.now ≤ input_limit }
+    ensures trial { IfOk result (λ lines. IsTrialText (map asks listeners.items) n lines.items) }
+    ensures untried { IfErr result (IsUntried n) }
+{
+    no_rules_are_readable();
+    let old = match read_old(alloc, old) {
+        Ok(library) => library,
+        Err(unread) => return Err(unread),
+    };
+    let new = match read_new(alloc, new) {
+        Ok(library) => library,
+        Err(unread) => return Err(unread),
+    };
+    match try_read(alloc, n, &old, &new, listeners) {
+        Ok(lines) => Ok(lines),
+        Err(NoMemory) => Err(Unchecked::NoMemory),
+    }
+}
+
+/// The two lines of a trial of n functions, of which there are some and no more than a made library may have: what `check` says
+/// of the old and the new library that are made of them, with an empty rule file and these listeners, how many exports the old
+/// one has, and how many lines the whole text of `check` has; then the SHA-256 of that text. A fault of a made library, of the
+/// old one first, stops it as it stops `check`.
+pub fn try_both(
+    alloc: Global,
+    n: u32,
+    listeners: Vec<Box<dyn Listener>>,
+) -> Result<Vec<u8>, Unchecked>
+    requires some { 0 < n }
+    requires few { n ≤ MOST_FUNCTIONS }
+    requires unheard { All (λ listener. heard listener ≡ []) listeners.items }
+    ensures trial { IfOk result (λ lines. IsTrialText (map asks listeners.items) n lines.items) }
+    ensures untried { IfErr result (IsUntried n) }
+{
+    let old = match make_one(alloc, n, Side::Old) {
+        Ok(file) => file,
+        Err(NoMemory) => return Err(Unchecked::NoMemory),
+    };
+    let new = match make_one(alloc, n, Side::New) {
+        Ok(file) => file,
+        Err(NoMemory) => return Err(Unchecked::NoMemory),
+    };
+    try_bytes(alloc, n, old.as_slice(), new.as_slice(), listeners)
+}
