@@ -1,18 +1,53 @@
 // What people are told beside the answer, on standard error.
-use abi_base::{FileInputs, INPUT_LIMIT, read_whole};
+use abi_base::{FileInputs, INPUT_LIMIT, NoMemory, read_whole};
 use abi_top::Status;
+use command_words::{Asked, Request, asked_in};
 use explain::{push_fault, told_fault};
 use std::alloc::{AllocError, Global};
 use std::fs;
 use std::io::Read;
 use std::rt::Files;
 
-// The path that the words give for an input by its word in a text.
-fn path_of<'a>(words: &[&'a str], which: &str) -> Option<&'a str> {
-    let place = if which == "new" { 2 } else { 1 };
-    match words.get(place) {
-        Some(word) => Some(*word),
-        None => None,
+// The path of an input of a request, by the input's word in a text. An input that the words do not name has none.
+fn path_in<'a>(request: &Request<'a>, which: &str) -> Option<&'a str> {
+    match request {
+        Request::Check {
+            rules,
+            old,
+            new,
+            ..
+        } => match which {
+            "old" => Some(*old),
+            "new" => Some(*new),
+            "rules" => *rules,
+            _ => None,
+        },
+        Request::Verify {
+            rules,
+            old,
+            new,
+            certificate,
+        } => match which {
+            "old" => Some(*old),
+            "new" => Some(*new),
+            "rules" => *rules,
+            "certificate" => Some(*certificate),
+            _ => None,
+        },
+        Request::Entries { library } | Request::Exports { library } => Some(*library),
+        Request::Trial { .. } => None,
+    }
+}
+
+// The path that the words give for an input.
+fn path_of<'a>(
+    alloc: Global,
+    words: &'a [&'a str],
+    which: &str,
+) -> Result<Option<&'a str>, NoMemory> {
+    match asked_in(alloc, words)? {
+        Asked::Request(request) => Ok(path_in(&request, which)),
+        Asked::Help | Asked::Usage => Ok(None),
     }
 }
 
@@ -30,11 +65,11 @@ fn unreadable<R: Files + AllocGlobal>(
     rt: &R,
     words: &[&str],
     line: &str,
-) -> Result<Option<String>, AllocError> {
+) -> Result<Option<String>, NoMemory> {
     let Some((which, fault)) = told_fault(line) else {
         return Ok(None);
     };
-    let Some(path) = path_of(words, which) else {
+    let Some(path) = path_of(rt.alloc(), words, which)? else {
         return Ok(None);
     };
     let bytes = bytes_of(rt, path);
@@ -63,11 +98,11 @@ fn unread<R: Files + AllocGlobal>(
     rt: &R,
     words: &[&str],
     line: &str,
-) -> Result<Option<String>, AllocError> {
+) -> Result<Option<String>, NoMemory> {
     let Some(which) = line.trim_end().strip_prefix("read fault ") else {
         return Ok(None);
     };
-    match path_of(words, which) {
+    match path_of(rt.alloc(), words, which)? {
         Some(path) => Ok(Some(reason(rt, path)?)),
         None => Ok(None),
     }
@@ -79,7 +114,7 @@ pub(crate) fn note<R: Files + AllocGlobal>(
     words: &[&str],
     status: Status,
     line: &str,
-) -> Result<Option<String>, AllocError> {
+) -> Result<Option<String>, NoMemory> {
     match status {
         Status::Unreadable => unreadable(rt, words, line),
         Status::ReadFault => unread(rt, words, line),

@@ -17,4 +17,6 @@ mod sources;
 #[cfg(test)]
 mod typed;
 #[cfg(test)]
+mod verify;
+#[cfg(test)]
 mod versions;

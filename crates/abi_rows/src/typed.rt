@@ -69,7 +69,7 @@ fn library(alloc: Global, sections: &[(&str, &[u8])]) -> Result<Vec<u8>, AllocEr
 }
 
 // A library of these abbreviations and of the unit with changes.
-fn changed(
+pub(crate) fn changed(
     alloc: Global,
     abbrevs: &[u8],
     unit: &[u8],

@@ -1,4 +1,7 @@
+mod Clauses
 mod Endings
 mod InOrder
+mod OneByOne
+mod Printed
 mod Single
-mod Verdicts
+mod Told

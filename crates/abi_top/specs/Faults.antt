@@ -1,19 +1,32 @@
 -- The faults of inputs, and which one comes first.
 use Rattle.std.specs.Prelude.{◌≡◌, ◌⊎◌, ℕ, List, ◌∷◌, Option, Some, None}
 use Rattle.abi_base.specs.declared.fault.Fault.{Fault}
-use Rattle.abi_top.specs.Asked.{Asked, check, entries, exports}
 use Rattle.abi_top.specs.declared.status.Input.{Input}
+use Rattle.abi_top.specs.declared.status.Input.TheVariants.{Old, New, Rules, Certificate, Library}
 use Rattle.abi_top.specs.declared.judge.Stop.{Stop}
 use Rattle.abi_top.specs.declared.judge.Stop.TheVariants.{NoMemory, Fault as Faulty}
+use Rattle.command_words.specs.Asked.{PlainRequest, check, verify, entries, exports, trial}
 use Rattle.entry_list.specs.EntryLines.{listing_fault}
 use Rattle.lib_graph.specs.Faults.{library_fault}
+use Rattle.library_check.specs.Verifications.{certificate_fault}
+use Rattle.rule_text.specs.Faults.{rule_fault}
+
+-- the first fault of an input, where all faults of a library are asked
+abbrev pub whole_fault : Input → List ℕ → Option Fault
+whole_fault Old bytes = library_fault bytes
+whole_fault New bytes = library_fault bytes
+whole_fault Rules bytes = rule_fault bytes
+whole_fault Certificate bytes = certificate_fault bytes
+whole_fault Library bytes = library_fault bytes
 
 -- the first fault of an input of a request, by its bytes: all faults of a library are asked, but for `entries` those alone that
 -- its lines need
-abbrev pub fault_of : Asked → Input → List ℕ → Option Fault
-fault_of (check old new) which bytes = library_fault bytes
-fault_of (entries library) which bytes = listing_fault bytes
-fault_of (exports library) which bytes = library_fault bytes
+abbrev pub fault_of : PlainRequest → Input → List ℕ → Option Fault
+fault_of (check rules report old new) = whole_fault
+fault_of (verify rules old new certificate) = whole_fault
+fault_of (entries library) = λ which bytes. listing_fault bytes
+fault_of (exports library) = whole_fault
+fault_of (trial count) = whole_fault
 
 -- the first input that has a fault, and that fault
 abbrev pub FirstFault : (Input → List ℕ → Option Fault) → List Input → List (List ℕ) → Input → Fault → Type 0

@@ -5,6 +5,8 @@ use Rattle.abi_base.specs.Fault.{fault_number, fault_name}
 use Rattle.abi_base.specs.declared.fault.Fault.{Fault}
 use Rattle.abi_top.specs.declared.status.Input.{Input}
 use Rattle.abi_top.specs.Status.{input_word}
+use Rattle.cert_check.specs.declared.refused.Refused.{Refused}
+use Rattle.cert_check.specs.Refusals.{refused_number, refused_name}
 
 -- the end of a line
 abbrev pub newline : List ℕ
@@ -23,3 +25,10 @@ unreadable_text which fault =
 
 abbrev pub read_fault_text : Input → List ℕ
 read_fault_text which = concat (codes "read fault " ∷ input_word which ∷ newline ∷ [])
+
+abbrev pub accepted_text : List ℕ
+accepted_text = concat (codes "accepted" ∷ newline ∷ [])
+
+abbrev pub refused_text : Refused → List ℕ
+refused_text refused =
+    concat (codes "refused " ∷ decimal (refused_number refused.kind) ∷ codes " " ∷ refused_name refused.kind ∷ codes " " ∷ decimal refused.at ∷ newline ∷ [])

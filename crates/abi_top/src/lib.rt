@@ -1,16 +1,17 @@
 //! The top call of the checker: the words of a command line in, a status and a text out.
 #![tactic(auto)]
 
+mod check;
+mod inputs;
 mod judge;
-mod laws;
-mod listing;
-mod pair;
+pub mod laws;
+mod list;
 mod reading;
 mod status;
 mod text;
 mod top;
-mod words;
+mod trial;
+mod verify;
 
-pub use laws::one_answer;
 pub use status::{Input, Status};
 pub use top::run;

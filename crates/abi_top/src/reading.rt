@@ -1,8 +1,9 @@
 // Reads the inputs of a request whole, in order.
-ghost use Rattle.std.specs.Prelude.{◌≡◌, ◌≤◌, List, ℕ, length, map, All, IfOk, IfErr};
+ghost use Rattle.std.specs.Prelude.{◌≡◌, ◌≤◌, List, ℕ, length, map, All, IfOk, IfErr, IfSome};
 ghost use Rattle.abi_base.specs.Limits.{input_limit};
 ghost use Rattle.abi_base.specs.Causes.{NeverFall};
-ghost use Rattle.abi_top.specs.Reading.{Gives, StopsReading, named, items_of};
+ghost use Rattle.abi_top.specs.Reading.{Gives, StopsOne, StopsReading, named, told_of, items_of};
+ghost use Rattle.command_words.specs.Requests.{plain_word};
 ghost use Rattle.abi_top.specs.declared.reading.Unread.TheVariants.{NoMemory as OutOfMemory};
 
 use crate::Input;
@@ -25,11 +26,35 @@ impl<T: Drop> From<AllocFailed<T>> for Unread {
     }
 }
 
+// The bytes of an input, or why it cannot be read whole. One without a name is empty.
+fn read_one<I: Inputs>(
+    alloc: Global,
+    inputs: &mut I,
+    which: Input,
+    name: Option<&str>,
+) -> Result<Vec<u8>, Unread>
+    ensures told { (other : List ℕ) → I.told inputs.new other ≡ I.told inputs.old other }
+    ensures later { NeverFall (I.faults inputs.old) (I.faults inputs.new) }
+    ensures given { IfOk result (λ bytes. IfSome (told_of (I.told inputs.old) (plain_word name.entry)) (λ t. bytes.items ≡ t)) }
+    ensures short { IfOk result (λ bytes. length bytes.items ≤ input_limit) }
+    ensures unread { IfErr result (StopsOne (I.told inputs.old) (I.faults inputs.old) (I.faults inputs.new) (I.given inputs.new) (which, plain_word name.entry)) }
+{
+    let Some(name) = name else {
+        return Ok(Vec::new(alloc));
+    };
+    match read_whole(alloc, inputs, name, INPUT_LIMIT) {
+        Ok(bytes) => Ok(bytes),
+        Err(Take::NoMemory) => Err(Unread::NoMemory),
+        Err(Take::Failed) => Err(Unread::Failed(which)),
+        Err(Take::TooLong) => Err(Unread::TooLong(which)),
+    }
+}
+
 /// The bytes of the inputs, or why the first that cannot be read whole cannot be.
 pub fn read_all<I: Inputs>(
     alloc: Global,
     inputs: &mut I,
-    wanted: &[(Input, &str)],
+    wanted: &[(Input, Option<&str>)],
 ) -> Result<Vec<Vec<u8>>, Unread>
     ensures told { (name : List ℕ) → I.told inputs.new name ≡ I.told inputs.old name }
     ensures later { NeverFall (I.faults inputs.old) (I.faults inputs.new) }
@@ -39,11 +64,9 @@ pub fn read_all<I: Inputs>(
 {
     let mut all = Vec::new(alloc);
     for (which, name) in wanted {
-        match read_whole(alloc, inputs, name, INPUT_LIMIT) {
+        match read_one(alloc, inputs, *which, *name) {
             Ok(bytes) => all.push(bytes)?,
-            Err(Take::NoMemory) => return Err(Unread::NoMemory),
-            Err(Take::Failed) => return Err(Unread::Failed(*which)),
-            Err(Take::TooLong) => return Err(Unread::TooLong(*which)),
+            Err(unread) => return Err(unread),
         }
     }
     Ok(all)

@@ -9,8 +9,12 @@ pub enum Status {
     Yes,
     /// It may not; the text has a line for each break.
     No,
+    /// The certificate is not accepted; the text names the first condition that it does not meet.
+    Refused,
     /// What was asked for was printed.
     Done,
+    /// Help was asked for, and printed.
+    Help,
     /// An input has a fault, or is too long; the text names the first one.
     Unreadable,
     /// Reading an input failed; the text names the input.
@@ -31,7 +35,9 @@ impl Status {
         match self {
             Status::Yes => 0,
             Status::No => 1,
+            Status::Refused => 5,
             Status::Done => 0,
+            Status::Help => 0,
             Status::Unreadable => 2,
             Status::ReadFault => 3,
             Status::NoMemory => 4,
@@ -46,6 +52,8 @@ impl Status {
 pub enum Input {
     Old,
     New,
+    Rules,
+    Certificate,
     Library,
 }
 
@@ -57,6 +65,8 @@ impl Input {
         match self {
             Input::Old => "old",
             Input::New => "new",
+            Input::Rules => "rules",
+            Input::Certificate => "certificate",
             Input::Library => "library",
         }
     }

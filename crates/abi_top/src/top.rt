@@ -1,40 +1,48 @@
 // The top call.
-ghost use Rattle.std.specs.Prelude.{◌≡◌, ◌≢◌, ◌⊎◌, List, [], ℕ, None, Some, map, All, IfOk};
+ghost use Rattle.std.specs.Prelude.{◌≡◌, ◌≢◌, ◌⊎◌, ◌≤◌, List, [], ℕ, Option, None, Some, map, All, IfOk};
 ghost use Rattle.std.specs.Io.KnownBytes.{Appends};
 ghost use Rattle.abi_base.specs.Causes.{Rose, AppendsFront};
 ghost use Rattle.abi_base.specs.declared.fault.Fault.{Fault as AnyFault};
 ghost use Rattle.abi_top.specs.Answer.{Answers, Asks, Call, FailsToRead, IsFaulty, call_of};
-ghost use Rattle.abi_top.specs.Asked.{asked_by, check, entries, exports};
 ghost use Rattle.abi_top.specs.Ends.{IsStopAnswer, IsUnreadAnswer};
-ghost use Rattle.abi_top.specs.Headline.{OnLibraries, OnListing, IsServed, IsVerdict};
-ghost use Rattle.abi_top.specs.Text.{usage_text, unreadable_text, read_fault_text};
-ghost use Rattle.abi_top.specs.Words.{texts};
+ghost use Rattle.abi_top.specs.Faults.{AreReadable, whole_fault};
+ghost use Rattle.abi_top.specs.Headline.{OnCheck, OnVerify, OnListing, OnTrial, IsServed, IsVerdict, IsVerification};
+ghost use Rattle.abi_top.specs.Inputs.{inputs_of, judged_of, IsCountedRight};
+ghost use Rattle.abi_top.specs.Text.{accepted_text, refused_text, usage_text, unreadable_text, read_fault_text};
 ghost use Rattle.abi_top.specs.declared.status.Input.{Input as AnyInput};
 ghost use Rattle.abi_top.specs.declared.status.Status.{Status as AnyStatus};
+ghost use Rattle.cert_check.specs.declared.refused.Refused.{Refused as Refusal};
+ghost use Rattle.command_words.specs.Asked.{asked_by, check, verify, entries, exports, trial, request as requested, help, usage};
+ghost use Rattle.command_words.specs.Requests.{plain_request};
+ghost use Rattle.command_words.specs.Words.{texts};
 ghost use Rattle.entry_list.specs.EntryLines.{listing_fault};
 ghost use Rattle.lib_graph.specs.Faults.{library_fault};
 ghost use Rattle.library_check.specs.Checks.{Compatible, IsCertificateText, IsReportText};
-ghost use Rattle.library_check.specs.declared.wanted.ReportStyle.TheVariants.{Text};
-ghost use Rattle.library_check.specs.Wanted.{wanted_styles};
+ghost use Rattle.library_check.specs.Verifications.{certificate_fault, IsAcceptedText, IsRefusedText};
+ghost use Rattle.report_styles.specs.declared.wanted.ReportStyle.{ReportStyle as AnyStyle};
+ghost use Rattle.report_styles.specs.Wanted.{wanted_styles};
+ghost use Rattle.rule_text.specs.Faults.{rule_fault};
 
+use crate::inputs::wanted_for;
 use crate::judge::{Stop, judge};
 use crate::reading::{Unread, read_all};
-use crate::words::request_of;
 use crate::{Input, Status, text};
 use abi_base::{Fault, FaultKind, INPUT_LIMIT, Inputs, NoMemory, Sink, write_all};
 use break_report::Listener;
-use library_check::laws::a_file_may_replace_itself;
+use command_words::laws::a_trial_is_of_a_count;
+use command_words::{Asked, Request, asked_in};
+use library_check::laws::{a_file_may_replace_itself, an_accepted_certificate_is_a_proof};
 use std::alloc::Global;
 
 /// Does what the words ask for, and says how it ended. The words are those after the program's name. The inputs that they
 /// name are read whole, in order; then the first one with a fault decides; then the command gives its verdict. All that
 /// is to be printed is built before the first write.
 ///
-/// The listeners that make a line of each break are told all breaks, in the order in which they were handed in; the others are
+/// The listeners whose style the words ask for are told all breaks, in the order in which they were handed in; the others are
 /// dropped unheard.
 ///
-/// In the clauses `call` is this call: its words, the styles of its listeners, the bytes told of each name, the count of faults of each name before the
-/// call and after it, and how many bytes the input that was read last has given.
+/// In the clauses `call` is this call: its words, the styles of its listeners, the bytes told of each name, the count of faults of
+/// each name before the call and after it, and how many bytes the input that was read last has given.
 pub fn run<I: Inputs, S: Sink>(
     alloc: Global,
     words: &[&str],
@@ -50,27 +58,33 @@ pub fn run<I: Inputs, S: Sink>(
         result ≢ Status.NoMemory → result ≢ Status.WriteFault
         → (text : List ℕ) × Answers call result text × Appends (S.held sink.old) (S.held sink.new) text }
 
-    // Yes: both libraries are readable, the new one may replace the old one, and the certificate was printed, which a checker
-    // accepts.
+    // Yes: all inputs are readable, and the new library may replace the old one, but for what the rule file leaves out. The
+    // answer to `check` is the certificate, which a checker accepts; the answer to `verify` says that the certificate is accepted.
     ensures yes { let call : Call = call_of I.told I.faults I.given (map asks listeners.items) words.now inputs.old inputs.new in
         result ≡ Status.Yes
-        → OnLibraries call (λ old new. Compatible old new × (text : List ℕ) × IsCertificateText old new text × Appends (S.held sink.old) (S.held sink.new) text) }
+        → OnCheck call (λ report old new rules. Compatible old new rules × (text : List ℕ) × IsCertificateText old new rules text × Appends (S.held sink.old) (S.held sink.new) text)
+        ⊎ OnVerify call (λ old new rules certificate. IsAcceptedText old new rules certificate × Compatible old new rules × Appends (S.held sink.old) (S.held sink.new) accepted_text) }
 
-    // No: both libraries are readable, the new one may not replace the old one, and what listeners make of all breaks was
-    // printed, each break of types with the first path to it from an export.
+    // No: all inputs are readable, the new library may not replace the old one, and what listeners of the style that is asked for
+    // make of all breaks was printed, each break of types with the first path to it from an export.
     ensures no { let call : Call = call_of I.told I.faults I.given (map asks listeners.items) words.now inputs.old inputs.new in
         result ≡ Status.No
-        → OnLibraries call (λ old new. (Compatible old new → ⊥) × (text : List ℕ) × IsReportText (wanted_styles Text call.styles) old new text × Appends (S.held sink.old) (S.held sink.new) text) }
+        → OnCheck call (λ report old new rules. (Compatible old new rules → ⊥) × (text : List ℕ) × IsReportText (wanted_styles report call.styles) old new rules text × Appends (S.held sink.old) (S.held sink.new) text) }
 
-    // A library may replace itself: where both names tell the same readable bytes, the answer is not no.
-    ensures itself { let call : Call = call_of I.told I.faults I.given (map asks listeners.items) words.now inputs.old inputs.new in
-        (old_name new_name bytes : List ℕ) → asked_by (texts words.now) ≡ Some (check old_name new_name)
+    // A library may replace itself, whatever a rule file leaves out: where both names tell the same bytes, the answer is not no.
+    ensures itself { (rules : Option (List ℕ)) (report : AnyStyle) (old_name new_name bytes : List ℕ) → asked_by (texts words.now) ≡ requested (check rules report old_name new_name)
         → I.told inputs.old old_name ≡ Some bytes → I.told inputs.old new_name ≡ Some bytes → result ≢ Status.No }
 
-    // Done: the library is readable, and a line was printed for each of its entries, or for each of its exports.
+    // Refused: all inputs are readable, and the text names the first condition that the certificate does not meet.
+    ensures refused { let call : Call = call_of I.told I.faults I.given (map asks listeners.items) words.now inputs.old inputs.new in
+        result ≡ Status.Refused
+        → OnVerify call (λ old new rules certificate. (refusal : Refusal) × IsRefusedText old new rules certificate refusal × Appends (S.held sink.old) (S.held sink.new) (refused_text refusal)) }
+
+    // Done: the library is readable, and a line was printed for each of its entries, or for each of its exports; or the lines of
+    // a trial were printed.
     ensures done { let call : Call = call_of I.told I.faults I.given (map asks listeners.items) words.now inputs.old inputs.new in
         result ≡ Status.Done
-        → OnListing call (λ text. Appends (S.held sink.old) (S.held sink.new) text) }
+        → OnListing call (λ text. Appends (S.held sink.old) (S.held sink.new) text) ⊎ OnTrial call (λ text. Appends (S.held sink.old) (S.held sink.new) text) }
 
     // Unreadable: the text names the first fault of the first input that has one, too long before all others.
     ensures unreadable { let call : Call = call_of I.told I.faults I.given (map asks listeners.items) words.now inputs.old inputs.new in
@@ -86,9 +100,14 @@ pub fn run<I: Inputs, S: Sink>(
         × Appends (S.held sink.old) (S.held sink.new) (read_fault_text which) }
 
     // Usage comes exactly where the words are wrong, but for want of memory and a write fault.
-    ensures usage { result ≡ Status.Usage → (asked_by (texts words.now) ≡ None) × Appends (S.held sink.old) (S.held sink.new) usage_text }
-    ensures wrong_words { asked_by (texts words.now) ≡ None
+    ensures usage { result ≡ Status.Usage → (asked_by (texts words.now) ≡ usage) × Appends (S.held sink.old) (S.held sink.new) usage_text }
+    ensures wrong_words { asked_by (texts words.now) ≡ usage
         → (result ≡ Status.Usage) ⊎ ((result ≡ Status.NoMemory) ⊎ (result ≡ Status.WriteFault)) }
+
+    // And help comes exactly where the words ask for it.
+    ensures help { result ≡ Status.Help → (asked_by (texts words.now) ≡ help) × Appends (S.held sink.old) (S.held sink.new) usage_text }
+    ensures help_words { asked_by (texts words.now) ≡ help
+        → (result ≡ Status.Help) ⊎ ((result ≡ Status.NoMemory) ⊎ (result ≡ Status.WriteFault)) }
 
     // A write failed in this call, behind a front of a text with which another status could have come.
     ensures write_fault { result ≡ Status.WriteFault → Rose (S.faults sink.old) (S.faults sink.new) }
@@ -99,26 +118,41 @@ pub fn run<I: Inputs, S: Sink>(
     // Want of memory leaves the sink as before.
     ensures no_memory { result ≡ Status.NoMemory → sink.new ≡ sink.old }
 
-    // Where the words are right, both inputs tell readable bytes and did not fail, and the sink did not fail, the answer
+    // Where the words are right, all inputs tell readable bytes and did not fail, and the sink did not fail, the answer
     // is the verdict, or want of memory.
     ensures complete { let call : Call = call_of I.told I.faults I.given (map asks listeners.items) words.now inputs.old inputs.new in
-        (old_name new_name old new : List ℕ) → asked_by (texts words.now) ≡ Some (check old_name new_name)
-        → IsServed call library_fault old_name old → IsServed call library_fault new_name new → (Rose (S.faults sink.old) (S.faults sink.new) → ⊥)
-        → result ≢ Status.NoMemory → IsVerdict old new result }
+        (rules_name : Option (List ℕ)) (report : AnyStyle) (old_name new_name old new rules : List ℕ)
+        → asked_by (texts words.now) ≡ requested (check rules_name report old_name new_name)
+        → IsServed call library_fault (Some old_name) old → IsServed call library_fault (Some new_name) new → IsServed call rule_fault rules_name rules
+        → (Rose (S.faults sink.old) (S.faults sink.new) → ⊥) → result ≢ Status.NoMemory → IsVerdict old new rules result }
 
-    // The same of the entries of one library.
+    // The same of a certificate.
+    ensures complete_verify { let call : Call = call_of I.told I.faults I.given (map asks listeners.items) words.now inputs.old inputs.new in
+        (rules_name : Option (List ℕ)) (old_name new_name certificate_name old new rules certificate : List ℕ)
+        → asked_by (texts words.now) ≡ requested (verify rules_name old_name new_name certificate_name)
+        → IsServed call library_fault (Some old_name) old → IsServed call library_fault (Some new_name) new → IsServed call rule_fault rules_name rules
+        → IsServed call certificate_fault (Some certificate_name) certificate
+        → (Rose (S.faults sink.old) (S.faults sink.new) → ⊥) → result ≢ Status.NoMemory → IsVerification old new rules certificate result }
+
+    // Of the entries of one library.
     ensures complete_entries { let call : Call = call_of I.told I.faults I.given (map asks listeners.items) words.now inputs.old inputs.new in
-        (name library : List ℕ) → asked_by (texts words.now) ≡ Some (entries name)
-        → IsServed call listing_fault name library → (Rose (S.faults sink.old) (S.faults sink.new) → ⊥)
+        (name library : List ℕ) → asked_by (texts words.now) ≡ requested (entries name)
+        → IsServed call listing_fault (Some name) library → (Rose (S.faults sink.old) (S.faults sink.new) → ⊥)
         → result ≢ Status.NoMemory → result ≡ Status.Done }
 
-    // And of its exports.
+    // Of its exports.
     ensures complete_exports { let call : Call = call_of I.told I.faults I.given (map asks listeners.items) words.now inputs.old inputs.new in
-        (name library : List ℕ) → asked_by (texts words.now) ≡ Some (exports name)
-        → IsServed call library_fault name library → (Rose (S.faults sink.old) (S.faults sink.new) → ⊥)
+        (name library : List ℕ) → asked_by (texts words.now) ≡ requested (exports name)
+        → IsServed call library_fault (Some name) library → (Rose (S.faults sink.old) (S.faults sink.new) → ⊥)
+        → result ≢ Status.NoMemory → result ≡ Status.Done }
+
+    // And of a trial, where the libraries that it makes are readable.
+    ensures complete_trial { (count : ℕ) → asked_by (texts words.now) ≡ requested (trial count)
+        → AreReadable whole_fault (inputs_of (trial count)) (judged_of (trial count) []) → (Rose (S.faults sink.old) (S.faults sink.new) → ⊥)
         → result ≢ Status.NoMemory → result ≡ Status.Done }
 {
     a_file_may_replace_itself();
+    an_accepted_certificate_is_a_proof();
     match answer_to(alloc, words, inputs, listeners) {
         Err(NoMemory) => Status::NoMemory,
         Ok(answer) => match write_all(sink, &answer.text) {
@@ -145,16 +179,37 @@ fn answer_to<I: Inputs>(
     requires { All (λ listener. heard listener ≡ []) listeners.items }
     ensures { IfOk result (λ a. Answers (call_of I.told I.faults I.given (map asks listeners.items) words.now inputs.old inputs.new) a.status a.text.items) }
 {
-    let Some(request) = request_of(words) else {
-        return Ok(Answer {
+    a_trial_is_of_a_count();
+    match asked_in(alloc, words)? {
+        Asked::Request(request) => answer_of(alloc, words, &request, inputs, listeners),
+        Asked::Help => Ok(Answer {
+            status: Status::Help,
+            text: text::usage(alloc)?,
+        }),
+        Asked::Usage => Ok(Answer {
             status: Status::Usage,
             text: text::usage(alloc)?,
-        });
-    };
-    let wanted = request.wanted(alloc)?;
+        }),
+    }
+}
+
+// The answer to a request of these words.
+fn answer_of<I: Inputs>(
+    alloc: Global,
+    words: &[&str],
+    request: &Request,
+    inputs: &mut I,
+    listeners: Vec<Box<dyn Listener>>,
+) -> Result<Answer, NoMemory>
+    requires asked { asked_by (texts words.now) ≡ requested (plain_request request.now) }
+    requires counted { IsCountedRight (plain_request request.now) }
+    requires unheard { All (λ listener. heard listener ≡ []) listeners.items }
+    ensures { IfOk result (λ a. Answers (call_of I.told I.faults I.given (map asks listeners.items) words.now inputs.old inputs.new) a.status a.text.items) }
+{
+    let wanted = wanted_for(alloc, request)?;
     match read_all(alloc, inputs, &wanted) {
         Err(unread) => unread_answer(alloc, unread),
-        Ok(all) => match judge(alloc, &request, &all, listeners) {
+        Ok(all) => match judge(alloc, request, &all, listeners) {
             Ok(judgement) => Ok(Answer {
                 status: judgement.verdict.status(),
                 text: judgement.text,

@@ -4,7 +4,7 @@ ghost use Rattle.abi_base.specs.declared.fault.Fault.{Fault as AnyFault};
 ghost use Rattle.abi_base.specs.Limits.{input_limit};
 ghost use Rattle.abi_base.specs.Outcome.{Judges};
 ghost use Rattle.abi_top.specs.Faults.{IsStopFor};
-ghost use Rattle.abi_top.specs.Listing.{IsListed};
+ghost use Rattle.abi_top.specs.Listed.{IsListed};
 ghost use Rattle.entry_list.specs.EntryLines.{listing_fault, listing_of};
 ghost use Rattle.export_list.specs.ExportLines.{exports_text};
 ghost use Rattle.lib_graph.specs.Faults.{library_fault};
