@@ -1,16 +1,15 @@
 #!/usr/bin/env bash
-# Times the reader of the tree of entries, by the program typed_exports, over libraries of generated C with 470,000 entries and
+# Times the reader of the tree of entries, by `abi exports`, over libraries of generated C with 470,000 entries and
 # more: one unit of 6,500 groups of declarations by gcc, one by clang, and 150 units of 44 groups. They are compiled with
-# -fvisibility=hidden, so that they have no exports: the program then makes the tree and does nothing else. Beside it run
+# -fvisibility=hidden, so that they have no exports: the program then makes the tree and little else. Beside it run
 # `abi entries`, which reads the same entries one by one and keeps none, readelf --debug-dump=info, and llvm-dwarfdump where it is
 # there. Prints seconds of processor time, the least of nine runs, ratios, and peak memory. Of the first library, compiled with
 # its exports, it prints also the bytes of memory for each entry that are resident while the tree is there, without those of the
 # file: the program is looked at while nobody takes what it prints. Then it measures two files that are made to ask for much: one
 # of 8,300 entries of one byte, each with 8,300 attributes that take no bytes, and one of 4,200,000 entries of one byte.
 #
-# usage: bench/tree.sh [ABI [TYPED_EXPORTS]]   (default: the programs that `rt run` built in their crates' out)
+# usage: bench/tree.sh [ABI]   (default: the program that `rt run` built in crates/abi_cli/out)
 set -eu
-typed=$(readlink -f "${2:-$(dirname "$0")/../crates/typed_exports/out/typed_exports}")
 . "$(dirname "$0")/common.bash"
 source=$top/tests/c/entries.awk
 mkdir -p tree
@@ -21,7 +20,7 @@ resident() {
     local pid size
     rm -f pipe
     mkfifo pipe
-    "$typed" "$2" >pipe &
+    "$abi" exports "$2" >pipe &
     pid=$!
     exec 3<pipe
     sleep 3
@@ -36,23 +35,23 @@ resident() {
 measured() {
     local entries ours
     entries=$("$abi" entries "$2" | wc -l)
-    ours=$(least 9 "$typed" "$2")
+    ours=$(least 9 "$abi" exports "$2")
     echo "$1: $entries entries, $(stat -c %s "$2") bytes of file, load $(cut -d ' ' -f 1 /proc/loadavg)"
-    echo "  typed_exports $ours s, peak $(peak_memory "$typed" "$2") MB"
+    echo "  abi exports $ours s, peak $(peak_memory "$abi" exports "$2") MB"
     beside "$ours" "$abi" entries "$2"
     beside "$ours" readelf --debug-dump=info "$2"
     if command -v llvm-dwarfdump >/dev/null; then beside "$ours" llvm-dwarfdump --debug-info "$2"; fi
 }
 
-# alone NAME LIBRARY: a line of typed_exports and one of `abi entries`, with the peak memory as a multiple of the file.
+# alone NAME LIBRARY: a line of `abi exports` and one of `abi entries`, with the peak memory as a multiple of the file.
 alone() {
     local entries ours memory size
     entries=$("$abi" entries "$2" | wc -l)
-    ours=$(least 3 "$typed" "$2")
-    memory=$(peak_memory "$typed" "$2")
+    ours=$(least 3 "$abi" exports "$2")
+    memory=$(peak_memory "$abi" exports "$2")
     size=$(stat -c %s "$2")
     echo "$1: $entries entries, $size bytes of file, load $(cut -d ' ' -f 1 /proc/loadavg)"
-    echo "  typed_exports $ours s, peak $memory MB, $(ratio "$(awk -v m="$memory" 'BEGIN { print 1048576 * m }')" "$size") times the file"
+    echo "  abi exports $ours s, peak $memory MB, $(ratio "$(awk -v m="$memory" 'BEGIN { print 1048576 * m }')" "$size") times the file"
     beside "$ours" "$abi" entries "$2"
 }
 

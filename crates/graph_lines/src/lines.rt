@@ -24,7 +24,9 @@ pub(crate) fn push_exports(
         let entry = export.entry;
         text.push_str("export ")?;
         push_label(alloc, text, export)?;
-        writeln!(text, " entry {entry}")?;
+        write!(text, " entry {entry} named ")?;
+        push_name(alloc, text, export.declared)?;
+        text.push('\n')?;
     }
     Ok(())
 }

@@ -1,9 +1,9 @@
-//! Prints the exports of a library and the graph of their types, so that `tests/typed_graphs.sh` can compare them with what a
-//! compiler says of the same types.
+//! Prints the exports of a library and the graph of their types, so that `tests/typed_exports.sh` and `tests/typed_graphs.sh` can
+//! compare them with what readelf lists and with what a compiler says of the same types.
 //!
 //! The lines of an export and of a node are
 //!
-//!     export LABEL entry OFFSET
+//!     export LABEL entry OFFSET named NAME
 //!     node OFFSET KIND size BYTES align BYTES count N [group GROUP] [declared] [variadic] tag TAG labels [KIND:NAME ..]
 //!
 //! in order of symbols and of nodes, and below that of a node stand those of its parts:
@@ -15,8 +15,8 @@
 //!     result OFFSET
 //!     param OFFSET
 //!
-//! An offset is that of an entry, and 0 is void; of an export it is 0 where it has no entry. A name is in its printed form, and
-//! `-` where it is empty.
+//! An offset is that of an entry, and 0 is void; of an export it is 0 where it has no entry. The name of an export is that of its
+//! entry, or of its symbol where it has none. A name is in its printed form, and `-` where it is empty.
 //!
 //! usage: graph_lines LIBRARY
 #![tactic(auto)]
