@@ -171,6 +171,38 @@ built() {
     agree "$compiler $*" $compiler $width $kinds $own $odd
 }
 
+# worked: examples whose places the psABI gives by hand.
+worked() {
+    cat >worked.c <<'END'
+union u { double d; };
+struct two { long a, b; };
+struct big { long a, b, c; };
+struct nil {};
+union late { long double d; struct { int : 32; int : 32; long i; } s; };
+void g(union u x, long l) {}
+int h(int a, int b, int c, int d, int e, struct two s, int f) { return 0; }
+struct big m(int a) { struct big b = { a }; return b; }
+long double q(long double a, __int128 b, float _Complex c) { return a; }
+union late w(void) { union late x = { 0 }; return x; }
+void z(struct nil a, int b) {}
+END
+    gcc -shared -fPIC -w -g -O1 -o worked.so worked.c
+    sort >want <<'END'
+g params xmm0,rdi result none
+h params rdi,rsi,rdx,rcx,r8,stack+0:16,r9 result rax
+m params rsi result memory
+q params stack+0:16,rdi+rsi,xmm0 result st0
+w params - result st0+rax
+z params none,rdi result none
+END
+    answers "worked examples" 0 exports worked.so
+    sed 's/^[0-9]* \([^ ]*\) FUNC [0-9]* /\1 /' got | sort >places
+    mv places got
+    same "worked examples"
+    passed "worked examples"
+}
+
+worked
 total=0
 wide=
 if grep -qw avx512f /proc/cpuinfo; then wide="64 -mavx512f"; else left_out="$left_out AVX-512"; fi

@@ -71,6 +71,11 @@ answered "a no" 1 128 check many.so fewer.so
 answered "entries" 0 128 entries entries.so
 answered "exports" 0 512 exports entries.so
 answered "a yes on types" 0 512 check entries.so entries.so
+printf '[suppress_type]\nname_regexp = ^node\n' >rules
+answered "a yes with a rule file" 0 512 check --rules rules entries.so entries.so
+cp want certificate
+answered "a certificate" 0 512 verify --rules rules entries.so entries.so certificate
+answered "a trial" 0 512 trial 100
 answered "an unreadable library" 2 128 check many.so many.c
 
 finished

@@ -198,7 +198,7 @@ cp usage want
 expect "no words are wrong" 64
 expect "one file is not enough" 64 check old.so
 expect "two libraries are too many for entries" 64 entries old.so old.so
-expect "other commands are not built yet" 64 trial 1
+expect "there is no such command" 64 replace old.so old.so
 expect "a word that is no UTF-8 is wrong" 64 check old.so $'\xff.so'
 
 # Not written.

@@ -1,0 +1,197 @@
+#!/usr/bin/env bash
+# What the program makes of its words, styles, rule files, certificates and trials, on libraries that gcc builds. The answers were
+# derived by hand from what the commands promise.
+#
+#   tests/commands.sh                 builds the program of this repository
+#   ABI=/path/of/abi tests/commands.sh    takes another one
+set -eu
+title="commands"
+tools="gcc readelf sha256sum awk"
+. "$(dirname "$0")/common.bash"
+
+cat >usage <<'END'
+usage: abi check [--rules FILE] [--report text|table|counts|first|own] OLD NEW
+       abi verify [--rules FILE] OLD NEW CERT
+       abi entries LIB
+       abi exports LIB
+       abi trial N
+END
+
+# build LIBRARY < SOURCE
+build() {
+    gcc -shared -fPIC -g -O1 -Wl,-soname,libused.so.1 -o "$1" -x c -
+}
+
+# wanted LINE..: the lines that the program must print.
+wanted() {
+    [ $# -eq 0 ] || printf '%s\n' "$@"
+} >want
+
+# ---- words
+
+echo 'int f(void) { return 1; }' | build plain.so
+cp plain.so ./-plain.so
+: >no_rules
+
+cp usage want
+while IFS='|' read -r status words; do
+    # The words stand apart by blanks; '' is an empty word, and \377 a byte that is no text.
+    eval "set -- $words"
+    expect "words: $words" "$status" "$@"
+done <<'END'
+64|
+64|check
+64|check plain.so
+64|check plain.so plain.so plain.so
+64|check plain.so plain.so --report
+64|check plain.so plain.so --report loud
+64|check plain.so plain.so --rules
+64|check --rules no_rules --rules no_rules plain.so plain.so
+64|check --report text --report text plain.so plain.so
+64|check --rules no_rules
+64|check --rules no_rules plain.so
+64|check --rules -h
+64|check --loud plain.so plain.so
+64|--help=x
+64|Check plain.so plain.so
+64|"" plain.so plain.so
+64|check plain.so $'\377'
+64|verify plain.so plain.so
+64|verify --report text plain.so plain.so no_rules
+64|entries
+64|entries plain.so plain.so
+64|entries --rules no_rules plain.so
+64|exports --report text plain.so
+64|trial
+64|trial 0
+64|trial 50001
+64|trial 007
+64|trial x
+64|trial +1
+64|trial 1 1
+0|--help
+0|-h
+0|check --help
+0|check -h
+0|check plain.so --help
+0|check plain.so -hx --loud
+END
+
+"$program" check plain.so plain.so >want
+for words in "check -- plain.so plain.so" "check plain.so plain.so --rules no_rules" "check plain.so --rules no_rules plain.so" \
+    "--rules no_rules check plain.so plain.so" "check --rules=no_rules plain.so plain.so" "check --report=text plain.so plain.so" \
+    "check --report own plain.so plain.so" "check -- -plain.so plain.so"; do
+    expect "words: $words" 0 $words
+done
+
+# An empty name is a name, of a file that is not there.
+wanted "read fault rules"
+expect "an empty name of a rule file" 3 check --rules= plain.so plain.so
+wanted "read fault rules"
+expect "a rule file that is not there" 3 check --rules missing plain.so plain.so
+wanted "read fault certificate"
+expect "a certificate that is not there" 3 verify plain.so plain.so missing
+wanted "read fault old"
+expect "a library that is not there goes first" 3 verify --rules missing missing plain.so missing
+printf '[suppress_type]\nname = a\nlonely\n' >bad_rules
+wanted "unreadable rules 51 Line 3"
+expect "a rule file with a fault" 2 check --rules bad_rules plain.so plain.so
+grep -q '^abi: bad_rules: line 3: ' errors || fail "the path of the rule file is not told: $(cat errors)"
+wanted "unreadable rules 51 Line 3"
+expect "the rule file goes before the certificate" 2 verify --rules bad_rules plain.so plain.so bad_rules
+wanted "unreadable certificate 60 Line 1"
+expect "a certificate with a fault" 2 verify plain.so plain.so bad_rules
+grep -q '^abi: bad_rules: line 1: ' errors || fail "the path of the certificate is not told: $(cat errors)"
+wanted "unreadable new 2 NotElf 0"
+cp usage none.so
+expect "a library with a fault goes before rules" 2 verify --rules bad_rules plain.so none.so bad_rules
+
+# ---- styles
+
+echo 'struct list { struct list *next; int v; }; int len(struct list *l) { return l->v; } void a(void) {} void b(void) {}' | build long_old.so
+echo 'struct list { struct list *next; long v; }; int len(struct list *l) { return l->v; }' | build long_new.so
+exports long_old.so | awk -F '\t' '$2 != "len" { print "X2 " $2 ": gone" }' >gone
+len="L2 len param 1 / target / member v: size 4, now 8"
+{ echo no && cat gone && echo "$len"; } >want
+expect "a line for each break" 1 check long_old.so long_new.so
+expect "a line for each break, in words" 1 check --report text long_old.so long_new.so
+expect "the first ten of three breaks" 1 check --report first long_old.so long_new.so
+{ echo no && sed 's/^\(X2\) \([^:]*\): \(.*\)/\1 \2 \3/' gone |
+    awk '{ printf "%-5s%-32s -: %s\n", $1, $2, $3 }'
+printf 'L2   %-32s %s\n' len "param 1 / target / member v: size 4, now 8"; } >want
+expect "a table" 1 check --report table long_old.so long_new.so
+printf 'no\nX2         2\nL2         1\nall        3\n' >want
+expect "counts" 1 check --report counts long_old.so long_new.so
+echo no >want
+expect "no listener of its own style" 1 check --report own long_old.so long_new.so
+for function in 1 2 3 4 5 6 7 8 9 10 11 12; do echo "void f$function(void) {}"; done | build many.so
+echo 'static int none;' | build few.so
+{ echo no && exports many.so | head -n 10 | awk -F '\t' '{ print "X2 " $2 ": gone" }'; } >want
+expect "the first ten of twelve breaks" 1 check --report first many.so few.so
+
+# ---- rule files
+
+# A library in the manner of zlib: its stream points to a structure whose members no caller sees.
+zlib() {
+    cat <<END
+struct internal_state { int status; $1 };
+struct z_stream { unsigned char *next_in; unsigned avail_in; struct internal_state *state; };
+int deflate(struct z_stream *s, int flush) { return s->state->status + flush; }
+int inflate(struct z_stream *s) { return s->avail_in; }
+END
+}
+zlib "" | build zlib_old.so
+zlib "long pending;" | build zlib_new.so
+printf '[suppress_type]\nname = internal_state\n' >zlib_rules
+answers "a structure grew" 1 check zlib_old.so zlib_new.so
+grep -q '^L2 deflate param 1 / target / member state / target: size 4, now 16$' got || fail "the growth is not told: $(cat got)"
+passed "a structure grew"
+answers "a structure that is left out" 0 check --rules zlib_rules zlib_old.so zlib_new.so
+cp got zlib_cert
+[ "$(sed -n 's/^rules //p' zlib_cert)" = "$(digest zlib_rules)" ] || fail "the certificate names another rule file"
+passed "a structure that is left out"
+wanted accepted
+expect "its certificate" 0 verify --rules zlib_rules zlib_old.so zlib_new.so zlib_cert
+wanted "refused 70 OtherInput 4"
+expect "its certificate without the rule file" 5 verify zlib_old.so zlib_new.so zlib_cert
+wanted "refused 70 OtherInput 2"
+expect "its certificate of other libraries" 5 verify --rules zlib_rules zlib_new.so zlib_old.so zlib_cert
+
+# A structure that is reached behind a pointer and by value.
+private() {
+    echo "struct priv { long a; $1 }; void p($2) {}"
+}
+for taken in 'struct priv *x' 'struct priv x' 'struct priv *x, struct priv y'; do
+    name=$(echo "$taken" | tr -dc '*x,y')
+    private "" "$taken" | build "old_$name.so"
+    private "long b, c;" "$taken" | build "new_$name.so"
+done
+printf '[suppress_type]\nname = priv\n' >any_way
+printf '[suppress_type]\nname = priv\naccessed_through = pointer\n' >by_pointer
+printf '[suppress_type]\nname = priv\naccessed_through = direct\n' >by_value
+answers "behind a pointer" 0 check --rules by_pointer 'old_*x.so' 'new_*x.so'
+answers "behind a pointer, by any way" 0 check --rules any_way 'old_*x.so' 'new_*x.so'
+wanted no "L2 p param 1 / target: size 8, now 24"
+expect "behind a pointer, by value alone" 1 check --rules by_value 'old_*x.so' 'new_*x.so'
+wanted no "L14 p: param 1 in rdi, now stack+0:24" "L2 p param 1: size 8, now 24"
+expect "by value" 1 check --rules by_pointer old_x.so new_x.so
+# The structure is left out, and the places of the function's arguments are not.
+wanted no "L14 p: param 1 in rdi, now stack+0:24"
+expect "by value, by any way" 1 check --rules any_way old_x.so new_x.so
+wanted no "L14 p: param 2 in rsi, now stack+0:24" "L2 p param 2: size 8, now 24"
+expect "behind a pointer and by value" 1 check --rules by_pointer 'old_*x,y.so' 'new_*x,y.so'
+printf '[suppress_type]\nname = priv\naccessed_through = reference\n' >by_reference
+wanted "unreadable rules 53 Property 3"
+expect "by a way that is not known" 2 check --rules by_reference old_x.so new_x.so
+
+# ---- trials
+
+wanted "trial 1 yes exports 1 lines 18" "digest 838083898562d1940837ad5f4349a5ac7cb242502cc161959f32ede5b42d000b"
+expect "a trial of one" 0 trial 1
+wanted "trial 1000 yes exports 1000 lines 3122" "digest bdd0473355c1c12cd7a3be0b9ccd2d3d1aa0cba2e204815c89fb51498ecdbe23"
+expect "a trial of a thousand" 0 trial 1000
+expect "a trial with an empty word for options" 0 trial -- 1000
+answers "a trial of fifty thousand" 0 trial 50000
+head -n 1 got | grep -qx "trial 50000 yes exports 50000 lines 156002" || fail "a trial of fifty thousand: $(cat got)"
+passed "a trial of fifty thousand"
+finished
