@@ -1,10 +1,11 @@
 #!/usr/bin/env bash
 # Times `abi exports`, which reads a library whole and prints a short line for each export, and `abi check`, over libraries with
 # debug information: the C library of the running system joined with its debug information, where the package libc6-dbg and
-# elfutils are there, and libraries of generated C with 500,000 entries by gcc and clang, each checked against itself and against a
-# build in which one structure is changed. Beside them run readelf --debug-dump=info on one library, sha256sum on both, and abidw
-# and abidiff where they are there. Prints seconds of processor time, the least of five runs (of one for libabigail's tools),
-# ratios, and peak memory. Then it checks libraries of 1,000, 10,000 and 50,000 exported functions, to show how it grows.
+# elfutils are there, and libraries of generated C with 500,000 entries by gcc and clang, each checked against itself and
+# against a build in which one structure is changed. Beside them run readelf --debug-dump=info on one library, sha256sum on
+# both, and abidw and abidiff where they are there. Prints seconds of processor time, the least of five runs (of one for
+# libabigail's tools), ratios, and peak memory. Beside each yes stands `abi verify` on its certificate. Then it checks libraries
+# of 1,000, 10,000 and 50,000 exported functions, and makes trials of as many, to show how it grows.
 #
 # usage: bench/check.sh [ABI]   (default: the program that `rt run` built in crates/abi_cli/out)
 set -eu
@@ -51,6 +52,15 @@ checked() {
     if command -v abidiff >/dev/null; then runs=1 beside "$ours" bash -c "abidiff '$3' '$4' >/dev/null 2>&1 || true"; fi
 }
 
+# verified NAME OLD NEW: a line of `abi verify` beside `abi check`, on the certificate that this prints.
+verified() {
+    local ours
+    "$abi" check "$2" "$3" >certificate
+    ours=$(least 5 "$abi" verify "$2" "$3" certificate)
+    echo "  $1: abi verify $ours s, peak $(peak_memory "$abi" verify "$2" "$3" certificate) MB"
+    beside "$ours" "$abi" check "$2" "$3"
+}
+
 # built NAME COMMAND..: the library of a name, which the command makes where it is not there yet.
 built() {
     local name=$1
@@ -62,6 +72,7 @@ libc=/lib/x86_64-linux-gnu/libc.so.6
 if [ -e libc.so ] || "$top/tools/join-debug" "$libc" libc.so 2>/dev/null; then
     read_whole "the C library of the system" libc.so
     checked "against itself" 0 libc.so libc.so
+    verified "against itself" libc.so libc.so
 fi
 
 awk -v first=1 -v last=6500 -f "$source" >groups.c
@@ -73,6 +84,7 @@ for compiler in gcc clang; do
     built "${compiler}_changed.so" $compiler changed.c
     read_whole "generated C by $compiler" "$compiler.so"
     checked "against itself" 0 "$compiler.so" "$compiler.so"
+    verified "against itself" "$compiler.so" "$compiler.so"
     checked "against a changed build" 1 "$compiler.so" "${compiler}_changed.so"
 done
 
@@ -85,4 +97,8 @@ for count in 1000 10000 50000; do
     }' >functions.c
     built "functions_$count.so" gcc functions.c
     echo "$count exported functions: abi check $(least 3 "$abi" check "functions_$count.so" "functions_$count.so") s, peak $(peak_memory "$abi" check "functions_$count.so" "functions_$count.so") MB"
+done
+
+for count in 1000 10000 50000; do
+    echo "abi trial $count: $(least 3 "$abi" trial "$count") s, peak $(peak_memory "$abi" trial "$count") MB"
 done
