@@ -1,20 +1,20 @@
 #!/usr/bin/env bash
 # Times the marks of a rule file over a library, by the program marks_bench: 50,000 exports and 20,000 nodes, with 10 and with 100
 # sections of patterns that hold of nothing, and twice as many of each. Prints seconds of processor time for one finding of the
-# marks, without those of making the library, the least of five runs, and peak memory.
+# marks, without those of making the library, the least of three runs, and peak memory.
 #
 # usage: bench/marks.sh [MARKS_BENCH]   (default: the program that `rt run` built in crates/marks_bench/out)
 set -eu
 marks=$(readlink -f "${1:-$(dirname "$0")/../crates/marks_bench/out/marks_bench}")
-set --
+set -- "$marks"
 . "$(dirname "$0")/common.bash"
 
-# found PATTERN EXPORTS NODES SECTIONS: a line of the seconds of one finding, as a tenth of what ten more cost.
+# found PATTERN EXPORTS NODES SECTIONS: a line of the seconds of one finding, as a fifth of what five more cost.
 found() {
-    local one eleven
-    one=$(least 5 "$marks" "$@" 1)
-    eleven=$(least 5 "$marks" "$@" 11)
-    echo "$1, $2 exports, $3 nodes, $4 sections: $(awk -v a="$one" -v b="$eleven" 'BEGIN { printf "%.3f", (b - a) / 10 }') s, peak $(peak_memory "$marks" "$@" 1) MB"
+    local one six
+    one=$(least 3 "$marks" "$@" 1)
+    six=$(least 3 "$marks" "$@" 6)
+    echo "$1, $2 exports, $3 nodes, $4 sections: $(awk -v a="$one" -v b="$six" 'BEGIN { printf "%.3f", (b - a) / 5 }') s, peak $(peak_memory "$marks" "$@" 1) MB"
 }
 
 for pattern in mixed functions types; do
