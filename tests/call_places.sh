@@ -195,11 +195,28 @@ q params stack+0:16,rdi+rsi,xmm0 result st0
 w params - result st0+rax
 z params none,rdi result none
 END
-    answers "worked examples" 0 exports worked.so
+    placed worked.so
+    # A function of two ranges, whose entry has its name and its parameters by its abstract origin.
+    cat >parted.c <<'END'
+__attribute__((cold, noreturn)) void bad(void);
+int f(int a) { if (a < 0) bad(); return a + 1; }
+int g(int a) { return f(a) * 2; }
+int h(int a) { return f(a) - f(a + 3) + g(a); }
+END
+    gcc -shared -fPIC -w -g -O2 -fno-semantic-interposition -o parted.so parted.c
+    readelf --debug-dump=info parted.so >entries
+    grep -q DW_AT_ranges entries && grep -q DW_AT_abstract_origin entries || fail "gcc made no function of two ranges"
+    printf '%s params rdi result rax\n' f g h >want
+    placed parted.so
+}
+
+# placed LIBRARY: the program must print the places that the file `want` holds.
+placed() {
+    answers "worked examples" 0 exports "$1"
     sed 's/^[0-9]* \([^ ]*\) FUNC [0-9]* /\1 /' got | sort >places
     mv places got
     same "worked examples"
-    passed "worked examples"
+    passed "worked examples in $1"
 }
 
 worked
