@@ -1,7 +1,7 @@
 -- The numbers and names of faults.
 use Rattle.std.specs.Prelude.{ℕ, List, codes}
 use Rattle.abi_base.specs.declared.fault.FaultKind.{FaultKind}
-use Rattle.abi_base.specs.declared.fault.FaultKind.TheVariants.{ShortFile, NotElf, Class, Data, Version, NotShared, Machine, SectionTable, SectionRange, SectionName, Compressed, NoDynamicSymbols, SymbolTable, DynamicTable, VersionTable, VersionDefinition, VersionIndex, DuplicateExport, NotBuilt, UnitHeader, DwarfVersion, UnitType, AddressSize, Dwarf64, Abbrev, AbbrevCode, Form, Cut, Tree, Text, Index, Ranges, Language, Reference, Shape, TooDeep, TooLarge, Supplementary, OriginTooDeep, TooLong, VersionNeed, ImportVersion, TypeOffset, BadText, RuleLine, Section, Property, EmptyRule, BadPattern, LongPattern, Repeated, Brace, CertLine, Order, End}
+use Rattle.abi_base.specs.declared.fault.FaultKind.TheVariants.{ShortFile, NotElf, Class, Data, Version, NotShared, Machine, SectionTable, SectionRange, SectionName, Compressed, NoDynamicSymbols, SymbolTable, DynamicTable, VersionTable, VersionDefinition, VersionIndex, DuplicateExport, UnitHeader, DwarfVersion, UnitType, AddressSize, Dwarf64, Abbrev, AbbrevCode, Form, Cut, Tree, Text, Index, Ranges, Language, Reference, Shape, TooDeep, TooLarge, Supplementary, OriginTooDeep, TooLong, VersionNeed, ImportVersion, TypeOffset, BadText, RuleLine, Section, Property, EmptyRule, BadPattern, LongPattern, Repeated, Brace, CertLine, Order, End}
 
 -- the number of a kind of fault
 abbrev pub fault_number : FaultKind → ℕ
@@ -23,7 +23,6 @@ fault_number VersionTable = 15
 fault_number VersionDefinition = 16
 fault_number VersionIndex = 17
 fault_number DuplicateExport = 18
-fault_number NotBuilt = 19
 fault_number UnitHeader = 20
 fault_number DwarfVersion = 21
 fault_number UnitType = 22
@@ -81,7 +80,6 @@ fault_name VersionTable = codes "VersionTable"
 fault_name VersionDefinition = codes "VersionDefinition"
 fault_name VersionIndex = codes "VersionIndex"
 fault_name DuplicateExport = codes "DuplicateExport"
-fault_name NotBuilt = codes "NotBuilt"
 fault_name UnitHeader = codes "UnitHeader"
 fault_name DwarfVersion = codes "DwarfVersion"
 fault_name UnitType = codes "UnitType"

@@ -56,8 +56,6 @@ pub enum FaultKind {
     VersionIndex,
     /// Two exports have one name and one version.
     DuplicateExport,
-    /// The library needs a part of the checker that is not built yet.
-    NotBuilt,
     /// A unit header is malformed.
     UnitHeader,
     /// A unit's DWARF version is not read.
@@ -156,7 +154,6 @@ impl FaultKind {
             FaultKind::VersionDefinition => 16,
             FaultKind::VersionIndex => 17,
             FaultKind::DuplicateExport => 18,
-            FaultKind::NotBuilt => 19,
             FaultKind::UnitHeader => 20,
             FaultKind::DwarfVersion => 21,
             FaultKind::UnitType => 22,
@@ -219,7 +216,6 @@ impl FaultKind {
             FaultKind::VersionDefinition => "VersionDefinition",
             FaultKind::VersionIndex => "VersionIndex",
             FaultKind::DuplicateExport => "DuplicateExport",
-            FaultKind::NotBuilt => "NotBuilt",
             FaultKind::UnitHeader => "UnitHeader",
             FaultKind::DwarfVersion => "DwarfVersion",
             FaultKind::UnitType => "UnitType",

@@ -278,7 +278,6 @@ fn kinds_have_their_numbers_and_names(rt: HostRuntime) {
     for (kind, number, name) in [
         (FaultKind::ShortFile, 1, "ShortFile"),
         (FaultKind::Compressed, 11, "Compressed"),
-        (FaultKind::NotBuilt, 19, "NotBuilt"),
         (FaultKind::TooLong, 40, "TooLong"),
         (FaultKind::TypeOffset, 43, "TypeOffset"),
         (FaultKind::RuleLine, 51, "Line"),

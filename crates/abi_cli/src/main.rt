@@ -4,8 +4,8 @@
 
 mod notes;
 
-use crate::notes::note;
-use abi_base::{FileInputs, NoMemory, StdSink};
+use crate::notes::notes;
+use abi_base::{FileInputs, NoMemory, Remark, StdSink};
 use abi_top::{Status, run};
 use break_report::{
     CountsListener, FirstListener, Listener, TableListener, TextListener, add_listener,
@@ -68,13 +68,28 @@ fn status_of<R: Files + Print + Eprint + AllocGlobal>(
         Box::new(alloc, FirstListener::new(alloc, FIRST_ROWS))?,
     )?;
     let status = run(alloc, &words, &mut inputs, &mut sink, listeners);
-    tell(rt, &words, status, sink.text().unwrap_or_default());
+    tell(
+        rt,
+        &words,
+        status,
+        sink.text().unwrap_or_default(),
+        sink.told(),
+    );
     Ok(status)
 }
 
 // Tells on standard error what the answer does not say. Where that fails, the answer stands.
-fn tell<R: Files + Eprint + AllocGlobal>(rt: &R, words: &[&str], status: Status, text: &str) {
-    if let Ok(Some(note)) = note(rt, words, status, text) {
+fn tell<R: Files + Eprint + AllocGlobal>(
+    rt: &R,
+    words: &[&str],
+    status: Status,
+    text: &str,
+    remark: Option<Remark>,
+) {
+    let Ok(notes) = notes(rt, words, status, text, remark) else {
+        return;
+    };
+    for note in &notes {
         let _ = eprintln!(rt; "abi: {note}");
     }
 }

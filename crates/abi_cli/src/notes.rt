@@ -1,8 +1,8 @@
 // What people are told beside the answer, on standard error.
-use abi_base::{FileInputs, INPUT_LIMIT, NoMemory, read_whole};
+use abi_base::{FileInputs, INPUT_LIMIT, NoMemory, Remark, SizedExports, read_whole};
 use abi_top::Status;
 use command_words::{Asked, Request, asked_in};
-use explain::{push_fault, told_fault};
+use explain::{push_fault, push_untyped, told_fault};
 use std::alloc::{AllocError, Global};
 use std::fs;
 use std::io::Read;
@@ -108,8 +108,40 @@ fn unread<R: Files + AllocGlobal>(
     }
 }
 
-/// What is to be told of an answer beside its text, by the first line of the text: nothing of most.
-pub(crate) fn note<R: Files + AllocGlobal>(
+// Puts the sentence last on the exports of a library that have no type, if there is one to say.
+fn push_untyped_note(
+    alloc: Global,
+    notes: &mut Vec<String>,
+    exports: SizedExports,
+    path: &str,
+) -> Result<(), NoMemory> {
+    let mut text = String::new(alloc);
+    if push_untyped(&mut text, exports, path)? {
+        notes.push(text)?;
+    }
+    Ok(())
+}
+
+// The sentences on the exports that were compared without types: one for each library that has some.
+fn untyped(alloc: Global, words: &[&str], remark: Option<Remark>) -> Result<Vec<String>, NoMemory> {
+    let mut notes = Vec::new(alloc);
+    let Some(remark) = remark else {
+        return Ok(notes);
+    };
+    match asked_in(alloc, words)? {
+        Asked::Request(Request::Check { old, new, .. }) => {
+            push_untyped_note(alloc, &mut notes, remark.old, old)?;
+            if old != new {
+                push_untyped_note(alloc, &mut notes, remark.new, new)?;
+            }
+            Ok(notes)
+        }
+        _ => Ok(notes),
+    }
+}
+
+// The sentence on what went wrong, by the first line of the answer's text.
+fn trouble<R: Files + AllocGlobal>(
     rt: &R,
     words: &[&str],
     status: Status,
@@ -122,4 +154,20 @@ pub(crate) fn note<R: Files + AllocGlobal>(
         Status::WriteFault => Ok(Some(String::from_str(rt.alloc(), "writing failed")?)),
         _ => Ok(None),
     }
+}
+
+/// What is to be told of an answer beside its text, by the first line of the text and by the remark that came with it: a sentence
+/// on what went wrong, or one on each library whose exports were compared without types.
+pub(crate) fn notes<R: Files + AllocGlobal>(
+    rt: &R,
+    words: &[&str],
+    status: Status,
+    line: &str,
+    remark: Option<Remark>,
+) -> Result<Vec<String>, NoMemory> {
+    let mut notes = untyped(rt.alloc(), words, remark)?;
+    if let Some(sentence) = trouble(rt, words, status, line)? {
+        notes.push(sentence)?;
+    }
+    Ok(notes)
 }

@@ -1,4 +1,4 @@
-// Numbers, texts and filling at the end of bytes. Each call answers want of memory alone.
+// Numbers, texts and filling at the end of bytes. Each call fails only when memory runs out.
 ghost use Rattle.std.specs.Prelude.{◌≡◌, ◌<◌, ◌++◌, OnOk};
 ghost use Rattle.abi_gen.specs.Bytes.{number_bytes, ended, filling, filled};
 

@@ -167,7 +167,7 @@ fn lay_out(alloc: Global, symbols: &[u8], names: &[u8], units: &[u8]) -> Result<
     Ok(layout)
 }
 
-// The file of these symbols, names of symbols and units. It fails for want of memory alone.
+// The file of these symbols, names of symbols and units. It fails only when memory runs out.
 pub(crate) fn make_file(
     alloc: Global,
     symbols: &[u8],

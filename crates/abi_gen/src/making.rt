@@ -42,7 +42,7 @@ impl From<AllocError> for GenRefusal {
     }
 }
 
-// The library of n functions for a side. It fails for want of memory alone.
+// The library of n functions for a side. It fails only when memory runs out.
 fn make_library(alloc: Global, n: u32, side: Side) -> Result<Vec<u8>, AllocError>
     requires { n ≤ MOST_FUNCTIONS }
     ensures { IfOk result (λ file. file.items ≡ library n side) }

@@ -49,7 +49,7 @@ fn put_symbol(symbols: &mut Vec<u8>, name_place: u32, number: u32) -> Result<(),
     put_u64(symbols, FUNCTION_SIZE)
 }
 
-// The symbols of so many functions. It fails for want of memory alone.
+// The symbols of so many functions. It fails only when memory runs out.
 pub(crate) fn make_symbols(alloc: Global, n: u32) -> Result<Symbols, AllocError>
     requires { n ≤ MOST_FUNCTIONS }
     ensures symbols { IfOk result (λ made. made.symbols.items ≡ symbol_table n) }

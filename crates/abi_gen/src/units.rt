@@ -238,7 +238,7 @@ fn count_units(n: u32) -> u32
     n.div_ceil(UNIT_FUNCTIONS)
 }
 
-// The units of a library of n functions, whose rings have so many structures. It fails for want of memory alone.
+// The units of a library of n functions, whose rings have so many structures. It fails only when memory runs out.
 pub(crate) fn make_units(alloc: Global, n: u32, ring: u32) -> Result<Vec<u8>, AllocError>
     requires short { ring ≤ LONGEST_RING }
     requires few { n ≤ MOST_FUNCTIONS }

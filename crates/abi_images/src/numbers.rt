@@ -11,21 +11,21 @@ pub fn to_u32(number: usize) -> u32
     u32::try_from(number).unwrap_or(u32::MAX)
 }
 
-/// Puts a number of 16 bits last, or answers want of memory.
+/// Puts a number of 16 bits last, or answers `NoMemory`.
 pub fn put_u16(bytes: &mut Vec<u8>, number: u16) -> Result<(), AllocError>
     ensures { OnOk result (vec_len bytes.new ≡ vec_len bytes.old + 2) }
 {
     bytes.extend_from_slice(&number.to_le_bytes())
 }
 
-/// Puts a number of 32 bits last, or answers want of memory.
+/// Puts a number of 32 bits last, or answers `NoMemory`.
 pub fn put_u32(bytes: &mut Vec<u8>, number: u32) -> Result<(), AllocError>
     ensures { OnOk result (vec_len bytes.new ≡ vec_len bytes.old + 4) }
 {
     bytes.extend_from_slice(&number.to_le_bytes())
 }
 
-/// Puts a number of 64 bits last, or answers want of memory.
+/// Puts a number of 64 bits last, or answers `NoMemory`.
 pub fn put_u64(bytes: &mut Vec<u8>, number: u64) -> Result<(), AllocError>
     ensures { OnOk result (vec_len bytes.new ≡ vec_len bytes.old + 8) }
 {

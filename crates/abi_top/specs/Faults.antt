@@ -39,12 +39,12 @@ abbrev pub AreReadable : (Input → List ℕ → Option Fault) → List Input �
 AreReadable fault_in (input ∷ inputs) (bytes ∷ all) = (fault_in input bytes ≡ None) × AreReadable fault_in inputs all
 AreReadable fault_in inputs all = Unit {0}
 
--- a judgement stops at the first fault, or for want of memory
+-- a judgement stops at the first fault, or because memory ran out
 abbrev pub StopsAt : (Input → List ℕ → Option Fault) → List Input → List (List ℕ) → Stop → Type 0
 StopsAt fault_in inputs all NoMemory = Unit {0}
 StopsAt fault_in inputs all (Faulty which fault) = FirstFault fault_in inputs all which fault
 
--- one input stops a judgement: at its first fault, or for want of memory
+-- one input stops a judgement: at its first fault, or because memory ran out
 abbrev pub IsStopFor : Input → Option Fault → Stop → Type 0
 IsStopFor input fault NoMemory = Unit {0}
 IsStopFor input fault (Faulty which answered) = (input ≡ which) × (fault ≡ Some answered)

@@ -14,7 +14,7 @@ use crate::list::{list_entries, list_exports};
 use crate::trial::try_made;
 use crate::verify::verify_certificate;
 use crate::{Input, Status};
-use abi_base::{Fault, NoMemory};
+use abi_base::{Fault, NoMemory, Remark};
 use break_report::Listener;
 use command_words::Request;
 use std::alloc::{AllocError, AllocFailed, Global};
@@ -50,6 +50,8 @@ pub struct Judgement {
     pub verdict: Verdict,
     /// Its bytes.
     pub text: Vec<u8>,
+    /// What people want to know beside it, where two libraries were compared.
+    pub remark: Option<Remark>,
 }
 
 /// Why a command gives no verdict.

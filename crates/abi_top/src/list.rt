@@ -29,6 +29,7 @@ fn listed(lines: Result<String, Refusal>) -> Result<Judgement, Stop>
         Ok(text) => Ok(Judgement {
             verdict: Verdict::Done,
             text: text.into_bytes(),
+            remark: None,
         }),
         Err(Refusal::Fault(fault)) => Err(Stop::Fault(Input::Library, fault)),
         Err(Refusal::NoMemory) => Err(Stop::NoMemory),

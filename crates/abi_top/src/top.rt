@@ -1,7 +1,7 @@
 // The top call.
-ghost use Rattle.std.specs.Prelude.{◌≡◌, ◌≢◌, ◌⊎◌, ◌≤◌, List, [], ℕ, Option, None, Some, map, All, IfOk};
+ghost use Rattle.std.specs.Prelude.{◌≡◌, ◌≢◌, ◌⊎◌, ◌≤◌, List, [], ℕ, Option, None, Some, map, All, OnOk, OnErr, IfOk};
 ghost use Rattle.std.specs.Io.KnownBytes.{Appends};
-ghost use Rattle.abi_base.specs.Causes.{Rose, AppendsFront};
+ghost use Rattle.abi_base.specs.Causes.{Rose, AppendsFront, HasCause};
 ghost use Rattle.abi_base.specs.declared.fault.Fault.{Fault as AnyFault};
 ghost use Rattle.abi_top.specs.Answer.{Answers, Asks, Call, FailsToRead, IsFaulty, call_of};
 ghost use Rattle.abi_top.specs.Ends.{IsStopAnswer, IsUnreadAnswer};
@@ -27,7 +27,9 @@ use crate::inputs::wanted_for;
 use crate::judge::{Stop, judge};
 use crate::reading::{Unread, read_all};
 use crate::{Input, Status, text};
-use abi_base::{Fault, FaultKind, INPUT_LIMIT, Inputs, NoMemory, Sink, write_all};
+use abi_base::{
+    Fault, FaultKind, INPUT_LIMIT, Inputs, NoMemory, Remark, Sink, WriteFailed, write_all,
+};
 use break_report::Listener;
 use command_words::laws::a_trial_is_of_a_count;
 use command_words::{Asked, Request, asked_in};
@@ -39,7 +41,7 @@ use std::alloc::Global;
 /// is to be printed is built before the first write.
 ///
 /// The listeners whose style the words ask for are told all breaks, in the order in which they were handed in; the others are
-/// dropped unheard.
+/// dropped unheard. After the text of a `check` the sink is told how many exports have no type in the debug information.
 ///
 /// In the clauses `call` is this call: its words, the styles of its listeners, the bytes told of each name, the count of faults of
 /// each name before the call and after it, and how many bytes the input that was read last has given.
@@ -52,7 +54,7 @@ pub fn run<I: Inputs, S: Sink>(
 ) -> Status
     requires { All (λ listener. heard listener ≡ []) listeners.items }
 
-    // Every status but want of memory and a write fault comes with its row of the table `Answers`, whose text was
+    // Every status but `NoMemory` and `WriteFault` comes with its row of the table `Answers`, whose text was
     // appended whole.
     ensures answered { let call : Call = call_of I.told I.faults I.given (map asks listeners.items) words.now inputs.old inputs.new in
         result ≢ Status.NoMemory → result ≢ Status.WriteFault
@@ -99,7 +101,7 @@ pub fn run<I: Inputs, S: Sink>(
         → (which : AnyInput) × Asks call (FailsToRead call which)
         × Appends (S.held sink.old) (S.held sink.new) (read_fault_text which) }
 
-    // Usage comes exactly where the words are wrong, but for want of memory and a write fault.
+    // Usage comes exactly where the words are wrong, but where memory runs out or writing fails.
     ensures usage { result ≡ Status.Usage → (asked_by (texts words.now) ≡ usage) × Appends (S.held sink.old) (S.held sink.new) usage_text }
     ensures wrong_words { asked_by (texts words.now) ≡ usage
         → (result ≡ Status.Usage) ⊎ ((result ≡ Status.NoMemory) ⊎ (result ≡ Status.WriteFault)) }
@@ -109,7 +111,7 @@ pub fn run<I: Inputs, S: Sink>(
     ensures help_words { asked_by (texts words.now) ≡ help
         → (result ≡ Status.Help) ⊎ ((result ≡ Status.NoMemory) ⊎ (result ≡ Status.WriteFault)) }
 
-    // A write failed in this call, behind a front of a text with which another status could have come.
+    // A write failed in this call, after a prefix of a text with which another status could have come.
     ensures write_fault { result ≡ Status.WriteFault → Rose (S.faults sink.old) (S.faults sink.new) }
     ensures front { let call : Call = call_of I.told I.faults I.given (map asks listeners.items) words.now inputs.old inputs.new in
         result ≡ Status.WriteFault
@@ -119,7 +121,7 @@ pub fn run<I: Inputs, S: Sink>(
     ensures no_memory { result ≡ Status.NoMemory → sink.new ≡ sink.old }
 
     // Where the words are right, all inputs tell readable bytes and did not fail, and the sink did not fail, the answer
-    // is the verdict, or want of memory.
+    // is the verdict, or memory ran out.
     ensures complete { let call : Call = call_of I.told I.faults I.given (map asks listeners.items) words.now inputs.old inputs.new in
         (rules_name : Option (List ℕ)) (report : AnyStyle) (old_name new_name old new rules : List ℕ)
         → asked_by (texts words.now) ≡ requested (check rules_name report old_name new_name)
@@ -155,18 +157,40 @@ pub fn run<I: Inputs, S: Sink>(
     an_accepted_certificate_is_a_proof();
     match answer_to(alloc, words, inputs, listeners) {
         Err(NoMemory) => Status::NoMemory,
-        Ok(answer) => match write_all(sink, &answer.text) {
+        Ok(answer) => match write_answer(sink, &answer.text, answer.remark) {
             Ok(()) => answer.status,
             Err(_) => Status::WriteFault,
         },
     }
 }
 
-/// A status and the text that goes with it.
+// Writes all of a text, and then hands on a remark. After `WriteFailed` a prefix of the text was written, and no remark was made.
+fn write_answer<S: Sink>(
+    sink: &mut S,
+    text: &[u8],
+    remark: Option<Remark>,
+) -> Result<(), WriteFailed>
+    ensures whole { OnOk result (Appends (S.held sink.old) (S.held sink.new) text.now) }
+    ensures front { OnErr result (AppendsFront (S.held sink.old) (S.held sink.new) text.now) }
+    ensures cause { HasCause (S.faults sink.old) (S.faults sink.new) result }
+{
+    match write_all(sink, text) {
+        Ok(()) => {
+            if let Some(remark) = remark {
+                sink.remark(remark);
+            }
+            Ok(())
+        }
+        Err(failed) => Err(failed),
+    }
+}
+
+/// A status and the text that goes with it, and what people want to know beside it.
 #[derive(Drop)]
 struct Answer {
     status: Status,
     text: Vec<u8>,
+    remark: Option<Remark>,
 }
 
 // The answer to the words, built whole.
@@ -185,10 +209,12 @@ fn answer_to<I: Inputs>(
         Asked::Help => Ok(Answer {
             status: Status::Help,
             text: text::usage(alloc)?,
+            remark: None,
         }),
         Asked::Usage => Ok(Answer {
             status: Status::Usage,
             text: text::usage(alloc)?,
+            remark: None,
         }),
     }
 }
@@ -213,6 +239,7 @@ fn answer_of<I: Inputs>(
             Ok(judgement) => Ok(Answer {
                 status: judgement.verdict.status(),
                 text: judgement.text,
+                remark: judgement.remark,
             }),
             Err(stop) => stop_answer(alloc, stop),
         },
@@ -228,6 +255,7 @@ fn unread_answer(alloc: Global, unread: Unread) -> Result<Answer, NoMemory>
         Unread::Failed(which) => Ok(Answer {
             status: Status::ReadFault,
             text: text::read_fault(alloc, which)?,
+            remark: None,
         }),
         Unread::TooLong(which) => {
             let fault = Fault {
@@ -237,6 +265,7 @@ fn unread_answer(alloc: Global, unread: Unread) -> Result<Answer, NoMemory>
             Ok(Answer {
                 status: Status::Unreadable,
                 text: text::unreadable(alloc, which, fault)?,
+                remark: None,
             })
         }
     }
@@ -251,6 +280,7 @@ fn stop_answer(alloc: Global, stop: Stop) -> Result<Answer, NoMemory>
         Stop::Fault(which, fault) => Ok(Answer {
             status: Status::Unreadable,
             text: text::unreadable(alloc, which, fault)?,
+            remark: None,
         }),
     }
 }

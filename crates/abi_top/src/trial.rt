@@ -35,6 +35,7 @@ pub fn try_made(
         Ok(text) => Ok(Judgement {
             verdict: Verdict::Done,
             text,
+            remark: None,
         }),
         Err(Unchecked::Old(fault)) => Err(Stop::Fault(Input::Old, fault)),
         Err(Unchecked::New(fault)) => Err(Stop::Fault(Input::New, fault)),

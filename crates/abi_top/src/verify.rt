@@ -30,10 +30,12 @@ pub fn verify_certificate(
         Ok(Verified::Accepted) => Ok(Judgement {
             verdict: Verdict::Yes,
             text: text::accepted(alloc)?,
+            remark: None,
         }),
         Ok(Verified::Refused(refused)) => Ok(Judgement {
             verdict: Verdict::Refused,
             text: text::refused(alloc, refused)?,
+            remark: None,
         }),
         Err(Unverified::Old(fault)) => Err(Stop::Fault(Input::Old, fault)),
         Err(Unverified::New(fault)) => Err(Stop::Fault(Input::New, fault)),

@@ -52,7 +52,7 @@ pub enum Asked<'a> {
     Usage,
 }
 
-/// What the words after the program's name ask for. It fails for want of memory alone.
+/// What the words after the program's name ask for. It fails only when memory runs out.
 pub fn asked_in<'a>(alloc: Global, words: &'a [&'a str]) -> Result<Asked<'a>, NoMemory>
     ensures { IfOk result (λ asked. plain_asked asked ≡ asked_by (texts words.entry.now)) }
 {

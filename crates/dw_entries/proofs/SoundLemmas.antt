@@ -15,7 +15,8 @@ use Rattle.abi_base.specs.Tables.{entry_of_table}
 use Rattle.abi_base.proofs.StepLemmas.{option_cases, bool_cases}
 use Rattle.dw_forms.specs.declared.values.Value.{Value}
 use Rattle.dw_forms.specs.declared.values.Value.TheVariants as value
-use Rattle.dw_text.specs.Texts.{fault, text_of}
+use Rattle.dw_forms.specs.Values.{fault}
+use Rattle.dw_text.specs.Texts.{text_of}
 use Rattle.dw_tree.specs.Trees.{PlainTree, entry_at, entry_of, head_at, no_entry, own_of}
 use Rattle.dw_entries.specs.Addresses.{tag_at}
 use Rattle.dw_entries.specs.Chains.{is_own_attribute, is_read_tag, is_too_deep, signed_of, target_of, read_link, link_by, link_of, holder_of, attribute_along, name_of, own_text, known_text}

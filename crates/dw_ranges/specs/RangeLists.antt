@@ -3,7 +3,6 @@
 use Rattle.std.specs.Prelude.{ℕ, suc, ◌+◌, ◌%◌, ◌^◌, ◌==◌, ◌&&◌, if◌then◌else◌, List, [], ◌∷◌, length, find, Option, Some, None, Result, Ok, Err}
 use Rattle.std.specs.Option.{option_map}
 use Rattle.abi_base.specs.declared.fault.Fault.{Fault}
-use Rattle.abi_base.specs.declared.fault.FaultKind.{FaultKind}
 use Rattle.abi_base.specs.declared.fault.FaultKind.TheVariants as kind
 use Rattle.abi_base.specs.Numbers.{number_at}
 use Rattle.abi_base.specs.Leb.{uleb_at}
@@ -11,6 +10,7 @@ use Rattle.abi_base.specs.Outcome.{◌>>=◌, or_end}
 use Rattle.abi_base.specs.Tables.{entry_of_table}
 use Rattle.abi_base.specs.Runs.{Run, run, given}
 use Rattle.abi_base.specs.Dwarf.{dw_rle_end_of_list, dw_rle_base_addressx, dw_rle_startx_endx, dw_rle_startx_length, dw_rle_offset_pair, dw_rle_base_address, dw_rle_start_end, dw_rle_start_length, base_selection}
+use Rattle.dw_forms.specs.Values.{fault}
 use Rattle.dw_ranges.specs.declared.layout.Field.{Field}
 use Rattle.dw_ranges.specs.declared.layout.Field.TheVariants as field
 use Rattle.dw_ranges.specs.declared.layout.Role.{Role}
@@ -18,9 +18,6 @@ use Rattle.dw_ranges.specs.declared.layout.Role.TheVariants as role
 use Rattle.dw_ranges.specs.declared.layout.Layout.{Layout}
 use Rattle.dw_ranges.specs.declared.lists.ListAt.{ListAt}
 use Rattle.dw_ranges.specs.declared.lists.ListAt.TheVariants as list_at
-
-abbrev pub fault : FaultKind → ℕ → Fault
-fault kind entry = record { kind = kind; at = entry }
 
 -- ---- entries of `.debug_rnglists`
 

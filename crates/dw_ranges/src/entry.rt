@@ -1,7 +1,8 @@
 // The entries of lists, one by one.
 ghost use Rattle.std.specs.Prelude.{◌≡◌, ◌+◌, ◌<◌, ◌≤◌, length, IfOk, IfSome};
 ghost use Rattle.abi_base.specs.declared.fault.FaultKind.TheVariants as kind;
-ghost use Rattle.dw_ranges.specs.RangeLists.{fault, field_at, fields_step, kind_step, list_step, pair_step, meant as the_meaning, pair_means};
+ghost use Rattle.dw_forms.specs.Values.{fault};
+ghost use Rattle.dw_ranges.specs.RangeLists.{field_at, fields_step, kind_step, list_step, pair_step, meant as the_meaning, pair_means};
 ghost use Rattle.dw_ranges.specs.declared.layout.Field.TheVariants as the_field;
 ghost use Rattle.dw_ranges.specs.Seen.{seen_entry, seen_step};
 

@@ -1,16 +1,13 @@
 -- The texts and addresses that values of attributes lead to.
 use Rattle.std.specs.Prelude.{ℕ, List, Option, Result, Ok, Err}
 use Rattle.abi_base.specs.declared.fault.Fault.{Fault}
-use Rattle.abi_base.specs.declared.fault.FaultKind.{FaultKind}
 use Rattle.abi_base.specs.declared.fault.FaultKind.TheVariants as kind
 use Rattle.abi_base.specs.Numbers.{text_at}
 use Rattle.abi_base.specs.Tables.{entry_of_table}
 use Rattle.abi_base.specs.Outcome.{◌>>=◌, or_end}
+use Rattle.dw_forms.specs.Values.{fault}
 use Rattle.dw_forms.specs.declared.values.Value.{Value}
 use Rattle.dw_forms.specs.declared.values.Value.TheVariants as value
-
-abbrev pub fault : FaultKind → ℕ → Fault
-fault kind entry = record { kind = kind; at = entry }
 
 -- a text of a section, which has to end with a 0 byte inside
 abbrev pub text_in : List ℕ → ℕ → ℕ → Result (List ℕ) Fault

@@ -1,7 +1,8 @@
 // The addresses that values stand for.
 ghost use Rattle.std.specs.Prelude.{◌≡◌};
 ghost use Rattle.abi_base.specs.declared.fault.FaultKind.TheVariants as kind;
-ghost use Rattle.dw_text.specs.Texts.{address_of as the_address_of, fault};
+ghost use Rattle.dw_forms.specs.Values.{fault};
+ghost use Rattle.dw_text.specs.Texts.{address_of as the_address_of};
 
 use crate::bases::Bases;
 use abi_base::{Fault, FaultKind, table_address};

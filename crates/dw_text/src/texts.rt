@@ -2,7 +2,8 @@
 ghost use Rattle.std.specs.Prelude.{◌≡◌};
 ghost use Rattle.std.specs.Result.{result_map_both};
 ghost use Rattle.abi_base.specs.declared.fault.FaultKind.TheVariants as kind;
-ghost use Rattle.dw_text.specs.Texts.{text_of, text_in as the_text_in, fault};
+ghost use Rattle.dw_forms.specs.Values.{fault};
+ghost use Rattle.dw_text.specs.Texts.{text_of, text_in as the_text_in};
 
 use crate::bases::Bases;
 use abi_base::{Fault, FaultKind, table_offset, text_at};

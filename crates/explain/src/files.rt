@@ -73,7 +73,6 @@ pub(crate) fn file_sentence(kind: FaultKind, bytes: &[u8]) -> &'static str {
         FaultKind::VersionTable =>
             "its table of symbol versions has not one entry for each dynamic symbol",
         FaultKind::VersionNeed => "its table of needed versions is damaged",
-        FaultKind::NotBuilt => "it has debug information, which this program does not compare yet",
         _ => "it is longer than 256 MiB",
     }
 }

@@ -4,14 +4,16 @@
 
 mod faults;
 mod files;
+mod first;
 mod kinds;
 mod noted;
 mod places;
+mod remarks;
 mod sections;
 mod told;
 
 pub use noted::NotedSink;
-pub use sections::section_name;
+pub use remarks::push_untyped;
 pub use told::{push_fault, told_fault};
 
 #[cfg(test)]

@@ -1,17 +1,21 @@
 // A sink that notes what passes first, so that what was printed can be explained.
-ghost use Rattle.std.specs.Prelude.{◌≡◌};
+ghost use Rattle.std.specs.Prelude.{◌≡◌, ◌<◌, ◌++◌, [], length, take, Some, None, IfSome, IfNone, IfOk, OnErr};
+ghost use Rattle.std.specs.Str.{IsUtf8};
+ghost use Rattle.std.specs.Io.{WritesAtMost};
+ghost use Rattle.std.specs.Io.KnownBytes.{WriteAppends};
+ghost use Rattle.abi_base.specs.Causes.{HasCause};
+ghost use Rattle.explain.specs.Room.{most_noted};
+ghost use Rattle.explain.specs.Noted.{noted as the_noted, told as the_told};
 
-use abi_base::{Failed, Sink};
+use crate::first::FirstBytes;
+use abi_base::{Failed, Remark, Sink};
 
-// How many bytes are noted: more than the line of an unreadable input has.
-const MOST: usize = 256;
-
-/// A sink that hands all bytes on to another, and notes the first ones.
+/// A sink that hands all on to another, and notes the first bytes and the last remark.
 #[derive(Drop)]
 pub struct NotedSink<S: Sink + Drop> {
     sink: S,
-    first: [u8; MOST],
-    len: usize,
+    noted: FirstBytes,
+    told: Option<Remark>,
 }
 
 impl<S: Sink + Drop> NotedSink<S> {
@@ -19,31 +23,34 @@ impl<S: Sink + Drop> NotedSink<S> {
     pub fn new(sink: S) -> NotedSink<S>
         ensures held { ⟦<NotedSink<S> as Sink>⟧.held result ≡ S.held sink }
         ensures faults { ⟦<NotedSink<S> as Sink>⟧.faults result ≡ S.faults sink }
+        ensures noted { the_noted result ≡ [] }
+        ensures told { the_told result ≡ None }
     {
         NotedSink {
             sink,
-            first: [0; MOST],
-            len: 0,
+            noted: FirstBytes::new(),
+            told: None,
         }
     }
 
-    /// The text that was noted: at most the first 256 bytes, and none where they are not UTF-8.
-    pub fn text(&self) -> Option<&str> {
-        str::from_utf8(self.first.get(..self.len)?).ok()
-    }
-}
-
-// Notes bytes behind so many, as far as there is room, and answers how many are noted then.
-fn note(first: &mut [u8], len: usize, bytes: &[u8]) -> usize {
-    let mut noted = len;
-    for byte in bytes {
-        if noted >= first.len() {
-            return noted;
+    /// The text that was noted: at most the first 256 bytes. None exactly where they are not UTF-8.
+    pub fn text(&self) -> Option<&str>
+        ensures text { IfSome result (λ text. text.now ≡ the_noted self.now) }
+        ensures some { IfSome result (λ _. IsUtf8 (the_noted self.now)) }
+        ensures none { IfNone result (¬ (IsUtf8 (the_noted self.now))) }
+    {
+        match str::from_utf8(self.noted.as_slice()) {
+            Ok(text) => Some(text),
+            Err(_) => None,
         }
-        first[noted] = *byte;
-        noted += 1;
     }
-    noted
+
+    /// The last remark, if there was one.
+    pub fn told(&self) -> Option<Remark>
+        ensures { result ≡ the_told self.now }
+    {
+        self.told
+    }
 }
 
 impl<S: Sink + Drop> Sink for NotedSink<S> {
@@ -51,13 +58,31 @@ impl<S: Sink + Drop> Sink for NotedSink<S> {
 
     ghost faults = { λ s. S.faults s.sink };
 
-    fn write(&mut self, bytes: &[u8]) -> Result<usize, Failed> {
+    fn write(&mut self, bytes: &[u8]) -> Result<usize, Failed>
+        ensures bound { WritesAtMost result bytes.now }
+        ensures progress { IfOk result (λ count. 0 < length bytes.now → 0 < count) }
+        ensures appended { WriteAppends (S.held self.old.sink) (S.held self.new.sink) result bytes.now }
+        ensures cause { HasCause (S.faults self.old.sink) (S.faults self.new.sink) result }
+        ensures noted { IfOk result (λ count. the_noted self.new ≡ take most_noted (the_noted self.old ++ take count bytes.now)) }
+        ensures same { OnErr result (the_noted self.new ≡ the_noted self.old) }
+        ensures told { the_told self.new ≡ the_told self.old }
+    {
         match self.sink.write(bytes) {
             Ok(count) => {
-                self.len = note(&mut self.first, self.len, &bytes[..count]);
+                self.noted.note(&bytes[..count]);
                 Ok(count)
             }
             Err(failed) => Err(failed),
         }
+    }
+
+    fn remark(&mut self, remark: Remark)
+        ensures held { S.held self.new.sink ≡ S.held self.old.sink }
+        ensures faults { S.faults self.new.sink ≡ S.faults self.old.sink }
+        ensures noted { the_noted self.new ≡ the_noted self.old }
+        ensures told { the_told self.new ≡ Some remark }
+    {
+        self.sink.remark(remark);
+        self.told = Some(remark);
     }
 }

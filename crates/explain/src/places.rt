@@ -36,7 +36,6 @@ pub(crate) fn place_of(kind: FaultKind) -> Place {
         | FaultKind::NoDynamicSymbols
         | FaultKind::VersionTable
         | FaultKind::VersionNeed
-        | FaultKind::NotBuilt
         | FaultKind::TooLong => Place::File,
         FaultKind::SectionRange | FaultKind::SectionName | FaultKind::Compressed => Place::Section,
         FaultKind::SymbolTable

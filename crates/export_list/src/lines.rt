@@ -115,7 +115,7 @@ fn push_lines<Ix: Index>(
 
 /// The line of each export of a library, in order of their symbols: the number of its symbol, its label, its kind, its size in
 /// bytes, and then the places of its arguments and of its result where its type is a function, the kind of any other type, or
-/// that it has none. It fails for want of memory alone.
+/// that it has none. It fails only when memory runs out.
 #[tactic(auto, unfolding(crate::specs::ExportLines::exports_text))]
 pub fn export_lines<Ix: Index>(alloc: Global, library: &Library<Ix>) -> Result<String, NoMemory>
     ensures { IfOk result (λ text. string_bytes text ≡ exports_text library.now) }

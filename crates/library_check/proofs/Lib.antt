@@ -1,5 +1,6 @@
 mod Itself
 mod Marked
+mod RemarkLemmas
 mod Settled
 mod Texts
 mod Verdicts

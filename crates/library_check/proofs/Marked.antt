@@ -18,8 +18,9 @@ use Rattle.rules.specs.Meaning.{is_dropped, is_marked}
 use Rattle.library_check.specs.Judgements.{ruled}
 
 -- flags that are even at both ways make an exploration's marks even
-abbrev pub FlagsAreEven : Type 0
-FlagsAreEven = (t : Task) → IsEven t.old t.direct → IsEven t.old t.pointer → AreEven t
+both_ways : (t : Task) → IsEven t.old t.direct → IsEven t.old t.pointer → AreEven t
+both_ways t direct pointer a b Direct a_inside b_inside same = direct.even a b a_inside b_inside same
+both_ways t direct pointer a b Pointer a_inside b_inside same = pointer.even a b a_inside b_inside same
 
 even_flags : (rules : PlainRules) (old : PlainLibrary) (way : Way) → IsEven old.graph (way_flags rules old way)
 even_flags rules old way =
@@ -42,18 +43,18 @@ export_each : (rules : PlainRules) (old : PlainLibrary) → length (marks_of rul
 unfolding marks_of
 export_each rules old = length-map old.exports (is_dropped rules old.soname)
 
-pub even_sides : FlagsAreEven → (old new : PlainLibrary) (rules : PlainRules) → AreEven (task_of (ruled old new rules))
-even_sides law old new rules = law (task_of (ruled old new rules)) (even_direct rules old) (even_pointer rules old)
+pub even_sides : (old new : PlainLibrary) (rules : PlainRules) → AreEven (task_of (ruled old new rules))
+even_sides old new rules = both_ways (task_of (ruled old new rules)) (even_direct rules old) (even_pointer rules old)
 
-pub AreMarksOf-marks_of : FlagsAreEven → (rules : PlainRules) (old : PlainLibrary) → AreMarksOf old (marks_of rules old)
-AreMarksOf-marks_of law rules old = record {
+pub AreMarksOf-marks_of : (rules : PlainRules) (old : PlainLibrary) → AreMarksOf old (marks_of rules old)
+AreMarksOf-marks_of rules old = record {
   exports = export_each rules old;
   direct = (even_direct rules old).each;
   pointer = (even_pointer rules old).each;
-  even = λ new. even_sides law old new rules;
+  even = λ new. even_sides old new rules;
 }
 
-pub AreMarksOf-result : {E : Type 0} → FlagsAreEven → (rules : PlainRules) (old : PlainLibrary) (result : Result Marks E)
+pub AreMarksOf-result : {E : Type 0} → (rules : PlainRules) (old : PlainLibrary) (result : Result Marks E)
     → IfOk result (λ marks. marks ≡ marks_of rules old) → IfOk result (λ marks. AreMarksOf old marks)
-AreMarksOf-result law rules old (Ok marks) are = subst (AreMarksOf old) (sym are) (AreMarksOf-marks_of law rules old)
-AreMarksOf-result law rules old (Err e) are = tt
+AreMarksOf-result rules old (Ok marks) are = subst (AreMarksOf old) (sym are) (AreMarksOf-marks_of rules old)
+AreMarksOf-result rules old (Err e) are = tt

@@ -1,3 +1,4 @@
 pub mod Judgements
 pub mod Checks
+pub mod Remarks
 pub mod Verifications

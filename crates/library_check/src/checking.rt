@@ -6,9 +6,11 @@ ghost use Rattle.lib_graph.specs.Libraries.{library_of};
 ghost use Rattle.rule_text.specs.Faults.{rule_fault};
 ghost use Rattle.rule_text.specs.Rules.{rules_of};
 ghost use Rattle.library_check.specs.Checks.{AreReadable, IsChecked, IsUnchecked};
+ghost use Rattle.library_check.specs.Remarks.{remark_on};
 
 use crate::judging::{Checked, judge};
-use abi_base::{Fault, NoMemory, Refusal};
+use crate::remarks::remark;
+use abi_base::{Fault, NoMemory, Refusal, Remark};
 use abi_types::{Library, NewIx, OldIx};
 use break_report::Listener;
 use lib_graph::read_library;
@@ -28,15 +30,31 @@ pub enum Unchecked {
     NoMemory,
 }
 
+/// Two libraries, whose types look at names in their bytes.
+#[derive(Drop)]
+pub struct Pair<'a> {
+    /// The old library.
+    pub old: Library<'a, OldIx>,
+    /// The new library.
+    pub new: Library<'a, NewIx>,
+}
+
 /// What both `check` and `verify` read.
 #[derive(Drop)]
 pub(crate) struct Inputs<'a> {
-    /// The old library.
-    pub(crate) old: Library<'a, OldIx>,
-    /// The new library.
-    pub(crate) new: Library<'a, NewIx>,
+    /// The two libraries.
+    pub(crate) pair: Pair<'a>,
     /// What the rule file says.
     pub(crate) rules: Rules,
+}
+
+/// What `check` says, and what people want to know beside it.
+#[derive(Drop)]
+pub struct Said {
+    /// What it says.
+    pub checked: Checked,
+    /// How many exports of each library have no type in its debug information.
+    pub remark: Remark,
 }
 
 // The old library.
@@ -67,6 +85,28 @@ fn read_new(alloc: Global, bytes: &[u8]) -> Result<Library<'_, NewIx>, Unchecked
     }
 }
 
+/// The old library and the new one, of these bytes. The fault of the old one goes before that of the new one, whatever a rule file
+/// says.
+pub fn read_pair<'a>(alloc: Global, old: &'a [u8], new: &'a [u8]) -> Result<Pair<'a>, Unchecked>
+    requires old_short { length old.now ≤ input_limit }
+    requires new_short { length new.now ≤ input_limit }
+    ensures old_readable { OnOk result (library_fault old.now ≡ None) }
+    ensures new_readable { OnOk result (library_fault new.now ≡ None) }
+    ensures old { IfOk result (λ pair. pair.old ≡ library_of old.now) }
+    ensures new { IfOk result (λ pair. pair.new ≡ library_of new.now) }
+    ensures unread { IfErr result (λ u. (rules : List ℕ) → IsUnchecked old.now new.now rules u) }
+{
+    let old = match read_old(alloc, old) {
+        Ok(library) => library,
+        Err(unread) => return Err(unread),
+    };
+    let new = match read_new(alloc, new) {
+        Ok(library) => library,
+        Err(unread) => return Err(unread),
+    };
+    Ok(Pair { old, new })
+}
+
 // The rule file, where both libraries are readable.
 fn read_rule_file(alloc: Global, bytes: &[u8]) -> Result<Rules, Unchecked>
     ensures readable { OnOk result (rule_fault bytes.now ≡ None) }
@@ -90,24 +130,20 @@ pub(crate) fn read_inputs<'a>(
     requires old_short { length old.now ≤ input_limit }
     requires new_short { length new.now ≤ input_limit }
     ensures readable { OnOk result (AreReadable old.now new.now rules.now) }
-    ensures old { IfOk result (λ inputs. inputs.old ≡ library_of old.now) }
-    ensures new { IfOk result (λ inputs. inputs.new ≡ library_of new.now) }
+    ensures old { IfOk result (λ inputs. inputs.pair.old ≡ library_of old.now) }
+    ensures new { IfOk result (λ inputs. inputs.pair.new ≡ library_of new.now) }
     ensures rules { IfOk result (λ inputs. inputs.rules ≡ rules_of rules.now) }
     ensures unread { IfErr result (IsUnchecked old.now new.now rules.now) }
 {
-    let old = match read_old(alloc, old) {
-        Ok(library) => library,
-        Err(unread) => return Err(unread),
-    };
-    let new = match read_new(alloc, new) {
-        Ok(library) => library,
+    let pair = match read_pair(alloc, old, new) {
+        Ok(pair) => pair,
         Err(unread) => return Err(unread),
     };
     let rules = match read_rule_file(alloc, rules) {
         Ok(rules) => rules,
         Err(unread) => return Err(unread),
     };
-    Ok(Inputs { old, new, rules })
+    Ok(Inputs { pair, rules })
 }
 
 /// Whether a new library may replace an old one, but for what a rule file leaves out, by their bytes: yes with the certificate,
@@ -119,20 +155,28 @@ pub fn check(
     new: &[u8],
     rules: &[u8],
     listeners: Vec<Box<dyn Listener>>,
-) -> Result<Checked, Unchecked>
+) -> Result<Said, Unchecked>
     requires old_short { length old.now ≤ input_limit }
     requires new_short { length new.now ≤ input_limit }
     requires unheard { All (λ listener. heard listener ≡ []) listeners.items }
     ensures readable { OnOk result (AreReadable old.now new.now rules.now) }
-    ensures judged { IfOk result (IsChecked (map asks listeners.items) old.now new.now rules.now) }
+    ensures judged { IfOk result (λ said. IsChecked (map asks listeners.items) old.now new.now rules.now said.checked) }
+    ensures remark { IfOk result (λ said. said.remark ≡ remark_on old.now new.now) }
     ensures unchecked { IfErr result (IsUnchecked old.now new.now rules.now) }
 {
     let inputs = match read_inputs(alloc, old, new, rules) {
         Ok(inputs) => inputs,
         Err(unchecked) => return Err(unchecked),
     };
-    match judge(alloc, &inputs.old, &inputs.new, &inputs.rules, listeners) {
-        Ok(checked) => Ok(checked),
+    let remark = remark(&inputs.pair.old, &inputs.pair.new);
+    match judge(
+        alloc,
+        &inputs.pair.old,
+        &inputs.pair.new,
+        &inputs.rules,
+        listeners,
+    ) {
+        Ok(checked) => Ok(Said { checked, remark }),
         Err(NoMemory) => Err(Unchecked::NoMemory),
     }
 }

@@ -9,7 +9,6 @@ use abi_types::{Library, Marks, NewIx, OldIx};
 use break_report::{Listener, Row, tell_all};
 use cert_text::write_cert;
 use lib_compare::{Comparison, compare};
-use mark_laws::flags_of_both_ways_are_even;
 use rule_text::Rules;
 use rules::marks;
 use std::alloc::Global;
@@ -32,7 +31,6 @@ pub(crate) fn marks_by(
     ensures marks { IfOk result (λ marks. marks ≡ marks_of rules.now old.now) }
     ensures even { IfOk result (λ marks. AreMarksOf old.now marks) }
 {
-    flags_of_both_ways_are_even();
     marks(alloc, rules, old)
 }
 
@@ -52,7 +50,7 @@ fn report(
 }
 
 /// What `check` says of two libraries and a rule file that were read: yes with the certificate, or no with the texts that
-/// listeners make of every break. It fails for want of memory alone.
+/// listeners make of every break. It fails only when memory runs out.
 pub fn judge(
     alloc: Global,
     old: &Library<OldIx>,

@@ -25,7 +25,6 @@ use lib_compare::laws::{
     two_libraries_have_one_right_answer,
 };
 use lib_graph::laws::{nodes_stand_for_what_exports_reach, readable_files_are_libraries};
-use mark_laws::flags_of_both_ways_are_even;
 
 /// A readable file may replace itself, whatever a rule file leaves out.
 pub fn a_file_may_replace_itself()
@@ -57,7 +56,7 @@ pub fn a_verification_has_one_answer()
 }
 
 /// What `check` prints on yes is a certificate without a fault that is accepted for the same inputs; and of such a text
-/// `verify` can say nothing else, but for want of memory.
+/// `verify` can say nothing else, unless memory runs out.
 pub fn what_check_prints_is_accepted()
     ensures readable { (old new rules text : List ℕ) → IsCertificateText old new rules text → certificate_fault text ≡ None }
     ensures accepted { (old new rules text : List ℕ) → IsCertificateText old new rules text → IsAcceptedText old new rules text }
@@ -76,7 +75,6 @@ pub fn an_accepted_certificate_is_a_proof()
         → IsAcceptedText old new rules certificate → Compatible old new rules }
 {
     cert_check::laws::an_accepted_certificate_is_a_proof();
-    flags_of_both_ways_are_even();
     nodes_stand_for_what_exports_reach();
     readable_files_are_libraries();
 }

@@ -6,9 +6,10 @@
 mod checking;
 mod judging;
 pub mod laws;
+mod remarks;
 mod verifying;
 
 pub use cert_check::{Refused, RefusedKind};
-pub use checking::{Unchecked, check};
+pub use checking::{Pair, Said, Unchecked, check, read_pair};
 pub use judging::{Checked, judge};
 pub use verifying::{Unverified, Verified, verify};

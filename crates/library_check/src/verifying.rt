@@ -109,7 +109,13 @@ pub fn verify(
         Ok(cert) => cert,
         Err(unverified) => return Err(unverified),
     };
-    match settle(alloc, &inputs.old, &inputs.new, &inputs.rules, &cert) {
+    match settle(
+        alloc,
+        &inputs.pair.old,
+        &inputs.pair.new,
+        &inputs.rules,
+        &cert,
+    ) {
         Ok(verified) => Ok(verified),
         Err(NoMemory) => Err(Unverified::NoMemory),
     }

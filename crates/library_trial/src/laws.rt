@@ -20,7 +20,7 @@ pub fn a_trial_has_one_text()
     a_check_has_one_text();
 }
 
-/// A trial that has a text is stopped by want of memory alone.
+/// A trial that has a text is stopped only when memory runs out.
 pub fn a_trial_with_a_text_has_no_fault()
     ensures { (styles : List AnyStyle) (n : ℕ) (lines : List ℕ) (unchecked : Unchecked) → IsTrialText styles n lines → IsUntried n unchecked → unchecked ≡ NoMemory }
 {}

@@ -40,7 +40,7 @@ fn make_digest_line(alloc: Global, text: &[u8]) -> Result<String, AllocError>
 }
 
 // The lines of a trial of n functions, whose old library has so many exports, and of whose libraries `check` prints a text. It
-// fails for want of memory alone.
+// fails only when memory runs out.
 #[tactic(auto, unfolding(crate::specs::Summaries::summary_of))]
 pub(crate) fn summarize(
     alloc: Global,

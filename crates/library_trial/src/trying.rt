@@ -14,13 +14,12 @@ use abi_base::{NoMemory, Refusal};
 use abi_gen::{GenRefusal, MOST_FUNCTIONS, Side, make};
 use abi_types::{Library, NewIx, OldIx};
 use break_report::Listener;
-use lib_graph::read_library;
 use library_check::laws::no_rules_are_readable;
-use library_check::{Checked, Unchecked, judge};
+use library_check::{Checked, Unchecked, judge, read_pair};
 use rule_text::{Rules, read_rules};
 use std::alloc::Global;
 
-// The made library of a side. It fails for want of memory alone.
+// The made library of a side. It fails only when memory runs out.
 fn make_one(alloc: Global, n: u32, side: Side) -> Result<Vec<u8>, NoMemory>
     requires some { 0 < n }
     requires few { n ≤ MOST_FUNCTIONS }
@@ -34,35 +33,7 @@ fn make_one(alloc: Global, n: u32, side: Side) -> Result<Vec<u8>, NoMemory>
     }
 }
 
-// The old library, as it is read.
-fn read_old(alloc: Global, bytes: &[u8]) -> Result<Library<'_, OldIx>, Unchecked>
-    requires { length bytes.now ≤ input_limit }
-    ensures readable { OnOk result (library_fault bytes.now ≡ None) }
-    ensures library { IfOk result (λ library. library ≡ library_of bytes.now) }
-    ensures unread { IfErr result (λ u. (new rules : List ℕ) → IsUnchecked bytes.now new rules u) }
-{
-    match read_library(alloc, bytes) {
-        Ok(library) => Ok(library),
-        Err(Refusal::Fault(fault)) => Err(Unchecked::Old(fault)),
-        Err(Refusal::NoMemory) => Err(Unchecked::NoMemory),
-    }
-}
-
-// The new library, as it is read, where the old one has no fault.
-fn read_new(alloc: Global, bytes: &[u8]) -> Result<Library<'_, NewIx>, Unchecked>
-    requires { length bytes.now ≤ input_limit }
-    ensures readable { OnOk result (library_fault bytes.now ≡ None) }
-    ensures library { IfOk result (λ library. library ≡ library_of bytes.now) }
-    ensures unread { IfErr result (λ u. (old rules : List ℕ) → library_fault old ≡ None → IsUnchecked old bytes.now rules u) }
-{
-    match read_library(alloc, bytes) {
-        Ok(library) => Ok(library),
-        Err(Refusal::Fault(fault)) => Err(Unchecked::New(fault)),
-        Err(Refusal::NoMemory) => Err(Unchecked::NoMemory),
-    }
-}
-
-// The rules of an empty rule file. It fails for want of memory alone.
+// The rules of an empty rule file. It fails only when memory runs out.
 fn no_rules(alloc: Global) -> Result<Rules, NoMemory>
     ensures { IfOk result (λ rules. rules ≡ rules_of []) }
 {
@@ -112,15 +83,11 @@ fn try_bytes(
     ensures untried { IfErr result (IsUntried n) }
 {
     no_rules_are_readable();
-    let old = match read_old(alloc, old) {
-        Ok(library) => library,
+    let pair = match read_pair(alloc, old, new) {
+        Ok(pair) => pair,
         Err(unread) => return Err(unread),
     };
-    let new = match read_new(alloc, new) {
-        Ok(library) => library,
-        Err(unread) => return Err(unread),
-    };
-    match try_read(alloc, n, &old, &new, listeners) {
+    match try_read(alloc, n, &pair.old, &pair.new, listeners) {
         Ok(lines) => Ok(lines),
         Err(NoMemory) => Err(Unchecked::NoMemory),
     }

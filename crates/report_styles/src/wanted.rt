@@ -43,7 +43,7 @@ fn style(listener: &Box<dyn Listener>) -> Style
     listener.style()
 }
 
-/// The listeners of the style that is asked for, in their order. The others are dropped. It fails for want of memory alone.
+/// The listeners of the style that is asked for, in their order. The others are dropped. It fails only when memory runs out.
 pub fn wanted_listeners(
     alloc: Global,
     listeners: Vec<Box<dyn Listener>>,

@@ -94,5 +94,6 @@ pub(crate) fn labels_of<'a>(
         push_label(dwarf, &mut labels, e)?;
         next = passed_to(dwarf, e);
     }
+    labels.shrink_to_fit();
     Ok(List::of(labels))
 }

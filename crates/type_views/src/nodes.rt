@@ -125,11 +125,11 @@ fn function_parts<'a, Ix: Index>(
     requires role { the_role_of dwarf.now.tree c ≡ role.Function }
     ensures { IfOk result (λ parts. map (plain_part Ix.number_of) parts.items ≡ Outcome (number_in found.now (the_type_of dwarf.now.tree c)) ∷ map (param_part (number_in found.now) dwarf.now.tree) (the_parts_of dwarf.now.tree c)) }
 {
-    let mut parts = Vec::new(alloc);
+    let params = parts_of(alloc, dwarf, c)?;
+    let mut parts = Vec::with_capacity(alloc, params.len() + 1)?;
     parts.push(Part::Outcome {
         to: node_of(found, type_of(dwarf, c)),
     })?;
-    let params = parts_of(alloc, dwarf, c)?;
     'params: for k in 0..params.len() {
         parts.push(Part::Param {
             to: node_of(found, type_of(dwarf, params[k])),
@@ -171,6 +171,15 @@ fn enumerator_parts<'a, Ix: Index>(
     Ok(parts)
 }
 
+// A part alone, in the room of one: most types are pointers.
+fn one_part<'a, Ix: Index>(alloc: Global, part: Part<'a, Ix>) -> Result<Vec<Part<'a, Ix>>, NoMemory>
+    ensures { IfOk result (λ parts. parts.items ≡ part.entry ∷ []) }
+{
+    let mut parts = Vec::with_capacity(alloc, 1)?;
+    parts.push(part)?;
+    Ok(parts)
+}
+
 // The parts of a core.
 fn parts_of_core<'a, Ix: Index>(
     alloc: Global,
@@ -186,20 +195,24 @@ fn parts_of_core<'a, Ix: Index>(
     requires near { list_any begins_beyond (flat_of dwarf.now (Some c)) ≡ false }
     ensures { IfOk result (λ parts. map (plain_part Ix.number_of) parts.items ≡ parts_under (the_role_of dwarf.now.tree c) (number_in found.now) dwarf.now c) }
 {
-    let mut parts = Vec::new(alloc);
     match role_of(dwarf, c) {
-        Role::Aggregate => return aggregate_parts(alloc, dwarf, found, facts, c),
-        Role::Function => return function_parts(alloc, dwarf, found, c),
-        Role::Enumeration => return enumerator_parts(alloc, dwarf, c),
-        Role::Pointer => parts.push(Part::Target {
-            to: node_of(found, type_of(dwarf, c)),
-        })?,
-        Role::Array => parts.push(Part::Element {
-            to: node_of(found, type_of(dwarf, c)),
-        })?,
-        _ => {}
+        Role::Aggregate => aggregate_parts(alloc, dwarf, found, facts, c),
+        Role::Function => function_parts(alloc, dwarf, found, c),
+        Role::Enumeration => enumerator_parts(alloc, dwarf, c),
+        Role::Pointer => one_part(
+            alloc,
+            Part::Target {
+                to: node_of(found, type_of(dwarf, c)),
+            },
+        ),
+        Role::Array => one_part(
+            alloc,
+            Part::Element {
+                to: node_of(found, type_of(dwarf, c)),
+            },
+        ),
+        _ => Ok(Vec::new(alloc)),
     }
-    Ok(parts)
 }
 
 // Whether an array is a vector of the machine.
@@ -422,7 +435,7 @@ pub(crate) fn nodes<'a, Ix: Index>(
     requires fits { (e : ℕ) → Contains found.now e → is_too_large dwarf.now e ≡ false }
     ensures { IfOk result (λ nodes. nodes ≡ made_nodes dwarf.now found.now) }
 {
-    let mut nodes = List::new(alloc);
+    let mut nodes = List::of(Vec::with_capacity(alloc, found.len() + 1)?);
     nodes.push(node(alloc, dwarf, found, facts, None)?)?;
     'found: for number in 0..found.len() {
         let e = found.at(number);

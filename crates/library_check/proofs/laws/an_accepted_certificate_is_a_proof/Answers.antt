@@ -12,4 +12,4 @@ returns c = λ old new rules certificate old_short new_short old_readable new_re
     (c.readable_files_are_libraries.ensures old old_short old_readable).numbered
     (c.nodes_stand_for_what_exports_reach.ensures.graph old old_short old_readable)
     (c.nodes_stand_for_what_exports_reach.ensures.graph new new_short new_readable)
-    (even_sides c.flags_of_both_ways_are_even.ensures (library_of old) (library_of new) (rules_of rules)) is.accepted
+    (even_sides (library_of old) (library_of new) (rules_of rules)) is.accepted

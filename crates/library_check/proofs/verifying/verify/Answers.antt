@@ -6,6 +6,6 @@ returns-in-Err-clause-unverified c = c.of_inputs.ensures c.args.old.now c.args.n
 
 pub returns-in-Ok-settle-clause-verified : goal.returns-in-Ok-settle-clause-verified
 returns-in-Ok-settle-clause-verified c =
-    of_texts c.args.old.now c.args.new.now c.args.rules.now c.args.certificate.now c.in-Ok.inputs.old c.in-Ok.inputs.new c.in-Ok.inputs.rules
+    of_texts c.args.old.now c.args.new.now c.args.rules.now c.args.certificate.now c.in-Ok.inputs.pair.old c.in-Ok.inputs.pair.new c.in-Ok.inputs.rules
     c.in-Ok-read_certificate.cert c.in-Ok-settle.verified c.in-Ok.ensures.old c.in-Ok.ensures.new c.in-Ok.ensures.rules
     c.in-Ok-read_certificate.ensures.spelled c.in-Ok-settle.ensures

@@ -5,5 +5,6 @@ use Rattle.library_trial.proofs.trying.try_bytes.Goals as goal
 
 pub returns-in-Err-clause-untried : goal.returns-in-Err-clause-untried
 returns-in-Err-clause-untried g c =
-    let P : List ℕ → Type 0 = λ bytes. IsUnchecked bytes (new_library c.args.n) [] c.in-Err.unread in
-    subst P c.requires.old (c.in-Err.ensures.unread (new_library c.args.n) [])
+    let OfOld : List ℕ → Type 0 = λ bytes. IsUnchecked bytes (new_library c.args.n) [] c.in-Err.unread in
+    let OfNew : List ℕ → Type 0 = λ bytes. IsUnchecked c.args.old.now bytes [] c.in-Err.unread in
+    subst OfOld c.requires.old (subst OfNew c.requires.new (c.in-Err.ensures.unread []))

@@ -1,0 +1,4 @@
+mod KindLemmas
+mod LineLemmas
+mod ListLemmas
+mod TextLemmas

@@ -1,0 +1,4 @@
+pub mod Room
+pub mod Noted
+pub mod Texts
+pub mod Told

@@ -1,0 +1,46 @@
+// What people want to know beside the answer: how many exports were compared without types.
+ghost use Rattle.std.specs.Prelude.{◌≡◌, count_by};
+ghost use Rattle.abi_types.specs.Plain.{plain_exports};
+ghost use Rattle.library_check.specs.Remarks.{has_size, has_size_alone, remark_of, sized_exports};
+
+use abi_base::{Remark, SizedExports};
+use abi_types::{Export, Library, NewIx, OldIx};
+
+// How many exports have a size.
+#[tactic(auto, using(crate::proofs::RemarkLemmas::counted_plain))]
+fn count_sized(exports: &[Export]) -> usize
+    ensures { result ≡ count_by has_size (plain_exports exports.now) }
+{
+    exports.iter().filter(|export| export.size > 0).count()
+}
+
+// How many exports have a size, but no type.
+#[tactic(auto, using(crate::proofs::RemarkLemmas::counted_plain))]
+fn count_untyped(exports: &[Export]) -> usize
+    ensures { result ≡ count_by has_size_alone (plain_exports exports.now) }
+{
+    exports
+        .iter()
+        .filter(|export| export.size > 0 && export.entry == 0)
+        .count()
+}
+
+// The exports of a library that have a size, and those of them that have no type.
+fn sized(exports: &[Export]) -> SizedExports
+    ensures { result ≡ sized_exports (plain_exports exports.now) }
+{
+    SizedExports {
+        all: count_sized(exports),
+        untyped: count_untyped(exports),
+    }
+}
+
+/// What is to be known of two libraries beside an answer.
+pub(crate) fn remark(old: &Library<OldIx>, new: &Library<NewIx>) -> Remark
+    ensures { result ≡ remark_of old.now new.now }
+{
+    Remark {
+        old: sized(old.exports()),
+        new: sized(new.exports()),
+    }
+}
