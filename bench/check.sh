@@ -22,12 +22,16 @@ beside() {
     echo "    $(basename "$1") $theirs s, peak $(peak_memory "$@") MB, ratio to it $(ratio "$ours" "$theirs")"
 }
 
-# answers STATUS COMMAND..: runs a command that must end with the status, and ends with 0 then.
+# answers STATUS COMMAND..: runs a command that must end with the status, and ends with 0 then. Of abidiff the bits 4 and 8 of the
+# status say that there are changes.
 answers() {
     local ended=0 status=$1
     shift
     "$@" >/dev/null 2>&1 || ended=$?
-    [ "$ended" -eq "$status" ]
+    case $status in
+    changes) [ "$ended" -eq 0 ] || [ "$ended" -eq 4 ] || [ "$ended" -eq 12 ] ;;
+    *) [ "$ended" -eq "$status" ] ;;
+    esac
 }
 export -f answers
 
@@ -49,7 +53,7 @@ checked() {
     echo "  $1: abi check $ours s, peak $(peak_memory bash -c "answers $2 '$abi' check '$3' '$4'") MB"
     beside "$ours" readelf --debug-dump=info "$3"
     beside "$ours" sha256sum "$3" "$4"
-    if command -v abidiff >/dev/null; then runs=1 beside "$ours" bash -c "abidiff '$3' '$4' >/dev/null 2>&1 || true"; fi
+    if command -v abidiff >/dev/null; then runs=1 beside "$ours" bash -c "answers changes abidiff '$3' '$4'"; fi
 }
 
 # verified NAME OLD NEW: a line of `abi verify` beside `abi check`, on the certificate that this prints.
@@ -69,17 +73,19 @@ built() {
 }
 
 libc=/lib/x86_64-linux-gnu/libc.so.6
-if [ -e libc.so ] || "$top/tools/join-debug" "$libc" libc.so 2>/dev/null; then
+if [ -e libc.so ] || "$top/tools/join-debug" "$libc" libc.so; then
     read_whole "the C library of the system" libc.so
     checked "against itself" 0 libc.so libc.so
     verified "against itself" libc.so libc.so
+else
+    echo "the C library of the system is left out"
 fi
 
 awk -v first=1 -v last=6500 -f "$source" >groups.c
 sed '0,/struct { short x, y; } place/s//struct { int x, y; } place/' groups.c >changed.c
 cmp -s groups.c changed.c && { echo "bench: nothing was changed in the sources" >&2; exit 1; }
 for compiler in gcc clang; do
-    command -v $compiler >/dev/null || continue
+    command -v $compiler >/dev/null || { echo "there is no $compiler"; continue; }
     built "$compiler.so" $compiler groups.c
     built "${compiler}_changed.so" $compiler changed.c
     read_whole "generated C by $compiler" "$compiler.so"

@@ -1,5 +1,10 @@
 # What the scripts beside this one share: where they work, which program they take, processor time, peak memory and ratios. A
-# script takes this file in with its own arguments.
+# script takes this file in with its own arguments. It ends where a command that is measured fails, and where gcc, readelf or GNU
+# time (/usr/bin/time, of the package time) is missing.
+set -o pipefail
+for tool in gcc readelf /usr/bin/time; do
+    command -v "$tool" >/dev/null || { echo "bench: there is no $tool" >&2; exit 1; }
+done
 top=$(cd "$(dirname "${BASH_SOURCE[0]}")/.." && pwd)
 abi=$(readlink -f "${1:-$top/crates/abi_cli/out/abi_cli}")
 made=$top/bench/made
@@ -16,12 +21,14 @@ failed() {
 
 # Peak memory of a command in megabytes, to standard output.
 peak_memory() {
-    if [ -x /usr/bin/time ]; then
-        /usr/bin/time -f '%M' -o memory "$@" >/dev/null 2>errors || failed "$@"
-        awk '{ printf "%.1f", $1 / 1024 }' memory
-    else
-        printf 'unknown'
-    fi
+    /usr/bin/time -f '%M' -o memory "$@" >/dev/null 2>errors || failed "$@"
+    awk '{ printf "%.1f", $1 / 1024 }' memory
+}
+
+# says_yes OLD NEW: `abi check` must print a certificate, which stands in the file `answer` then.
+says_yes() {
+    "$abi" check "$1" "$2" >answer 2>errors || failed "$abi" check "$1" "$2"
+    [ "$(head -n 1 answer)" = "yes 2" ] || failed "$abi" check "$1" "$2"
 }
 
 # seconds COMMAND..: adds the seconds of processor time of a run to the file `times`.

@@ -20,14 +20,14 @@ resident() {
     local pid size
     rm -f pipe
     mkfifo pipe
-    "$abi" exports "$2" >pipe &
+    "$abi" exports "$2" >pipe 2>errors &
     pid=$!
     exec 3<pipe
     sleep 3
-    size=$(awk '/^VmRSS:/ { print $2 }' "/proc/$pid/status")
+    size=$(awk '/^VmRSS:/ { print $2 }' "/proc/$pid/status") && [ -n "$size" ] || failed "$abi" exports "$2"
     cat <&3 >/dev/null
     exec 3<&-
-    wait "$pid"
+    wait "$pid" || failed "$abi" exports "$2"
     awk -v size="$size" -v file="$(stat -c %s "$2")" -v entries="$1" 'BEGIN { printf "%.0f", (1024 * size - file) / entries }'
 }
 

@@ -12,7 +12,7 @@ repeat() {
     local times=$1
     shift
     while [ "$times" -gt 0 ]; do
-        "$@"
+        "$@" || return 1
         times=$((times - 1))
     done
 }
@@ -45,8 +45,7 @@ for exports in 1000 10000 50000; do
         gcc -shared -nostdlib -Wl,-soname,libversions.so.1 -Wl,--version-script=versions.map -s \
             -o "versions_${exports}_$build.so" versions.s
     done
-    "$abi" check "$old" "$new" > answer
-    head -n 1 answer | grep -qx 'yes 2'
+    says_yes "$old" "$new"
     [ "$(grep -c '^bind ' answer)" -eq "$exports" ]
     peer=
     if [ "$exports" -ge 10000 ] && command -v abidiff > /dev/null 2>&1; then

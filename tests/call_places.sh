@@ -10,6 +10,7 @@
 set -eu
 title="call places"
 tools="gcc readelf awk python3"
+crate=abi_cli
 . "$(dirname "$0")/common.bash"
 
 # Kinds of functions, as tests/c/places.py has them, and how many functions of each: those in which all places are those of the

@@ -1,12 +1,13 @@
 #!/usr/bin/env bash
-# What the program makes of its words, styles, rule files, certificates and trials, on libraries that gcc builds. The answers were
-# derived by hand from what the commands promise.
+# What the program makes of its arguments, styles, rule files, certificates and trials, on libraries that gcc builds. The answers
+# were derived by hand from what the commands promise.
 #
 #   tests/commands.sh                 builds the program of this repository
 #   ABI=/path/of/abi tests/commands.sh    takes another one
 set -eu
 title="commands"
 tools="gcc readelf sha256sum awk"
+crate=abi_cli
 . "$(dirname "$0")/common.bash"
 
 cat >usage <<'END'
@@ -27,17 +28,17 @@ wanted() {
     [ $# -eq 0 ] || printf '%s\n' "$@"
 } >want
 
-# ---- words
+# ---- arguments
 
 echo 'int f(void) { return 1; }' | build plain.so
 cp plain.so ./-plain.so
 : >no_rules
 
 cp usage want
-while IFS='|' read -r status words; do
-    # The words stand apart by blanks; '' is an empty word, and \377 a byte that is no text.
-    eval "set -- $words"
-    expect "words: $words" "$status" "$@"
+while IFS='|' read -r status arguments; do
+    # Arguments are separated by blanks; "" is an empty one, and \377 a byte that is no text.
+    eval "set -- $arguments"
+    expect "arguments: $arguments" "$status" "$@"
 done <<'END'
 64|
 64|check
@@ -78,10 +79,11 @@ done <<'END'
 END
 
 "$program" check plain.so plain.so >want
-for words in "check -- plain.so plain.so" "check plain.so plain.so --rules no_rules" "check plain.so --rules no_rules plain.so" \
+for arguments in "check -- plain.so plain.so" "check plain.so plain.so --rules no_rules" "check plain.so --rules no_rules plain.so" \
     "--rules no_rules check plain.so plain.so" "check --rules=no_rules plain.so plain.so" "check --report=text plain.so plain.so" \
     "check --report own plain.so plain.so" "check -- -plain.so plain.so"; do
-    expect "words: $words" 0 $words
+    # The arguments are words of their own.
+    expect "arguments: $arguments" 0 $arguments
 done
 
 # An empty name is a name, of a file that is not there.
@@ -114,7 +116,7 @@ exports long_old.so | awk -F '\t' '$2 != "len" { print "X2 " $2 ": gone" }' >gon
 len="L2 len param 1 / target / member v: size 4, now 8"
 { echo no && cat gone && echo "$len"; } >want
 expect "a line for each break" 1 check long_old.so long_new.so
-expect "a line for each break, in words" 1 check --report text long_old.so long_new.so
+expect "a line for each break, as text" 1 check --report text long_old.so long_new.so
 expect "the first ten of three breaks" 1 check --report first long_old.so long_new.so
 { echo no && sed 's/^\(X2\) \([^:]*\): \(.*\)/\1 \2 \3/' gone |
     awk '{ printf "%-5s%-32s -: %s\n", $1, $2, $3 }'
@@ -128,6 +130,34 @@ for function in 1 2 3 4 5 6 7 8 9 10 11 12; do echo "void f$function(void) {}"; 
 echo 'static int none;' | build few.so
 { echo no && exports many.so | head -n 10 | awk -F '\t' '{ print "X2 " $2 ": gone" }'; } >want
 expect "the first ten of twelve breaks" 1 check --report first many.so few.so
+
+# ---- exports without a type
+
+echo 'int typed(int x) { return x; }' >typed.c
+# A symbol that has no size is not counted.
+echo '__asm__(".globl bare\nbare: ret"); int first(void) { return 1; } int second(void) { return 2; } int third = 3;' >untyped.c
+gcc -c -fPIC -g -o typed.o typed.c
+gcc -c -fPIC -o untyped.o untyped.c
+gcc -shared -o whole.so typed.o
+gcc -shared -o part.so typed.o untyped.o
+gcc -shared -o bare.so untyped.o
+
+# noted NAME STATUS OLD NEW LINE..: `check` must end with the status, and tell these lines beside the answer.
+noted() {
+    answers "$1" "$2" check "$3" "$4"
+    shift 4
+    wanted "$@"
+    diff -u want errors >differences || { cat differences >&2 && fail "another note"; }
+    passed "a note on types: $*"
+}
+
+some="abi: part.so: the debug information has no type for 3 of the 4 exports that have a size: only name, version, kind and size of these were compared"
+all="abi: bare.so: the debug information has no types for the exports: only names, versions, kinds and sizes were compared; compile with -g to compare types"
+noted "all exports have types" 0 whole.so whole.so
+noted "some exports have no type" 0 part.so part.so "$some"
+noted "no export has a type" 0 bare.so bare.so "$all"
+noted "each library has its note" 0 bare.so part.so "$all" "$some"
+noted "a no has its note, too" 1 part.so whole.so "$some"
 
 # ---- rule files
 
@@ -190,7 +220,7 @@ wanted "trial 1 yes exports 1 lines 18" "digest 838083898562d1940837ad5f4349a5ac
 expect "a trial of one" 0 trial 1
 wanted "trial 1000 yes exports 1000 lines 3122" "digest bdd0473355c1c12cd7a3be0b9ccd2d3d1aa0cba2e204815c89fb51498ecdbe23"
 expect "a trial of a thousand" 0 trial 1000
-expect "a trial with an empty word for options" 0 trial -- 1000
+expect "a trial of a thousand, behind --" 0 trial -- 1000
 answers "a trial of fifty thousand" 0 trial 50000
 head -n 1 got | grep -qx "trial 50000 yes exports 50000 lines 156002" || fail "a trial of fifty thousand: $(cat got)"
 passed "a trial of fifty thousand"

@@ -1,16 +1,14 @@
 # What the scripts beside this one share: which tools they need, which program they run, how they fail and count, and what an
-# answer must be by sha256sum and readelf. A script sets `title` and the `tools` that it needs, and then takes this file in. One
-# that runs another program than `abi` sets its `crate`, the path that it is `given`, and the `usage_status` of a run without
-# words; one that runs no program of this repository sets an empty `crate`.
+# answer must be by sha256sum and readelf. A script sets `title`, the `tools` that it needs and the `crate` of the program that it
+# runs, and then takes this file in; one that runs no program of this repository sets an empty `crate`.
 #
 # A missing tool is a failure. Where SKIP_MISSING_TOOLS is set, what needs it is left out, and the last line names the tool.
 export LC_ALL=C
-crate=${crate-abi_cli}
-given=${given-${ABI:-}}
-usage_status=${usage_status:-64}
 
 root=$(cd "$(dirname "$0")/.." && pwd)
 sources=$root/tests/c
+# the tools beside `tools` that were there and used, and what was left out
+ran=
 left_out=
 
 fail() {
@@ -39,23 +37,37 @@ for tool in $tools; do
     there "$tool" || { told "nothing ran, since there is no $tool"; exit 0; }
 done
 
-# The program, which only rt builds, and only where it is proved: a run without words ends with the status of wrong words. One
-# that is given must not be older than the sources beside this script.
-if [ -z "$crate" ]; then
-    program=
-elif [ -n "$given" ]; then
-    program=$(cd "$(dirname "$given")" && pwd)/$(basename "$given")
-    [ -x "$program" ] || fail "there is no program at $program"
+# refuse_old PROGRAM: a program that is older than the sources beside this script is refused.
+refuse_old() {
+    local newer
     newer=$(find "$root/crates" "$root/crates.txt" -name out -prune -o \( -name '*.rt' -o -name '*.antt' -o -name crates.txt \) \
-        -newer "$program" -print -quit)
-    [ -z "$newer" ] || fail "the program at $program is older than $newer"
-else
+        -newer "$1" -print -quit)
+    [ -z "$newer" ] || fail "the program at $1 is older than $newer"
+}
+
+# program_of CRATE STATUS GIVEN: the path of the crate's program, in `found`: that of the one that is given, which must not be
+# older than the sources, or else of one that rt builds, which it does only where it is proved. A run without arguments ends with
+# the status.
+program_of() {
+    local built=0
+    if [ -n "$3" ]; then
+        found=$(readlink -f "$3") && [ -f "$found" ] && [ -x "$found" ] || fail "there is no program at $3"
+        refuse_old "$found"
+        return
+    fi
     there rt || { told "nothing ran, since there is no rt"; exit 0; }
-    program=$root/crates/$crate/out/$crate
-    built=0
-    (cd "$root/crates/$crate" && rt run) >/dev/null 2>&1 || built=$?
-    [ "$built" -eq "$usage_status" ] || fail "rt run ended with status $built, not $usage_status"
-fi
+    found=$root/crates/$1/out/$1
+    (cd "$root/crates/$1" && rt run) >/dev/null 2>&1 || built=$?
+    [ "$built" -eq "$2" ] || fail "rt run of $1 ended with status $built, not $2"
+}
+
+case $crate in
+abi_cli) program_of abi_cli 64 "${ABI:-}" ;;
+graph_lines) program_of graph_lines 1 "${GRAPH_LINES:-}" ;;
+"") found= ;;
+*) fail "no program of the crate $crate is known" ;;
+esac
+program=$found
 
 work=$(mktemp -d)
 trap 'rm -rf "$work"' EXIT
@@ -65,7 +77,7 @@ checks=0
 
 # finished: the last line: how many checks agreed, with which tools, and what was left out.
 finished() {
-    told "$checks checks agree; tools:$(printf ' %s' $tools ${ran:-}); left out:${left_out:- nothing}"
+    told "$checks checks agree; tools:$(printf ' %s' $tools $ran); left out:${left_out:- nothing}"
 }
 
 # passed NAME: counts a check.
@@ -74,16 +86,17 @@ passed() {
     echo "ok: $1"
 }
 
-# answers NAME STATUS WORD..: the program, given the words, must end with the status; what it prints is in the file `got`. It
-# writes to standard error exactly where an input is unreadable or something fails.
+# answers NAME STATUS ARGUMENT..: the program, given the arguments, must end with the status; what it prints is in the file `got`.
+# On standard error people are told what is wrong with an input, and, beside a yes or a no of `check`, how many exports have no type
+# to be compared. Beside any other answer nothing is told.
 answers() {
     local name=$1 status=$2 ended=0
     shift 2
     "$program" "$@" >got 2>errors || ended=$?
     [ "$ended" -eq "$status" ] || { head -n 20 got >&2 && fail "$name: status $ended, not $status"; }
-    # People are told what is wrong with an input; beside an answer there is nothing to be told.
-    case $ended in
-    2 | 3 | 4 | 6) grep -q '^abi: ' errors || fail "$name: nothing tells what is wrong" ;;
+    case "$ended $* " in
+    [2346]" "*) grep -q '^abi: ' errors || fail "$name: nothing tells what is wrong" ;;
+    [01]*" check "*) ! grep -v '^abi: ' errors >&2 || fail "$name: it wrote something else than notes to standard error" ;;
     *) [ ! -s errors ] || fail "$name: it wrote to standard error" ;;
     esac
 }
@@ -93,7 +106,7 @@ same() {
     diff -u want got >differences || { head -n 40 differences >&2 && fail "$1: another text"; }
 }
 
-# expect NAME STATUS WORD..: the program, given the words, must end with the status and print what the file `want` holds.
+# expect NAME STATUS ARGUMENT..: the program, given the arguments, must end with the status and print what the file `want` holds.
 expect() {
     answers "$@"
     same "$1"

@@ -7,6 +7,7 @@
 set -eu
 title="debug entries"
 tools="gcc readelf awk"
+crate=abi_cli
 . "$(dirname "$0")/common.bash"
 
 # entries LIBRARY: a line for each entry of .debug_info, as readelf has them: offset, depth, and tag in hexadecimal. It prints
@@ -78,7 +79,7 @@ for compiler in $compilers; do
 done
 
 if there dwz; then
-    ran="${ran:-} dwz"
+    ran="$ran dwz"
     for version in 4 5; do
         gcc -shared -fPIC -w -g -gdwarf-$version -O2 -o twice.so part_1.c part_2.c part_3.c part_1.c -Wl,--allow-multiple-definition
         dwz -o partial.so twice.so 2>dwz_errors || fail "dwz does nothing: $(head -n 1 dwz_errors)"
@@ -91,7 +92,7 @@ fi
 if there eu-unstrip && there objcopy; then
     library=/lib/x86_64-linux-gnu/libc.so.6
     if "$root/tools/join-debug" "$library" joined.so 2>join_errors; then
-        ran="${ran:-} eu-unstrip objcopy"
+        ran="$ran eu-unstrip objcopy"
         listed "$library with its debug information" joined.so 100000
     else
         [ -n "${SKIP_MISSING_TOOLS:-}" ] || fail "$(cat join_errors) (with SKIP_MISSING_TOOLS=1 this is left out)"

@@ -7,9 +7,10 @@
 set -eu
 title="memory limits"
 tools="gcc awk"
+crate=abi_cli
 . "$(dirname "$0")/common.bash"
 
-# limited KILOBYTES WORD..: the program, given the words, under a limit of memory; its status is that of this.
+# limited KILOBYTES ARGUMENT..: the program, given the arguments, under a limit of memory; its status is that of this.
 limited() {
     local limit=$1
     shift
@@ -19,14 +20,14 @@ limited() {
     ) >got 2>errors
 }
 
-# The least limit, in steps of 64 kilobytes, under which the program starts: without words it then says how it is used.
+# The least limit, in steps of 64 kilobytes, under which the program starts: without arguments it then prints its usage.
 least=64
 until { limited "$least"; } 2>/dev/null; [ $? -eq 64 ]; do
     least=$((least + 64))
     [ "$least" -le 262144 ] || fail "the program does not start in 256 megabytes"
 done
 
-# under_limits NAME STATUS STEP WORD..: the command under limits from the least on, in steps of so many kilobytes, until it gave
+# under_limits NAME STATUS STEP ARGUMENT..: the command under limits from the least on, in steps of so many kilobytes, until it gave
 # the right answer, which the file `want` holds, ten times in a row.
 under_limits() {
     local name=$1 status=$2 step=$3 limit=$least right=0 refused=0 ended
@@ -57,7 +58,7 @@ gcc -shared -nostdlib -fPIC -w -o fewer.so fewer.c
 awk -v first=1 -v last=200 -f "$sources/entries.awk" >entries.c
 gcc -shared -fPIC -w -g -O1 -o entries.so entries.c
 
-# answered NAME STATUS STEP WORD..: what the program answers without a limit must come under limits too.
+# answered NAME STATUS STEP ARGUMENT..: what the program answers without a limit must come under limits too.
 answered() {
     local name=$1 status=$2 step=$3 ended=0
     shift 3

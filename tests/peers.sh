@@ -3,23 +3,21 @@
 # it answers. It runs no program of this repository: what `abi` answers is what the table of edits says, and tests/typed_check.sh
 # holds the program against that.
 #
-#   tests/peers.sh           compares with the page; does nothing where there is no abidiff, or another one than the page's
+#   tests/peers.sh           compares with the page, which speaks of one version of abidiff
 #   tests/peers.sh --print   prints the tables of the page
 set -eu
 title="peers"
-tools="gcc awk"
+tools="gcc awk abidiff"
 crate=
 . "$(dirname "$0")/common.bash"
 . "$root/tests/edits.bash"
 
 page=$root/docs/PEERS.md
-if ! command -v abidiff >/dev/null; then
-    told "nothing ran, since there is no abidiff"
-    exit 0
-fi
 version=$(abidiff --version | awk '{ print $NF }')
 if [ "${1:-}" != --print ] && ! grep -q "abidiff $version\b" "$page"; then
-    told "nothing ran, since abidiff $version is not the one of docs/PEERS.md"
+    why="abidiff $version is not the one of docs/PEERS.md"
+    [ -n "${SKIP_MISSING_TOOLS:-}" ] || fail "$why (with SKIP_MISSING_TOOLS=1 this is left out)"
+    told "nothing ran, since $why"
     exit 0
 fi
 

@@ -6,7 +6,8 @@
 #   ABI=/path/of/abi tests/real_libraries.sh    takes another one
 set -eu
 title="real libraries"
-tools="gcc readelf sha256sum"
+tools="gcc readelf sha256sum awk"
+crate=abi_cli
 . "$(dirname "$0")/common.bash"
 
 # build NAME SOURCE OPTION..: the library NAME.so of a source.
@@ -168,10 +169,10 @@ broken "twelve of the twenty-five pairs of kinds disagree" kinds_old.so kinds_ne
 
 # With debug information: the lines of a certificate without types, then those of types.
 answers "a library with debug information may replace itself" 0 check debug.so debug.so
-certificate debug.so debug.so | grep -v '^end$' >front
-head -n "$(wc -l <front)" got | diff -u front - >&2 || fail "the certificate of debug.so begins otherwise"
+certificate debug.so debug.so | grep -v '^end$' >start
+head -n "$(wc -l <start)" got | diff -u start - >&2 || fail "the certificate of debug.so begins otherwise"
 grep -Eq '^pair [0-9]+ [0-9]+ direct$' got || fail "the certificate of debug.so has no pair of types"
-tail -n +"$(($(wc -l <front) + 1))" got | grep -Ev '^(alike (old|new) [0-9]+ [0-9]+|pair [0-9]+ [0-9]+ (direct|pointer)|end)$' >&2 &&
+tail -n +"$(($(wc -l <start) + 1))" got | grep -Ev '^(alike (old|new) [0-9]+ [0-9]+|pair [0-9]+ [0-9]+ (direct|pointer)|end)$' >&2 &&
     fail "the certificate of debug.so has another line"
 passed "a library with debug information may replace itself"
 answers "a build without debug information says nothing of types" 1 check debug.so old.so
@@ -184,31 +185,28 @@ expect "a source is no library" 2 check "$sources/old.c" old.so
 head -c 63 old.so >short
 echo "unreadable new 1 ShortFile 63" >want
 expect "63 bytes are too few" 2 check old.so short
-head -c 4096 old.so >front
+head -c 4096 old.so >cut
 echo "unreadable old 8 SectionTable 40" >want
-expect "a cut library has no section table" 2 check front old.so
+expect "a cut library has no section table" 2 check cut old.so
 
-# Not read, and wrong words.
+# Not read, and wrong arguments.
 echo "read fault old" >want
 expect "a folder cannot be read" 3 check . old.so
 expect "the old one is missed first" 3 check missing missing
 echo "read fault new" >want
 expect "the new one is missed" 3 check old.so missing
 cp usage want
-expect "no words are wrong" 64
+expect "no arguments are wrong" 64
 expect "one file is not enough" 64 check old.so
 expect "two libraries are too many for entries" 64 entries old.so old.so
 expect "there is no such command" 64 replace old.so old.so
-expect "a word that is no UTF-8 is wrong" 64 check old.so $'\xff.so'
+expect "an argument that is no UTF-8 is wrong" 64 check old.so $'\xff.so'
 
 # Not written.
-if [ -c /dev/full ]; then
-    ended=0
-    "$program" check old.so more.so >/dev/full 2>errors || ended=$?
-    [ "$ended" -eq 6 ] || fail "a full device: status $ended, not 6"
-    passed "a text that cannot be written has its status"
-else
-    echo "left out, since there is no /dev/full: a text that cannot be written"
-fi
+[ -c /dev/full ] || fail "there is no /dev/full"
+ended=0
+"$program" check old.so more.so >/dev/full 2>errors || ended=$?
+[ "$ended" -eq 6 ] || fail "a full device: status $ended, not 6"
+passed "a text that cannot be written has its status"
 
 finished

@@ -7,6 +7,7 @@
 set -eu
 title="rule files"
 tools="gcc abidiff"
+crate=abi_cli
 . "$(dirname "$0")/common.bash"
 
 build() {

@@ -7,7 +7,8 @@
 #   ABI=/path/of/abi tests/system_libraries.sh    takes another one
 set -eu
 title="system libraries"
-tools="readelf sha256sum"
+tools="readelf sha256sum awk"
+crate=abi_cli
 . "$(dirname "$0")/common.bash"
 
 # place NAME: the path of a library of the system, where it is there, an ELF-64 library for x86-64 without debug information.

@@ -7,15 +7,11 @@
 set -eu
 title="trials"
 tools="gcc readelf sha256sum awk abidiff python3"
+crate=abi_cli
 . "$(dirname "$0")/common.bash"
 
-maker=${TRIAL_LIBRARY:-}
-if [ -z "$maker" ]; then
-    maker=$root/crates/trial_library/out/trial_library
-    built=0
-    (cd "$root/crates/trial_library" && rt run) >/dev/null 2>&1 || built=$?
-    [ "$built" -eq 1 ] || fail "rt run of trial_library ended with status $built, not 1"
-fi
+program_of trial_library 1 "${TRIAL_LIBRARY:-}"
+maker=$found
 
 # tried FUNCTIONS: the trial of so many functions, against the libraries on disk.
 tried() {

@@ -10,6 +10,7 @@
 set -eu
 title="typed check"
 tools="gcc readelf sha256sum awk"
+crate=abi_cli
 . "$(dirname "$0")/common.bash"
 . "$root/tests/edits.bash"
 
@@ -140,15 +141,13 @@ certified() {
         }' got >differences || fail "$name: $(cat differences)"
 }
 
-# accepted NAME OLD NEW: the command `verify` accepts the certificate in the file `got`, where the program has that command.
+# accepted NAME OLD NEW: the command `verify` accepts the certificate in the file `got`.
 accepted() {
-    [ -z "$verifies" ] || {
-        cp got certificate
-        echo accepted >want
-        answers "$1, verified" 0 verify "$2" "$3" certificate
-        same "$1, verified"
-        mv certificate got
-    }
+    cp got certificate
+    echo accepted >want
+    answers "$1, verified" 0 verify "$2" "$3" certificate
+    same "$1, verified"
+    mv certificate got
 }
 
 # replaces_itself NAME SIDE LIBRARY: the library may replace itself.
@@ -258,15 +257,6 @@ holds() {
     esac
 }
 
-# Whether the program has the command `verify`: without it, these words are wrong ones.
-verifies=1
-status=0
-"$program" verify missing missing missing >got 2>errors || status=$?
-if [ "$status" -eq 64 ]; then
-    verifies=
-    left_out="$left_out verify"
-fi
-
 cut_edits
 for edit in ${EDITS:-$(seq "$edits")}; do
     name=$(cat "edits/$edit/name")
@@ -296,7 +286,7 @@ done
 
 # Each library of the system for which there is debug information, joined with it.
 if [ -z "${EDITS:-}" ] && there eu-unstrip && there objcopy; then
-    ran="${ran:-} eu-unstrip objcopy"
+    ran="$ran eu-unstrip objcopy"
     joined=0
     for library in /lib/x86_64-linux-gnu/*.so* /usr/lib64/*.so*; do
         [ -f "$library" ] && [ ! -L "$library" ] || continue

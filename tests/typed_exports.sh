@@ -8,8 +8,6 @@ set -eu
 title="typed exports"
 tools="gcc readelf awk"
 crate=graph_lines
-given=${GRAPH_LINES:-}
-usage_status=1
 . "$(dirname "$0")/common.bash"
 
 # addressed LIBRARY: a line for each export, in order: its name and its value in hexadecimal, which is `-` where the symbol

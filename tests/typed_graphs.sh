@@ -10,8 +10,6 @@ set -eu
 title="typed graphs"
 tools="gcc readelf awk timeout"
 crate=graph_lines
-given=${GRAPH_LINES:-}
-usage_status=1
 . "$(dirname "$0")/common.bash"
 
 # build COMPILER OPTION..: builds kinds.so, whose two units hold the functions and the variables of kinds.h.
@@ -59,7 +57,7 @@ held() {
     agreed "$*"
 }
 
-# crossed COMPILER OPTION..: where debug information says by bit_offset that a bit field begins in front of the bytes of its type,
+# crossed COMPILER OPTION..: where debug information says by bit_offset that a bit field begins before the bytes of its type,
 # that is no place, and the fault is at the structure.
 crossed() {
     build "$@" -DCROSSING
@@ -87,14 +85,14 @@ held gcc -gdwarf-5 -fpack-struct=2 -DCROSSING
 
 # Partial units hold what the units share.
 if there dwz; then
-    ran="${ran:-} dwz"
+    ran="$ran dwz"
     held gcc -gdwarf-5 -O2 -DCROSSING
     dwz kinds.so
     agreed "gcc -gdwarf-5 -O2, and dwz"
 fi
 
 if there clang; then
-    ran="${ran:-} clang"
+    ran="$ran clang"
     for level in -O0 -O2; do
         held clang -gdwarf-5 $level
         laid_out "clang -gdwarf-5 $level"
@@ -110,6 +108,6 @@ if there clang; then
         held clang -O2 -flto -fuse-ld=lld -Wno-unused-command-line-argument
     fi
 fi
-if there pahole; then ran="${ran:-} pahole"; fi
+if there pahole; then ran="$ran pahole"; fi
 
 finished
