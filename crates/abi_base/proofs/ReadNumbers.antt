@@ -5,7 +5,7 @@ use Rattle.std.proofs.lemmas.Bool.{cases_lt}
 use Rattle.std.proofs.Math.Seq.{drop-cons}
 use Rattle.byteorder.specs.Endian.{little_from}
 use Rattle.abi_base.specs.Numbers.{number_of, number}
-use Rattle.abi_base.proofs.NumbersLemmas.{number_of-nil, number_of-cons}
+use Rattle.abi_base.proofs.lemmas.Numbers.{number_of-nil, number_of-cons}
 
 past : (i n : ℕ) (xs : List ℕ) → length xs ≤ i → little_from i n xs ≡ 0
 past i zero xs h = refl

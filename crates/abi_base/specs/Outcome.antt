@@ -16,12 +16,12 @@ first [] = None
 first (None ∷ others) = first others
 first (Some fault ∷ others) = Some fault
 
--- A refusal is the fault that the definition says, or want of memory.
+-- A refusal is the fault that the definition says, or that memory ran out.
 abbrev pub Refuses : Refusal → Option Fault → Type 0
 Refuses (refusal.Fault answered) fault = fault ≡ Some answered
 Refuses refusal.NoMemory fault = Unit {0}
 
--- Ok comes exactly where there is no fault, and a fault exactly where it is this one, but for want of memory.
+-- Ok comes exactly where there is no fault, and a fault exactly where it is this one, unless memory runs out.
 abbrev pub Judges : {T : Type 0} → Result T Refusal → Option Fault → Type 0
 Judges (Ok x) fault = fault ≡ None
 Judges (Err e) fault = Refuses e fault
@@ -44,7 +44,7 @@ abbrev pub or_end : {A E : Type 0} → Option A → E → Result A E
 or_end None e = Err e
 or_end (Some x) e = Ok x
 
--- What a call returned is what reading gives, but for want of memory.
+-- What a call returned is what reading gives, unless memory runs out.
 abbrev pub Gives : {T : Type 0} → Result T Refusal → Result T Fault → Type 0
 Gives (Ok x) read = read ≡ Ok x
 Gives (Err (refusal.Fault answered)) read = read ≡ Err answered

@@ -1,8 +1,8 @@
-pub mod Ranges
-pub mod Lengths
-pub mod UnitLengths
-pub mod SymbolSteps
-pub mod FileLengths
-pub mod UnitRanges
-pub mod Placing
-pub mod Standing
+mod Ranges
+mod Lengths
+mod UnitLengths
+mod SymbolSteps
+mod FileLengths
+mod UnitRanges
+mod Placing
+mod Standing

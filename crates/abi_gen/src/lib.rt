@@ -13,6 +13,3 @@ mod symbols;
 mod units;
 
 pub use making::{GenRefusal, MOST_FUNCTIONS, Side, make};
-
-#[cfg(test)]
-mod tests;

@@ -17,6 +17,3 @@ pub use libraries::{library, library_with_soname, numbered_library};
 pub use section::ImageSection;
 pub use symbol::ImageSymbol;
 pub use version::ImageVersion;
-
-#[cfg(test)]
-mod tests;

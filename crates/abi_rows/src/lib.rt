@@ -13,6 +13,8 @@ mod faults;
 #[cfg(test)]
 mod fixture;
 #[cfg(test)]
+mod images;
+#[cfg(test)]
 mod sources;
 #[cfg(test)]
 mod typed;

@@ -1,8 +1,7 @@
-pub mod EntryLemmas
-pub mod LeafLemmas
-pub mod LikeLemmas
-pub mod LookupLemmas
-pub mod NameLemmas
-pub mod Recursion
-pub mod ShapedLemmas
-pub mod WalkLemmas
+mod EntryLemmas
+mod LikeLemmas
+mod LookupLemmas
+mod NameLemmas
+mod ShapedLemmas
+mod WalkLemmas
+pub mod lemmas

@@ -33,6 +33,3 @@ pub use place::{CallShape, Place, Slot};
 pub use rule::RuleName;
 pub use shown::{push_label, push_shown};
 pub use view::{Label, Node, View};
-
-#[cfg(test)]
-mod tests;

@@ -1,3 +1,3 @@
-pub mod SeenLemmas
-pub mod Telling
-pub mod TextLemmas
+mod SeenLemmas
+mod Telling
+mod TextLemmas

@@ -21,6 +21,3 @@ pub use row::{Row, export_row, soname_row, type_row};
 pub use step::push_step;
 pub use style::{More, Style};
 pub use words::kind_word;
-
-#[cfg(test)]
-mod tests;

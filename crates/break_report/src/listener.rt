@@ -59,7 +59,7 @@ pub fn tell_all(
     requires { All (λ listener. heard listener ≡ []) listeners.items }
     // The texts stand in the order of the listeners.
     ensures ok { OnOk result ((texts : List (List ℕ)) × Reports (map asks listeners.items) rows.now texts × (out.new.items ≡ out.old.items ++ concat texts)) }
-    // After want of memory, the whole texts of the first listeners.
+    // Where memory runs out, the whole texts of the first listeners.
     ensures err { OnErr result ((n : ℕ) × (texts : List (List ℕ)) × Reports (take n (map asks listeners.items)) rows.now texts × (out.new.items ≡ out.old.items ++ concat texts)) }
 {
     let mut waiting = listeners;

@@ -30,7 +30,7 @@ pub struct Row {
 }
 
 impl Row {
-    /// An equal row, or want of memory.
+    /// An equal row. It fails where memory runs out, and nowhere else.
     pub fn copy(&self, alloc: Global) -> Result<Row, NoMemory>
         ensures { IfOk result (λ row. row ≡ self.now) }
     {

@@ -4,7 +4,7 @@ use Rattle.std.specs.Prelude.{filter_map}
 use Rattle.std.specs.List.{range_with_len, Contains}
 use Rattle.std.proofs.lemmas.Bool.{cases_order}
 use Rattle.std.proofs.lemmas.Option.{none-some}
-use Rattle.abi_base.proofs.ListLemmas.{contains_at, at_contains}
+use Rattle.abi_base.proofs.lemmas.Lists.{contains_at, at_contains}
 
 module _ {X : Type 0} (f : ℕ → Option X) where
   -- the number that gives an item

@@ -5,7 +5,7 @@ use Rattle.std.specs.Prelude.{option_and_then}
 use Rattle.std.specs.declared.cmp.Ordering.TheVariants.{Less}
 use Rattle.std.proofs.lemmas.Bool.{cases_Bool, cases_order}
 use Rattle.std.proofs.lemmas.Option.{none-some, same_Some, slice_get_within, slice_get-get_or}
-use Rattle.abi_base.proofs.ListLemmas.{contains_at}
+use Rattle.abi_base.proofs.lemmas.Lists.{contains_at}
 use Rattle.abi_types.specs.Exports.{PlainExport}
 use Rattle.abi_types.specs.Libraries.{AreNumbered}
 use Rattle.abi_types.specs.Limits.{symbol_limit}

@@ -1,14 +1,14 @@
-pub mod Given
-pub mod BindLemmas
-pub mod Orders
-pub mod OneList
-pub mod Looks
-pub mod Leasts
-pub mod AlikeLemmas
-pub mod FoundLemmas
-pub mod VisitLemmas
-pub mod Leading
-pub mod BindLines
-pub mod Accepting
-pub mod ScopeLemmas
-pub mod CertLemmas
+mod Given
+mod BindLemmas
+mod Orders
+mod OneList
+mod Looks
+mod Leasts
+mod AlikeLemmas
+mod FoundLemmas
+mod VisitLemmas
+mod Leading
+mod BindLines
+mod Accepting
+mod ScopeLemmas
+mod CertLemmas

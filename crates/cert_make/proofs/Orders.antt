@@ -9,7 +9,7 @@ use Rattle.std.proofs.lemmas.Cmp.{ranked, nat_cmp_total, on_total, then_total, t
 use Rattle.std.proofs.lemmas.Map.Keys.{IsDistinct-from_apart, Less-from_sorted}
 use Rattle.abi_types.specs.declared.kind.Way.{Way}
 use Rattle.abi_types.specs.declared.kind.Way.TheVariants.{Direct, Pointer}
-use Rattle.abi_base.proofs.SortLemmas.{strictly_from_sort}
+use Rattle.abi_base.proofs.lemmas.Sorts.{strictly_from_sort}
 use Rattle.cert_text.specs.Certs.{Ascend, PairLine, first_cmp, pair_cmp, is_pointer}
 
 pub sorted_ascends : {K : Type 0} {R : K → K → Ordering} (o : IsTotalOrder R) (xs ys : List K) → IsPermutation xs ys → IsSorted R ys

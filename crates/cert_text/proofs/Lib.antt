@@ -1,16 +1,16 @@
-pub mod NumberLemmas
-pub mod FeedLemmas
-pub mod HeadLemmas
-pub mod ReadHead
-pub mod FormLemmas
-pub mod OrderLemmas
-pub mod BodyLemmas
-pub mod ReadingLemmas
-pub mod EndLemmas
-pub mod WritingLemmas
-pub mod FirstLemmas
-pub mod CompleteLemmas
-pub mod LinedLemmas
-pub mod RunLemmas
-pub mod WholeLemmas
-pub mod MigrateLemmas
+mod NumberLemmas
+mod FeedLemmas
+mod HeadLemmas
+mod ReadHead
+mod FormLemmas
+mod OrderLemmas
+mod BodyLemmas
+mod ReadingLemmas
+mod EndLemmas
+mod WritingLemmas
+mod FirstLemmas
+mod CompleteLemmas
+mod LinedLemmas
+mod RunLemmas
+mod WholeLemmas
+mod MigrateLemmas

@@ -16,6 +16,3 @@ pub use cert::Cert;
 pub use first::{Cert1, migrate, read_cert_1};
 pub use reading::read_cert;
 pub use writing::write_cert;
-
-#[cfg(test)]
-mod tests;

@@ -8,6 +8,3 @@ pub mod laws;
 mod line;
 
 pub use asked::{Asked, Request, asked_in};
-
-#[cfg(test)]
-mod tests;

@@ -8,7 +8,7 @@ use Rattle.std.proofs.lemmas.List.{length-map}
 use Rattle.std.proofs.lemmas.Option.{same_Some}
 use Rattle.abi_base.specs.declared.fault.Fault.{Fault}
 use Rattle.abi_base.specs.Runs.{Chain}
-use Rattle.abi_base.proofs.StepLemmas.{option_cases, bool_cases, same_Ok}
+use Rattle.abi_base.proofs.lemmas.Cases.{option_cases, bool_cases, same_Ok}
 use Rattle.dw_units.specs.Units.{PlainUnit}
 use Rattle.dw_units.specs.Sequence.{UnitStands, unit_fault, unit_of, unit_step, units_of}
 use Rattle.dw_tree.specs.Trees.{IsOrdered, entry_at, entry_of, head_at, head_of, no_head, tree_of}

@@ -12,7 +12,7 @@ use Rattle.abi_base.specs.declared.fault.FaultKind.{FaultKind}
 use Rattle.abi_base.specs.declared.fault.FaultKind.TheVariants as kind
 use Rattle.abi_base.specs.Outcome.{fault_if, first, or_end}
 use Rattle.abi_base.specs.Tables.{entry_of_table}
-use Rattle.abi_base.proofs.StepLemmas.{option_cases, bool_cases}
+use Rattle.abi_base.proofs.lemmas.Cases.{option_cases, bool_cases}
 use Rattle.dw_forms.specs.declared.values.Value.{Value}
 use Rattle.dw_forms.specs.declared.values.Value.TheVariants as value
 use Rattle.dw_forms.specs.Values.{fault}

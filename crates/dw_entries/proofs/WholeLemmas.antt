@@ -4,7 +4,7 @@ use Rattle.std.specs.Prelude.{◌↔◌, All, Contains, filter}
 use Rattle.std.proofs.lemmas.List.Elements.{All-filter, Contains-get_or}
 use Rattle.abi_base.specs.declared.fault.Fault.{Fault}
 use Rattle.abi_base.specs.Outcome.{first}
-use Rattle.abi_base.proofs.OutcomeLemmas.{none_at}
+use Rattle.abi_base.proofs.lemmas.Outcomes.{none_at}
 use Rattle.dw_units.specs.Sequence.{entries_fault}
 use Rattle.dw_tree.specs.Parents.{StandsBelow}
 use Rattle.dw_tree.specs.Trees.{PlainTree, children_of}

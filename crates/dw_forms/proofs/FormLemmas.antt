@@ -7,8 +7,8 @@ use Rattle.std.proofs.Math.Seq.{drop-cons}
 use Rattle.std.proofs.lemmas.Bool.{eqb-true}
 use Rattle.std.proofs.lemmas.Option.{same_Some}
 use Rattle.abi_base.specs.Numbers.{number}
-use Rattle.abi_base.proofs.NumbersLemmas.{number_of-nil, number_of-cons}
-use Rattle.abi_base.proofs.StepLemmas.{bool_cases}
+use Rattle.abi_base.proofs.lemmas.Numbers.{number_of-nil, number_of-cons}
+use Rattle.abi_base.proofs.lemmas.Cases.{bool_cases}
 use Rattle.abi_base.specs.Dwarf.{dw_form_indirect, dw_form_implicit_const, dw_form_ref_addr, dw_form_ref1, dw_form_ref2, dw_form_ref4, dw_form_ref8, dw_form_ref_udata}
 use Rattle.dw_forms.specs.Values.{Shape, implicit_const, indirect, forms, shape_of, named_shape, value_of, value_at, direct_at, indirect_at, Refers, RefersByUleb, absolute, from_unit}
 

@@ -1,2 +1,2 @@
-pub mod ValueLemmas
 mod FormLemmas
+pub mod lemmas

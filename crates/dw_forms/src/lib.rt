@@ -11,6 +11,3 @@ mod values;
 pub use forms::value;
 pub use sections::Sections;
 pub use values::Value;
-
-#[cfg(test)]
-mod tests;

@@ -6,10 +6,10 @@ use Rattle.abi_base.specs.Numbers.{number_at}
 use Rattle.abi_base.specs.Leb.{uleb_at}
 use Rattle.abi_base.specs.Tables.{entry_of_table}
 use Rattle.abi_base.specs.Runs.{Run, run, Chain}
-use Rattle.abi_base.proofs.NumbersLemmas.{number_inside}
-use Rattle.abi_base.proofs.LebLemmas.{uleb_inside}
-use Rattle.abi_base.proofs.RunsLemmas.{Falls, run_more, run_end, run_chain}
-use Rattle.abi_base.proofs.StepLemmas.{option_cases, bool_cases, result_cases, same_Ok}
+use Rattle.abi_base.proofs.lemmas.Numbers.{number_inside}
+use Rattle.abi_base.proofs.lemmas.Leb.{uleb_inside}
+use Rattle.abi_base.proofs.lemmas.Runs.{Falls, run_more, run_end, run_chain}
+use Rattle.abi_base.proofs.lemmas.Cases.{option_cases, bool_cases, result_cases, same_Ok}
 use Rattle.dw_ranges.specs.declared.layout.Field.{Field}
 use Rattle.dw_ranges.specs.declared.layout.Field.TheVariants as field
 use Rattle.dw_ranges.specs.declared.layout.Layout.{Layout}

@@ -10,6 +10,3 @@ mod lists;
 
 pub use first::first_address;
 pub use lists::ListAt;
-
-#[cfg(test)]
-mod tests;

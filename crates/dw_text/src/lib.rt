@@ -8,6 +8,3 @@ mod texts;
 pub use addresses::address;
 pub use bases::Bases;
 pub use texts::text;
-
-#[cfg(test)]
-mod tests;

@@ -8,7 +8,7 @@ use Rattle.abi_base.specs.declared.fault.FaultKind.{FaultKind}
 use Rattle.abi_base.specs.declared.fault.FaultKind.TheVariants as kind
 use Rattle.abi_base.specs.Numbers.{number}
 use Rattle.abi_base.specs.Outcome.{first, fault_if}
-use Rattle.abi_base.proofs.StepLemmas.{option_cases, bool_cases, same_Ok}
+use Rattle.abi_base.proofs.lemmas.Cases.{option_cases, bool_cases, same_Ok}
 use Rattle.dw_abbrev.specs.Abbrevs.{table_run}
 use Rattle.dw_units.specs.Units.{PlainUnit, header_size_of, is_type_unit}
 use Rattle.dw_units.specs.Sequence.{UnitStands, unit_version, is_type_at, unit_abbrevs, unit_length, unit_end, header_size_at, bad_length, kind_rows, header_fault, unit_fault, unit_of, unit_step}

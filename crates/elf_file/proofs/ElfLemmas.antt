@@ -4,7 +4,7 @@ use Rattle.std.specs.Option.{option_or}
 use Rattle.abi_base.specs.declared.fault.Fault.{Fault}
 use Rattle.abi_base.specs.Outcome.{first}
 use Rattle.elf_file.specs.Elf.{all_sections, header_faults, range_fault, name_fault, compressed_fault, elf_fault}
-use Rattle.abi_base.proofs.OutcomeLemmas.{first-append}
+use Rattle.abi_base.proofs.lemmas.Outcomes.{first-append}
 
 -- the first fault, group by group
 pub elf_fault_is : (f : List ℕ) → elf_fault f ≡

@@ -8,7 +8,7 @@ use Rattle.std.proofs.lemmas.Bool.Decides.{nat_tests}
 use Rattle.abi_base.specs.declared.fault.Fault.{Fault}
 use Rattle.abi_base.specs.declared.fault.FaultKind.TheVariants as kind
 use Rattle.abi_base.specs.Outcome.{first}
-use Rattle.abi_base.proofs.OutcomeLemmas.{none_at, fault_if-none}
+use Rattle.abi_base.proofs.lemmas.Outcomes.{none_at, fault_if-none}
 use Rattle.elf_file.specs.Elf.{table, section, contents, section_name, all_sections, holds_bytes, is_compressed, header_faults, range_fault, name_fault, compressed_fault, elf_fault}
 use Rattle.elf_file.proofs.ElfLemmas.{elf_fault_is}
 

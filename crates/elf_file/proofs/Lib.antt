@@ -1,2 +1,2 @@
-pub mod ElfLemmas
+mod ElfLemmas
 mod Faultless

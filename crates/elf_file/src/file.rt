@@ -92,7 +92,7 @@ impl<'a> ElfFile<'a> {
     }
 
     /// The number of the first section of a name, or none exactly where there is no such section.
-    #[tactic(auto, using(abi_base::proofs::Places::find_more, abi_base::proofs::Places::find_here, abi_base::proofs::Places::find_none))]
+    #[tactic(auto, using(abi_base::proofs::lemmas::Places::find_more, abi_base::proofs::lemmas::Places::find_here, abi_base::proofs::lemmas::Places::find_none))]
     pub fn section_number(&self, name: &[u8]) -> Option<u32>
         ensures found { result ≡ the_section_number self.now name.now }
         ensures inside { IfSome result (λ i. i < (table self.now).count) }
@@ -107,7 +107,7 @@ impl<'a> ElfFile<'a> {
 
     /// The first section of a type, or none exactly where there is no such section. Types are those of the gABI, as
     /// `SHT_DYNSYM`.
-    #[tactic(auto, using(abi_base::proofs::Places::find_more, abi_base::proofs::Places::find_here, abi_base::proofs::Places::find_none))]
+    #[tactic(auto, using(abi_base::proofs::lemmas::Places::find_more, abi_base::proofs::lemmas::Places::find_here, abi_base::proofs::lemmas::Places::find_none))]
     pub fn section_of_kind(&self, kind: u32) -> Option<Section<'a>>
         ensures found { option_map viewed result ≡ the_section_of_kind self.now kind }
         ensures inside { IfSome result (λ s. s.index < (table self.now).count) }

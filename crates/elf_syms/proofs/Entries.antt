@@ -2,7 +2,7 @@
 use Rattle.std.proofs.Common.{◌≡◌, ℕ, ◌+◌, ◌<◌, ◌≤◌, Bool, true, false, Option, Some, None, refl}
 use Rattle.std.specs.Prelude.{find, take_while}
 use Rattle.std.proofs.lemmas.List.Sums.{take_while-cons}
-use Rattle.abi_base.proofs.Places.{places, places_more, places_none}
+use Rattle.abi_base.proofs.lemmas.Places.{places, places_more, places_none}
 
 -- the first entry with p from i on, before the first one without q
 abbrev pub find_before_end : (ℕ → Bool) → (ℕ → Bool) → ℕ → ℕ → Option ℕ

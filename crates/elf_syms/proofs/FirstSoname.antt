@@ -8,7 +8,7 @@ use Rattle.std.proofs.lemmas.Bool.{cases_lt}
 use Rattle.std.proofs.lemmas.Bool.Decides.{nat_tests}
 use Rattle.abi_base.specs.declared.fault.FaultKind.TheVariants as kind
 use Rattle.abi_base.specs.Outcome.{fault_if}
-use Rattle.abi_base.proofs.OutcomeLemmas.{fault_if-none}
+use Rattle.abi_base.proofs.lemmas.Outcomes.{fault_if-none}
 use Rattle.std.specs.Option.{option_map_or}
 use Rattle.elf_file.specs.Elf.{section_of_kind}
 use Rattle.abi_base.specs.Elf.{sht_dynamic, dyn_size}

@@ -8,7 +8,7 @@ use Rattle.std.proofs.lemmas.Bool.Decides.{nat_tests}
 use Rattle.abi_base.specs.declared.fault.Fault.{Fault}
 use Rattle.abi_base.specs.declared.fault.FaultKind.TheVariants as kind
 use Rattle.abi_base.specs.Outcome.{first, fault_if}
-use Rattle.abi_base.proofs.OutcomeLemmas.{none_at, fault_if-none}
+use Rattle.abi_base.proofs.lemmas.Outcomes.{none_at, fault_if-none}
 use Rattle.elf_file.specs.Elf.{SectionView, section_of_kind}
 use Rattle.abi_base.specs.Elf.{sht_dynsym, sym_size}
 use Rattle.elf_syms.specs.Tables.{is_table_bad}

@@ -4,7 +4,7 @@ use Rattle.std.specs.List.{range_with_len}
 use Rattle.std.proofs.lemmas.List.{map-append}
 use Rattle.std.proofs.lemmas.List.FromFn.{map-range_with_len_more}
 use Rattle.abi_base.specs.Outcome.{first}
-use Rattle.abi_base.proofs.OutcomeLemmas.{first_from, first_from-step}
+use Rattle.abi_base.proofs.lemmas.Outcomes.{first_from, first_from-step}
 use Rattle.elf_syms.specs.declared.symbol.Symbol.{Symbol}
 use Rattle.elf_syms.specs.Plain.{plain_symbol, plain_symbols}
 use Rattle.elf_syms.specs.Symbols.{PlainSymbol, symbol_in, symbol_name_fault, symbol_numbers}

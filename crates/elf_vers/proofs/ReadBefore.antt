@@ -11,7 +11,7 @@ use Rattle.std.proofs.lemmas.Bool.Decides.{Decides-eqb}
 use Rattle.abi_base.specs.declared.fault.FaultKind.TheVariants as kind
 use Rattle.abi_base.specs.declared.fault.Refusal.{Refusal}
 use Rattle.abi_base.specs.Outcome.{first, fault_if, Refuses}
-use Rattle.abi_base.proofs.OutcomeLemmas.{first_from, first_from-step, first_from-here}
+use Rattle.abi_base.proofs.lemmas.Outcomes.{first_from, first_from-step, first_from-here}
 use Rattle.elf_vers.specs.Definitions.{place_of, index_of, name_of, stood_before, is_malformed, is_bad, bad_definition_at, definition_fault, definition_with}
 use Rattle.elf_vers.specs.Names.{Names, name_under, IsNames}
 

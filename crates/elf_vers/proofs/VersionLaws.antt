@@ -8,7 +8,7 @@ use Rattle.abi_base.specs.declared.fault.Fault.{Fault}
 use Rattle.abi_base.specs.declared.fault.FaultKind.TheVariants as kind
 use Rattle.abi_base.specs.Numbers.{number}
 use Rattle.abi_base.specs.Outcome.{first}
-use Rattle.abi_base.proofs.OutcomeLemmas.{none_at, fault_if-none}
+use Rattle.abi_base.proofs.lemmas.Outcomes.{none_at, fault_if-none}
 use Rattle.elf_file.specs.Elf.{section_of_kind}
 use Rattle.abi_base.specs.GnuVersions.{sht_gnu_versym, ver_ndx_global, verdef_size, verdaux_size, vd_version, vd_cnt, vd_next, ver_def_current}
 use Rattle.elf_vers.specs.Definitions.{place_of, index_of, auxiliary_of, name_of, stood_before, is_malformed, is_bad, version_name, definition_fault, definition_table, definition_strings, definition_count, definition_with, strings_fault, definition_faults}

@@ -15,6 +15,3 @@ mod told;
 pub use noted::NotedSink;
 pub use remarks::push_untyped;
 pub use told::{push_fault, told_fault};
-
-#[cfg(test)]
-mod tests;

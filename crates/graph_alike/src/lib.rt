@@ -12,6 +12,3 @@ mod shapes;
 mod split;
 
 pub use classes::{Classes, alike, plain};
-
-#[cfg(test)]
-mod tests;

@@ -1,3 +1,3 @@
-pub mod ExportLemmas
-pub mod OwnEntries
-pub mod ValidLemmas
+mod ExportLemmas
+mod OwnEntries
+mod ValidLemmas

@@ -11,6 +11,3 @@ mod valid;
 
 pub use making::{function, graph, member, no_marks, node, pointer, scalar, structure, view, void};
 pub use valid::{is_graph, is_library};
-
-#[cfg(test)]
-mod tests;

@@ -1,6 +1,6 @@
-pub mod Apart
-pub mod Pairs
-pub mod Itself
-pub mod Reading
-pub mod Scoping
-pub mod Judging
+mod Apart
+mod Pairs
+mod Itself
+mod Reading
+mod Scoping
+mod Judging

@@ -11,6 +11,3 @@ mod typed;
 pub use comparing::{Comparison, compare};
 pub use empty::unmarked;
 pub use typed::roots;
-
-#[cfg(test)]
-mod tests;

@@ -1,5 +1,5 @@
 mod FaultLemmas
-pub mod DebugLemmas
+mod DebugLemmas
 mod NumberLemmas
 mod TypedLemmas
 mod LibraryLemmas

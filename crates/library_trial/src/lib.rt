@@ -7,6 +7,3 @@ mod summary;
 mod trying;
 
 pub use trying::try_both;
-
-#[cfg(test)]
-mod tests;

@@ -1,16 +1,16 @@
-pub mod Bounds
-pub mod Entered
-pub mod Growth
-pub mod Keyed
-pub mod Leading
-pub mod Loop
-pub mod Order
-pub mod Ranges
-pub mod Representatives
-pub mod Scoped
-pub mod Sources
-pub mod Spelled
-pub mod Triples
-pub mod Verdict
-pub mod Visited
-pub mod Walked
+mod Bounds
+mod Entered
+mod Growth
+mod Keyed
+mod Leading
+mod Loop
+mod Order
+mod Ranges
+mod Representatives
+mod Scoped
+mod Sources
+mod Spelled
+mod Triples
+mod Verdict
+mod Visited
+mod Walked

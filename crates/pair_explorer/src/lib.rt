@@ -15,6 +15,3 @@ pub use roots::Root;
 pub use routes::{Route, route_to};
 pub use scopes::is_scope;
 pub use visits::{Parent, Visit, Visits};
-
-#[cfg(test)]
-mod tests;

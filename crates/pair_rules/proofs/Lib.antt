@@ -1,15 +1,15 @@
-pub mod BreakOrder
-pub mod Classes
-pub mod Compared
-pub mod Given
-pub mod Keeps
-pub mod Leading
-pub mod Matches
-pub mod Occurrences
-pub mod OwnRules
-pub mod Partnering
-pub mod PlaceEq
-pub mod PlaceOf
-pub mod Ranges
-pub mod SameLemmas
-pub mod Unseen
+mod BreakOrder
+mod Classes
+mod Compared
+mod Given
+mod Keeps
+mod Leading
+mod Matches
+mod Occurrences
+mod OwnRules
+mod Partnering
+mod PlaceEq
+mod PlaceOf
+mod Ranges
+mod SameLemmas
+mod Unseen

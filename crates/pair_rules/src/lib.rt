@@ -17,6 +17,3 @@ pub use matching::{after, match_of, number_of, partner, partner_at};
 pub use rules::{Broken, bit_at, holds, params_of, value_at, width_at};
 pub use steps::Steps;
 pub use triple::Triple;
-
-#[cfg(test)]
-mod tests;

@@ -6,7 +6,7 @@ use Rattle.abi_types.specs.declared.kind.Kind.TheVariants as kind
 use Rattle.abi_types.specs.Types.{PlainPart, Member, Enumerator, Target, Element, Outcome, Param, PlainView, PlainNode}
 use Rattle.abi_types.specs.declared.kind.Kind.{Kind}
 use Rattle.abi_types.specs.Forms.{HasForm, is_one_element, is_aggregate, is_leaf, is_array}
-use Rattle.abi_types.proofs.LeafLemmas.{to_from_inner, leaves_of-step, leaves_of_all-more, is_zero}
+use Rattle.abi_types.proofs.lemmas.Leaves.{to_from_inner, leaves_of-step, leaves_of_all-more, is_zero}
 use Rattle.abi_types.specs.Graphs.{IsGraph, view_at, part_at, no_part, inner_of}
 use Rattle.psabi.specs.declared.eightbytes.Eightbytes.{Eightbytes}
 use Rattle.psabi.specs.Merging.{MergesLeaves}

@@ -1,11 +1,11 @@
-pub mod AlignBounds
-pub mod AlignLemmas
-pub mod CallLemmas
-pub mod ClassLemmas
-pub mod LawLemmas
-pub mod LeafLemmas
-pub mod Merges
-pub mod PassingLemmas
-pub mod PastLemmas
-pub mod Ranges
-pub mod ShapedCalls
+mod AlignBounds
+mod AlignLemmas
+mod CallLemmas
+mod ClassLemmas
+mod LawLemmas
+mod LeafLemmas
+mod Merges
+mod PassingLemmas
+mod PastLemmas
+mod Ranges
+mod ShapedCalls

@@ -3,7 +3,7 @@ use Rattle.std.proofs.Common.{◌≡◌, ◌<◌, ◌+◌, ℕ, zero, suc, [], �
 use Rattle.std.specs.Prelude.{Bool, true, false, ◌&&◌}
 use Rattle.std.specs.List.{list_any, list_all, range_with_len}
 use Rattle.std.proofs.lemmas.List.Folds.{list_any_at, list_any-append, list_all-append}
-use Rattle.abi_types.proofs.LeafLemmas.{range-more}
+use Rattle.abi_types.proofs.lemmas.Leaves.{range-more}
 use Rattle.std.proofs.lemmas.List.FromFn.{length-range_with_len, get_or-range_with_len}
 
 pub any-range-more : (p : ℕ → Bool) (a n j : ℕ) → a + n ≡ j → list_any p (range_with_len a n) ≡ false → p j ≡ false → list_any p (range_with_len a (n + 1)) ≡ false

@@ -43,8 +43,8 @@ fn shape_with<Ix: Index>(
     Ok(CallShape { outcome, params })
 }
 
-/// Where a call of the node's function puts its result and its arguments: nowhere at a node that is no function. It fails for
-/// want of memory alone.
+/// Where a call of the node's function puts its result and its arguments: nowhere at a node that is no function. It fails
+/// where memory runs out, and nowhere else.
 pub fn call_shape<Ix: Index>(
     alloc: Global,
     graph: &Graph<Ix>,
@@ -57,8 +57,8 @@ pub fn call_shape<Ix: Index>(
     shape_with(alloc, graph, ix, &mut known)
 }
 
-/// The call shapes of all nodes, each at the number of its node. What a type asks for is found once for all calls. It fails for
-/// want of memory alone.
+/// The call shapes of all nodes, each at the number of its node. What a type asks for is found once for all calls. It fails
+/// where memory runs out, and nowhere else.
 pub fn call_shapes<Ix: Index>(alloc: Global, graph: &Graph<Ix>) -> Result<List<CallShape>, NoMemory>
     ensures shapes { IfOk result (λ shapes. shapes ≡ calls_of graph.now) }
     ensures many { IfOk result (λ shapes. length shapes ≡ length graph.now) }

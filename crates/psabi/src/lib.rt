@@ -26,6 +26,3 @@ pub use alignment::{align, size};
 pub use calling::{call_shape, call_shapes};
 pub use class::Class;
 pub use classification::classes;
-
-#[cfg(test)]
-mod tests;

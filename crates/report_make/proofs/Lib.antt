@@ -1,17 +1,17 @@
-pub mod AlikeDetails
-pub mod BelowLaws
-pub mod ExportLemmas
-pub mod MapLemmas
-pub mod NoneLemmas
-pub mod OneList
-pub mod OneReport
-pub mod RangeLemmas
-pub mod ReadableLemmas
-pub mod Right
-pub mod RootLemmas
-pub mod RowLemmas
-pub mod SameRows
-pub mod ToldLemmas
-pub mod TypedLemmas
-pub mod VisitLemmas
-pub mod WalkLemmas
+mod AlikeDetails
+mod BelowLaws
+mod ExportLemmas
+mod MapLemmas
+mod NoneLemmas
+mod OneList
+mod OneReport
+mod RangeLemmas
+mod ReadableLemmas
+mod Right
+mod RootLemmas
+mod RowLemmas
+mod SameRows
+mod ToldLemmas
+mod TypedLemmas
+mod VisitLemmas
+mod WalkLemmas

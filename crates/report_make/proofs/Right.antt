@@ -4,7 +4,7 @@ use Rattle.std.specs.List.{Contains}
 use Rattle.std.proofs.lemmas.Bool.{cases_order}
 use Rattle.std.proofs.lemmas.Option.{same_Some}
 use Rattle.abi_base.specs.Lists.{AreFirsts, HasSame}
-use Rattle.abi_base.proofs.ListLemmas.{AreFirsts-all, contains_at, at_contains, map_source}
+use Rattle.abi_base.proofs.lemmas.Lists.{AreFirsts-all, contains_at, at_contains, map_source}
 use Rattle.abi_types.specs.declared.kind.Way.{Way}
 use Rattle.abi_types.specs.declared.kind.Way.TheVariants.{Direct}
 use Rattle.abi_types.specs.Types.{PlainNode}

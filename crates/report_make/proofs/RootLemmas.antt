@@ -5,7 +5,7 @@ use Rattle.std.specs.List.{range_with_len}
 use Rattle.std.proofs.lemmas.Bool.{cases_Bool}
 use Rattle.std.proofs.lemmas.List.FromFn.{length-range_with_len, get_or-range_with_len}
 use Rattle.std.proofs.lemmas.Option.{same_Some, none-some}
-use Rattle.abi_base.proofs.ListLemmas.{contains_at, found_of}
+use Rattle.abi_base.proofs.lemmas.Lists.{contains_at, found_of}
 use Rattle.abi_types.specs.Exports.{PlainExport}
 use Rattle.abi_types.specs.Graphs.{node_at, node_of}
 use Rattle.abi_types.specs.Types.{PlainNode}

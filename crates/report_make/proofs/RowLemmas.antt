@@ -4,7 +4,7 @@ use Rattle.std.specs.Prelude.{◌↔◌}
 use Rattle.std.specs.List.{Contains}
 use Rattle.std.proofs.lemmas.Option.{none-some}
 use Rattle.abi_base.specs.Lists.{firsts_after}
-use Rattle.abi_base.proofs.ListLemmas.{AreFirsts-all, contains_at, map_source}
+use Rattle.abi_base.proofs.lemmas.Lists.{AreFirsts-all, contains_at, map_source}
 use Rattle.abi_types.specs.Graphs.{IsGraph}
 use Rattle.abi_types.specs.declared.rule.RuleName.{RuleName}
 use Rattle.abi_types.specs.Rules.{rule_place}

@@ -7,7 +7,7 @@ use Rattle.std.proofs.lemmas.List.{take_more, take_all, map-append}
 use Rattle.std.proofs.lemmas.List.Elements.{Contains-get_or}
 use Rattle.std.proofs.lemmas.Option.{slice_get-get_or}
 use Rattle.abi_base.specs.Lists.{with_first, firsts_after, firsts}
-use Rattle.abi_base.proofs.ListLemmas.{AreFirsts-all, contains_at}
+use Rattle.abi_base.proofs.lemmas.Lists.{AreFirsts-all, contains_at}
 use Rattle.abi_types.specs.declared.rule.RuleName.TheVariants.{X1}
 use Rattle.abi_types.specs.Graphs.{node_at, view_at}
 use Rattle.abi_types.specs.Rules.{rule_place}

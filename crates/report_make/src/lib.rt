@@ -12,6 +12,3 @@ mod told;
 
 pub use report::report_rows;
 pub use roots::compared_roots;
-
-#[cfg(test)]
-mod tests;

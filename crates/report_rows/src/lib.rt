@@ -5,3 +5,7 @@
 mod details;
 #[cfg(test)]
 mod listeners;
+#[cfg(test)]
+mod reports;
+#[cfg(test)]
+mod words;

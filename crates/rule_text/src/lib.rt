@@ -17,6 +17,3 @@ pub use property::{Property, Test};
 pub use reading::read_rules;
 pub use rules::Rules;
 pub use section::Section;
-
-#[cfg(test)]
-mod tests;

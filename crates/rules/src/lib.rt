@@ -10,6 +10,3 @@ mod subject;
 
 pub use marking::{drops_export, drops_labels, marks};
 pub use rule_text::{RuleRefusal, Rules, read_rules};
-
-#[cfg(test)]
-mod tests;

@@ -8,7 +8,7 @@ use Rattle.std.proofs.lemmas.List.Elements.{All-contains}
 use Rattle.std.proofs.lemmas.List.Quantifiers.{position-Some}
 use Rattle.std.proofs.lemmas.Option.{same_Some, slice_get_within, slice_get_read}
 use Rattle.dw_tree.specs.Trees.{PlainTree}
-use Rattle.abi_base.proofs.StepLemmas.{bool_cases}
+use Rattle.abi_base.proofs.lemmas.Cases.{bool_cases}
 use Rattle.abi_base.specs.Limits.{depth_limit}
 use Rattle.type_entries.specs.declared.facts.Facts.{Facts}
 use Rattle.dw_entries.specs.Debug.{PlainDwarf}

@@ -6,7 +6,7 @@ use Rattle.std.proofs.lemmas.Bool.{cases_lt}
 use Rattle.abi_base.specs.declared.fault.Fault.{Fault}
 use Rattle.abi_base.specs.declared.fault.FaultKind.TheVariants as fault
 use Rattle.abi_base.specs.Outcome.{first}
-use Rattle.abi_base.proofs.StepLemmas.{bool_cases}
+use Rattle.abi_base.proofs.lemmas.Cases.{bool_cases}
 use Rattle.dw_tree.specs.Trees.{PlainTree}
 use Rattle.abi_base.specs.Limits.{depth_limit}
 use Rattle.type_entries.specs.Reached.{IsReached, IsWalk}

@@ -5,7 +5,7 @@ use Rattle.std.specs.List.{list_any}
 use Rattle.std.proofs.lemmas.List.{append-nil}
 use Rattle.std.proofs.lemmas.List.Elements.{Contains-append_cases}
 use Rattle.abi_types.specs.Types.{PlainLabel}
-use Rattle.abi_base.proofs.StepLemmas.{bool_cases}
+use Rattle.abi_base.proofs.lemmas.Cases.{bool_cases}
 use Rattle.abi_base.specs.Limits.{depth_limit}
 use Rattle.dw_tree.specs.Trees.{PlainTree}
 use Rattle.dw_entries.specs.Addresses.{is_declared_only}

@@ -7,7 +7,7 @@ use Rattle.std.proofs.lemmas.Bool.{cases_order, false≢true, eq-eqb, eqb-true, 
 use Rattle.std.proofs.lemmas.List.Sorted.{Contains-permutation, IsPermutation-sym}
 use Rattle.std.proofs.lemmas.Map.Keys.{IsDistinct-IsPermutation, apart_from_distinct}
 use Rattle.dw_tree.specs.Trees.{PlainTree}
-use Rattle.abi_base.proofs.StepLemmas.{bool_cases}
+use Rattle.abi_base.proofs.lemmas.Cases.{bool_cases}
 use Rattle.type_entries.specs.References.{Type_}
 use Rattle.type_entries.specs.Reached.{IsWalk}
 use Rattle.type_entries.specs.ReachedList.{is_reached, reached_of}

@@ -5,7 +5,7 @@ use Rattle.std.specs.List.{list_any, range_with_len, IsDistinct}
 use Rattle.std.proofs.lemmas.Bool.{cases_lt, eqb-true, eq-eqb, and_parts, false≢true}
 use Rattle.std.proofs.lemmas.Option.{slice_get_cases}
 use Rattle.dw_tree.specs.Trees.{PlainTree}
-use Rattle.abi_base.proofs.StepLemmas.{bool_cases}
+use Rattle.abi_base.proofs.lemmas.Cases.{bool_cases}
 use Rattle.type_entries.specs.References.{Type_, types_of}
 use Rattle.type_entries.specs.Reached.{Leads, IsReached, with_type, with_types}
 use Rattle.type_entries.specs.ReachedList.{is_entry, refers, leads, is_reached}

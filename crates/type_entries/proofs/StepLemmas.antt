@@ -1,7 +1,7 @@
 -- The steps from entries of each role.
 use Rattle.std.proofs.Common.{◌≡◌, ℕ, List, [], ◌∷◌, map, refl, ap, ◌∙◌}
 use Rattle.std.specs.Prelude.{zip}
-use Rattle.abi_base.proofs.StepLemmas.{bool_cases}
+use Rattle.abi_base.proofs.lemmas.Cases.{bool_cases}
 use Rattle.dw_tree.specs.Trees.{PlainTree}
 use Rattle.dw_entries.specs.Addresses.{is_declared_only}
 use Rattle.type_entries.specs.declared.role.Role.{Role}

@@ -23,6 +23,3 @@ pub use references::{body_of, members_among, parts_of, steps_of, type_of, types_
 pub use role::{Role, is_signed, role_of};
 pub use values::{counted_to, is_there, natural_of, number_at, place_of, wrapped_of};
 pub use walking::{reached, walk};
-
-#[cfg(test)]
-mod tests;

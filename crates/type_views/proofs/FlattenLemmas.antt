@@ -12,7 +12,7 @@ use Rattle.type_entries.specs.Facts.{facts_of}
 use Rattle.type_entries.specs.Flat.{Flat, core_of, moved, declared_bit, given_by, flat_of, member_gives}
 use Rattle.type_entries.specs.Cores.{StandsForNone, IsFound, IsCore}
 use Rattle.type_entries.specs.TypeLaws.{IsShallow, TypeLaws}
-use Rattle.abi_base.proofs.StepLemmas.{bool_cases}
+use Rattle.abi_base.proofs.lemmas.Cases.{bool_cases}
 use Rattle.std.proofs.lemmas.Option.{none-some}
 use Rattle.type_views.specs.Placed.{replacing}
 use Rattle.type_views.proofs.ListLemmas.{map-map, map-same}

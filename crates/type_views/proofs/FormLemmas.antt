@@ -7,7 +7,7 @@ use Rattle.dw_tree.specs.Trees.{PlainTree}
 use Rattle.dw_entries.specs.Addresses.{tag_at, is_declared_only}
 use Rattle.dw_entries.specs.Debug.{PlainDwarf}
 use Rattle.abi_base.specs.Dwarf.{dw_tag_structure_type}
-use Rattle.abi_base.proofs.StepLemmas.{bool_cases}
+use Rattle.abi_base.proofs.lemmas.Cases.{bool_cases}
 use Rattle.abi_types.specs.declared.kind.Kind.{Kind}
 use Rattle.abi_types.specs.declared.kind.Kind.TheVariants as kind
 use Rattle.abi_types.specs.declared.kind.Group.TheVariants as group

@@ -8,7 +8,7 @@ use Rattle.std.proofs.lemmas.List.Elements.{Contains-append_right}
 use Rattle.std.proofs.lemmas.Option.{same_Some, none-some}
 use Rattle.dw_tree.specs.Trees.{PlainTree}
 use Rattle.dw_entries.specs.Debug.{PlainDwarf}
-use Rattle.abi_base.proofs.StepLemmas.{bool_cases}
+use Rattle.abi_base.proofs.lemmas.Cases.{bool_cases}
 use Rattle.abi_types.specs.Types.{Target, Element, Outcome, Param, PlainNode}
 use Rattle.abi_types.specs.Graphs.{void_node, node_at}
 use Rattle.type_entries.specs.declared.role.Role.{Role}

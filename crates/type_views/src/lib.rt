@@ -12,6 +12,3 @@ mod nodes;
 mod shapes;
 
 pub use graph::raw_graph;
-
-#[cfg(test)]
-mod tests;

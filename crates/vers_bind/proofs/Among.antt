@@ -5,7 +5,7 @@ use Rattle.std.proofs.lemmas.List.{append-nil, map-append}
 use Rattle.std.proofs.lemmas.List.Elements.{filter_map-append}
 use Rattle.abi_base.specs.declared.fault.Fault.{Fault}
 use Rattle.abi_base.specs.Outcome.{first}
-use Rattle.abi_base.proofs.OutcomeLemmas.{first-append}
+use Rattle.abi_base.proofs.lemmas.Outcomes.{first-append}
 use Rattle.abi_types.specs.declared.export.Export.{Export}
 use Rattle.abi_types.specs.Exports.{PlainExport}
 use Rattle.abi_types.specs.Plain.{plain_export, plain_exports}

@@ -7,8 +7,8 @@ use Rattle.std.proofs.lemmas.Iterator.Adapters.{position_from-zero}
 use Rattle.std.proofs.lemmas.List.Sums.{sum_by-cons}
 use Rattle.std.proofs.lemmas.Option.{slice_get-map, none-some, same_Some}
 use Rattle.std.proofs.lemmas.Slice.Eq.{bytes_eq-Decides}
-use Rattle.abi_base.proofs.StepLemmas.{bool_cases}
-use Rattle.abi_base.proofs.ListLemmas.{contains_at, at_contains}
+use Rattle.abi_base.proofs.lemmas.Cases.{bool_cases}
+use Rattle.abi_base.proofs.lemmas.Lists.{contains_at, at_contains}
 use Rattle.abi_types.specs.Exports.{PlainExport}
 use Rattle.abi_types.specs.Names.{IsNamed, AreNamed}
 use Rattle.vers_bind.specs.Binding.{is_named, has_version, has_first_version, is_default, bind_to}

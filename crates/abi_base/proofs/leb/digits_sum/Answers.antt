@@ -1,5 +1,5 @@
 use Rattle.std.proofs.Common.{arith}
-use Rattle.abi_base.proofs.LebLemmas.{summed_none, summed_more}
+use Rattle.abi_base.proofs.lemmas.Leb.{summed_none, summed_more}
 use Rattle.abi_base.proofs.leb.digits_sum.Goals as goal
 
 pub loop-left-init : goal.loop-left-init

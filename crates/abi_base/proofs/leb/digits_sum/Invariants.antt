@@ -1,4 +1,4 @@
-use Rattle.abi_base.proofs.LebLemmas.{Summed}
+use Rattle.abi_base.proofs.lemmas.Leb.{Summed}
 use Rattle.abi_base.proofs.leb.digits_sum.Given as goal
 
 abbrev pub invariant-loop-left : goal.invariant-loop-left

@@ -1,5 +1,5 @@
 use Rattle.std.proofs.Common.{arith, refl}
-use Rattle.abi_base.proofs.LebLemmas.{no_digits, next_digit, too_large}
+use Rattle.abi_base.proofs.lemmas.Leb.{no_digits, next_digit, too_large}
 use Rattle.abi_base.proofs.leb.digits_value.Goals as goal
 
 pub loop-left-init : goal.loop-left-init

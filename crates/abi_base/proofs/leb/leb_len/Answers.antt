@@ -1,4 +1,4 @@
-use Rattle.abi_base.proofs.LebLemmas.{inside_ten}
+use Rattle.abi_base.proofs.lemmas.Leb.{inside_ten}
 use Rattle.abi_base.proofs.leb.leb_len.Goals as goal
 
 pub returns-in-Some-clause-inside : goal.returns-in-Some-clause-inside

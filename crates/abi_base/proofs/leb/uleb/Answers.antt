@@ -1,5 +1,5 @@
 use Rattle.std.proofs.Common.{sym}
-use Rattle.abi_base.proofs.LebLemmas.{uleb_of_one_byte}
+use Rattle.abi_base.proofs.lemmas.Leb.{uleb_of_one_byte}
 use Rattle.abi_base.proofs.leb.uleb.Goals as goal
 
 pub returns-in-Some-clause-found : goal.returns-in-Some-clause-found

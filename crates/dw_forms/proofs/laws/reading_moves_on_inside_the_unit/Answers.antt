@@ -1,4 +1,4 @@
-use Rattle.dw_forms.proofs.ValueLemmas.{value_moves}
+use Rattle.dw_forms.proofs.lemmas.Values.{value_moves}
 use Rattle.dw_forms.proofs.laws.reading_moves_on_inside_the_unit.Goals as goal
 
 pub returns-clause-after : goal.returns-clause-after

@@ -1,6 +1,6 @@
 use Rattle.std.proofs.Common.{sym, ◌∙◌}
 use Rattle.elf_file.specs.Elf.{name_fault}
-use Rattle.abi_base.proofs.OutcomeLemmas.{first_from-step}
+use Rattle.abi_base.proofs.lemmas.Outcomes.{first_from-step}
 use Rattle.elf_file.proofs.places.name_fault_in.Goals as goal
 
 pub loop-number-preserved : goal.loop-number-preserved

@@ -1,7 +1,7 @@
 use Rattle.std.proofs.Common.{◌≡◌, map}
 use Rattle.abi_base.specs.Outcome.{first}
 use Rattle.elf_file.specs.Elf.{all_sections, name_fault}
-use Rattle.abi_base.proofs.OutcomeLemmas.{first_from}
+use Rattle.abi_base.proofs.lemmas.Outcomes.{first_from}
 use Rattle.elf_file.proofs.places.name_fault_in.Given as goal
 
 abbrev pub invariant-loop-number : goal.invariant-loop-number

@@ -1,6 +1,6 @@
 use Rattle.std.proofs.Common.{sym, ◌∙◌}
 use Rattle.elf_file.specs.Elf.{range_fault, table}
-use Rattle.abi_base.proofs.OutcomeLemmas.{first_from-step, none_at, whole_none}
+use Rattle.abi_base.proofs.lemmas.Outcomes.{first_from-step, none_at, whole_none}
 use Rattle.elf_file.proofs.places.range_fault_in.Goals as goal
 
 pub loop-number-preserved : goal.loop-number-preserved

@@ -1,6 +1,6 @@
 use Rattle.std.proofs.Common.{◌∙◌, sym, arith}
 use Rattle.elf_syms.specs.Symbols.{symbol_name_fault}
-use Rattle.abi_base.proofs.OutcomeLemmas.{first_from-here}
+use Rattle.abi_base.proofs.lemmas.Outcomes.{first_from-here}
 use Rattle.elf_syms.proofs.Numbered.{length_read}
 use Rattle.elf_syms.proofs.Reading.{read_more}
 use Rattle.elf_syms.proofs.table.symbols_in.Goals as goal

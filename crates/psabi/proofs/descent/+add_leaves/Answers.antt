@@ -5,7 +5,7 @@ use Rattle.abi_types.specs.Forms.{is_aggregate, is_leaf}
 use Rattle.abi_types.specs.Inside.{count_inside}
 use Rattle.psabi.specs.Past.{extent}
 use Rattle.psabi.specs.Inner.{plain_inner}
-use Rattle.abi_types.proofs.LeafLemmas.{to_from_inner, inside-named}
+use Rattle.abi_types.proofs.lemmas.Leaves.{to_from_inner, inside-named}
 use Rattle.psabi.proofs.LeafLemmas.{inside-kept, extent-whole, merges-zero, merges-leaf, merges-whole, merges-more, merges-skip}
 use Rattle.psabi.proofs.descent.+add_leaves.Goals as goal
 use Rattle.psabi.proofs.descent.+add_leaves.Goals.{in-Some, in_default}

@@ -2,7 +2,7 @@ use Rattle.std.proofs.Common.{◌≡◌}
 use Rattle.std.specs.Prelude.{find, ◌==◌}
 use Rattle.std.specs.Option.{option_map}
 use Rattle.elf_file.specs.Elf.{section, section_view, section_of_kind}
-use Rattle.abi_base.proofs.Places.{places}
+use Rattle.abi_base.proofs.lemmas.Places.{places}
 use Rattle.elf_file.proofs.file.ElfFile.section_of_kind.Given as goal
 
 abbrev pub invariant-loop-number : goal.invariant-loop-number

@@ -1,0 +1,85 @@
+-- The leaves of a node are its step.
+use Rattle.std.proofs.Common.{◌≡◌, ◌≢◌, ◌+◌, ◌∙◌, ℕ, zero, suc, List, [], ◌∷◌, ◌++◌, Option, Some, None, refl, ap, subst, append-nil, arith}
+use Rattle.std.specs.Prelude.{Bool, true, false, ◌==◌}
+use Rattle.std.specs.List.{flat_map, range_with_len}
+use Rattle.std.proofs.lemmas.List.Concat.{flat_map-append}
+use Rattle.abi_types.specs.Types.{PlainPart, Member, Enumerator, Target, Element, Outcome, Param, PlainView, PlainNode}
+use Rattle.abi_types.specs.Forms.{is_array}
+use Rattle.abi_types.specs.Graphs.{IsGraph, view_at, part_at, to_of, inner_of}
+use Rattle.abi_types.specs.declared.leaf.Leaf.{Leaf}
+use Rattle.abi_types.specs.ByValue.{AsksInside}
+use Rattle.abi_types.specs.Inside.{Inside, member_inside, element_inside, inside_at, count_inside}
+use Rattle.abi_types.specs.Leaves.{leaves_inside, leaves_of_all, leaves_step, no_leaves, leaves_of}
+use Rattle.abi_types.proofs.lemmas.Recursion.{by_value-step}
+
+-- a node that a part names by value is one that it names
+pub to_from_inner : (p : PlainPart) (to : ℕ) → inner_of p ≡ Some to → to_of p ≡ Some to
+to_from_inner (Member name bit width at) to e = e
+to_from_inner (Enumerator name value) to e = cc
+to_from_inner (Target at) to e = cc
+to_from_inner (Element at) to e = e
+to_from_inner (Outcome at) to e = e
+to_from_inner (Param at) to e = e
+
+pub range-more : (a n j : ℕ) → a + n ≡ j → range_with_len a (n + 1) ≡ range_with_len a n ++ j ∷ []
+range-more a zero j e = let f : j ≡ a = omega arith in rw f refl
+range-more a (suc n) j e =
+    let later = range-more (a + 1) n j (omega arith) in
+    let p : suc n + 1 ≡ suc (n + 1) = omega arith in
+    rw p (ap (λ (xs : List ℕ). a ∷ xs) later)
+
+flat_map-same : {X A : Type 0} (f g : X → List A) (xs : List X) → ((x : X) → f x ≡ g x) → flat_map f xs ≡ flat_map g xs
+flat_map-same f g [] same = refl
+flat_map-same f g (x ∷ xs) same = let later = flat_map-same f g xs same in rw (same x, later) refl
+
+same_functions : {A B C : Type 0} (f g : A → B → C) → ((a : A) (b : B) → f a b ≡ g a b) → f ≡ g
+same_functions f g same = λ i a b. same a b i
+
+same_Some_Inside : (x y : Inside) → Some x ≡ Some y → x ≡ y
+same_Some_Inside x y e = cc
+
+-- what stands inside is what a part names by value
+element-named : (nodes : List PlainNode) (P : ℕ → Type 0) (o : Option ℕ) (n : ℕ) (x : Inside) → element_inside nodes o n ≡ Some x → ((to : ℕ) → o ≡ Some to → P to) → P x.to
+element-named nodes P None n x e holds = cc
+element-named nodes P (Some to) n x e holds = let same : to ≡ x.to = ap (λ (y : Inside). y.to) (same_Some_Inside _ _ e) in subst P same (holds to refl)
+
+member-named : (P : ℕ → Type 0) (p : PlainPart) (x : Inside) → member_inside p ≡ Some x → ((to : ℕ) → inner_of p ≡ Some to → P to) → P x.to
+member-named P (Member name bit width to) x e holds = let same : to ≡ x.to = ap (λ (y : Inside). y.to) (same_Some_Inside _ _ e) in subst P same (holds to refl)
+member-named P (Enumerator name value) x e holds = cc
+member-named P (Target at) x e holds = cc
+member-named P (Element at) x e holds = cc
+member-named P (Outcome at) x e holds = cc
+member-named P (Param at) x e holds = cc
+
+pub inside-named : (nodes : List PlainNode) (P : ℕ → Type 0) (v : PlainView) (n : ℕ) (x : Inside) → inside_at nodes v n ≡ Some x → ((k to : ℕ) → inner_of (part_at v k) ≡ Some to → P to) → P x.to
+inside-named nodes P v n x e holds = go (is_array v.kind) refl e where
+  go : (b : Bool) → is_array v.kind ≡ b → inside_at nodes v n ≡ Some x → P x.to
+  go true is f = element-named nodes P (inner_of (part_at v 0)) n x (rw is at f) (holds 0)
+  go false is f = member-named P (part_at v n) x (rw is at f) (holds n)
+
+leaves_inside-same : (f g : ℕ → ℕ → ℕ → List Leaf) (bit : ℕ) (o : Option Inside) → ((x : Inside) → o ≡ Some x → f x.to ≡ g x.to) → leaves_inside f bit o ≡ leaves_inside g bit o
+leaves_inside-same f g bit None same = refl
+leaves_inside-same f g bit (Some x) same = ap (λ (h : ℕ → ℕ → List Leaf). h (bit + x.bit) x.width) (same x refl)
+
+leaves_step-inside : (nodes : List PlainNode) → AsksInside nodes (leaves_step nodes)
+leaves_step-inside nodes f g i same = same_functions (leaves_step nodes f i) (leaves_step nodes g i)
+    (λ bit width.
+    let v = view_at nodes i in
+    let e = flat_map-same (λ k. leaves_inside f bit (inside_at nodes v k)) (λ k. leaves_inside g bit (inside_at nodes v k)) (range_with_len 0 (count_inside v))
+    (λ k. leaves_inside-same f g bit (inside_at nodes v k) (λ x is. inside-named nodes (λ to. f to ≡ g to) v k x is same)) in
+    rw e refl)
+
+pub leaves_of-step : (nodes : List PlainNode) → IsGraph nodes → (i bit width : ℕ) → leaves_of nodes i bit width ≡ leaves_step nodes (leaves_of nodes) i bit width
+unfolding leaves_of
+leaves_of-step nodes is i bit width = ap (λ (h : ℕ → ℕ → List Leaf). h bit width) (by_value-step no_leaves (leaves_step nodes) nodes is (leaves_step-inside nodes) i)
+
+flat_map-one : {X A : Type 0} (f : X → List A) (x : X) → flat_map f (x ∷ []) ≡ f x
+flat_map-one f x = append-nil (f x)
+
+pub leaves_of_all-more : (nodes : List PlainNode) (f : ℕ → ℕ → ℕ → List Leaf) (v : PlainView) (bit n : ℕ) → leaves_of_all nodes f v bit (n + 1) ≡ leaves_of_all nodes f v bit n ++ leaves_inside f bit (inside_at nodes v n)
+leaves_of_all-more nodes f v bit n =
+    let F = λ (k : ℕ). leaves_inside f bit (inside_at nodes v k) in
+    ap (flat_map F) (range-more 0 n n (omega arith)) ∙ flat_map-append F (range_with_len 0 n) (n ∷ []) ∙ ap (λ (xs : List Leaf). flat_map F (range_with_len 0 n) ++ xs) (flat_map-one F n)
+
+pub is_zero : (n : ℕ) → n ≢ 0 → (n == 0) ≡ false
+is_zero n ne = grind arith

@@ -1,0 +1,11 @@
+//! What no clause of the command line, of sentences for people and of trials says. All of it is tests.
+#![tactic(auto)]
+
+#[cfg(test)]
+mod generated;
+#[cfg(test)]
+mod sentences;
+#[cfg(test)]
+mod trials;
+#[cfg(test)]
+mod words;

@@ -1,0 +1,15 @@
+//! What no clause of the readers of DWARF says: worked values from outside, and each call once. All of it is tests.
+#![tactic(auto)]
+
+#[cfg(test)]
+mod abbreviations;
+#[cfg(test)]
+mod entries;
+#[cfg(test)]
+mod forms;
+#[cfg(test)]
+mod ranges;
+#[cfg(test)]
+mod texts;
+#[cfg(test)]
+mod trees;

@@ -1,0 +1,432 @@
+// The rules on pairs of small types, by their words.
+ghost use Rattle.std.specs.Prelude.{◌≡◌, ◌<◌, ◌+◌, OnOk};
+
+use abi_base::{List, NoMemory};
+use abi_types::{CallShape, Group, Index, Kind, NewIx, OldIx, Part, Parts, Place, Slot, View, Way};
+use pair_rules::{Broken, Comparison, Steps, after, breaks, holds, partner, partner_at};
+use std::alloc::Global;
+use std::fmt::Write;
+use std::marker::Brand;
+use std::process::Abort;
+use std::sync::ledger::{Blank, Ledger};
+use std::test::Fail;
+
+// Each line: what is compared | the old type | the new type | the rules that they break, each with its part | their partners.
+// A type is a kind, what it says of itself, and its parts: a member as its name, its bit and its width as a bit field, an
+// enumerator as its name and its value, a result and a parameter with its place.
+const ROWS: &str = "\
+kinds differ, and much else|scalar size:4 signed tag:a member:x@0|pointer size:8 align:16 target|L1.0|
+a greater size|scalar size:4|scalar size:8|L2.0|
+sizes of pointers|pointer size:8 target|pointer size:4 target||0-0
+another group|scalar size:4 signed|scalar size:4 unsigned|L3.0|
+groups of what is no scalar|enumeration size:4 signed|enumeration size:4 unsigned||
+another alignment|structure size:16|structure size:16 align:16|L4.0|
+alignments of functions|function result|function align:16 result||0-0
+alignments of void|void|void align:16||
+a declaration of the same tag|structure tag:s declared|structure tag:s size:4 align:4 member:x@0||
+a definition, now a declaration|structure tag:s size:4 member:x@0|structure tag:s declared member:x@8||
+a declaration of another tag|union tag:s declared|union tag:t size:4 align:4 member:x@0|L5.0|
+tags of two definitions|structure tag:s size:4 member:x@0|structure tag:t size:4 member:x@0||0-0
+a member gone|structure size:8 member:x@0 member:y@32|structure size:8 member:y@32|L6.0|1-0
+the second of two members of one name moved|structure size:16 member:x@0 member:x@32|structure size:16 member:x@0 member:x@64|L7.1|0-0 1-1
+members in another order|union size:4 member:x@0 member:y@0|union size:4 member:y@0 member:x@0||0-1 1-0
+a narrower bit field|structure size:4 member:x@0+4|structure size:4 member:x@0+3|L8.0|0-0
+a member, now a bit field|structure size:4 member:x@0|structure size:4 member:x@0+32|L8.0|0-0
+an enumerator gone|enumeration size:4 value:A=0 value:B=1|enumeration size:4 value:B=1|L9.0|
+an enumerator of another value|enumeration size:4 value:A=0 value:B=1|enumeration size:4 value:A=0 value:B=2|L10.1|
+an enumerator more|enumeration size:4 value:A=0 value:B=1|enumeration size:4 value:A=0 value:B=1 value:C=2||
+255 and -1 in one byte|enumeration size:1 value:A=255|enumeration size:1 value:A=18446744073709551615||
+255 and -1 in two bytes|enumeration size:2 value:A=255|enumeration size:2 value:A=18446744073709551615|L10.0|
+255 in one byte and in two|enumeration size:1 value:A=255|enumeration size:2 value:A=255|L2.0|
+-1 in one byte and in two|enumeration size:1 value:A=18446744073709551615|enumeration size:2 value:A=18446744073709551615|L2.0 L10.0|
+1 and -1 in eight bytes|enumeration size:8 value:A=1|enumeration size:8 value:A=18446744073709551615|L10.0|
+1 and -1 in sixteen bytes|enumeration size:16 value:A=1|enumeration size:16 value:A=18446744073709551615|L10.0|
+another count|array size:8 count:2 element|array size:8 count:4 element|L11.0|0-0
+a union with a member more|union size:8 member:d@0|union size:8 member:d@0 member:l@0||0-0
+a parameter more|function result param|function result param param|L12.0|0-0 1-1
+a parameter less|function result param param|function result param|L12.0|0-0 1-1
+unspecified parameters|function variadic result|function result|L13.0|0-0
+the result elsewhere|function result:rax|function result:hidden|L14.0|0-0
+the second parameter elsewhere|function result param:rdi param:rsi|function result param:rdi param:stack24|L14.2|0-0 1-1 2-2
+another size on the stack|function result param:stack16|function result param:stack24|L14.1|0-0 1-1
+a parameter without a place|function result param:rdi|function result param||0-0 1-1
+a place without a parameter|function result param:rdi|function result place:rsi|L12.0|0-0
+rules in order, then parts|structure size:12 member:x@0 member:y@32 member:z@64|structure size:16 member:z@32+8 member:x@64|L2.0 L6.1 L7.0 L7.2 L8.2|0-1 2-0
+";
+
+fn number(text: &str) -> u64 {
+    text.parse().unwrap_or(0)
+}
+
+fn register(number: u8) -> Place {
+    let mut eightbytes = [Slot::Unused; 8];
+    eightbytes[0] = Slot::General(number);
+    Place::Registers { eightbytes }
+}
+
+// Where a result or a parameter is, by a word for it.
+fn place(word: &str) -> Option<Place> {
+    match word {
+        "rdi" => Some(register(0)),
+        "rsi" => Some(register(1)),
+        "rax" => Some(register(6)),
+        "stack16" => Some(Place::Stack {
+            offset: 0,
+            size: 16,
+        }),
+        "stack24" => Some(Place::Stack {
+            offset: 0,
+            size: 24,
+        }),
+        "hidden" => Some(Place::Hidden),
+        _ => None,
+    }
+}
+
+fn kind(word: &str) -> Option<Kind> {
+    match word {
+        "void" => Some(Kind::Void),
+        "scalar" => Some(Kind::Scalar),
+        "pointer" => Some(Kind::Pointer),
+        "enumeration" => Some(Kind::Enumeration),
+        "structure" => Some(Kind::Structure),
+        "union" => Some(Kind::Union),
+        "array" => Some(Kind::Array),
+        "function" => Some(Kind::Function),
+        _ => None,
+    }
+}
+
+fn member<'a, Ix: Index>(text: &'a str) -> Part<'a, Ix> {
+    let (name, place) = text.split_once('@').unwrap_or((text, ""));
+    let (bit, width) = place.split_once('+').unwrap_or((place, ""));
+    Part::Member {
+        name: name.as_bytes(),
+        bit: number(bit),
+        width: number(width),
+        to: Ix::of(0),
+    }
+}
+
+fn enumerator<'a, Ix: Index>(text: &'a str) -> Part<'a, Ix> {
+    let (name, value) = text.split_once('=').unwrap_or((text, ""));
+    Part::Enumerator {
+        name: name.as_bytes(),
+        value: number(value),
+    }
+}
+
+fn part<'a, Ix: Index>(key: &str, text: &'a str) -> Option<Part<'a, Ix>> {
+    let to = Ix::of(0);
+    match key {
+        "member" => Some(member(text)),
+        "value" => Some(enumerator(text)),
+        "target" => Some(Part::Target { to }),
+        "element" => Some(Part::Element { to }),
+        "result" => Some(Part::Outcome { to }),
+        "param" => Some(Part::Param { to }),
+        _ => None,
+    }
+}
+
+// What a type says of itself, but for its parts and its call.
+#[derive(Clone, Copy)]
+struct Sketch<'a> {
+    kind: Kind,
+    declared_only: bool,
+    tag: &'a str,
+    size: u64,
+    group: Group,
+    align: u64,
+    count: u64,
+    variadic: bool,
+}
+
+fn say<'a>(sketch: &mut Sketch<'a>, key: &str, text: &'a str) {
+    match key {
+        "declared" => sketch.declared_only = true,
+        "tag" => sketch.tag = text,
+        "size" => sketch.size = number(text),
+        "signed" => sketch.group = Group::Signed,
+        "unsigned" => sketch.group = Group::Unsigned,
+        "align" => sketch.align = number(text),
+        "count" => sketch.count = number(text),
+        "variadic" => sketch.variadic = true,
+        _ => (),
+    }
+}
+
+fn sketch_of(cell: &str) -> Sketch<'_> {
+    let mut sketch = Sketch {
+        kind: Kind::Void,
+        declared_only: false,
+        tag: "",
+        size: 0,
+        group: Group::Bool,
+        align: 0,
+        count: 0,
+        variadic: false,
+    };
+    for word in cell.split_whitespace() {
+        let (key, text) = word.split_once(':').unwrap_or((word, ""));
+        if let Some(kind) = kind(key) {
+            sketch.kind = kind;
+        }
+        say(&mut sketch, key, text);
+    }
+    sketch
+}
+
+fn parts<'a, Ix: Index>(alloc: Global, cell: &'a str) -> Result<Parts<'a, Ix>, NoMemory> {
+    let mut parts = Vec::new(alloc);
+    for word in cell.split_whitespace() {
+        let (key, text) = word.split_once(':').unwrap_or((word, ""));
+        if let Some(part) = part(key, text) {
+            parts.push(part)?;
+        }
+    }
+    Parts::of(alloc, parts)
+}
+
+fn call(alloc: Global, cell: &str) -> Result<CallShape, NoMemory> {
+    let mut outcome = Place::Nothing;
+    let mut params = List::new(alloc);
+    for word in cell.split_whitespace() {
+        let (key, text) = word.split_once(':').unwrap_or((word, ""));
+        if let Some(place) = place(text) {
+            if key == "result" {
+                outcome = place;
+            } else {
+                params.push(place)?;
+            }
+        }
+    }
+    Ok(CallShape { outcome, params })
+}
+
+fn view<'a, Ix: Index>(alloc: Global, cell: &'a str) -> Result<View<'a, Ix>, NoMemory> {
+    let sketch = sketch_of(cell);
+    Ok(View {
+        kind: sketch.kind,
+        declared_only: sketch.declared_only,
+        tag: sketch.tag.as_bytes(),
+        size: sketch.size,
+        group: sketch.group,
+        align: sketch.align,
+        count: sketch.count,
+        variadic: sketch.variadic,
+        parts: parts(alloc, cell)?,
+        call: call(alloc, cell)?,
+    })
+}
+
+// The answer of `breaks`, after two calls, which count as two steps.
+fn broken_twice<L: Ledger>(
+    alloc: Global,
+    old: &View<OldIx>,
+    new: &View<NewIx>,
+    steps: &mut Steps<L>,
+) -> Result<List<Broken>, NoMemory>
+    ensures { OnOk result (steps.new ≡ steps.old + 2) }
+{
+    breaks(alloc, old, new, steps)?;
+    breaks(alloc, old, new, steps)
+}
+
+// The broken rules as a text.
+fn broken_by<L: Ledger>(
+    alloc: Global,
+    blank: Blank,
+    old: &View<OldIx>,
+    new: &View<NewIx>,
+) -> Result<String, NoMemory>
+    requires name { blank.name ≡ L.name }
+    requires parts { blank.parts ≡ L.parts }
+    requires some { 0 < blank.parts }
+{
+    let mut steps = Steps::<L>::new(blank);
+    let mut text = String::new(alloc);
+    for broken in broken_twice(alloc, old, new, &mut steps)?.as_slice() {
+        let space = if text.is_empty() { "" } else { " " };
+        let rule = broken.rule.word();
+        let part = broken.part;
+        write!(text, "{space}{rule}.{part}")?;
+    }
+    Ok(text)
+}
+
+fn push_pair(text: &mut String, pair: (usize, usize)) -> Result<(), NoMemory> {
+    let space = if text.is_empty() { "" } else { " " };
+    let (old, new) = pair;
+    write!(text, "{space}{old}-{new}")?;
+    Ok(())
+}
+
+// All partners as a text, by their numbers.
+fn partners_by_number(
+    alloc: Global,
+    old: &View<OldIx>,
+    new: &View<NewIx>,
+) -> Result<String, NoMemory> {
+    let mut text = String::new(alloc);
+    for k in 0..old.parts_len() {
+        if let Some(pair) = partner(old, new, k) {
+            push_pair(&mut text, pair)?;
+        }
+    }
+    Ok(text)
+}
+
+// The same, by the old positions.
+fn partners_by_position(
+    alloc: Global,
+    old: &View<OldIx>,
+    new: &View<NewIx>,
+) -> Result<String, NoMemory> {
+    let mut text = String::new(alloc);
+    for i in 0..old.parts_len() {
+        if let Some(pair) = partner_at(old, new, i) {
+            push_pair(&mut text, pair)?;
+        }
+    }
+    Ok(text)
+}
+
+fn push_position(text: &mut String, position: &str) -> Result<(), NoMemory> {
+    let space = if text.is_empty() { "" } else { " " };
+    write!(text, "{space}{position}")?;
+    Ok(())
+}
+
+// The old positions that lead on.
+fn leading<L: Ledger>(
+    alloc: Global,
+    blank: Blank,
+    old: &View<OldIx>,
+    new: &View<NewIx>,
+) -> Result<String, NoMemory>
+    requires name { blank.name ≡ L.name }
+    requires parts { blank.parts ≡ L.parts }
+    requires some { 0 < blank.parts }
+{
+    let mut steps = Steps::<L>::new(blank);
+    let comparison = Comparison::of(alloc, old, new, &mut steps)?;
+    let mut text = String::new(alloc);
+    for i in 0..comparison.parts_len() {
+        if comparison.next(Way::Direct, i).is_some() {
+            let position = format!(in alloc; "{i}")?;
+            push_position(&mut text, position.as_str())?;
+        }
+    }
+    Ok(text)
+}
+
+// The old positions of a row's partners.
+fn old_positions(alloc: Global, partners: &str) -> Result<String, NoMemory> {
+    let mut text = String::new(alloc);
+    for pair in partners.split(' ') {
+        if let Some((old, _)) = pair.split_once('-') {
+            push_position(&mut text, old)?;
+        }
+    }
+    Ok(text)
+}
+
+// The cells of a line.
+#[derive(Clone, Copy)]
+struct Row<'a> {
+    what: &'a str,
+    old: &'a str,
+    new: &'a str,
+    broken: &'a str,
+    partners: &'a str,
+}
+
+fn row_of(line: &str) -> Row<'_> {
+    let mut cells = line.split('|');
+    Row {
+        what: cells.next().unwrap_or(""),
+        old: cells.next().unwrap_or(""),
+        new: cells.next().unwrap_or(""),
+        broken: cells.next().unwrap_or(""),
+        partners: cells.next().unwrap_or(""),
+    }
+}
+
+fn expect(rt: &impl Abort, what: &str, told: &str, wanted: &str) {
+    assert_eq!(rt; told, wanted, "{what}");
+}
+
+fn check_rules(
+    rt: &impl Abort,
+    alloc: Global,
+    row: &Row,
+    old: &View<OldIx>,
+    new: &View<NewIx>,
+) -> Result<(), NoMemory> {
+    let told = broken_by::<Brand>(alloc, Blank::new(1), old, new)?;
+    expect(rt, row.what, told.as_str(), row.broken);
+    let held = if holds(old, new) { "" } else { "broken" };
+    let wanted = if row.broken.is_empty() { "" } else { "broken" };
+    expect(rt, row.what, held, wanted);
+    Ok(())
+}
+
+fn check_partners(
+    rt: &impl Abort,
+    alloc: Global,
+    row: &Row,
+    old: &View<OldIx>,
+    new: &View<NewIx>,
+) -> Result<(), NoMemory> {
+    let told = partners_by_number(alloc, old, new)?;
+    expect(rt, row.what, told.as_str(), row.partners);
+    let told = partners_by_position(alloc, old, new)?;
+    expect(rt, row.what, told.as_str(), row.partners);
+    let told = leading::<Brand>(alloc, Blank::new(1), old, new)?;
+    let wanted = old_positions(alloc, row.partners)?;
+    expect(rt, row.what, told.as_str(), wanted.as_str());
+    Ok(())
+}
+
+fn check(rt: &impl Abort, alloc: Global, line: &str) -> Result<(), NoMemory> {
+    let row = row_of(line);
+    let old = view::<OldIx>(alloc, row.old)?;
+    let new = view::<NewIx>(alloc, row.new)?;
+    check_rules(rt, alloc, &row, &old, &new)?;
+    check_partners(rt, alloc, &row, &old, &new)
+}
+
+// Checks each row, and counts them.
+fn check_all(rt: &impl Abort, alloc: Global, rows: &str) -> Result<u32, NoMemory> {
+    let mut count = 0u32;
+    for row in rows.lines() {
+        check(rt, alloc, row)?;
+        count = count.saturating_add(1);
+    }
+    Ok(count)
+}
+
+#[test]
+fn types_break_these_rules(rt: HostRuntime) -> Result<(), Fail> {
+    assert_eq!(rt; check_all(&rt, rt.alloc(), ROWS)?, 37);
+    Ok(())
+}
+
+#[test]
+fn parts_lead_by_these_ways(rt: HostRuntime) -> Result<(), Fail> {
+    let rows = [
+        ("target", Way::Pointer, Way::Pointer),
+        ("result", Way::Direct, Way::Direct),
+        ("param", Way::Direct, Way::Direct),
+        ("element", Way::Direct, Way::Pointer),
+        ("member", Way::Direct, Way::Pointer),
+    ];
+    for (word, from_value, from_pointer) in rows {
+        if let Some(item) = part::<OldIx>(word, "") {
+            assert_eq!(rt; after(Way::Direct, &item), from_value, "{word}");
+            assert_eq!(rt; after(Way::Pointer, &item), from_pointer, "{word}");
+        }
+    }
+    Ok(())
+}

@@ -1,0 +1,379 @@
+// Reports on small libraries, by hand.
+ghost use Rattle.std.specs.Prelude.{◌≡◌, ◌<◌, IfOk};
+ghost use Rattle.cert_check.specs.Compatible.{sides, task_of};
+ghost use Rattle.report_make.specs.Told.{IsExplored};
+ghost use Rattle.vers_bind.specs.Binding.{bind_each};
+
+use abi_base::{List, NoMemory};
+use abi_types::{
+    CallShape, Export, Graph, Group, Index, Kind, Library, Marks, NewIx, Node, OldIx, Part, Parts,
+    Place, Slot, SymbolKind, View,
+};
+use break_report::Row;
+use graph_alike::alike;
+use hand_graphs::is_library;
+use pair_explorer::{Explored, explore, is_scope};
+use pair_rules::Steps;
+use report_make::laws::alike_types_are_explored;
+use report_make::{compared_roots, report_rows};
+use std::alloc::Global;
+use std::fmt::Write;
+use std::marker::Brand;
+use std::process::Abort;
+use std::sync::ledger::{Blank, Ledger};
+use std::test::Fail;
+use vers_bind::bind_all;
+
+// Each line: what is compared | the old types | the new types | the old exports | the new exports | the rows.
+// A type is its kind and size, and its parts: a member as its name, its bit and the number of its type; a target as the number
+// alone; the result of a function and then its parameters as the number and the register, a vector one with `x`. Types are
+// numbered from 1 on, and 0 is void. An export is its name, its version, its kind, its size and its type, behind a minus where a
+// rule drops it. The soname stands before the exports.
+const ROWS: &str = "\
+a longer member|int:4;struct:16 n@0>3 v@64>1;ptr >2;fn >1=6 >3=0|int:4;struct:16 n@0>3 v@64>5;ptr >2;fn >1=6 >3=0;int:8|a.so len::f:0:4|a.so len::f:0:4|L2 len param 1 / target / member v: size 4, now 8
+a ring of two in the place of itself|int:4;ptr >3;struct:16 n@0>4 v@64>1;ptr >5;struct:16 n@0>2 v@64>1;fn >0=- >2=0|int:4;ptr >3;struct:16 n@0>4 v@64>1;ptr >5;struct:16 n@0>2 v@64>1;fn >0=- >2=0|a.so walk::f:0:6|a.so walk::f:0:6|
+a ring of three with a longer member in the third|int:4;ptr >3;struct:16 n@0>4 v@64>1;ptr >5;struct:16 n@0>2 v@64>1;fn >0=- >2=0|int:4;ptr >3;struct:16 n@0>4 v@64>1;ptr >5;struct:16 n@0>6 v@64>1;ptr >7;struct:16 n@0>2 v@64>9;fn >0=- >2=0;int:8|a.so walk::f:0:6|a.so walk::f:0:8|L2 walk param 1 / target / member n / target / member n / target / member v: size 4, now 8
+a union by value|int:8;union:8 d@0>1;fn >0=- >2=x0|int:8;union:8 d@0>1 l@0>1;fn >0=- >2=0|a.so g::f:0:3|a.so g::f:0:3|L14 g: param 1 in xmm0, now rdi
+by value and through a pointer|int:4;struct:8 x@0>1;ptr >2;fn >0=- >3=0 >2=1|int:4;struct:16 x@64>1;ptr >2;fn >0=- >3=0 >2=1|a.so f::f:0:4|a.so f::f:0:4|L2 f param 2: size 8, now 16; L7 f param 2: member x at bit 0, now 64
+the shorter path from a later export|int:4;struct:8 x@0>1;ptr >2;fn >0=- >3=0;fn >0=- >2=0|int:4;struct:16 x@0>1;ptr >2;fn >0=- >3=0;fn >0=- >2=0|a.so a::f:0:4 b::f:0:5|a.so a::f:0:4 b::f:0:5|L2 b param 1: size 8, now 16
+sonames and exports|int:4|int:4|a.so.1 gone::f:0:0 two:V1:f:0:0 kind::f:0:0 size::o:4:0 typed::o:4:1 -left::f:0:0|a.so.2 two:V2:f:0:0 kind::o:0:0 size::o:8:0 typed::o:4:0|X1 -: SONAME a.so.1, now a.so.2; X2 gone: gone; X3 two@@V1: version gone; X4 kind: kind FUNC, now OBJECT; X5 size: object size 4, now 8; X6 typed: type gone
+";
+
+fn number(text: &str) -> usize {
+    text.parse().unwrap_or(0)
+}
+
+fn kind(word: &str) -> Kind {
+    match word {
+        "int" => Kind::Scalar,
+        "ptr" => Kind::Pointer,
+        "struct" => Kind::Structure,
+        "union" => Kind::Union,
+        "fn" => Kind::Function,
+        _ => Kind::Void,
+    }
+}
+
+fn group(kind: Kind) -> Group {
+    match kind {
+        Kind::Scalar => Group::Signed,
+        _ => Group::Bool,
+    }
+}
+
+fn size(kind: Kind, text: &str) -> u64 {
+    match kind {
+        Kind::Pointer => 8,
+        _ => text.parse().unwrap_or(0),
+    }
+}
+
+// No type here is by value in one of its own kind.
+fn rank(kind: Kind) -> u32 {
+    match kind {
+        Kind::Structure | Kind::Union => 1,
+        Kind::Function => 2,
+        _ => 0,
+    }
+}
+
+fn part<'a, Ix: Index>(kind: Kind, position: usize, word: &'a str) -> Part<'a, Ix> {
+    let (place, to) = word.split_once('>').unwrap_or((word, ""));
+    let (name, bit) = place.split_once('@').unwrap_or((place, ""));
+    let (to, _) = to.split_once('=').unwrap_or((to, ""));
+    let to = Ix::of(number(to));
+    match kind {
+        Kind::Structure | Kind::Union => Part::Member {
+            name: name.as_bytes(),
+            bit: bit.parse().unwrap_or(0),
+            width: 0,
+            to,
+        },
+        Kind::Pointer => Part::Target { to },
+        _ => {
+            if position == 0 {
+                Part::Outcome { to }
+            } else {
+                Part::Param { to }
+            }
+        }
+    }
+}
+
+// The register of a result or a parameter.
+fn place(word: &str) -> Place {
+    let (_, register) = word.split_once('=').unwrap_or((word, "-"));
+    let (vector, general) = register.split_once('x').unwrap_or(("-", register));
+    let mut eightbytes = [Slot::Unused; 8];
+    if general == "-" {
+        return Place::Nothing;
+    }
+    let number: u8 = general.parse().unwrap_or(0);
+    eightbytes[0] = if vector == "-" {
+        Slot::General(number)
+    } else {
+        Slot::Vector(number)
+    };
+    Place::Registers { eightbytes }
+}
+
+// The places of the parameters among some words, the first of which is of the result.
+fn params(alloc: Global, words: &str) -> Result<List<Place>, NoMemory> {
+    let mut params = List::new(alloc);
+    for word in words.split_whitespace().skip(2) {
+        params.push(place(word))?;
+    }
+    Ok(params)
+}
+
+fn node<'a, Ix: Index>(alloc: Global, entry: u64, text: &'a str) -> Result<Node<'a, Ix>, NoMemory> {
+    let mut words = text.split_whitespace();
+    let first = words.next().unwrap_or("");
+    let (word, bytes) = first.split_once(':').unwrap_or((first, ""));
+    let kind = kind(word);
+    let mut parts = Vec::new(alloc);
+    for word in words {
+        let part = part(kind, parts.len(), word);
+        parts.push(part)?;
+    }
+    let outcome = match kind {
+        Kind::Function => place(text.split_whitespace().nth(1).unwrap_or("")),
+        _ => Place::Nothing,
+    };
+    let params = match kind {
+        Kind::Function => params(alloc, text)?,
+        _ => List::new(alloc),
+    };
+    Ok(Node {
+        entry,
+        rank: rank(kind),
+        view: View {
+            kind,
+            declared_only: false,
+            tag: &[],
+            size: size(kind, bytes),
+            group: group(kind),
+            align: 0,
+            count: 0,
+            variadic: false,
+            parts: Parts::of(alloc, parts)?,
+            call: CallShape { outcome, params },
+        },
+        labels: List::new(alloc),
+    })
+}
+
+// The graph of the types of a cell, where the entry of each is ten times its number.
+fn graph<'a, Ix: Index>(
+    rt: &impl Abort,
+    alloc: Global,
+    cell: &'a str,
+) -> Result<Graph<'a, Ix>, NoMemory> {
+    let mut nodes = List::new(alloc);
+    let void = node(alloc, 0, "")?;
+    nodes.push(void)?;
+    let mut entry = 0u64;
+    for text in cell.split(';') {
+        entry = entry.saturating_add(10);
+        let next = node(alloc, entry, text)?;
+        nodes.push(next)?;
+    }
+    match hand_graphs::graph(alloc, nodes)? {
+        Some(graph) => Ok(graph),
+        None => panic!(rt; "{cell}"),
+    }
+}
+
+fn symbol_kind(word: &str) -> SymbolKind {
+    match word {
+        "f" => SymbolKind::Func,
+        _ => SymbolKind::Object,
+    }
+}
+
+fn export<'a>(symbol: u32, word: &'a str) -> Export<'a> {
+    let mut cells = word.split(':');
+    let name = cells.next().unwrap_or("").as_bytes();
+    let version = cells.next().unwrap_or("").as_bytes();
+    let kind = symbol_kind(cells.next().unwrap_or(""));
+    let size = cells.next().unwrap_or("").parse().unwrap_or(0);
+    let entry: u64 = cells.next().unwrap_or("").parse().unwrap_or(0);
+    Export {
+        symbol,
+        name,
+        version: if version.is_empty() {
+            None
+        } else {
+            Some(version)
+        },
+        index: 1,
+        hidden: false,
+        kind,
+        absolute: false,
+        value: 0x1000,
+        size,
+        declared: name,
+        entry: entry.saturating_mul(10),
+    }
+}
+
+fn exports<'a>(alloc: Global, cell: &'a str) -> Result<List<Export<'a>>, NoMemory> {
+    let mut exports = List::new(alloc);
+    let mut symbol = 0u32;
+    for word in cell.split_whitespace().skip(1) {
+        symbol = symbol.saturating_add(1);
+        let name = word.strip_prefix('-').unwrap_or(word);
+        exports.push(export(symbol, name))?;
+    }
+    Ok(exports)
+}
+
+fn library<'a, Ix: Index>(
+    rt: &impl Abort,
+    alloc: Global,
+    types: &'a str,
+    cell: &'a str,
+) -> Result<Library<'a, Ix>, NoMemory> {
+    let graph = graph::<Ix>(rt, alloc, types)?;
+    let exports = exports(alloc, cell)?;
+    let is_made = is_library(exports.as_slice(), &graph);
+    assert!(rt; is_made, "{cell}");
+    let soname = cell.split_whitespace().next().unwrap_or("");
+    Library::new(alloc, [7; 32], Some(soname.as_bytes()), exports, graph)
+}
+
+fn no_flags(alloc: Global, count: usize) -> Result<List<bool>, NoMemory> {
+    let mut flags = List::new(alloc);
+    for _ in 0..count {
+        flags.push(false)?;
+    }
+    Ok(flags)
+}
+
+fn marks(alloc: Global, cell: &str, nodes: usize) -> Result<Marks, NoMemory> {
+    let mut dropped = List::new(alloc);
+    for word in cell.split_whitespace().skip(1) {
+        dropped.push(word.starts_with('-'))?;
+    }
+    Ok(Marks {
+        digest: [0; 32],
+        exports: dropped,
+        direct: no_flags(alloc, nodes)?,
+        pointer: no_flags(alloc, nodes)?,
+    })
+}
+
+// What an exploration of the types over the classes of alike ones finds.
+fn explored<L: Ledger>(
+    rt: &impl Abort,
+    alloc: Global,
+    blank: Blank,
+    old: &Library<OldIx>,
+    new: &Library<NewIx>,
+    marks: &Marks,
+    bound: &[Option<usize>],
+) -> Result<Explored, NoMemory>
+    requires name { blank.name ≡ L.name }
+    requires parts { blank.parts ≡ L.parts }
+    requires some { 0 < blank.parts }
+    requires bound { bound.now ≡ bind_each old.now.exports new.now.exports }
+    ensures { IfOk result (λ e. IsExplored (task_of (sides old.now new.now marks.now)) e.visits e.breaks) }
+{
+    alike_types_are_explored();
+    let old_graph = old.graph();
+    let new_graph = new.graph();
+    old_graph.known();
+    new_graph.known();
+    let old_classes = alike(alloc, old_graph)?;
+    let new_classes = alike(alloc, new_graph)?;
+    old_classes.known();
+    new_classes.known();
+    let roots = compared_roots(alloc, old, new, marks, bound)?;
+    let roots = roots.as_slice();
+    assert!(rt;
+        is_scope(
+            old_graph,
+            new_graph,
+            roots,
+            marks,
+            &old_classes,
+            &new_classes
+        )
+    );
+    let mut steps = Steps::<L>::new(blank);
+    explore(
+        alloc,
+        old_graph,
+        new_graph,
+        roots,
+        marks,
+        &old_classes,
+        &new_classes,
+        &mut steps,
+    )
+}
+
+fn push_row(rt: &impl Abort, text: &mut String, row: &Row) -> Result<(), NoMemory> {
+    let between = if text.is_empty() { "" } else { "; " };
+    let rule = row.rule.word();
+    let utf8 = (
+        str::from_utf8(row.export.as_slice()),
+        str::from_utf8(row.path.as_slice()),
+        str::from_utf8(row.detail.as_slice()),
+    );
+    match utf8 {
+        (Ok(export), Ok(path), Ok(detail)) => {
+            let space = if path.is_empty() { "" } else { " " };
+            write!(text, "{between}{rule} {export}{space}{path}: {detail}")?;
+        }
+        _ => panic!(rt; "no text"),
+    }
+    Ok(())
+}
+
+// The rows between two libraries.
+fn told(
+    rt: &impl Abort,
+    alloc: Global,
+    old: &Library<OldIx>,
+    new: &Library<NewIx>,
+    marks: &Marks,
+) -> Result<String, NoMemory> {
+    let bound = bind_all(alloc, old.exports(), new.exports())?;
+    let bound = bound.as_slice();
+    let explored = explored::<Brand>(rt, alloc, Blank::new(1), old, new, marks, bound)?;
+    let rows = report_rows(alloc, old, new, marks, bound, &explored)?;
+    let mut text = String::new(alloc);
+    for row in rows.as_slice() {
+        push_row(rt, &mut text, row)?;
+    }
+    Ok(text)
+}
+
+// Checks a line.
+fn check(rt: &impl Abort, alloc: Global, line: &str) -> Result<(), NoMemory> {
+    let mut cells = line.split('|');
+    let what = cells.next().unwrap_or("");
+    let old_types = cells.next().unwrap_or("");
+    let new_types = cells.next().unwrap_or("");
+    let old_exports = cells.next().unwrap_or("");
+    let new_exports = cells.next().unwrap_or("");
+    let wanted = cells.next().unwrap_or("");
+    let old = library::<OldIx>(rt, alloc, old_types, old_exports)?;
+    let new = library::<NewIx>(rt, alloc, new_types, new_exports)?;
+    let marks = marks(alloc, old_exports, old.graph().len())?;
+    let text = told(rt, alloc, &old, &new, &marks)?;
+    assert_eq!(rt; text.as_str(), wanted, "{what}");
+    Ok(())
+}
+
+#[test]
+fn libraries_have_these_rows(rt: HostRuntime) -> Result<(), Fail> {
+    let mut count = 0u32;
+    for line in ROWS.lines() {
+        check(&rt, rt.alloc(), line)?;
+        count = count.saturating_add(1);
+    }
+    assert_eq!(rt; count, 7);
+    Ok(())
+}

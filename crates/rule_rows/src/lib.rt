@@ -1,0 +1,7 @@
+//! What no clause of rule files says: worked texts and marks. All of it is tests.
+#![tactic(auto)]
+
+#[cfg(test)]
+mod marking;
+#[cfg(test)]
+mod sections;
