@@ -23,7 +23,7 @@ use Rattle.cert_check.specs.Relation.{relation_of}
 use Rattle.cert_check.specs.TypedPairs.{IsTypedPair, HasTypes}
 use Rattle.cert_check.specs.Accepted.{Place, heads, joined, Binding, Rules, AlikeOld, AlikeNew, Root, Rule, Partners, groups, places, binding_places, pair_places, IsAccepted, Case, line_of, rep, class_in, old_class, new_class, listed, is_line, KeepsAlike, KeepsBinding, KeepsRule, KeepsPartners, Keeps}
 use Rattle.cert_check.proofs.First.{grouped, join, each-at, each-from, twos-at, twos-from, find_range, filter_map-given}
-use Rattle.cert_check.proofs.Given.{given_there, given_ascends}
+use Rattle.cert_check.proofs.lemmas.Numbered.{given_there, given_ascends}
 use Rattle.cert_check.proofs.Lines.{line_of-some, rep-some, rep-none, is_line-at}
 
 -- ---- the node of an entry
@@ -166,9 +166,9 @@ typed_roots_iff s root = (λ h. let there = at_contains (typed_roots s) root h i
 pub typed_roots-ascend : (s : Sides) (j k : ℕ) (first later : PlainRoot) → j < k → slice_get (typed_roots s) j ≡ Some first → slice_get (typed_roots s) k ≡ Some later → first.export < later.export
 unfolding typed_roots
 typed_roots-ascend s j k first later less at there =
-    given_ascends (typed_root s) (λ (r t : PlainRoot). r.export < t.export)
-    (λ m n x y lt one other. omega (arith, lt, typed_root-place s m x one, typed_root-place s n y other))
-    0 (length s.old.exports) j k first later less at there
+    given_ascends (typed_root s) (λ (r t : PlainRoot). r.export < t.export) (length s.old.exports)
+    (λ m n x y lt below one other. omega (arith, lt, typed_root-place s m x one, typed_root-place s n y other))
+    0 (length s.old.exports) j k first later (omega arith) less at there
 
 pub typed_pair-inside : (s : Sides) (root : PlainRoot) → IsTypedPair s root → HasTypes s root
 typed_pair-inside s root p = record { old = (node_of-is s.old.graph p.old.entry root.old p.old_node).0; new = (node_of-is s.new.graph p.new.entry root.new p.new_node).0 }

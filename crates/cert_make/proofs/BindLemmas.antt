@@ -10,7 +10,7 @@ use Rattle.vers_bind.specs.Binding.{bind_to}
 use Rattle.cert_check.specs.Compatible.{Sides, bound}
 use Rattle.cert_make.specs.Lines.{line_between, line_from, bind_line, bind_lines}
 use Rattle.cert_make.specs.LineLists.{binds_below}
-use Rattle.cert_make.proofs.Given.{given_more}
+use Rattle.cert_check.proofs.lemmas.Numbered.{given_more}
 
 pub export_read : (exports : List Export) (plain : List PlainExport) (k : ℕ) (e : Export) → plain_exports exports ≡ plain → slice_get exports k ≡ Some e → slice_get plain k ≡ Some (plain_export e)
 export_read exports plain k e same at = ap (λ (es : List PlainExport). slice_get es k) (sym same) ∙ slice_get-map plain_export exports k ∙ ap (option_map plain_export) at

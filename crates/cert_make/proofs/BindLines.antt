@@ -14,7 +14,7 @@ use Rattle.cert_text.specs.Certs.{Ascend, IsBelow, first_cmp}
 use Rattle.cert_check.specs.Compatible.{Sides, IsCompared, bound}
 use Rattle.cert_check.specs.Accepted.{line_of}
 use Rattle.cert_make.specs.Lines.{line_between, line_from, bind_line, bind_lines}
-use Rattle.cert_make.proofs.Given.{given_there, given_source, given_ascends}
+use Rattle.cert_check.proofs.lemmas.Numbered.{given_there, given_source, given_ascends}
 use Rattle.cert_make.proofs.BindLemmas.{line_bound}
 use Rattle.cert_make.proofs.AlikeLemmas.{LineLaws}
 use Rattle.cert_make.proofs.Orders.{nat_less}

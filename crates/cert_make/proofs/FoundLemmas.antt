@@ -14,7 +14,7 @@ use Rattle.graph_alike.specs.Classes.{PlainClasses, AreSound, AreCoarsest, IsLea
 use Rattle.cert_text.specs.Certs.{IsBelow, first_cmp}
 use Rattle.cert_make.specs.Lines.{IsAlikeEntry, AreAlikeLines}
 use Rattle.cert_make.specs.LineLists.{alike_line, alike_below}
-use Rattle.cert_make.proofs.Given.{given_more, given_there, given_source, given_ascends}
+use Rattle.cert_check.proofs.lemmas.Numbered.{given_more, given_there, given_source, given_ascends}
 use Rattle.cert_make.proofs.Orders.{sorted_ascends, first_cmp_total, first_same, line_eq}
 
 -- what is below a limit stays so with one more

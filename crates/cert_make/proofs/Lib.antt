@@ -1,4 +1,3 @@
-mod Given
 mod BindLemmas
 mod Orders
 mod OneList

@@ -1,5 +1,5 @@
 // The binding of one export.
-ghost use Rattle.std.specs.Prelude.{◌≡◌};
+ghost use Rattle.std.specs.Prelude.{◌≡◌, ◌↔◌, IsTrue};
 ghost use Rattle.std.specs.Option.{option_copied};
 ghost use Rattle.abi_types.specs.Plain.{plain_export, plain_exports};
 ghost use Rattle.vers_bind.specs.Binding.{bind_to, has_version as it_has_version, has_first_version as it_has_first_version, is_default as it_is_default, only_default};
@@ -13,7 +13,8 @@ pub const FIRST_VERSION: u16 = 2;
 
 /// Whether two names are equal, or there is none on either side.
 pub fn same_name(one: Option<&[u8]>, other: Option<&[u8]>) -> bool
-    ensures { result ≡ the_names_are_same (option_copied one.entry) (option_copied other.entry) }
+    ensures same { result ≡ the_names_are_same (option_copied one.entry) (option_copied other.entry) }
+    ensures equal { IsTrue result ↔ (option_copied one.entry ≡ option_copied other.entry) }
 {
     match (one, other) {
         (None, None) => true,
