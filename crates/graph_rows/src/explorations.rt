@@ -3,11 +3,9 @@ ghost use Rattle.std.specs.Prelude.{◌≡◌, ◌<◌, IfOk};
 ghost use Rattle.pair_explorer.specs.Visits.{AreEarlier};
 
 use abi_base::{List, NoMemory};
-use abi_types::{
-    CallShape, Graph, Group, Index, Kind, Marks, NewIx, Node, OldIx, Part, Parts, Place, View,
-};
+use abi_types::{Graph, Index, Marks, NewIx, OldIx};
 use graph_alike::{Classes, alike, plain};
-use hand_graphs::is_graph;
+use hand_graphs::spelled_graph;
 use pair_explorer::{Explored, Root, Visits, explore, is_scope, route_to};
 use pair_rules::{Broken, Steps};
 use std::alloc::Global;
@@ -17,11 +15,10 @@ use std::process::Abort;
 use std::sync::ledger::{Blank, Ledger};
 use std::test::Fail;
 
-// Each line: what is explored | over classes of one type each, or of alike types | the old types | the new types | the roots | the marked old types, where they are reached by
-// value | and through a pointer | how many triples there are | the breaks.
-// A type is its kind and size, and its parts: a member as its name, its bit and the number of its type, and all others as the
-// number alone, of which the first of a function is its result. Types are numbered from 1 on, and 0 is void. A root is the
-// position of its export and the numbers of both types. A break is its rule, and its path as an export and positions of parts.
+// Each line: what is explored | over classes of one type each, or of alike types | the old types | the new types | the roots |
+// the marked old types, where they are reached by value | and through a pointer | how many triples there are | the breaks.
+// Types are as `spelled_graph` takes them. A root is the position of its export and the numbers of both types. A break is its
+// rule, and its path as an export and positions of parts.
 const ROWS: &str = "\
 a ring of two and a ring of three|plain|int:4;ptr >3;struct:16 n@0>4 v@64>1;ptr >5;struct:16 n@0>2 v@64>1;fn >0 >2|int:4;ptr >3;struct:16 n@0>4 v@64>1;ptr >5;struct:16 n@0>6 v@64>1;ptr >7;struct:16 n@0>2 v@64>1;fn >0 >2|0:6-8|||16|
 a member of the third is longer|plain|int:4;ptr >3;struct:16 n@0>4 v@64>1;ptr >5;struct:16 n@0>2 v@64>1;fn >0 >2|int:4;ptr >3;struct:16 n@0>4 v@64>1;ptr >5;struct:16 n@0>6 v@64>1;ptr >7;struct:16 n@0>2 v@64>9;fn >0 >2;int:8|0:6-8|||17|L2@0/1/0/0/0/0/0/1
@@ -39,111 +36,16 @@ fn number(text: &str) -> usize {
     text.parse().unwrap_or(0)
 }
 
-fn kind(word: &str) -> Kind {
-    match word {
-        "int" => Kind::Scalar,
-        "ptr" => Kind::Pointer,
-        "struct" => Kind::Structure,
-        "fn" => Kind::Function,
-        _ => Kind::Void,
-    }
-}
-
-fn group(kind: Kind) -> Group {
-    match kind {
-        Kind::Scalar => Group::Signed,
-        _ => Group::Bool,
-    }
-}
-
-fn size(kind: Kind, text: &str) -> u64 {
-    match kind {
-        Kind::Pointer => 8,
-        _ => text.parse().unwrap_or(0),
-    }
-}
-
-// No type here is by value in one of its own kind.
-fn rank(kind: Kind) -> u32 {
-    match kind {
-        Kind::Structure => 1,
-        Kind::Function => 2,
-        _ => 0,
-    }
-}
-
-fn part<'a, Ix: Index>(kind: Kind, position: usize, word: &'a str) -> Part<'a, Ix> {
-    let (place, to) = word.split_once('>').unwrap_or((word, ""));
-    let (name, bit) = place.split_once('@').unwrap_or((place, ""));
-    let to = Ix::of(number(to));
-    match kind {
-        Kind::Structure => Part::Member {
-            name: name.as_bytes(),
-            bit: bit.parse().unwrap_or(0),
-            width: 0,
-            to,
-        },
-        Kind::Pointer => Part::Target { to },
-        _ => {
-            if position == 0 {
-                Part::Outcome { to }
-            } else {
-                Part::Param { to }
-            }
-        }
-    }
-}
-
-fn node<'a, Ix: Index>(alloc: Global, entry: u64, text: &'a str) -> Result<Node<'a, Ix>, NoMemory> {
-    let mut words = text.split_whitespace();
-    let first = words.next().unwrap_or("");
-    let (word, bytes) = first.split_once(':').unwrap_or((first, ""));
-    let kind = kind(word);
-    let mut parts = Vec::new(alloc);
-    for word in words {
-        let part = part(kind, parts.len(), word);
-        parts.push(part)?;
-    }
-    Ok(Node {
-        entry,
-        rank: rank(kind),
-        view: View {
-            kind,
-            declared_only: false,
-            tag: &[],
-            size: size(kind, bytes),
-            group: group(kind),
-            align: 0,
-            count: 0,
-            variadic: false,
-            parts: Parts::of(alloc, parts)?,
-            call: CallShape {
-                outcome: Place::Nothing,
-                params: List::new(alloc),
-            },
-        },
-        labels: List::new(alloc),
-    })
-}
-
 // The graph of the types of a cell.
 fn graph<'a, Ix: Index>(
     rt: &impl Abort,
     alloc: Global,
     cell: &'a str,
 ) -> Result<Graph<'a, Ix>, NoMemory> {
-    let mut nodes = List::new(alloc);
-    let void = node(alloc, 0, "")?;
-    nodes.push(void)?;
-    let mut entry = 0u64;
-    for text in cell.split(';') {
-        entry = entry.saturating_add(10);
-        let next = node(alloc, entry, text)?;
-        nodes.push(next)?;
+    match spelled_graph(alloc, cell)? {
+        Some(graph) => Ok(graph),
+        None => panic!(rt; "{cell}"),
     }
-    let is_made = is_graph(alloc, nodes.as_slice())?;
-    assert!(rt; is_made, "{cell}");
-    Graph::of_nodes(alloc, nodes)
 }
 
 fn roots(alloc: Global, cell: &str) -> Result<Vec<Root>, NoMemory> {

@@ -5,13 +5,10 @@ ghost use Rattle.report_make.specs.Told.{IsExplored};
 ghost use Rattle.vers_bind.specs.Binding.{bind_each};
 
 use abi_base::{List, NoMemory};
-use abi_types::{
-    CallShape, Export, Graph, Group, Index, Kind, Library, Marks, NewIx, Node, OldIx, Part, Parts,
-    Place, Slot, SymbolKind, View,
-};
+use abi_types::{Export, Graph, Index, Library, Marks, NewIx, OldIx, SymbolKind};
 use break_report::Row;
 use graph_alike::alike;
-use hand_graphs::is_library;
+use hand_graphs::{is_library, spelled_graph};
 use pair_explorer::{Explored, explore, is_scope};
 use pair_rules::Steps;
 use report_make::laws::alike_types_are_explored;
@@ -25,9 +22,7 @@ use std::test::Fail;
 use vers_bind::bind_all;
 
 // Each line: what is compared | the old types | the new types | the old exports | the new exports | the rows.
-// A type is its kind and size, and its parts: a member as its name, its bit and the number of its type; a target as the number
-// alone; the result of a function and then its parameters as the number and the register, a vector one with `x`. Types are
-// numbered from 1 on, and 0 is void. An export is its name, its version, its kind, its size and its type, behind a minus where a
+// Types are as `spelled_graph` takes them. An export is its name, its version, its kind, its size and its type, behind a minus where a
 // rule drops it. The soname stands before the exports.
 const ROWS: &str = "\
 a longer member|int:4;struct:16 n@0>3 v@64>1;ptr >2;fn >1=6 >3=0|int:4;struct:16 n@0>3 v@64>5;ptr >2;fn >1=6 >3=0;int:8|a.so len::f:0:4|a.so len::f:0:4|L2 len param 1 / target / member v: size 4, now 8
@@ -39,146 +34,13 @@ the shorter path from a later export|int:4;struct:8 x@0>1;ptr >2;fn >0=- >3=0;fn
 sonames and exports|int:4|int:4|a.so.1 gone::f:0:0 two:V1:f:0:0 kind::f:0:0 size::o:4:0 typed::o:4:1 -left::f:0:0|a.so.2 two:V2:f:0:0 kind::o:0:0 size::o:8:0 typed::o:4:0|X1 -: SONAME a.so.1, now a.so.2; X2 gone: gone; X3 two@@V1: version gone; X4 kind: kind FUNC, now OBJECT; X5 size: object size 4, now 8; X6 typed: type gone
 ";
 
-fn number(text: &str) -> usize {
-    text.parse().unwrap_or(0)
-}
-
-fn kind(word: &str) -> Kind {
-    match word {
-        "int" => Kind::Scalar,
-        "ptr" => Kind::Pointer,
-        "struct" => Kind::Structure,
-        "union" => Kind::Union,
-        "fn" => Kind::Function,
-        _ => Kind::Void,
-    }
-}
-
-fn group(kind: Kind) -> Group {
-    match kind {
-        Kind::Scalar => Group::Signed,
-        _ => Group::Bool,
-    }
-}
-
-fn size(kind: Kind, text: &str) -> u64 {
-    match kind {
-        Kind::Pointer => 8,
-        _ => text.parse().unwrap_or(0),
-    }
-}
-
-// No type here is by value in one of its own kind.
-fn rank(kind: Kind) -> u32 {
-    match kind {
-        Kind::Structure | Kind::Union => 1,
-        Kind::Function => 2,
-        _ => 0,
-    }
-}
-
-fn part<'a, Ix: Index>(kind: Kind, position: usize, word: &'a str) -> Part<'a, Ix> {
-    let (place, to) = word.split_once('>').unwrap_or((word, ""));
-    let (name, bit) = place.split_once('@').unwrap_or((place, ""));
-    let (to, _) = to.split_once('=').unwrap_or((to, ""));
-    let to = Ix::of(number(to));
-    match kind {
-        Kind::Structure | Kind::Union => Part::Member {
-            name: name.as_bytes(),
-            bit: bit.parse().unwrap_or(0),
-            width: 0,
-            to,
-        },
-        Kind::Pointer => Part::Target { to },
-        _ => {
-            if position == 0 {
-                Part::Outcome { to }
-            } else {
-                Part::Param { to }
-            }
-        }
-    }
-}
-
-// The register of a result or a parameter.
-fn place(word: &str) -> Place {
-    let (_, register) = word.split_once('=').unwrap_or((word, "-"));
-    let (vector, general) = register.split_once('x').unwrap_or(("-", register));
-    let mut eightbytes = [Slot::Unused; 8];
-    if general == "-" {
-        return Place::Nothing;
-    }
-    let number: u8 = general.parse().unwrap_or(0);
-    eightbytes[0] = if vector == "-" {
-        Slot::General(number)
-    } else {
-        Slot::Vector(number)
-    };
-    Place::Registers { eightbytes }
-}
-
-// The places of the parameters among some words, the first of which is of the result.
-fn params(alloc: Global, words: &str) -> Result<List<Place>, NoMemory> {
-    let mut params = List::new(alloc);
-    for word in words.split_whitespace().skip(2) {
-        params.push(place(word))?;
-    }
-    Ok(params)
-}
-
-fn node<'a, Ix: Index>(alloc: Global, entry: u64, text: &'a str) -> Result<Node<'a, Ix>, NoMemory> {
-    let mut words = text.split_whitespace();
-    let first = words.next().unwrap_or("");
-    let (word, bytes) = first.split_once(':').unwrap_or((first, ""));
-    let kind = kind(word);
-    let mut parts = Vec::new(alloc);
-    for word in words {
-        let part = part(kind, parts.len(), word);
-        parts.push(part)?;
-    }
-    let outcome = match kind {
-        Kind::Function => place(text.split_whitespace().nth(1).unwrap_or("")),
-        _ => Place::Nothing,
-    };
-    let params = match kind {
-        Kind::Function => params(alloc, text)?,
-        _ => List::new(alloc),
-    };
-    Ok(Node {
-        entry,
-        rank: rank(kind),
-        view: View {
-            kind,
-            declared_only: false,
-            tag: &[],
-            size: size(kind, bytes),
-            group: group(kind),
-            align: 0,
-            count: 0,
-            variadic: false,
-            parts: Parts::of(alloc, parts)?,
-            call: CallShape { outcome, params },
-        },
-        labels: List::new(alloc),
-    })
-}
-
-// The graph of the types of a cell, where the entry of each is ten times its number.
+// The graph of the types of a cell.
 fn graph<'a, Ix: Index>(
     rt: &impl Abort,
     alloc: Global,
     cell: &'a str,
 ) -> Result<Graph<'a, Ix>, NoMemory> {
-    let mut nodes = List::new(alloc);
-    let void = node(alloc, 0, "")?;
-    nodes.push(void)?;
-    let mut entry = 0u64;
-    for text in cell.split(';') {
-        entry = entry.saturating_add(10);
-        let next = node(alloc, entry, text)?;
-        nodes.push(next)?;
-    }
-    match hand_graphs::graph(alloc, nodes)? {
+    match spelled_graph(alloc, cell)? {
         Some(graph) => Ok(graph),
         None => panic!(rt; "{cell}"),
     }

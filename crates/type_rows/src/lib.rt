@@ -10,4 +10,6 @@ mod parts;
 #[cfg(test)]
 mod reached;
 #[cfg(test)]
+mod sections;
+#[cfg(test)]
 mod views;

@@ -1,9 +1,6 @@
-ghost use Rattle.std.specs.Prelude.{◌≤◌, length};
-ghost use Rattle.abi_base.specs.Limits.{input_limit};
-
-use abi_base::{Fault, FaultKind, INPUT_LIMIT, NoMemory, Refusal};
-use dw_entries::{Dwarf, tree};
-use dw_forms::Sections;
+use crate::sections::dwarf;
+use abi_base::{Fault, FaultKind, NoMemory, Refusal};
+use dw_entries::Dwarf;
 use std::alloc::Global;
 use std::test::*;
 use type_entries::*;
@@ -36,33 +33,6 @@ const TYPES: &[u8] =
 \x03\x04\x04a\x00\x0f\x00\x00\x00\x03\x1d\x00\x04b\x00\x0f\x00\x00\x00\x05\x18\x00\x00\
 \x05\x06\x2d\x00\x00\x00\x07\x00\x00\x00\x00\x01\x00\x00\x00\x07\x00\x00\x00\x00\x01\x00\x00\x00\x00\
 \x06\x0f\x00\x00\x00\x08\x03\x00\x09t\x00\x46\x00\x00\x00\x00";
-
-// The bytes, or none where they are more than an input may have.
-fn within_limit(bytes: &[u8]) -> &[u8]
-    ensures { length result.now ≤ input_limit }
-{
-    if bytes.len() > INPUT_LIMIT {
-        &[]
-    } else {
-        bytes
-    }
-}
-
-fn dwarf<'a>(alloc: Global, abbrev: &'a [u8], info: &'a [u8]) -> Result<Dwarf<'a>, Refusal> {
-    tree(
-        alloc,
-        Sections {
-            info: within_limit(info),
-            abbrev: within_limit(abbrev),
-            str: b"",
-            line_str: b"",
-            str_offsets: b"",
-            addr: b"",
-            rnglists: b"",
-            ranges: b"",
-        },
-    )
-}
 
 // What is reached from the entry at an offset, in order of discovery.
 fn walked(alloc: Global, dwarf: &Dwarf, offset: u64) -> Result<Found, NoMemory> {

@@ -1,10 +1,7 @@
-ghost use Rattle.std.specs.Prelude.{◌≤◌, length};
-ghost use Rattle.abi_base.specs.Limits.{input_limit};
-
-use abi_base::{Fault, FaultKind, INPUT_LIMIT, NoMemory, Refusal};
+use crate::sections::dwarf;
+use abi_base::{Fault, FaultKind, NoMemory, Refusal};
 use abi_types::{Graph, Index, OldIx, Part};
-use dw_entries::{Dwarf, tree};
-use dw_forms::Sections;
+use dw_entries::Dwarf;
 use std::alloc::Global;
 use std::test::*;
 use type_views::raw_graph;
@@ -27,33 +24,6 @@ const NO_ENCODING: &[u8] =
     b"\x3d\x00\x00\x00\x05\x00\x01\x08\x00\x00\x00\x00\x01\x0c\x00\x02\x04\x00int\x00\
 \x03p\x00\x08\x05a\x00\x0f\x00\x00\x00\x00\x04\x04\x05b\x00\x0f\x00\x00\x00\x00\x00\x06\x22\x00\x00\x00\x04\x00\
 \x08\x16\x00\x00\x00\x07t\x00\x34\x00\x00\x00\x00";
-
-// The bytes, or none where they are more than an input may have.
-fn within_limit(bytes: &[u8]) -> &[u8]
-    ensures { length result.now ≤ input_limit }
-{
-    if bytes.len() > INPUT_LIMIT {
-        &[]
-    } else {
-        bytes
-    }
-}
-
-fn dwarf(alloc: Global, info: &[u8]) -> Result<Dwarf<'_>, Refusal> {
-    tree(
-        alloc,
-        Sections {
-            info: within_limit(info),
-            abbrev: within_limit(ABBREVS),
-            str: b"",
-            line_str: b"",
-            str_offsets: b"",
-            addr: b"",
-            rnglists: b"",
-            ranges: b"",
-        },
-    )
-}
 
 // The graph of what is reached from the entry at an offset.
 fn graph<'a>(alloc: Global, dwarf: &Dwarf<'a>, offset: u64) -> Result<Graph<'a, OldIx>, Refusal> {
@@ -101,7 +71,7 @@ fn entry(graph: &Graph<OldIx>, ix: OldIx) -> u64 {
 #[test]
 fn a_graph_of_types(rt: HostRuntime) -> Result<(), Fail> {
     let alloc = rt.alloc();
-    let dwarf = dwarf(alloc, TYPES)?;
+    let dwarf = dwarf(alloc, ABBREVS, TYPES)?;
     let graph = graph(alloc, &dwarf, 57)?;
     // offset; size, rank, labels, parts
     let rows: [(u64, (u64, u32, usize, usize)); 6] = [
@@ -126,7 +96,7 @@ fn a_graph_of_types(rt: HostRuntime) -> Result<(), Fail> {
 #[test]
 fn a_base_type_wants_its_encoding(rt: HostRuntime) -> Result<(), Fail> {
     let alloc = rt.alloc();
-    let dwarf = dwarf(alloc, NO_ENCODING)?;
+    let dwarf = dwarf(alloc, ABBREVS, NO_ENCODING)?;
     match graph(alloc, &dwarf, 57) {
         Err(Refusal::Fault(fault)) => {
             assert_eq!(rt;
