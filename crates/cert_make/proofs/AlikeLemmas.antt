@@ -11,7 +11,7 @@ use Rattle.graph_alike.specs.Classes.{IsLeastEntry}
 use Rattle.cert_text.specs.Certs.{PairLine}
 use Rattle.cert_check.specs.Accepted.{line_of, rep, is_line, class_in, KeepsAlike}
 use Rattle.cert_make.specs.Lines.{IsAlikeEntry, AreAlikeLines}
-use Rattle.cert_make.proofs.Looks.{same_look}
+use Rattle.graph_alike.proofs.lemmas.Looks.{same_look}
 use Rattle.cert_make.proofs.Leasts.{AlikeLaws, node_there, one_least, own_least}
 
 -- what look-ups find among lines

@@ -1,7 +1,6 @@
 mod BindLemmas
 mod Orders
 mod OneList
-mod Looks
 mod Leasts
 mod AlikeLemmas
 mod FoundLemmas

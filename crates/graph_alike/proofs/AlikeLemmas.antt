@@ -1,11 +1,11 @@
 -- Alike nodes: looks and what parts name, stable classes, and that alike is an equivalence.
-use Rattle.std.proofs.Common.{◌≡◌, ◌+◌, ◌<◌, ℕ, zero, suc, ltb, eqb, Bool, true, false, ◌&&◌, List, [], ◌∷◌, length, map, get_or, Option, Some, None, refl, sym, ◌∙◌, ap, arith}
+use Rattle.std.proofs.Common.{◌≡◌, ◌+◌, ◌<◌, ℕ, zero, suc, ltb, eqb, Bool, true, ◌&&◌, List, [], ◌∷◌, length, map, get_or, Option, Some, None, refl, sym, ◌∙◌, ap, arith}
 use Rattle.std.specs.Option.{option_map}
 use Rattle.std.specs.List.{list_any, range_with_len}
 use Rattle.std.proofs.lemmas.Bool.{eqb-true, eq-eqb, ltb-true, lt-ltb, and_parts, and_from}
 use Rattle.std.proofs.lemmas.List.FromFn.{length-range_with_len, get_or-range_with_len}
 use Rattle.std.proofs.lemmas.List.Folds.{Any-from_list_any, list_any_at}
-use Rattle.abi_types.specs.Types.{PlainPart, Member, Enumerator, Target, Element, Outcome, Param, PlainView, PlainNode, PlainLabel}
+use Rattle.abi_types.specs.Types.{PlainPart, Member, Enumerator, Target, Element, Outcome, Param, PlainView, PlainNode}
 use Rattle.abi_types.specs.Graphs.{IsGraph, node_at, view_at, part_at, no_part, to_of}
 use Rattle.pair_rules.specs.TypeRules.{breaks}
 use Rattle.pair_rules.specs.Partners.{partner_at}
@@ -81,60 +81,6 @@ some_too f o (Some b) a same here = (b, refl)
 -- the part of a node of the same shape names a node too
 pub named_too : (m n : PlainNode) (k a : ℕ) → shape_of m ≡ shape_of n → to_of (part_at m.view k) ≡ Some a → (b : ℕ) × (to_of (part_at n.view k) ≡ Some b)
 named_too m n k a same here = some_too (λ _. 0) (to_of (part_at m.view k)) (to_of (part_at n.view k)) a (named_same (λ _. 0) m.view n.view k (view_of_look (λ _. 0) m n same)) here
-
--- ---- looks from shapes
-
-part_seen-same : (f : ℕ → ℕ) (p q : PlainPart) → part_seen (λ _. 0) p ≡ part_seen (λ _. 0) q → ((a b : ℕ) → to_of p ≡ Some a → to_of q ≡ Some b → f a ≡ f b) → part_seen f p ≡ part_seen f q
-part_seen-same f (Member m b w s) (Member n c x t) e same = let s' = same s t refl refl in cc
-part_seen-same f (Enumerator m v) (Enumerator n w) e same = cc
-part_seen-same f (Target s) (Target t) e same = ap Target (same s t refl refl)
-part_seen-same f (Element s) (Element t) e same = ap Element (same s t refl refl)
-part_seen-same f (Outcome s) (Outcome t) e same = ap Outcome (same s t refl refl)
-part_seen-same f (Param s) (Param t) e same = ap Param (same s t refl refl)
-part_seen-same f _ _ e same = cc
-
-parts_seen-same : (f : ℕ → ℕ) (ps qs : List PlainPart) → map (part_seen (λ _. 0)) ps ≡ map (part_seen (λ _. 0)) qs → ((k a b : ℕ) → to_of (get_or ps k no_part) ≡ Some a → to_of (get_or qs k no_part) ≡ Some b → f a ≡ f b) → map (part_seen f) ps ≡ map (part_seen f) qs
-parts_seen-same f [] [] e same = refl
-parts_seen-same f [] (q ∷ qs) e same = cc
-parts_seen-same f (p ∷ ps) [] e same = cc
-parts_seen-same f (p ∷ ps) (q ∷ qs) e same =
-    let head : part_seen (λ _. 0) p ≡ part_seen (λ _. 0) q = cc in
-    let tail : map (part_seen (λ _. 0)) ps ≡ map (part_seen (λ _. 0)) qs = cc in
-    let here = part_seen-same f p q head (λ a b x y. same 0 a b x y) in
-    let later = parts_seen-same f ps qs tail (λ k a b x y. same (suc k) a b x y) in
-    rw (here, later) refl
-
--- a view without its parts
-bare : PlainView → PlainView
-bare v = record v { parts = [] }
-
-bare-seen : (f : ℕ → ℕ) (v : PlainView) → bare (view_seen f v) ≡ bare v
-unfolding bare view_seen
-bare-seen f v = refl
-
-view_seen-is : (f : ℕ → ℕ) (v : PlainView) → view_seen f v ≡ record (bare v) { parts = map (part_seen f) v.parts }
-unfolding bare view_seen
-view_seen-is f v = refl
-
-parts-seen : (f : ℕ → ℕ) (v : PlainView) → (view_seen f v).parts ≡ map (part_seen f) v.parts
-unfolding view_seen
-parts-seen f v = refl
-
-view_seen-same : (f : ℕ → ℕ) (v w : PlainView) → view_seen (λ _. 0) v ≡ view_seen (λ _. 0) w → ((k a b : ℕ) → to_of (part_at v k) ≡ Some a → to_of (part_at w k) ≡ Some b → f a ≡ f b) → view_seen f v ≡ view_seen f w
-view_seen-same f v w e same =
-    let others : bare v ≡ bare w = sym (bare-seen (λ _. 0) v) ∙ ap bare e ∙ bare-seen (λ _. 0) w in
-    let shapes : map (part_seen (λ _. 0)) v.parts ≡ map (part_seen (λ _. 0)) w.parts = sym (parts-seen (λ _. 0) v) ∙ ap (λ (x : PlainView). x.parts) e ∙ parts-seen (λ _. 0) w in
-    let parts = parts_seen-same f v.parts w.parts shapes same in
-    view_seen-is f v
-    ∙ ap (λ (x : PlainView). record x { parts = map (part_seen f) v.parts }) others
-    ∙ ap (λ (ps : List PlainPart). record (bare w) { parts = ps }) parts
-    ∙ sym (view_seen-is f w)
-
--- nodes of one shape look the same by classes where the nodes that their parts name at each position are of one class
-pub same_look : (f : ℕ → ℕ) (m n : PlainNode) → shape_of m ≡ shape_of n → ((k a b : ℕ) → to_of (part_at m.view k) ≡ Some a → to_of (part_at n.view k) ≡ Some b → f a ≡ f b) → look_of f m ≡ look_of f n
-same_look f m n shapes named =
-    ap (λ (ls : List PlainLabel). let l : Look = record { labels = ls; view = view_seen f m.view } in l) (labels_of_look (λ _. 0) m n shapes)
-    ∙ ap (λ (v : PlainView). let l : Look = record { labels = n.labels; view = v } in l) (view_seen-same f m.view n.view (view_of_look (λ _. 0) m n shapes) named)
 
 -- ---- stable classes
 

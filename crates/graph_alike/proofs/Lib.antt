@@ -10,3 +10,4 @@ mod RepLemmas
 mod ShapeLemmas
 mod SpellingLemmas
 mod SplitLemmas
+pub mod lemmas

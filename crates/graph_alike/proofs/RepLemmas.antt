@@ -14,7 +14,8 @@ use Rattle.graph_alike.specs.Blocks.{at, len_of, class_in}
 use Rattle.graph_alike.specs.Splits.{HaveSameKeys, IsSplitBy}
 use Rattle.graph_alike.specs.Refined.{IsRefined}
 use Rattle.graph_alike.specs.Reps.{entry_at, AreOfClasses, IsLowered, AreReps}
-use Rattle.graph_alike.proofs.AlikeLemmas.{same_look, alike_from_stable}
+use Rattle.graph_alike.proofs.AlikeLemmas.{alike_from_stable}
+use Rattle.graph_alike.proofs.lemmas.Looks.{same_look}
 
 -- ---- a node for each class
 

@@ -20,7 +20,8 @@ use Rattle.pair_explorer.specs.Scopes.{Scope}
 use Rattle.pair_explorer.specs.Explorations.{most_triples}
 use Rattle.pair_explorer.specs.Visits.{seen}
 use Rattle.pair_explorer.proofs.Triples.{triple_eq}
-use Rattle.pair_explorer.proofs.Growth.{any_found, at_below}
+use Rattle.abi_base.proofs.lemmas.Lists.{any_found}
+use Rattle.pair_explorer.proofs.Growth.{at_below}
 use Rattle.pair_explorer.proofs.Leading.{IsGround}
 use Rattle.pair_explorer.proofs.Visited.{IsPlaced, IsVisited}
 

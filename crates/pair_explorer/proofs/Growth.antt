@@ -1,13 +1,12 @@
 -- Visits that grow keep what held of them.
-use Rattle.std.proofs.Common.{◌≡◌, ◌<◌, ℕ, zero, suc, Bool, true, false, cond, List, [], ◌∷◌, ◌++◌, length, slice_get, Some, refl, sym, ◌∙◌, ap, inl, inr, ◌⊎◌, arith}
-use Rattle.std.specs.List.{list_any}
-use Rattle.std.proofs.lemmas.Bool.{or_cases, false≢true}
+use Rattle.std.proofs.Common.{◌≡◌, ◌<◌, ℕ, true, false, cond, List, [], ◌∷◌, ◌++◌, length, slice_get, Some, sym, ◌∙◌, ap, inl, inr, arith}
 use Rattle.std.proofs.lemmas.Map.Keys.{any_passes_from_place}
 use Rattle.std.proofs.lemmas.Option.{slice_get_cases}
 use Rattle.pair_rules.specs.Steps.{Triple}
 use Rattle.pair_explorer.specs.declared.visits.Visit.{Visit}
 use Rattle.pair_explorer.specs.Visits.{seen, has, IsVisit}
 use Rattle.pair_explorer.specs.Adding.{added}
+use Rattle.abi_base.proofs.lemmas.Lists.{any_found, slice_get-append}
 use Rattle.pair_explorer.proofs.Triples.{same_triple-refl, same_triple-is}
 
 -- what stands in `vs` stands in `ws`, at its place
@@ -21,15 +20,6 @@ has-at vs n v e = any_passes_from_place _ vs n v e (same_triple-refl (seen v))
 pub has_there : (vs : List Visit) (x : Triple) → IsVisit vs x → has vs x ≡ true
 has_there vs x t = ap (has vs) (sym t.is) ∙ has-at vs t.number t.visit t.at
 
--- an item passes where some item does
-pub any_found : {X : Type 0} (p : X → Bool) (xs : List X) → list_any p xs ≡ true → (n : ℕ) × (x : X) × (slice_get xs n ≡ Some x) × (p x ≡ true)
-any_found p [] h = absurd (false≢true h)
-any_found p (x ∷ xs) h =
-    elim (or_cases (p x) (list_any p xs) h) [
-      | inl here ↦ (0, x, refl, here)
-      | inr later ↦ let f = any_found p xs later in (suc f.0, f.1, f.2, f.3)
-    ]
-
 pub has_found : (vs : List Visit) (x : Triple) → has vs x ≡ true → IsVisit vs x
 unfolding has
 has_found vs x h =
@@ -41,23 +31,6 @@ Extends-refl vs = record { kept = λ n v e. e }
 
 pub Extends-trans : {us vs ws : List Visit} → Extends us vs → Extends vs ws → Extends us ws
 Extends-trans p q = record { kept = λ n v e. q.kept n v (p.kept n v e) }
-
-pub slice_get-append : {X : Type 0} (xs ys : List X) (n : ℕ) (x : X) → slice_get xs n ≡ Some x → slice_get (xs ++ ys) n ≡ Some x
-slice_get-append [] ys n x e = cc
-slice_get-append (y ∷ xs) ys zero x e = e
-slice_get-append (y ∷ xs) ys (suc n) x e = slice_get-append xs ys n x e
-
-pub slice_get_last : {X : Type 0} (xs : List X) (x : X) → slice_get (xs ++ x ∷ []) (length xs) ≡ Some x
-slice_get_last [] x = refl
-slice_get_last (y ∷ xs) x = slice_get_last xs x
-
--- what stands in a list with one more stands in the list, or is the last
-pub slice_get_push_cases : {X : Type 0} (xs : List X) (y : X) (n : ℕ) (x : X) → slice_get (xs ++ y ∷ []) n ≡ Some x → (slice_get xs n ≡ Some x) ⊎ ((n ≡ length xs) × (y ≡ x))
-slice_get_push_cases [] y zero x e = inr (refl, cc)
-slice_get_push_cases [] y (suc n) x e = cc
-slice_get_push_cases (z ∷ xs) y zero x e = inl e
-slice_get_push_cases (z ∷ xs) y (suc n) x e =
-    elim (slice_get_push_cases xs y n x e) [ inl there ↦ inl there | inr last ↦ inr (ap suc last.0, last.1) ]
 
 pub at_below : {X : Type 0} (xs : List X) (i : ℕ) → i < length xs → (x : X) × (slice_get xs i ≡ Some x)
 at_below xs i lt =

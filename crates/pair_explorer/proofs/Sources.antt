@@ -1,8 +1,7 @@
 -- The breaks of an exploration stand in order of visits, and then of rules and parts.
-use Rattle.std.proofs.Common.{◌≡◌, ◌<◌, ◌≤◌, ℕ, zero, suc, ◌+◌, List, [], ◌∷◌, ◌++◌, map, length, slice_get, Option, Some, None, refl, sym, ◌∙◌, ap, subst, inl, inr, ◌⊎◌, arith}
-use Rattle.std.specs.Option.{option_map}
+use Rattle.std.proofs.Common.{◌≡◌, ◌<◌, ◌≤◌, ℕ, zero, suc, List, length, slice_get, Some, refl, sym, ◌∙◌, ap, subst, inl, inr, arith}
 use Rattle.std.proofs.lemmas.Bool.{cases_Bool}
-use Rattle.std.proofs.lemmas.Option.{slice_get-map, slice_get_within, same_Some, none-some}
+use Rattle.std.proofs.lemmas.Option.{none-some}
 use Rattle.abi_types.specs.Graphs.{view_at}
 use Rattle.abi_types.specs.Types.{PlainView}
 use Rattle.pair_rules.specs.declared.rules.Broken.{Broken}
@@ -14,49 +13,11 @@ use Rattle.pair_rules.specs.Steps.{Task, is_marked, breaks_of}
 use Rattle.pair_explorer.specs.declared.visits.Visit.{Visit}
 use Rattle.pair_explorer.specs.Visits.{seen}
 use Rattle.pair_explorer.specs.Explorations.{visit_breaks, breaks_below, IsExploration}
+use Rattle.abi_base.specs.Lists.{Ascends}
+use Rattle.abi_base.proofs.lemmas.Lists.{Ascends-append, Ascends-map, map_source, slice_get_append_cases}
 use Rattle.pair_explorer.proofs.Growth.{at_below}
 use Rattle.pair_explorer.proofs.Loop.{breaks_below-more}
 use Rattle.pair_explorer.proofs.Verdict.{visit_breaks-marked, visit_breaks-unmarked, breaks_below-zero}
-
--- each item is before all later ones
-abbrev pub Ascends : {X : Type 0} → (X → X → Type 0) → List X → Type 0
-Ascends {X} R xs = (m n : ℕ) (x y : X) → m < n → slice_get xs m ≡ Some x → slice_get xs n ≡ Some y → R x y
-
-slice_get_append_cases : {X : Type 0} (xs ys : List X) (n : ℕ) (x : X) → slice_get (xs ++ ys) n ≡ Some x → (slice_get xs n ≡ Some x) ⊎ ((k : ℕ) × (n ≡ length xs + k) × (slice_get ys k ≡ Some x))
-slice_get_append_cases [] ys n x e = inr (n, omega arith, e)
-slice_get_append_cases (z ∷ xs) ys zero x e = inl e
-slice_get_append_cases (z ∷ xs) ys (suc n) x e =
-    elim (slice_get_append_cases xs ys n x e) [ inl there ↦ inl there | inr later ↦ inr (later.0, omega (arith, later.1), later.2) ]
-
-Ascends-append : {X : Type 0} (R : X → X → Type 0) (xs ys : List X) → Ascends R xs → Ascends R ys → ((m n : ℕ) (x y : X) → slice_get xs m ≡ Some x → slice_get ys n ≡ Some y → R x y) → Ascends R (xs ++ ys)
-Ascends-append R xs ys left right across m n x y lt at_m at_n =
-    elim (slice_get_append_cases xs ys m x at_m) [
-      | inl m_left ↦ elim (slice_get_append_cases xs ys n y at_n) [
-        | inl n_left ↦ left m n x y lt m_left n_left
-        | inr n_right ↦ across m n_right.0 x y m_left n_right.2
-      ]
-      | inr m_right ↦ elim (slice_get_append_cases xs ys n y at_n) [
-        | inl n_left ↦ absurd (omega (arith, m_right.1, slice_get_within xs n y n_left))
-        | inr n_right ↦ right m_right.0 n_right.0 x y (omega (arith, m_right.1, n_right.1)) m_right.2 n_right.2
-      ]
-    ]
-
-record IsMapped {X Y : Type 0} (f : X → Y) (xs : List X) (k : ℕ) (y : Y) : Type 0 where
-  item : X
-  at : slice_get xs k ≡ Some item
-  is : f item ≡ y
-
-map_source : {X Y : Type 0} (f : X → Y) (xs : List X) (k : ℕ) (y : Y) → slice_get (map f xs) k ≡ Some y → IsMapped f xs k y
-map_source {X} {Y} f xs k y e = go (slice_get xs k) refl (sym (slice_get-map f xs k) ∙ e) where
-  go : (o : Option X) → slice_get xs k ≡ o → option_map f o ≡ Some y → IsMapped f xs k y
-  go None is h = absurd (none-some y h)
-  go (Some x) is h = record { item = x; at = is; is = same_Some (f x) y h }
-
-Ascends-map : {X Y : Type 0} (Q : X → X → Type 0) (R : Y → Y → Type 0) (f : X → Y) (xs : List X) → ((x y : X) → Q x y → R (f x) (f y)) → Ascends Q xs → Ascends R (map f xs)
-Ascends-map Q R f xs keeps ascends m n x y lt at_m at_n =
-    let a = map_source f xs m x at_m in
-    let b = map_source f xs n y at_n in
-    subst (R x) b.is (subst (λ z. R z (f b.item)) a.is (keeps a.item b.item (ascends m n a.item b.item lt a.at b.at)))
 
 -- what the law of breaks says
 abbrev pub StandInOrder : Type 0

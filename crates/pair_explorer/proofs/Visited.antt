@@ -11,7 +11,8 @@ use Rattle.pair_explorer.specs.Scopes.{Scope, rep, rep_step}
 use Rattle.pair_explorer.specs.Visits.{seen, has}
 use Rattle.pair_explorer.specs.Adding.{added, added_some, entered}
 use Rattle.pair_explorer.proofs.Order.{AreOrdered, LedBefore, IsThereBy}
-use Rattle.pair_explorer.proofs.Growth.{Extends, Extends-refl, Extends-trans, Extends-added, has-at, has_found, slice_get-append, slice_get_last, slice_get_push_cases}
+use Rattle.abi_base.proofs.lemmas.Lists.{slice_get-append, slice_get_last, slice_get_push_cases}
+use Rattle.pair_explorer.proofs.Growth.{Extends, Extends-refl, Extends-trans, Extends-added, has-at, has_found}
 
 -- the triple is that of a root, or a step leads to it from an earlier visit
 abbrev pub IsLed : Scope → List Visit → ℕ → Triple → Parent → Type 0

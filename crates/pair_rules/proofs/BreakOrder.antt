@@ -1,11 +1,10 @@
 -- The breaks of two types stand in order of rules and then of parts.
-use Rattle.std.proofs.Common.{◌≡◌, ◌<◌, ◌⊎◌, ℕ, zero, suc, ◌+◌, Bool, true, ltb, ◌&&◌, List, [], ◌∷◌, ◌++◌, map, flat_map, filter, length, slice_get, get_or, Option, Some, None, refl, sym, ◌∙◌, ap, subst, inl, inr, arith}
+use Rattle.std.proofs.Common.{◌≡◌, ◌<◌, ℕ, zero, suc, Bool, true, ltb, ◌&&◌, List, [], ◌∷◌, map, flat_map, filter, length, slice_get, get_or, Some, refl, sym, ap, subst, inl, inr, arith}
 use Rattle.std.specs.List.{range_with_len, AllPairs}
-use Rattle.std.specs.Option.{option_map}
 use Rattle.std.proofs.lemmas.Bool.{cases_Bool, and_parts, ltb-true}
 use Rattle.std.proofs.lemmas.List.FromFn.{get_or-range_with_len, length-range_with_len}
 use Rattle.std.proofs.lemmas.List.Kept.{AllPairs-filter}
-use Rattle.std.proofs.lemmas.Option.{slice_get-map, slice_get_within, get_or_from_slice_get, same_Some, none-some}
+use Rattle.std.proofs.lemmas.Option.{slice_get_within, get_or_from_slice_get, same_Some, none-some}
 use Rattle.abi_types.specs.declared.rule.RuleName.{RuleName}
 use Rattle.abi_types.specs.Rules.{rule_place}
 use Rattle.abi_types.specs.Types.{PlainView}
@@ -13,46 +12,8 @@ use Rattle.pair_rules.specs.declared.rules.Broken.{Broken}
 use Rattle.pair_rules.specs.Same.{same_kind}
 use Rattle.pair_rules.specs.TypeRules.{speaks_of_parts, breaks_part, breaks_whole, broken_at, broken, breaks, rules_asked, is_declaration}
 use Rattle.pair_rules.specs.BreakOrder.{IsBrokenBefore}
-
--- each item is before all later ones
-abbrev pub Ascends : {X : Type 0} → (X → X → Type 0) → List X → Type 0
-Ascends {X} R xs = (m n : ℕ) (x y : X) → m < n → slice_get xs m ≡ Some x → slice_get xs n ≡ Some y → R x y
-
-slice_get_append_cases : {X : Type 0} (xs ys : List X) (n : ℕ) (x : X) → slice_get (xs ++ ys) n ≡ Some x → (slice_get xs n ≡ Some x) ⊎ ((k : ℕ) × (n ≡ length xs + k) × (slice_get ys k ≡ Some x))
-slice_get_append_cases [] ys n x e = inr (n, omega arith, e)
-slice_get_append_cases (z ∷ xs) ys zero x e = inl e
-slice_get_append_cases (z ∷ xs) ys (suc n) x e =
-    elim (slice_get_append_cases xs ys n x e) [ inl there ↦ inl there | inr later ↦ inr (later.0, omega (arith, later.1), later.2) ]
-
-Ascends-append : {X : Type 0} (R : X → X → Type 0) (xs ys : List X) → Ascends R xs → Ascends R ys → ((m n : ℕ) (x y : X) → slice_get xs m ≡ Some x → slice_get ys n ≡ Some y → R x y) → Ascends R (xs ++ ys)
-Ascends-append R xs ys left right across m n x y lt at_m at_n =
-    elim (slice_get_append_cases xs ys m x at_m) [
-      | inl m_left ↦ elim (slice_get_append_cases xs ys n y at_n) [
-        | inl n_left ↦ left m n x y lt m_left n_left
-        | inr n_right ↦ across m n_right.0 x y m_left n_right.2
-      ]
-      | inr m_right ↦ elim (slice_get_append_cases xs ys n y at_n) [
-        | inl n_left ↦ absurd (omega (arith, m_right.1, slice_get_within xs n y n_left))
-        | inr n_right ↦ right m_right.0 n_right.0 x y (omega (arith, m_right.1, n_right.1)) m_right.2 n_right.2
-      ]
-    ]
-
-record IsMapped {X Y : Type 0} (f : X → Y) (xs : List X) (k : ℕ) (y : Y) : Type 0 where
-  item : X
-  at : slice_get xs k ≡ Some item
-  is : f item ≡ y
-
-map_source : {X Y : Type 0} (f : X → Y) (xs : List X) (k : ℕ) (y : Y) → slice_get (map f xs) k ≡ Some y → IsMapped f xs k y
-map_source {X} {Y} f xs k y e = go (slice_get xs k) refl (sym (slice_get-map f xs k) ∙ e) where
-  go : (o : Option X) → slice_get xs k ≡ o → option_map f o ≡ Some y → IsMapped f xs k y
-  go None is h = absurd (none-some y h)
-  go (Some x) is h = record { item = x; at = is; is = same_Some (f x) y h }
-
-Ascends-map : {X Y : Type 0} (Q : X → X → Type 0) (R : Y → Y → Type 0) (f : X → Y) (xs : List X) → ((x y : X) → Q x y → R (f x) (f y)) → Ascends Q xs → Ascends R (map f xs)
-Ascends-map Q R f xs keeps ascends m n x y lt at_m at_n =
-    let a = map_source f xs m x at_m in
-    let b = map_source f xs n y at_n in
-    subst (R x) b.is (subst (λ z. R z (f b.item)) a.is (keeps a.item b.item (ascends m n a.item b.item lt a.at b.at)))
+use Rattle.abi_base.specs.Lists.{Ascends}
+use Rattle.abi_base.proofs.lemmas.Lists.{Ascends-append, Ascends-map, map_source, slice_get_append_cases}
 
 Ascends-from_pairs : {X : Type 0} (R : X → X → Type 0) (xs : List X) → AllPairs R xs → Ascends R xs
 Ascends-from_pairs R xs pairs m n x y lt at_m at_n =
