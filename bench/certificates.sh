@@ -1,6 +1,6 @@
 #!/usr/bin/env bash
-# Times `abi verify` over certificates of 50,000 to 500,000 lines: of libraries with as many exported functions and no debug
-# information, whose certificates have a line for each, and of the libraries of trials, whose certificates have lines of all kinds.
+# Times `abi verify` over certificates: of libraries with 50,000 to 500,000 exported functions and no debug information, whose
+# certificates have a line for each, and of the libraries of trials, whose certificates have lines of all kinds.
 # Prints the lines, seconds of processor time, the least of three runs, what a line costs, and peak memory.
 #
 # usage: bench/certificates.sh [ABI [TRIAL_LIBRARY]]   (default: the programs that `rt run` built in their crates' out)

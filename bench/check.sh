@@ -1,6 +1,6 @@
 #!/usr/bin/env bash
 # Times `abi exports`, which reads a library whole and prints a short line for each export, and `abi check`, over libraries with
-# debug information: the C library of the running system joined with its debug information, where the package libc6-dbg and
+# debug information: the C library of the running system joined with its debug information, where the packages libc6-dbg and
 # elfutils are there, and libraries of generated C with 500,000 entries by gcc and clang, each checked against itself and
 # against a build in which one structure is changed. Beside them run readelf --debug-dump=info on one library, sha256sum on
 # both, and abidw and abidiff where they are there. Prints seconds of processor time, the least of five runs (of one for

@@ -1,12 +1,12 @@
 #!/usr/bin/env bash
-# Times the reader of the tree of entries, by `abi exports`, over libraries of generated C with 470,000 entries and
-# more: one unit of 6,500 groups of declarations by gcc, one by clang, and 150 units of 44 groups. They are compiled with
-# -fvisibility=hidden, so that they have no exports: the program then makes the tree and little else. Beside it run
-# `abi entries`, which reads the same entries one by one and keeps none, readelf --debug-dump=info, and llvm-dwarfdump where it is
-# there. Prints seconds of processor time, the least of nine runs, ratios, and peak memory. Of the first library, compiled with
-# its exports, it prints also the bytes of memory for each entry that are resident while the tree is there, without those of the
-# file: the program is looked at while nobody takes what it prints. Then it measures two files that are made to ask for much: one
-# of 8,300 entries of one byte, each with 8,300 attributes that take no bytes, and one of 4,200,000 entries of one byte.
+# Times the reader of the tree of entries, by `abi exports`, over libraries of generated C with 470,000 entries and more: one unit
+# of 6,500 groups of declarations by gcc, one by clang, and 150 units of 44 groups. They are compiled with -fvisibility=hidden, so
+# that they have no exports: the program then makes the tree and little else. Beside it run `abi entries`, which reads the same
+# entries one by one and keeps none, readelf --debug-dump=info, and llvm-dwarfdump where it is there. Prints seconds of processor
+# time, the least of nine runs, ratios, and peak memory. Of the first library, compiled with its exports, it prints also the bytes
+# of memory for each entry that are resident once the answer is there, without those of the file: the program is looked at while
+# nobody takes what it prints, when the tree itself is gone. Then it measures two files that are made to ask for much: one of
+# 8,300 entries of one byte, each with 8,300 attributes that take no bytes, and one of 4,200,000 entries of one byte.
 #
 # usage: bench/tree.sh [ABI]   (default: the program that `rt run` built in crates/abi_cli/out)
 set -eu

@@ -6,7 +6,8 @@
 #   tests/call_places.sh                 builds the program of this repository
 #   ABI=/path/of/abi tests/call_places.sh    takes another one
 #
-# The functions are the same at each run. Of one whose places differ, the declarations are printed.
+# The functions are the same at each run. Of the first five whose places differ, the declarations are printed. A function of a kind
+# in which a compiler departs may have other places; of each such kind a line says how many have.
 set -eu
 title="call places"
 tools="gcc readelf awk python3"

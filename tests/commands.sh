@@ -1,6 +1,7 @@
 #!/usr/bin/env bash
 # What the program makes of its arguments, styles, rule files, certificates and trials, on libraries that gcc builds. The answers
-# were derived by hand from what the commands promise.
+# were derived by hand from what the commands promise, but for the digests of trials: tests/trials.sh holds trials against
+# `abi check`.
 #
 #   tests/commands.sh                 builds the program of this repository
 #   ABI=/path/of/abi tests/commands.sh    takes another one

@@ -1,6 +1,7 @@
 #!/usr/bin/env bash
 # Builds libraries with gcc and clang, with debug information of DWARF 5 and of DWARF 4, with type units and with partial
-# units, and holds the entries that the proved program prints against those that readelf prints, line by line.
+# units (of dwz), and holds the entries that the proved program prints against those that readelf prints, line by line; of the C
+# library of the system, joined with its debug information, too.
 #
 #   tests/debug_entries.sh                 builds the program of this repository
 #   ABI=/path/of/abi tests/debug_entries.sh    takes another one

@@ -1,6 +1,7 @@
 #!/usr/bin/env bash
-# Runs each command under limits of memory (ulimit -v), from the least under which the program starts upwards: each time it must
-# give the right answer, or end with status 4 and write nothing, and nothing else. From some limit on the answer is the right one.
+# Runs each command under limits of memory (ulimit -v), from the least under which the program starts upwards, in steps: each time
+# it must give the answer that it gives without a limit, or end with status 4 and write nothing to standard output. It goes on until
+# the answer came under ten limits in a row.
 #
 #   tests/memory_limits.sh                 builds the program of this repository
 #   ABI=/path/of/abi tests/memory_limits.sh    takes another one

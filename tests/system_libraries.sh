@@ -1,7 +1,7 @@
 #!/usr/bin/env bash
 # Holds what the proved program says of libraries that the system's own packages brought against what sha256sum and readelf
-# say of them: of each against itself, and of pairs of two. It takes those of the names below that are there, of
-# which ten must be, and the last line says how many were not.
+# say of them: of each against itself, and of pairs of two. It takes those of the names below that are there and have no debug
+# information, of which there must be ten, and the last line names the others.
 #
 #   tests/system_libraries.sh                 builds the program of this repository
 #   ABI=/path/of/abi tests/system_libraries.sh    takes another one
