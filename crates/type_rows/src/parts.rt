@@ -1,4 +1,4 @@
-// What no clause says: that calls find memory. Graphs and libraries are made in the tests of the crate hand_graphs.
+// What no clause says: that calls find memory. Graphs and libraries are made in the rows of hand_graphs.
 use abi_base::NoMemory;
 use abi_types::{Index, NewIx, OldIx, Part, Parts};
 use std::alloc::Global;
