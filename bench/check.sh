@@ -1,11 +1,12 @@
 #!/usr/bin/env bash
 # Times `abi exports`, which reads a library whole and prints a short line for each export, and `abi check`, over libraries with
 # debug information: the C library of the running system joined with its debug information, where the packages libc6-dbg and
-# elfutils are there, and libraries of generated C with 500,000 entries by gcc and clang, each checked against itself and
-# against a build in which one structure is changed. Beside them run readelf --debug-dump=info on one library, sha256sum on
-# both, and abidw and abidiff where they are there. Prints seconds of processor time, the least of five runs (of one for
-# libabigail's tools), ratios, and peak memory. Beside each yes stands `abi verify` on its certificate. Then it checks libraries
-# of 1,000, 10,000 and 50,000 exported functions, and makes trials of as many, to show how it grows.
+# elfutils are there; libcrypto of OpenSSL, where bench/openssl.sh built it; and libraries of generated C with 500,000 entries by
+# gcc and clang. Each is checked against itself, and all but the first against a build in which one structure is changed. Beside
+# them run readelf --debug-dump=info on one library, sha256sum on both, and abidw and abidiff where they are there. Prints seconds
+# of processor time, the least of five runs (of one for libabigail's tools), ratios, and peak memory. Beside each yes stands `abi
+# verify` on its certificate. Then it checks libraries of 1,000, 10,000 and 50,000 exported functions, and makes trials of as
+# many, to show how it grows.
 #
 # usage: bench/check.sh [ABI]   (default: the program that `rt run` built in crates/abi_cli/out)
 set -eu
@@ -79,6 +80,15 @@ if [ -e libc.so ] || "$top/tools/join-debug" "$libc" libc.so; then
     verified "against itself" libc.so libc.so
 else
     echo "the C library of the system is left out"
+fi
+
+if [ -e openssl.so ] && [ -e openssl_changed.so ]; then
+    read_whole "libcrypto of OpenSSL" openssl.so
+    checked "against itself" 0 openssl.so openssl.so
+    verified "against itself" openssl.so openssl.so
+    checked "against a changed build" 1 openssl.so openssl_changed.so
+else
+    echo "libcrypto of OpenSSL is left out (bench/openssl.sh builds it)"
 fi
 
 awk -v first=1 -v last=6500 -f "$source" >groups.c

@@ -1,0 +1,19 @@
+#!/usr/bin/env bash
+# Builds libcrypto of OpenSSL with gcc and debug information, and a second time with one field of one structure changed, for
+# bench/check.sh, which measures the two where it finds them. It takes about ten minutes of one processor, and 1 GB of disk.
+#
+# usage: bench/openssl.sh SOURCE.tar.gz   (`apt-get source --download-only openssl` brings openssl_VERSION.orig.tar.gz)
+set -eu
+source=$(readlink -f "$1")
+made=$(cd "$(dirname "$0")" && pwd)/made/check
+mkdir -p "$made/openssl"
+cd "$made/openssl"
+tar -xf "$source" --strip-components=1
+./Configure linux-x86_64 shared no-tests -g -O2 >configured
+make -j"$(nproc)" libcrypto.so >built
+cp libcrypto.so "$made/openssl.so"
+header=include/openssl/txt_db.h
+sed -i 's/^    long error;$/    int error;/' $header
+grep -q '^    int error;$' $header || { echo "openssl.sh: $header has no field to change" >&2; exit 1; }
+make -j"$(nproc)" libcrypto.so >built
+cp libcrypto.so "$made/openssl_changed.so"
