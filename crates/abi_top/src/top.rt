@@ -117,7 +117,7 @@ pub fn run<I: Inputs, S: Sink>(
         result ≡ Status.WriteFault
         → (status : AnyStatus) × (text : List ℕ) × Answers call status text × AppendsFront (S.held sink.old) (S.held sink.new) text }
 
-    // Want of memory leaves the sink as before.
+    // Where memory runs out, the sink is as before.
     ensures no_memory { result ≡ Status.NoMemory → sink.new ≡ sink.old }
 
     // Where the words are right, all inputs tell readable bytes and did not fail, and the sink did not fail, the answer

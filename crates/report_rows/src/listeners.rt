@@ -165,7 +165,7 @@ X2 f@V1: gone
 }
 
 #[test]
-fn want_of_memory_keeps_the_texts_before_it(rt: HostRuntime) -> Result<(), Fail> {
+fn the_texts_before_it_stay_where_memory_runs_out(rt: HostRuntime) -> Result<(), Fail> {
     let alloc = rt.alloc();
     let rows = vec![in alloc; gone(alloc)?, grown(alloc)?]?;
     let dropped = Rc::new(alloc, RefCell::new(Vec::new(alloc)))?;

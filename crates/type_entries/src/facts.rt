@@ -28,8 +28,13 @@ pub struct Span {
 /// What is known of a type. Numbers stop at 2^64 - 1, which is above every limit.
 #[derive(Clone, Copy, Debug, PartialEq, Eq)]
 pub struct Facts {
+    // Fields lie in this order: the small ones stand together.
     /// The most steps by value that lead on from it.
     pub rank: u32,
+    /// A member of its core begins at a bit out of range, as it stands or as a flat member.
+    pub beyond: bool,
+    /// Its core is a structure or a union.
+    pub aggregate: bool,
     /// In bytes.
     pub size: u64,
     /// How many elements its core has, where that is an array.
@@ -42,12 +47,8 @@ pub struct Facts {
     pub rooms: u64,
     /// Where the flat members of its core begin; none where it has none.
     pub span: Option<Span>,
-    /// A member of its core begins at a bit out of range, as it stands or as a flat member.
-    pub beyond: bool,
     /// The entry that it comes to, none for void.
     pub core: Option<usize>,
-    /// Its core is a structure or a union.
-    pub aggregate: bool,
 }
 
 /// The facts of void.

@@ -7,11 +7,38 @@ ghost use Rattle.type_views.specs.Nodes.{made_nodes, nodes_of};
 use crate::judging::{ask_shapes, ask_sizes};
 use crate::laws::the_nodes_are_a_graph;
 use crate::nodes::nodes;
-use abi_base::Refusal;
-use abi_types::{Graph, Index};
+use abi_base::{List, Refusal};
+use abi_types::{Graph, Index, Node};
 use dw_entries::Dwarf;
 use std::alloc::Global;
 use type_entries::{learn_all, reached};
+
+// The nodes of what is reached from the roots. What was learnt of the types is let go with the call.
+fn reached_nodes<'a, Ix: Index>(
+    alloc: Global,
+    dwarf: &Dwarf<'a>,
+    roots: &[usize],
+) -> Result<List<Node<'a, Ix>>, Refusal>
+    requires { All (λ root. root < length dwarf.now.tree.entries) roots.now }
+    ensures judged { Judges result (types_fault dwarf.now roots.now) }
+    ensures nodes { IfOk result (λ nodes. nodes ≡ nodes_of dwarf.now roots.now) }
+{
+    let found = reached(alloc, dwarf, roots)?;
+    match ask_shapes(alloc, dwarf, &found) {
+        Ok(()) => {}
+        Err(refused) => return Err(refused),
+    }
+    let facts = match learn_all(alloc, dwarf, &found) {
+        Ok(facts) => facts,
+        Err(refused) => return Err(refused),
+    };
+    match ask_sizes(dwarf, &found, facts.as_slice()) {
+        Ok(()) => {}
+        Err(fault) => return Err(Refusal::Fault(fault)),
+    }
+    let nodes = nodes(alloc, dwarf, &found, facts.as_slice())?;
+    Ok(nodes)
+}
 
 /// The types that are reached from the roots, as a graph: the node of void, and then one for each reached entry, in order of
 /// offset; its functions have no call places yet. The fault is the first one of their shapes, in order of offset, then of their
@@ -27,20 +54,10 @@ pub fn raw_graph<'a, Ix: Index>(
 {
     the_nodes_are_a_graph();
     dwarf.known();
-    let found = reached(alloc, dwarf, roots)?;
-    match ask_shapes(alloc, dwarf, &found) {
-        Ok(()) => {}
-        Err(refused) => return Err(refused),
-    }
-    let facts = match learn_all(alloc, dwarf, &found) {
-        Ok(facts) => facts,
+    let nodes = match reached_nodes(alloc, dwarf, roots) {
+        Ok(nodes) => nodes,
         Err(refused) => return Err(refused),
     };
-    match ask_sizes(dwarf, &found, facts.as_slice()) {
-        Ok(()) => {}
-        Err(fault) => return Err(Refusal::Fault(fault)),
-    }
-    let nodes = nodes(alloc, dwarf, &found, facts.as_slice())?;
     let graph = Graph::of_nodes(alloc, nodes)?;
     Ok(graph)
 }
