@@ -51,8 +51,27 @@ fn path_of<'a>(
     }
 }
 
-// The bytes of a file, as far as they can be read.
+// Whether a path names a file that gives the same bytes a second time. A pipe does not, and opening it again may wait forever.
+fn is_file<R: Files>(rt: &R, path: &str) -> bool {
+    match fs::metadata(rt, path) {
+        Ok(metadata) => metadata.is_file(),
+        Err(_) => false,
+    }
+}
+
+// Whether a path names something that is there and is neither a file nor a directory.
+fn is_other<R: Files>(rt: &R, path: &str) -> bool {
+    match fs::metadata(rt, path) {
+        Ok(metadata) => !metadata.is_file() && !metadata.is_dir(),
+        Err(_) => false,
+    }
+}
+
+// The bytes of a file, as far as they can be read again.
 fn bytes_of<R: Files + AllocGlobal>(rt: &R, path: &str) -> Vec<u8> {
+    if !is_file(rt, path) {
+        return Vec::new(rt.alloc());
+    }
     let mut inputs = FileInputs::new(rt);
     match read_whole(rt.alloc(), &mut inputs, path, INPUT_LIMIT) {
         Ok(bytes) => bytes,
@@ -80,6 +99,9 @@ fn unreadable<R: Files + AllocGlobal>(
 
 // The system's reason why a file cannot be read.
 fn reason<R: Files + AllocGlobal>(rt: &R, path: &str) -> Result<String, AllocError> {
+    if is_other(rt, path) {
+        return format!(in rt.alloc(); "{path}: reading failed");
+    }
     match fs::open(rt, path) {
         Err(error) => format!(in rt.alloc(); "{path}: {error}"),
         Ok(file) => {

@@ -21,7 +21,7 @@ fn files_that_are_no_libraries_are_named(rt: HostRuntime) -> Result<(), Fail> {
     let object = b"\x7fELF\x02\x01\x01\x00\x00\x00\x00\x00\x00\x00\x00\x00\x01\x00";
     let program = b"\x7fELF\x02\x01\x01\x00\x00\x00\x00\x00\x00\x00\x00\x00\x02\x00";
     let core = b"\x7fELF\x02\x01\x01\x00\x00\x00\x00\x00\x00\x00\x00\x00\x04\x00";
-    let rows: [(&str, &[u8], &str); 13] = [
+    let rows: [(&str, &[u8], &str); 18] = [
         ("unreadable old 1 ShortFile 0\n", b"", "old: it is empty"),
         (
             "unreadable new 2 NotElf 0\n",
@@ -39,9 +39,34 @@ fn files_that_are_no_libraries_are_named(rt: HostRuntime) -> Result<(), Fail> {
             "old: it is not an ELF file",
         ),
         (
+            "unreadable old 1 ShortFile 7\n",
+            b"\x7fELF\x02\x01\x01",
+            "old: it ends inside its ELF header",
+        ),
+        (
+            "unreadable old 1 ShortFile 7\n",
+            b"",
+            "old: it is not an ELF file",
+        ),
+        (
+            "unreadable old 3 Class 4\n",
+            b"\x7fELF\x01",
+            "old: it is a 32-bit file; only 64-bit shared objects for x86-64 are read",
+        ),
+        (
             "unreadable old 3 Class 4\n",
             b"",
-            "old: it is a 32-bit file; only 64-bit shared objects for x86-64 are read",
+            "old: it is not a 64-bit file; only 64-bit shared objects for x86-64 are read",
+        ),
+        (
+            "unreadable old 4 Data 5\n",
+            b"\x7fELF\x02\x02",
+            "old: it is a big-endian file; only shared objects for x86-64 are read",
+        ),
+        (
+            "unreadable old 4 Data 5\n",
+            b"\x7fELF\x02\x00",
+            "old: it is not a little-endian file; only shared objects for x86-64 are read",
         ),
         (
             "unreadable old 6 NotShared 16\n",
@@ -87,12 +112,24 @@ fn places_are_named(rt: HostRuntime) -> Result<(), Fail> {
             "old: section 3 does not lie inside the file, which may have been cut short",
         ),
         (
+            "unreadable old 13 SymbolTable 0\n",
+            "old: the table of dynamic symbols is damaged",
+        ),
+        (
+            "unreadable old 13 SymbolTable 5\n",
+            "old: dynamic symbol 5 is damaged, or its name does not end inside the table of names",
+        ),
+        (
+            "unreadable old 14 DynamicTable 0\n",
+            "old: the dynamic table is damaged, or its soname does not end inside the table of names",
+        ),
+        (
             "unreadable old 18 DuplicateExport 7\n",
             "old: dynamic symbol 7 has the name and the version of an earlier export",
         ),
         (
             "unreadable new 33 Language 12\n",
-            "new: offset 0xc of .debug_info: the unit is in another language than C; only units in C and in assembler are read",
+            "new: offset 0xc of .debug_info: the language of the unit is not C or assembler; only units in these are read",
         ),
         (
             "unreadable new 25 Abbrev 18\n",
@@ -136,6 +173,10 @@ fn sections_are_named(rt: HostRuntime) -> Result<(), Fail> {
         assert_eq!(rt; text.as_str(), wanted.as_str());
     }
     let text = sentence(alloc, "unreadable old 11 Compressed 1\n", &file[..100])?;
+    assert!(rt; text.starts_with("old: section 1 is compressed"));
+    // A name with a line feed does not break the line.
+    file[75] = b'\n';
+    let text = sentence(alloc, "unreadable old 11 Compressed 1\n", &file)?;
     assert!(rt; text.starts_with("old: section 1 is compressed"));
     Ok(())
 }

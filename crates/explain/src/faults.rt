@@ -26,11 +26,13 @@ fn unit_sentence(kind: FaultKind) -> &'static str {
         FaultKind::DwarfVersion => {
             "the unit is of a version of DWARF that is not read; compile with -gdwarf-5 or -gdwarf-4"
         }
-        FaultKind::UnitType => "the unit is split debug information; compile without -gsplit-dwarf",
+        FaultKind::UnitType => {
+            "the unit is of a type that is not read, as split debug information is; compile without -gsplit-dwarf"
+        }
         FaultKind::AddressSize => "the unit has addresses that are not of eight bytes",
         FaultKind::Dwarf64 => "the unit is in the 64-bit format of DWARF, which is not read",
         FaultKind::TypeOffset => "the type unit has no entry where its type should stand",
-        _ => "the unit is in another language than C; only units in C and in assembler are read",
+        _ => "the language of the unit is not C or assembler; only units in these are read",
     }
 }
 
@@ -41,8 +43,8 @@ fn entry_sentence(kind: FaultKind) -> &'static str {
         FaultKind::Form => "the entry has an attribute of a form that is not known",
         FaultKind::Cut => "the entry does not end inside its unit",
         FaultKind::Tree => "the entries are not nested as they should be",
-        FaultKind::Text => "the name of the entry does not end inside its section",
-        FaultKind::Index => "an index of the entry leads out of its section",
+        FaultKind::Text => "the name of the entry is no text that ends inside its section",
+        FaultKind::Index => "an index of the entry leads to no place in its section",
         FaultKind::Ranges => "the list of ranges of the entry is damaged",
         FaultKind::Reference => "the entry refers to one that is not there",
         FaultKind::Shape =>

@@ -15,6 +15,17 @@ const SCRIPT_STARTS: [&[u8]; 5] = [
     b"OUTPUT_ARCH",
 ];
 
+// What an ELF file begins with, and where its header says its class and the order of bytes (gABI, "ELF Identification").
+const ELF_MAGIC: &[u8] = b"\x7fELF";
+
+const EI_CLASS: usize = 4;
+
+const ELFCLASS32: u8 = 1;
+
+const EI_DATA: usize = 5;
+
+const ELFDATA2MSB: u8 = 2;
+
 // Where an ELF header has its type (gABI, "ELF Header").
 const E_TYPE: usize = 16;
 
@@ -36,9 +47,7 @@ fn is_script(bytes: &[u8]) -> bool {
 
 // What a file is that does not begin as an ELF file does.
 fn other_file(bytes: &[u8]) -> &'static str {
-    if bytes.is_empty() {
-        "it is empty"
-    } else if bytes.starts_with(ARCHIVE) || bytes.starts_with(THIN_ARCHIVE) {
+    if bytes.starts_with(ARCHIVE) || bytes.starts_with(THIN_ARCHIVE) {
         "it is a static archive; give the shared object (.so) itself"
     } else if is_script(bytes) {
         "it is a linker script; give the shared object that it names"
@@ -57,12 +66,41 @@ fn other_object(bytes: &[u8]) -> &'static str {
     }
 }
 
-/// What is wrong with a file whose fault of this kind stands in its header.
-pub(crate) fn file_sentence(kind: FaultKind, bytes: &[u8]) -> &'static str {
+// What a file of so few bytes is that it has no ELF header.
+fn short_file(bytes: &[u8], length: u64) -> &'static str {
+    if length == 0 {
+        "it is empty"
+    } else if bytes.starts_with(ELF_MAGIC) {
+        "it ends inside its ELF header"
+    } else {
+        other_file(bytes)
+    }
+}
+
+// What a file is that is not of 64 bits.
+fn other_class(bytes: &[u8]) -> &'static str {
+    match bytes.get(EI_CLASS) {
+        Some(&ELFCLASS32) => "it is a 32-bit file; only 64-bit shared objects for x86-64 are read",
+        _ => "it is not a 64-bit file; only 64-bit shared objects for x86-64 are read",
+    }
+}
+
+// What a file is whose numbers do not begin with the lowest byte.
+fn other_order(bytes: &[u8]) -> &'static str {
+    match bytes.get(EI_DATA) {
+        Some(&ELFDATA2MSB) => "it is a big-endian file; only shared objects for x86-64 are read",
+        _ => "it is not a little-endian file; only shared objects for x86-64 are read",
+    }
+}
+
+/// What is wrong with a file whose fault of this kind, at this place, stands in its header. The bytes may be none, where they
+/// cannot be read a second time.
+pub(crate) fn file_sentence(kind: FaultKind, at: u64, bytes: &[u8]) -> &'static str {
     match kind {
-        FaultKind::ShortFile | FaultKind::NotElf => other_file(bytes),
-        FaultKind::Class => "it is a 32-bit file; only 64-bit shared objects for x86-64 are read",
-        FaultKind::Data => "it is a big-endian file; only shared objects for x86-64 are read",
+        FaultKind::ShortFile => short_file(bytes, at),
+        FaultKind::NotElf => other_file(bytes),
+        FaultKind::Class => other_class(bytes),
+        FaultKind::Data => other_order(bytes),
         FaultKind::Version => "it is of an ELF version that does not exist",
         FaultKind::NotShared => other_object(bytes),
         FaultKind::Machine => "it is for another processor than x86-64",

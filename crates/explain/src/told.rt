@@ -10,43 +10,72 @@ use crate::files::file_sentence;
 use crate::kinds::kind_of;
 use crate::places::{Place, place_of};
 use crate::sections::section_name;
-use abi_base::Fault;
+use abi_base::{Fault, FaultKind};
 use std::alloc::AllocError;
 
-// Appends the name of a section in brackets, where it is text.
+// Whether a byte is a visible ASCII character.
+fn is_visible(byte: &u8) -> bool {
+    b'!' <= *byte && *byte <= b'~'
+}
+
+// Appends the name of a section in brackets, where all of it can be seen: a name does not break the line.
 fn push_name(text: &mut String, bytes: &[u8], index: u64) -> Result<(), AllocError>
     ensures { OnOk result (Continues (string_bytes text.old) (string_bytes text.new)) }
 {
     let Some(name) = section_name(bytes, index) else {
         return Ok(());
     };
+    if !name.iter().all(is_visible) {
+        return Ok(());
+    }
     match str::from_utf8(name) {
         Ok(name) => write!(text, " ({name})"),
         Err(_) => Ok(()),
     }
 }
 
-/// Appends what is wrong with an input of these bytes that has this fault, with its place, as one sentence without its end.
+// Appends what is wrong with a dynamic symbol, or with their table, whose faults stand at symbol 0.
+fn push_symbol(text: &mut String, kind: FaultKind, at: u64) -> Result<(), AllocError>
+    ensures { OnOk result (Continues (string_bytes text.old) (string_bytes text.new)) }
+{
+    if at == 0 && matches!(kind, FaultKind::SymbolTable) {
+        return text.push_str("the table of dynamic symbols is damaged");
+    }
+    write!(text, "dynamic symbol {at} {}", numbered_sentence(kind))
+}
+
+// Appends what is wrong with an entry of the dynamic table, or with the table, whose faults stand at entry 0.
+fn push_dynamic(text: &mut String, kind: FaultKind, at: u64) -> Result<(), AllocError>
+    ensures { OnOk result (Continues (string_bytes text.old) (string_bytes text.new)) }
+{
+    if at == 0 {
+        return text.push_str(
+            "the dynamic table is damaged, or its soname does not end inside the table of names",
+        );
+    }
+    write!(
+        text,
+        "entry {at} of the dynamic table {}",
+        numbered_sentence(kind)
+    )
+}
+
+/// Appends what is wrong with an input of these bytes that has this fault, with its place, as one sentence without its end. The
+/// bytes may be none, where they cannot be read a second time: the sentence is then less exact.
 pub fn push_fault(text: &mut String, fault: Fault, bytes: &[u8]) -> Result<(), AllocError>
     ensures { OnOk result (Continues (string_bytes text.old) (string_bytes text.new)) }
 {
     let kind = fault.kind;
     let at = fault.at;
     match place_of(kind) {
-        Place::File => text.push_str(file_sentence(kind, bytes)),
+        Place::File => text.push_str(file_sentence(kind, at, bytes)),
         Place::Section => {
             write!(text, "section {at}")?;
             push_name(text, bytes, at)?;
             write!(text, " {}", numbered_sentence(kind))
         }
-        Place::Symbol => write!(text, "dynamic symbol {at} {}", numbered_sentence(kind)),
-        Place::DynamicEntry => {
-            write!(
-                text,
-                "entry {at} of the dynamic table {}",
-                numbered_sentence(kind)
-            )
-        }
+        Place::Symbol => push_symbol(text, kind, at),
+        Place::DynamicEntry => push_dynamic(text, kind, at),
         Place::Definition => write!(text, "version definition {at} {}", numbered_sentence(kind)),
         Place::Info => write!(
             text,
