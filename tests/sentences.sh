@@ -108,6 +108,12 @@ for start in '/* GNU ld script */' 'INPUT(f.so.1)' 'GROUP(f.so.1)' 'OUTPUT_FORMA
     says 2 "script.so: it is a linker script; give the shared object that it names" exports script.so
 done
 says 2 "f.c: it is not an ELF file" exports f.c
+head -c 20 plain.so >short.so
+says 2 "short.so: it ends inside its ELF header" exports short.so
+# A pipe gives its bytes once, and is not opened again for the sentence.
+mkfifo pipe
+cat f.a >pipe &
+says 2 "pipe: it is not an ELF file" exports pipe
 says 2 "f.o: it is an object file (.o), not a shared object" exports f.o
 echo 'int main(void) { return 0; }' | gcc -no-pie -o program -x c -
 says 2 "program: it is an executable, not a shared object" exports program
@@ -115,7 +121,9 @@ says 2 "program: it is an executable, not a shared object" exports program
 # In the file's header stand 4 e_ident[EI_CLASS], 5 e_ident[EI_DATA], 6 e_ident[EI_VERSION], 16 e_type, 18 e_machine, 20 e_version
 # and 40 e_shoff.
 header bits "it is a 32-bit file; only 64-bit shared objects for x86-64 are read" 4 '\1'
+header class "it is not a 64-bit file; only 64-bit shared objects for x86-64 are read" 4 '\0'
 header order "it is a big-endian file; only shared objects for x86-64 are read" 5 '\2'
+header order "it is not a little-endian file; only shared objects for x86-64 are read" 5 '\0'
 header version "it is of an ELF version that does not exist" 6 '\0'
 header core "it is a core dump, not a shared object" 16 '\4\0'
 header other "it is not a shared object" 16 '\0\376'
@@ -182,14 +190,14 @@ damaged "section $number has a name that does not end inside the section of name
 # A symbol has 24 bytes, and begins with st_name.
 symbol=$(exports tables.so | awk -F '\t' '$5 == "f@V1" { print $1 }')
 sentence="is damaged, or its name does not end inside the table of names"
-damaged "dynamic symbol 0 $sentence" "$(field .dynsym sh_entsize)" '\27'
+damaged "the table of dynamic symbols is damaged" "$(field .dynsym sh_entsize)" '\27'
 damaged "dynamic symbol $symbol $sentence" "$(contents .dynsym $((24 * symbol)))" '\377\377'
 
 # An entry of the dynamic table has 16 bytes: d_tag, and from byte 8 on d_val.
 named=$(readelf --wide --dynamic tables.so | awk '/^ 0x/ { if ($2 == "(SONAME)") print count + 0; count++ }')
-sentence="is damaged, or the soname does not end inside the table of names"
-damaged "entry 0 of the dynamic table $sentence" "$(field .dynamic sh_entsize)" '\17'
-damaged "entry $named of the dynamic table $sentence" "$(contents .dynamic $((16 * named + 8)))" '\377\377'
+damaged "the dynamic table is damaged, or its soname does not end inside the table of names" \
+    "$(field .dynamic sh_entsize)" '\17'
+damaged "entry $named of the dynamic table is damaged, or the soname does not end inside the table of names" "$(contents .dynamic $((16 * named + 8)))" '\377\377'
 
 damaged "its table of symbol versions has not one entry for each dynamic symbol" "$(field .gnu.version sh_size)" '\2'
 # The first definition has 28 bytes, 8 of them for its name; the second one begins with vd_version.
@@ -216,9 +224,10 @@ objcopy --compress-debug-sections=zlib plain.so packed.so
 uncompress="uncompress it with: objcopy --decompress-debug-sections FILE NEW_FILE"
 says_like 2 "packed.so: section [0-9]* (\.debug_[a-z_]*) is compressed; $uncompress" exports packed.so
 made "the unit is of a version of DWARF that is not read; compile with -gdwarf-5 or -gdwarf-4" f.c gcc -gdwarf-3 -gstrict-dwarf
-made "the unit is split debug information; compile without -gsplit-dwarf" f.c gcc -g -gsplit-dwarf -gdwarf-5
+split="the unit is of a type that is not read, as split debug information is; compile without -gsplit-dwarf"
+made "$split" f.c gcc -g -gsplit-dwarf -gdwarf-5
 made "the unit is in the 64-bit format of DWARF, which is not read" f.c gcc -g -gdwarf64
-made "the unit is in another language than C; only units in C and in assembler are read" f.c clang -g -x c++
+made "the language of the unit is not C or assembler; only units in these are read" f.c clang -g -x c++
 
 # A bit field that begins before its storage, a structure around 600 others, and an array of 2^61 bytes.
 echo 'struct __attribute__((packed)) flags { char head; int low : 5, across : 30; } flags;' >packed.c
@@ -265,9 +274,9 @@ readable whole.so
 entry unit "the header of the unit is damaged" "length" 0x1000
 entry unit "the unit is in the 64-bit format of DWARF, which is not read" "length" 0xffffffff
 entry unit "the unit is of a version of DWARF that is not read; compile with -gdwarf-5 or -gdwarf-4" "version" 3
-entry unit "the unit is split debug information; compile without -gsplit-dwarf" "unit type" 4
+entry unit "$split" "unit type" 4
 entry unit "the unit has addresses that are not of eight bytes" "address size" 4
-entry root "the unit is in another language than C; only units in C and in assembler are read" "language" DW_LANG_C_plus_plus
+entry root "the language of the unit is not C or assembler; only units in these are read" "language" DW_LANG_C_plus_plus
 entry type_unit "the type unit has no entry where its type should stand" "offset of the type" long-type_unit+1
 written damaged.so "children of int" 2
 says 2 "damaged.so: offset $(offset form_of_int) of .debug_abbrev: the abbreviation is damaged" exports damaged.so
@@ -277,8 +286,8 @@ entry int "the entry has an abbreviation that is not in its table" "code of int"
 entry int "the entry has an attribute of a form that is not known" "form of the name of int" 2
 entry int "the entry refers to a supplementary file (made by dwz -m), which is not read" "form of the name of int" DW_FORM_strp_sup
 entry entry_of_v "the entry does not end inside its unit" "length of the location of v" 255
-entry int "the name of the entry does not end inside its section" "name of int" 0x1000
-entry point "an index of the entry leads out of its section" "index of the name of point" 1
+entry int "the name of the entry is no text that ends inside its section" "name of int" 0x1000
+entry point "an index of the entry leads to no place in its section" "index of the name of point" 1
 entry entry_of_f "the entry refers to one that is not there" "result of f" 1
 entry entry_of_h "the entry has a chain of more than 8 origins" "origin of h" entry_of_h-unit
 entry entry_of_g "the list of ranges of the entry is damaged" "ranges of g" 0x1000

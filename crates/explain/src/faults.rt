@@ -19,6 +19,17 @@ fn table_sentence(kind: FaultKind) -> &'static str {
     }
 }
 
+/// What is wrong with a whole table, where a fault of this kind stands at its entry 0.
+pub(crate) fn whole_table_sentence(kind: FaultKind) -> Option<&'static str> {
+    match kind {
+        FaultKind::SymbolTable => Some("the table of dynamic symbols is damaged"),
+        FaultKind::DynamicTable => Some(
+            "the dynamic table is damaged, or its soname does not end inside the table of names",
+        ),
+        _ => None,
+    }
+}
+
 // What is wrong with a unit of debug information.
 fn unit_sentence(kind: FaultKind) -> &'static str {
     match kind {

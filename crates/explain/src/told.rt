@@ -5,7 +5,7 @@ ghost use Rattle.abi_base.specs.declared.fault.Fault.{Fault as AFault};
 ghost use Rattle.explain.specs.Texts.{Continues};
 ghost use Rattle.explain.specs.Told.{NamesFault, lacks, line_feed, space, unreadable_line, written};
 
-use crate::faults::{info_sentence, line_sentence, numbered_sentence};
+use crate::faults::{info_sentence, line_sentence, numbered_sentence, whole_table_sentence};
 use crate::files::file_sentence;
 use crate::kinds::kind_of;
 use crate::places::{Place, place_of};
@@ -34,30 +34,28 @@ fn push_name(text: &mut String, bytes: &[u8], index: u64) -> Result<(), AllocErr
     }
 }
 
-// Appends what is wrong with a dynamic symbol, or with their table, whose faults stand at symbol 0.
+// Appends what is wrong with a dynamic symbol, or with their table.
 fn push_symbol(text: &mut String, kind: FaultKind, at: u64) -> Result<(), AllocError>
     ensures { OnOk result (Continues (string_bytes text.old) (string_bytes text.new)) }
 {
-    if at == 0 && matches!(kind, FaultKind::SymbolTable) {
-        return text.push_str("the table of dynamic symbols is damaged");
+    match (at, whole_table_sentence(kind)) {
+        (0, Some(sentence)) => text.push_str(sentence),
+        _ => write!(text, "dynamic symbol {at} {}", numbered_sentence(kind)),
     }
-    write!(text, "dynamic symbol {at} {}", numbered_sentence(kind))
 }
 
-// Appends what is wrong with an entry of the dynamic table, or with the table, whose faults stand at entry 0.
+// Appends what is wrong with an entry of the dynamic table, or with the table.
 fn push_dynamic(text: &mut String, kind: FaultKind, at: u64) -> Result<(), AllocError>
     ensures { OnOk result (Continues (string_bytes text.old) (string_bytes text.new)) }
 {
-    if at == 0 {
-        return text.push_str(
-            "the dynamic table is damaged, or its soname does not end inside the table of names",
-        );
+    match (at, whole_table_sentence(kind)) {
+        (0, Some(sentence)) => text.push_str(sentence),
+        _ => write!(
+            text,
+            "entry {at} of the dynamic table {}",
+            numbered_sentence(kind)
+        ),
     }
-    write!(
-        text,
-        "entry {at} of the dynamic table {}",
-        numbered_sentence(kind)
-    )
 }
 
 /// Appends what is wrong with an input of these bytes that has this fault, with its place, as one sentence without its end. The
