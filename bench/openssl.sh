@@ -15,5 +15,7 @@ cp libcrypto.so "$made/openssl.so"
 header=include/openssl/txt_db.h
 sed -i 's/^    long error;$/    int error;/' $header
 grep -q '^    int error;$' $header || { echo "openssl.sh: $header has no field to change" >&2; exit 1; }
+# The sources that take the header in are compiled anew.
+grep -rl --include='*.c' 'openssl/txt_db.h' crypto | xargs touch
 make -j"$(nproc)" libcrypto.so >built
 cp libcrypto.so "$made/openssl_changed.so"
