@@ -152,8 +152,8 @@ noted() {
     passed "a note on types: $*"
 }
 
-some="abi: part.so: the debug information has no type for 3 of the 4 exports that have a size: only name, version, kind and size of these were compared"
-all="abi: bare.so: the debug information has no types for the exports: only names, versions, kinds and sizes were compared; compile with -g to compare types"
+some="abi: part.so: the debug information has no type for 3 of the 4 exports that have a size: of these only names, versions, kinds and the sizes of objects were compared"
+all="abi: bare.so: the debug information has no types for the exports: only names, versions, kinds and the sizes of objects were compared; compile with -g to compare types"
 noted "all exports have types" 0 whole.so whole.so
 noted "some exports have no type" 0 part.so part.so "$some"
 noted "no export has a type" 0 bare.so bare.so "$all"

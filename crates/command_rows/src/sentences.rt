@@ -190,12 +190,12 @@ fn exports_without_types_are_told(rt: HostRuntime) -> Result<(), Fail> {
         (
             7,
             2,
-            "lib/a.so: the debug information has no type for 2 of the 7 exports that have a size: only name, version, kind and size of these were compared",
+            "lib/a.so: the debug information has no type for 2 of the 7 exports that have a size: of these only names, versions, kinds and the sizes of objects were compared",
         ),
         (
             7,
             7,
-            "lib/a.so: the debug information has no types for the exports: only names, versions, kinds and sizes were compared; compile with -g to compare types",
+            "lib/a.so: the debug information has no types for the exports: only names, versions, kinds and the sizes of objects were compared; compile with -g to compare types",
         ),
     ] {
         let mut text = String::new(alloc);

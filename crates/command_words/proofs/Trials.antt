@@ -1,4 +1,4 @@
--- A trial is of 1 to 50,000 structures.
+-- A trial is of 1 to 50,000 functions.
 use Rattle.std.proofs.Common.{◌≡◌, ◌≤◌, ◌&&◌, ℕ, Bool, cond, true, false, List, [], ◌∷◌, Option, Some, None, subst, sym, refl, true≢false, option_map}
 use Rattle.std.specs.Prelude.{option_and_then, nat_le}
 use Rattle.std.specs.Str.Parse.{digits_value}

@@ -10,7 +10,7 @@ use Rattle.command_words.specs.Trials.{trial_count_of}
 use Rattle.command_words.specs.declared.judge.CommandName.{CommandName}
 use Rattle.command_words.specs.declared.judge.CommandName.TheVariants.{Check, Verify, Entries, Exports, Trial}
 
--- a request, with the names of its inputs, the style of its report and how many structures its trial makes
+-- a request, with the names of its inputs, the style of its report and how many functions its trial makes
 pub data PlainRequest : Type 0 where
   check : (rules : Option (List ℕ)) (report : ReportStyle) (old new : List ℕ) → PlainRequest
   verify : (rules : Option (List ℕ)) (old new certificate : List ℕ) → PlainRequest

@@ -1,4 +1,4 @@
--- How many structures a trial makes.
+-- How many functions a trial makes.
 use Rattle.std.specs.Prelude.{ℕ, Bool, not, List, Option, Some, None, ◌==◌, ◌&&◌, nat_le, if◌then◌else◌, slice_index}
 use Rattle.std.specs.List.{list_all}
 use Rattle.std.specs.Char.{is_ascii_digit}

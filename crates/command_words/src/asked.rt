@@ -35,7 +35,7 @@ pub enum Request<'a> {
     Exports {
         library: &'a str,
     },
-    /// The check of two generated libraries with so many structures, from 1 to 50,000.
+    /// The check of two generated libraries with so many functions, from 1 to 50,000.
     Trial {
         count: u32,
     },

@@ -15,7 +15,7 @@ use crate::line::{Line, line_of};
 use clap::ArgMatches;
 use report_styles::ReportStyle;
 
-// The fewest and the most structures of a trial.
+// The fewest and the most functions of a trial.
 const LEAST_COUNT: u32 = 1;
 
 const MOST_COUNT: u32 = 50_000;

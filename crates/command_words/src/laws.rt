@@ -20,7 +20,7 @@ pub fn help_is_asked()
     ensures { (words : List (List ℕ)) → asked_by words ≡ help → Any LooksForHelp words }
 {}
 
-/// A trial is of 1 to 50,000 structures.
+/// A trial is of 1 to 50,000 functions.
 pub fn a_trial_is_of_a_count()
     ensures { (words : List (List ℕ)) (n : ℕ) → asked_by words ≡ request (trial n) → (1 ≤ n) × (n ≤ 50000) }
 {}
@@ -56,7 +56,7 @@ pub fn exports_takes_one_file()
     ensures { (library : List ℕ) → IsNoOption library → asked_by (codes "exports" ∷ library ∷ []) ≡ request (exports library) }
 {}
 
-/// `trial` and a number from 1 to 50,000 in decimal ask for a trial of so many structures.
+/// `trial` and a number from 1 to 50,000 in decimal ask for a trial of so many functions.
 pub fn trial_takes_a_number()
     ensures { (n : ℕ) → 1 ≤ n → n ≤ 50000 → asked_by (codes "trial" ∷ decimal n ∷ []) ≡ request (trial n) }
 {}

@@ -11,5 +11,5 @@ Continues old new = (more : List ℕ) × (new ≡ old ++ more)
 abbrev pub untyped_text : List ℕ → SizedExports → List ℕ
 untyped_text path exports =
     if exports.untyped == 0 then []
-    else if exports.untyped == exports.all then path ++ codes ": the debug information has no types for the exports: only names, versions, kinds and sizes were compared; compile with -g to compare types"
-    else concat (path ∷ codes ": the debug information has no type for " ∷ decimal exports.untyped ∷ codes " of the " ∷ decimal exports.all ∷ codes " exports that have a size: only name, version, kind and size of these were compared" ∷ [])
+    else if exports.untyped == exports.all then path ++ codes ": the debug information has no types for the exports: only names, versions, kinds and the sizes of objects were compared; compile with -g to compare types"
+    else concat (path ∷ codes ": the debug information has no type for " ∷ decimal exports.untyped ∷ codes " of the " ∷ decimal exports.all ∷ codes " exports that have a size: of these only names, versions, kinds and the sizes of objects were compared" ∷ [])

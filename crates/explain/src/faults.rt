@@ -1,8 +1,8 @@
 // What is wrong at a place.
 use abi_base::FaultKind;
 
-// What is wrong with a section, a symbol or a version.
-fn table_sentence(kind: FaultKind) -> &'static str {
+/// What is wrong with the section, the symbol, the entry or the definition of a number.
+pub(crate) fn numbered_sentence(kind: FaultKind) -> &'static str {
     match kind {
         FaultKind::SectionRange => "does not lie inside the file, which may have been cut short",
         FaultKind::SectionName => "has a name that does not end inside the section of names",
@@ -99,9 +99,4 @@ pub(crate) fn line_sentence(kind: FaultKind) -> &'static str {
         FaultKind::Order => "it is out of order",
         _ => "the certificate does not end with its line 'end'",
     }
-}
-
-/// What is wrong with the section, the symbol, the entry or the definition of a number.
-pub(crate) fn numbered_sentence(kind: FaultKind) -> &'static str {
-    table_sentence(kind)
 }

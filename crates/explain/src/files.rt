@@ -1,4 +1,7 @@
 // What a file is that is no shared object.
+use crate::constants::{
+    E_TYPE, EI_CLASS, EI_DATA, ELF_MAGIC, ELFCLASS32, ELFDATA2MSB, ET_CORE, ET_EXEC, ET_REL,
+};
 use abi_base::{FaultKind, u16_at};
 
 // What a static archive begins with, and one that holds no copies.
@@ -14,26 +17,6 @@ const SCRIPT_STARTS: [&[u8]; 5] = [
     b"OUTPUT_FORMAT",
     b"OUTPUT_ARCH",
 ];
-
-// What an ELF file begins with, and where its header says its class and the order of bytes (gABI, "ELF Identification").
-const ELF_MAGIC: &[u8] = b"\x7fELF";
-
-const EI_CLASS: usize = 4;
-
-const ELFCLASS32: u8 = 1;
-
-const EI_DATA: usize = 5;
-
-const ELFDATA2MSB: u8 = 2;
-
-// Where an ELF header has its type (gABI, "ELF Header").
-const E_TYPE: usize = 16;
-
-const ET_REL: u16 = 1;
-
-const ET_EXEC: u16 = 2;
-
-const ET_CORE: u16 = 4;
 
 // Whether a file begins as a linker script does.
 fn is_script(bytes: &[u8]) -> bool {

@@ -2,6 +2,7 @@
 //! program promises stands in its exit number and on standard output; nothing here changes either.
 #![tactic(auto)]
 
+mod constants;
 mod faults;
 mod files;
 mod first;

@@ -23,12 +23,12 @@ pub fn push_untyped(
     if untyped == all {
         write!(
             text,
-            "{path}: the debug information has no types for the exports: only names, versions, kinds and sizes were compared; compile with -g to compare types"
+            "{path}: the debug information has no types for the exports: only names, versions, kinds and the sizes of objects were compared; compile with -g to compare types"
         )?;
     } else {
         write!(
             text,
-            "{path}: the debug information has no type for {untyped} of the {all} exports that have a size: only name, version, kind and size of these were compared"
+            "{path}: the debug information has no type for {untyped} of the {all} exports that have a size: of these only names, versions, kinds and the sizes of objects were compared"
         )?;
     }
     Ok(true)

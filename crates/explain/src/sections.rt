@@ -1,20 +1,6 @@
 // Names of sections, in files whose section table may have a fault.
+use crate::constants::{E_SHOFF, E_SHSTRNDX, HEADER_SIZE, SH_LINK, SH_OFFSET, SHN_XINDEX};
 use abi_base::{text_at, u16_at, u32_at, u64_at};
-
-// Where an ELF header has the place of the section table, and the number of the section of names (gABI, "ELF Header").
-const E_SHOFF: usize = 40;
-
-const E_SHSTRNDX: usize = 62;
-
-// The number that says that the number of the section of names stands in section 0.
-const SHN_XINDEX: u16 = 0xffff;
-
-// The size of a section header, and where it has its fields (gABI, "Section Header").
-const HEADER_SIZE: usize = 64;
-
-const SH_OFFSET: usize = 24;
-
-const SH_LINK: usize = 40;
 
 // Where the header of a section stands.
 fn header_at(bytes: &[u8], index: usize) -> Option<usize> {

@@ -1,0 +1,35 @@
+// The numbers of ELF that sentences on files ask.
+
+// What an ELF file begins with, and where its header says its class and the order of bytes (gABI, "ELF Identification").
+pub(crate) const ELF_MAGIC: &[u8] = b"\x7fELF";
+
+pub(crate) const EI_CLASS: usize = 4;
+
+pub(crate) const ELFCLASS32: u8 = 1;
+
+pub(crate) const EI_DATA: usize = 5;
+
+pub(crate) const ELFDATA2MSB: u8 = 2;
+
+// Where an ELF header has its type, the place of the section table, and the number of the section of names (gABI, "ELF Header").
+pub(crate) const E_TYPE: usize = 16;
+
+pub(crate) const ET_REL: u16 = 1;
+
+pub(crate) const ET_EXEC: u16 = 2;
+
+pub(crate) const ET_CORE: u16 = 4;
+
+pub(crate) const E_SHOFF: usize = 40;
+
+pub(crate) const E_SHSTRNDX: usize = 62;
+
+// The number that says that the number of the section of names stands in section 0.
+pub(crate) const SHN_XINDEX: u16 = 0xffff;
+
+// The size of a section header, and where it has its fields (gABI, "Section Header").
+pub(crate) const HEADER_SIZE: usize = 64;
+
+pub(crate) const SH_OFFSET: usize = 24;
+
+pub(crate) const SH_LINK: usize = 40;
