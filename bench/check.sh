@@ -36,6 +36,21 @@ answers() {
 }
 export -f answers
 
+# beside_abidiff OURS OLD NEW: the seconds and the peak memory of one run of abidiff, and the ratio to it. It is ended after 200
+# seconds.
+beside_abidiff() {
+    local ended=0 seconds memory
+    /usr/bin/time -f '%U %S %M' -o run timeout 200 abidiff "$2" "$3" >/dev/null 2>errors || ended=$?
+    case $ended in
+    124) echo "    abidiff: no end after 200 s" ;;
+    0 | 4 | 12)
+        read -r seconds memory < <(tail -n 1 run | awk '{ printf "%.3f %.1f\n", $1 + $2, $3 / 1024 }')
+        echo "    abidiff $seconds s, peak $memory MB, ratio to it $(ratio "$1" "$seconds")"
+        ;;
+    *) failed abidiff "$2" "$3" ;;
+    esac
+}
+
 # read_whole NAME LIBRARY: a line of `abi exports` and those of the tools beside it.
 read_whole() {
     local entries ours
@@ -54,7 +69,7 @@ checked() {
     echo "  $1: abi check $ours s, peak $(peak_memory bash -c "answers $2 '$abi' check '$3' '$4'") MB"
     beside "$ours" readelf --debug-dump=info "$3"
     beside "$ours" sha256sum "$3" "$4"
-    if command -v abidiff >/dev/null; then runs=1 beside "$ours" bash -c "answers changes abidiff '$3' '$4'"; fi
+    if command -v abidiff >/dev/null; then beside_abidiff "$ours" "$3" "$4"; fi
 }
 
 # verified NAME OLD NEW: a line of `abi verify` beside `abi check`, on the certificate that this prints.

@@ -9,7 +9,7 @@ made=$(cd "$(dirname "$0")" && pwd)/made/check
 mkdir -p "$made/openssl"
 cd "$made/openssl"
 tar -xf "$source" --strip-components=1
-./Configure linux-x86_64 shared no-tests -g -O2 >configured
+./Configure linux-x86_64 shared no-tests no-engine -g -O2 >configured
 make -j"$(nproc)" libcrypto.so >built
 cp libcrypto.so "$made/openssl.so"
 header=include/openssl/txt_db.h
