@@ -1,4 +1,4 @@
-//! Graphs and libraries made by hand, for tests and benchmarks: makers of nodes, graphs that are spelled in words, and the tests whether nodes are a graph and
+//! Graphs and libraries made by hand, for tests and benchmarks: makers of nodes and of graphs, and the tests whether nodes are a graph and
 //! whether exports and a graph are those of a library. What makes these from files proves that they are, so nothing that is
 //! shipped stands on this crate.
 #![tactic(auto)]
@@ -7,9 +7,7 @@ mod entries;
 mod form;
 mod limits;
 mod making;
-mod spelled;
 mod valid;
 
 pub use making::{function, graph, member, no_marks, node, pointer, scalar, structure, view, void};
-pub use spelled::spelled_graph;
 pub use valid::{is_graph, is_library};

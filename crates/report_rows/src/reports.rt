@@ -4,11 +4,12 @@ ghost use Rattle.cert_check.specs.Compatible.{sides, task_of};
 ghost use Rattle.report_make.specs.Told.{IsExplored};
 ghost use Rattle.vers_bind.specs.Binding.{bind_each};
 
+use crate::spelled::spelled_graph;
 use abi_base::{List, NoMemory};
 use abi_types::{Export, Graph, Index, Library, Marks, NewIx, OldIx, SymbolKind};
 use break_report::Row;
 use graph_alike::alike;
-use hand_graphs::{is_library, spelled_graph};
+use hand_graphs::is_library;
 use pair_explorer::{Explored, explore, is_scope};
 use pair_rules::Steps;
 use report_make::laws::alike_types_are_explored;

@@ -1,7 +1,7 @@
 // Graphs that are spelled in words, for rows of tests.
-use crate::making::graph;
 use abi_base::{List, NoMemory};
 use abi_types::{CallShape, Graph, Group, Index, Kind, Node, Part, Parts, Place, Slot, View};
+use hand_graphs::graph;
 use std::alloc::Global;
 
 // A number in decimal, and 0 where it is none.
@@ -139,7 +139,7 @@ fn node<'a, Ix: Index>(alloc: Global, entry: u64, text: &'a str) -> Result<Node<
 /// `union`, `fn`), a colon and its size in bytes, and its parts: a member as its name, `@` and its bit, `>` and the number of its
 /// type; a target as `>` and the number alone; the result of a function and then its parameters as `>` and the number, where
 /// wanted with `=` and the register, a vector one with `x`.
-pub fn spelled_graph<'a, Ix: Index>(
+pub(crate) fn spelled_graph<'a, Ix: Index>(
     alloc: Global,
     line: &'a str,
 ) -> Result<Option<Graph<'a, Ix>>, NoMemory> {

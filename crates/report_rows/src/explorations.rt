@@ -2,10 +2,10 @@
 ghost use Rattle.std.specs.Prelude.{◌≡◌, ◌<◌, IfOk};
 ghost use Rattle.pair_explorer.specs.Visits.{AreEarlier};
 
+use crate::spelled::spelled_graph;
 use abi_base::{List, NoMemory};
 use abi_types::{Graph, Index, Marks, NewIx, OldIx};
 use graph_alike::{Classes, alike, plain};
-use hand_graphs::spelled_graph;
 use pair_explorer::{Explored, Root, Visits, explore, is_scope, route_to};
 use pair_rules::{Broken, Steps};
 use std::alloc::Global;
