@@ -164,6 +164,19 @@ value_at form implicit unit end entry bytes at = do
   named ← or_end (shape_of form) (fault kind.Form entry)
   value_of named implicit unit entry (take end bytes) at
 
+-- the place after what was read, or the fault
+abbrev pub place_after : Result (Value × ℕ) Fault → Result ℕ Fault
+place_after (Ok read) = Ok read.1
+place_after (Err f) = Err f
+
+-- how many bytes each value of a shape has, where all of them have as many
+abbrev pub fixed_size_of : Option Shape → Option ℕ
+fixed_size_of (Some (fixed size m)) = Some size
+fixed_size_of (Some sixteen_bytes) = Some 16
+fixed_size_of (Some implicit_const) = Some 0
+fixed_size_of (Some is_present) = Some 0
+fixed_size_of other = None
+
 -- the same of a form that stands for itself, which is any other than DW_FORM_indirect
 abbrev pub direct_at : ℕ → ℤ → ℕ → ℕ → List ℕ → ℕ → Result (Value × ℕ) Fault
 direct_at form implicit unit entry bytes at = do

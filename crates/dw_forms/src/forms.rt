@@ -1,7 +1,7 @@
 // The value of an attribute, form by form.
-ghost use Rattle.std.specs.Prelude.{◌≡◌, ◌≤◌, ◌+◌, ◌<◌, length, take, IfOk};
+ghost use Rattle.std.specs.Prelude.{◌≡◌, ◌≤◌, ◌+◌, ◌<◌, ℕ, ℤ, List, Ok, length, take, IfOk, IfSome};
 ghost use Rattle.abi_base.specs.declared.fault.FaultKind.TheVariants as kind;
-ghost use Rattle.dw_forms.specs.Values.{value_at, direct_at, indirect_at, fault};
+ghost use Rattle.dw_forms.specs.Values.{value_at, direct_at, indirect_at, shape_of, fixed_size_of, place_after, fault};
 
 use crate::meaning::Meaning;
 use crate::source::Source;
@@ -133,4 +133,80 @@ pub fn value(
     } else {
         direct(form, implicit, &source, at)
     }
+}
+
+// How many bytes each value of a form has, where all of them have as many.
+#[inline(always)]
+#[tactic(auto, unfolding(crate::specs::Values::shape_of, crate::specs::Values::forms))]
+fn fixed_size(form: u64) -> Option<u64>
+    ensures { result ≡ fixed_size_of (shape_of form) }
+{
+    match form {
+        DW_FORM_flag_present | DW_FORM_implicit_const => Some(0),
+        DW_FORM_data1 | DW_FORM_flag | DW_FORM_ref1 | DW_FORM_strx1 | DW_FORM_addrx1 => Some(1),
+        DW_FORM_data2 | DW_FORM_ref2 | DW_FORM_strx2 | DW_FORM_addrx2 => Some(2),
+        DW_FORM_strx3 | DW_FORM_addrx3 => Some(3),
+        DW_FORM_data4 | DW_FORM_strp | DW_FORM_ref_addr | DW_FORM_ref4 => Some(4),
+        DW_FORM_sec_offset | DW_FORM_line_strp | DW_FORM_strx4 | DW_FORM_addrx4 => Some(4),
+        DW_FORM_addr | DW_FORM_data8 | DW_FORM_ref8 | DW_FORM_ref_sig8 => Some(8),
+        DW_FORM_data16 => Some(16),
+        DW_FORM_block1 | DW_FORM_block2 | DW_FORM_block4 | DW_FORM_block | DW_FORM_exprloc => None,
+        DW_FORM_sdata | DW_FORM_udata | DW_FORM_ref_udata | DW_FORM_strx | DW_FORM_addrx => None,
+        DW_FORM_loclistx | DW_FORM_rnglistx | DW_FORM_string | DW_FORM_indirect => None,
+        DW_FORM_ref_sup4 | DW_FORM_ref_sup8 | DW_FORM_strp_sup => None,
+        DW_FORM_GNU_ref_alt | DW_FORM_GNU_strp_alt => None,
+        _ => None,
+    }
+}
+
+/// The place after the value of a form whose values all have the same size, where the value ends in the unit: it can be passed over
+/// without a look at its bytes. None where values of the form have sizes of their own, and where the unit ends before the value
+/// does.
+#[inline(always)]
+#[tactic(auto, using(crate::proofs::FormLemmas::fixed_ends))]
+pub fn fixed_end(form: u64, unit_end: u64, at: usize) -> Option<usize>
+    ensures end { IfSome result (λ end. (implicit : ℤ) (unit_start entry : ℕ) (bytes : List ℕ) → unit_end ≤ length bytes → place_after (value_at form implicit unit_start unit_end entry bytes at) ≡ Ok end) }
+    ensures after { IfSome result (λ end. at ≤ end) }
+    ensures inside { IfSome result (λ end. at ≤ unit_end → end ≤ unit_end) }
+{
+    match fixed_size(form) {
+        Some(size) => {
+            if unit_end.saturating_sub(at as u64) >= size {
+                Some(at + size as usize)
+            } else {
+                None
+            }
+        }
+        None => None,
+    }
+}
+
+// The place after what was read.
+#[inline(always)]
+fn after(read: Result<(Value, usize), Fault>) -> Result<usize, Fault>
+    ensures { result ≡ place_after read }
+{
+    match read {
+        Ok((_, after)) => Ok(after),
+        Err(fault) => Err(fault),
+    }
+}
+
+/// The place after the value of an attribute of this form, from a place of `.debug_info` on, and the same faults as `value`: it
+/// is for those who pass over the value. The place is the same whatever number stands in the abbreviation and wherever the unit
+/// begins.
+#[tactic(auto, using(crate::proofs::FormLemmas::after_is_same))]
+pub fn value_end(
+    form: u64,
+    unit_end: u64,
+    entry: u64,
+    bytes: &[u8],
+    at: usize,
+) -> Result<usize, Fault>
+    requires { unit_end ≤ length bytes.now }
+    ensures read { (implicit : ℤ) (unit_start : ℕ) → result ≡ place_after (value_at form implicit unit_start unit_end entry bytes.now at) }
+    ensures after { IfOk result (λ end. at ≤ end) }
+    ensures inside { IfOk result (λ end. at ≤ unit_end → end ≤ unit_end) }
+{
+    after(value(form, 0, 0, unit_end, entry, bytes, at))
 }

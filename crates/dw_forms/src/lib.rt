@@ -1,4 +1,4 @@
-//! Values of attributes: how each form spells one in `.debug_info`, and the sections that values lead to.
+//! Values of attributes: how each form spells one in `.debug_info`, where it ends, and the sections that values lead to.
 #![tactic(auto)]
 
 mod forms;
@@ -8,6 +8,6 @@ mod sections;
 mod source;
 mod values;
 
-pub use forms::value;
+pub use forms::{fixed_end, value, value_end};
 pub use sections::Sections;
 pub use values::Value;
