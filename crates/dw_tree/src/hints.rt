@@ -7,10 +7,10 @@ use abi_base::NoMemory;
 use std::alloc::Global;
 
 // How many bytes of `.debug_info` share a hint.
-const HINT_BYTES: u32 = 128;
+const HINT_BYTES: u32 = 32;
 
 // How many entries begin in that many bytes at most: each has one byte, at least.
-pub(crate) const MOST_BETWEEN: usize = 128;
+pub(crate) const MOST_BETWEEN: usize = 32;
 
 // For each so many bytes of `.debug_info` the place of the first entry that begins there, and 0 where none does.
 pub(crate) fn hints_of(alloc: Global, entries: &[Kept]) -> Result<Vec<u32>, NoMemory>
