@@ -1,8 +1,10 @@
 // The tree of entries, and how its entries refer to one another.
-ghost use Rattle.std.specs.Prelude.{◌≡◌, ◌<◌, length, is_some, IfSome, IfOk};
+ghost use Rattle.std.specs.Prelude.{◌≡◌, ◌<◌, Some, None, length, is_some, IfSome, IfOk};
+ghost use Rattle.std.specs.Option.{option_map, option_map_or};
+ghost use Rattle.abi_base.specs.Limits.{chain_limit};
 ghost use Rattle.dw_tree.specs.Trees.{PlainTree, entry_at, head_at, own_of, entry_of};
 ghost use Rattle.dw_entries.specs.Places.{HoldUnits};
-ghost use Rattle.dw_entries.specs.Chains.{signed_of, target_of, link_by as the_link_by, link_of, is_too_deep as leads_too_deep, holder_of, attribute_along, origin_of};
+ghost use Rattle.dw_entries.specs.Chains.{signed_of, target_of, link_by as the_link_by, link_of, either_link, after_links, holder_of, attribute_along, origin_of};
 
 use crate::attributes::is_own_attribute;
 use crate::constants::{CHAIN_ENTRIES, CHAIN_LINKS};
@@ -84,7 +86,7 @@ impl<'a> Links<'a> {
 
     // Where an attribute links an entry to: none where there is no such link, and inside of it none where the link leads
     // nowhere.
-    fn link_by(&self, e: usize, name: u64) -> Option<Option<usize>>
+    pub(crate) fn link_by(&self, e: usize, name: u64) -> Option<Option<usize>>
         requires { e < length self.now.entries }
         ensures found { result ≡ the_link_by self.now e name }
         ensures inside { IfSome result (λ to. IfSome to (λ f. f < length self.now.entries)) }
@@ -120,19 +122,35 @@ impl<'a> Links<'a> {
         }
     }
 
-    // Whether the chain has more links than are followed.
-    pub(crate) fn is_too_deep(&self, e: usize) -> bool
+    // Whether so many links lead on from an entry.
+    fn leads_on(&self, e: usize, links: usize) -> bool
         requires { e < length self.now.entries }
-        ensures { result ≡ leads_too_deep self.now e }
+        ensures { result ≡ is_some (after_links self.now e links) }
     {
         let mut at = e;
-        'chain: for followed in 0..CHAIN_LINKS + 1 {
+        'chain: for followed in 0..links {
             match self.link(at) {
                 Some(to) => at = to,
                 None => return false,
             }
         }
         true
+    }
+
+    // Whether the chain of an entry has more links than are followed, by where the entry's own two links lead.
+    pub(crate) fn is_too_deep(
+        &self,
+        origin: Option<Option<usize>>,
+        specification: Option<Option<usize>>,
+    ) -> bool
+        requires origin { IfSome origin (λ to. IfSome to (λ f. f < length self.now.entries)) }
+        requires specification { IfSome specification (λ to. IfSome to (λ f. f < length self.now.entries)) }
+        ensures { result ≡ is_some (option_map_or (λ f. after_links self.now f chain_limit) (either_link origin specification) None) }
+    {
+        match origin.or(specification) {
+            Some(Some(to)) => self.leads_on(to, CHAIN_LINKS),
+            _ => false,
+        }
     }
 
     // The last entry of the chain.
@@ -151,28 +169,21 @@ impl<'a> Links<'a> {
         at
     }
 
-    // Whether an entry has an attribute itself.
-    pub(crate) fn has(&self, e: usize, name: u64) -> bool
+    // The first entry of the chain that has an attribute, and its value.
+    pub(crate) fn held(&self, e: usize, name: u64) -> Option<(usize, Value)>
         requires { e < length self.now.entries }
-        ensures { result ≡ is_some (own_of self.now e name) }
-    {
-        self.tree.own(e, name).is_some()
-    }
-
-    // The first entry of the chain that has an attribute.
-    pub(crate) fn holder(&self, e: usize, name: u64) -> Option<usize>
-        requires { e < length self.now.entries }
-        ensures found { result ≡ holder_of self.now e name }
-        ensures inside { IfSome result (λ f. f < length self.now.entries) }
+        ensures holder { option_map (λ held. held.0) result ≡ holder_of self.now e name }
+        ensures value { IfSome result (λ held. own_of self.now held.0 name ≡ Some held.1) }
+        ensures inside { IfSome result (λ held. held.0 < length self.now.entries) }
     {
         let mut at = e;
         'chain: for followed in 0..CHAIN_ENTRIES {
-            if self.has(at, name) {
-                return Some(at);
-            }
-            match self.link(at) {
-                Some(to) => at = to,
-                None => return None,
+            match self.own(at, name) {
+                Some(value) => return Some((at, value)),
+                None => match self.link(at) {
+                    Some(to) => at = to,
+                    None => return None,
+                },
             }
         }
         None
@@ -187,8 +198,8 @@ impl<'a> Links<'a> {
         if is_own_attribute(name) {
             return self.tree.own(e, name);
         }
-        match self.holder(e, name) {
-            Some(holder) => self.tree.own(holder, name),
+        match self.held(e, name) {
+            Some((_, value)) => Some(value),
             None => None,
         }
     }
