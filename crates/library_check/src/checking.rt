@@ -14,6 +14,7 @@ use abi_base::{Fault, NoMemory, Refusal, Remark};
 use abi_types::{Library, NewIx, OldIx};
 use break_report::Listener;
 use lib_graph::read_library;
+use library_copy::copied;
 use rule_text::{Rules, read_rules};
 use std::alloc::Global;
 
@@ -85,6 +86,29 @@ fn read_new(alloc: Global, bytes: &[u8]) -> Result<Library<'_, NewIx>, Unchecked
     }
 }
 
+// The new library, where the old one was read: a copy of it where both files hold the same bytes, so that these are read once.
+fn read_beside<'a>(
+    alloc: Global,
+    library: &Library<'a, OldIx>,
+    old: &[u8],
+    new: &'a [u8],
+) -> Result<Library<'a, NewIx>, Unchecked>
+    requires old_readable { library_fault old.now ≡ None }
+    requires old_library { library.now ≡ library_of old.now }
+    requires new_short { length new.now ≤ input_limit }
+    ensures readable { OnOk result (library_fault new.now ≡ None) }
+    ensures library { IfOk result (λ library. library ≡ library_of new.now) }
+    ensures unread { IfErr result (λ u. (rules : List ℕ) → IsUnchecked old.now new.now rules u) }
+{
+    if old != new {
+        return read_new(alloc, new);
+    }
+    match copied(alloc, library) {
+        Ok(library) => Ok(library),
+        Err(NoMemory) => Err(Unchecked::NoMemory),
+    }
+}
+
 /// The old library and the new one, of these bytes. The fault of the old one goes before that of the new one, whatever a rule file
 /// says.
 pub fn read_pair<'a>(alloc: Global, old: &'a [u8], new: &'a [u8]) -> Result<Pair<'a>, Unchecked>
@@ -96,15 +120,18 @@ pub fn read_pair<'a>(alloc: Global, old: &'a [u8], new: &'a [u8]) -> Result<Pair
     ensures new { IfOk result (λ pair. pair.new ≡ library_of new.now) }
     ensures unread { IfErr result (λ u. (rules : List ℕ) → IsUnchecked old.now new.now rules u) }
 {
-    let old = match read_old(alloc, old) {
+    let old_library = match read_old(alloc, old) {
         Ok(library) => library,
         Err(unread) => return Err(unread),
     };
-    let new = match read_new(alloc, new) {
+    let new_library = match read_beside(alloc, &old_library, old, new) {
         Ok(library) => library,
         Err(unread) => return Err(unread),
     };
-    Ok(Pair { old, new })
+    Ok(Pair {
+        old: old_library,
+        new: new_library,
+    })
 }
 
 // The rule file, where both libraries are readable.

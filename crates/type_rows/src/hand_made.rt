@@ -1,7 +1,8 @@
 // What no clause says: that calls find memory, and that the run-time tests know well-formed nodes and libraries.
 use abi_base::{List, NoMemory};
-use abi_types::{CallShape, Export, Index, Kind, Library, Node, OldIx, Place, SymbolKind};
+use abi_types::{CallShape, Export, Index, Kind, Library, NewIx, Node, OldIx, Place, SymbolKind};
 use hand_graphs::{function, graph, is_library, member, node, pointer, structure, void};
+use library_copy::copied;
 use std::alloc::Global;
 use std::test::Fail;
 
@@ -82,6 +83,12 @@ fn a_small_library_is_made(rt: HostRuntime) -> Result<(), Fail> {
     assert_eq!(rt; library.exports_named(b"f"), [1].as_slice());
     assert_eq!(rt; library.exports_named(b"g"), [0, 2].as_slice());
     assert_eq!(rt; library.exports_named(b"").len(), 0);
+    let copy: Library<NewIx> = copied(alloc, &library)?;
+    assert_eq!(rt; copy.digest(), [7; 32]);
+    assert_eq!(rt; copy.soname(), None);
+    assert_eq!(rt; copy.exports_named(b"g"), [0, 2].as_slice());
+    assert_eq!(rt; copy.graph().len(), 4);
+    assert_eq!(rt; copy.graph().find(20).map(|ix| ix.number()), Some(2));
     Ok(())
 }
 
