@@ -25,13 +25,13 @@ const INFO: &[u8] = b"\x20\x00\x00\x00\x05\x00\x01\x08\x00\x00\x00\x00\x01\x0c\
 const MANY: usize = 400;
 
 // Sections of these bytes.
-fn sections<'a>(info: &'a [u8], abbrev: &'a [u8]) -> Sections<'a>
+fn sections<'a>(info: &'a [u8], abbrevs: &'a [u8]) -> Sections<'a>
     requires info { length info.now ≤ input_limit }
-    requires abbrev { length abbrev.now ≤ input_limit }
+    requires abbrevs { length abbrevs.now ≤ input_limit }
 {
     Sections {
         info,
-        abbrev,
+        abbrev: abbrevs,
         str: b"",
         line_str: b"",
         str_offsets: b"",
