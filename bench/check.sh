@@ -2,10 +2,11 @@
 # Times `abi exports`, which reads a library whole and prints a short line for each export, and `abi check`, over libraries with
 # debug information: the C library of the running system joined with its debug information, where the packages libc6-dbg and
 # elfutils are there; libcrypto of OpenSSL, where bench/openssl.sh built it; and libraries of generated C with 500,000 entries by
-# gcc and clang. Each is checked against itself, and all but the first against a build in which one structure is changed. Beside
-# them run readelf --debug-dump=info on one library, sha256sum on both, and abidw and abidiff where they are there. Prints seconds
-# of processor time, the least of five runs (of one for libabigail's tools), ratios, and peak memory. Beside each yes stands `abi
-# verify` on its certificate. Then it checks libraries of 1,000, 10,000 and 50,000 exported functions, and makes trials of as
+# gcc and clang. Each is checked against itself, where the file is read once, against a copy with one more byte, where both are
+# read, and all but the first against a build in which one structure is changed. Beside them run readelf --debug-dump=info on one
+# library, sha256sum on both, and abidw and abidiff where they are there. Prints seconds of processor time, the least of five runs
+# (of one for libabigail's tools), ratios, and peak memory. Beside the yes of a library against itself stands `abi verify` on its
+# certificate. Then it checks libraries of 1,000, 10,000 and 50,000 exported functions, and makes trials of as
 # many, to show how it grows.
 #
 # usage: bench/check.sh [ABI]   (default: the program that `rt run` built in crates/abi_cli/out)
@@ -88,10 +89,18 @@ built() {
     [ -e "$name" ] || "$@" -shared -fPIC -w -g -O1 -o "$name"
 }
 
+# longer LIBRARY: the name of a copy of it with one more byte.
+longer() {
+    cp "$1" longer.so
+    printf '\0' >>longer.so
+    echo longer.so
+}
+
 libc=/lib/x86_64-linux-gnu/libc.so.6
 if [ -e libc.so ] || "$top/tools/join-debug" "$libc" libc.so; then
     read_whole "the C library of the system" libc.so
     checked "against itself" 0 libc.so libc.so
+    checked "against a copy with one more byte" 0 libc.so "$(longer libc.so)"
     verified "against itself" libc.so libc.so
 else
     echo "the C library of the system is left out"
@@ -100,6 +109,7 @@ fi
 if [ -e openssl.so ] && [ -e openssl_changed.so ]; then
     read_whole "libcrypto of OpenSSL" openssl.so
     checked "against itself" 0 openssl.so openssl.so
+    checked "against a copy with one more byte" 0 openssl.so "$(longer openssl.so)"
     verified "against itself" openssl.so openssl.so
     checked "against a changed build" 1 openssl.so openssl_changed.so
 else
@@ -115,6 +125,7 @@ for compiler in gcc clang; do
     built "${compiler}_changed.so" $compiler changed.c
     read_whole "generated C by $compiler" "$compiler.so"
     checked "against itself" 0 "$compiler.so" "$compiler.so"
+    checked "against a copy with one more byte" 0 "$compiler.so" "$(longer "$compiler.so")"
     verified "against itself" "$compiler.so" "$compiler.so"
     checked "against a changed build" 1 "$compiler.so" "${compiler}_changed.so"
 done

@@ -10,6 +10,8 @@ mkdir -p "$made/openssl"
 cd "$made/openssl"
 tar -xf "$source" --strip-components=1
 ./Configure linux-x86_64 shared no-tests no-engine -g -O2 >configured
+# The headers that the build makes come first: sources that stand on them do not wait for them.
+make -j"$(nproc)" build_generated >built
 make -j"$(nproc)" libcrypto.so >built
 cp libcrypto.so "$made/openssl.so"
 header=include/openssl/txt_db.h

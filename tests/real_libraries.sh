@@ -175,6 +175,14 @@ grep -Eq '^pair [0-9]+ [0-9]+ direct$' got || fail "the certificate of debug.so 
 tail -n +"$(($(wc -l <start) + 1))" got | grep -Ev '^(alike (old|new) [0-9]+ [0-9]+|pair [0-9]+ [0-9]+ (direct|pointer)|end)$' >&2 &&
     fail "the certificate of debug.so has another line"
 passed "a library with debug information may replace itself"
+# A byte behind all that is read makes another file: here both are read, where above one is. Only the digest of the new one differs.
+cp got of_itself
+cp debug.so longer.so
+printf '\0' >>longer.so
+answers "a copy with one more byte may replace it" 0 check debug.so longer.so
+diff -u <(grep -v '^new ' of_itself) <(grep -v '^new ' got) >&2 || fail "the certificate of debug.so and longer.so is another one"
+grep -q "^new $(sha256sum <longer.so | cut -d ' ' -f 1)$" got || fail "the certificate has no digest of longer.so"
+passed "a copy with one more byte may replace it"
 answers "a build without debug information says nothing of types" 1 check debug.so old.so
 grep -q '^X6 .*: type gone$' got || fail "no type of debug.so is gone in old.so"
 passed "a build without debug information says nothing of types"
