@@ -1,5 +1,5 @@
 -- Values of attributes, form by form (DWARF 5, section 7.5.6 "Form Encodings").
-use Rattle.std.specs.Prelude.{◌≡◌, ℕ, ◌+◌, ◌%◌, ◌^◌, ◌==◌, not, nat_le, true, if◌then◌else◌, List, [], ◌∷◌, length, take, Option, Some, None, Result, Ok, Err, ℤ, find}
+use Rattle.std.specs.Prelude.{◌≡◌, ℕ, ◌+◌, ◌-◌, ◌%◌, ◌^◌, ◌==◌, not, nat_le, true, if◌then◌else◌, List, [], ◌∷◌, length, take, Option, Some, None, Result, Ok, Err, ℤ, find}
 use Rattle.std.specs.Option.{option_map}
 use Rattle.abi_base.specs.declared.fault.Fault.{Fault}
 use Rattle.abi_base.specs.declared.fault.FaultKind.{FaultKind}
@@ -176,6 +176,11 @@ fixed_size_of (Some sixteen_bytes) = Some 16
 fixed_size_of (Some implicit_const) = Some 0
 fixed_size_of (Some is_present) = Some 0
 fixed_size_of other = None
+
+-- the place after a value of such a size, where the value ends in the unit
+abbrev pub fixed_end_of : Option ℕ → ℕ → ℕ → Option ℕ
+fixed_end_of None end at = None
+fixed_end_of (Some size) end at = if nat_le size (end - at) then Some (at + size) else None
 
 -- the same of a form that stands for itself, which is any other than DW_FORM_indirect
 abbrev pub direct_at : ℕ → ℤ → ℕ → ℕ → List ℕ → ℕ → Result (Value × ℕ) Fault

@@ -1,7 +1,7 @@
 // The value of an attribute, form by form.
 ghost use Rattle.std.specs.Prelude.{◌≡◌, ◌≤◌, ◌+◌, ◌<◌, ℕ, ℤ, List, Ok, length, take, IfOk, IfSome};
 ghost use Rattle.abi_base.specs.declared.fault.FaultKind.TheVariants as kind;
-ghost use Rattle.dw_forms.specs.Values.{value_at, direct_at, indirect_at, shape_of, fixed_size_of, place_after, fault};
+ghost use Rattle.dw_forms.specs.Values.{value_at, direct_at, indirect_at, shape_of, fixed_size_of, fixed_end_of, place_after, fault};
 
 use crate::meaning::Meaning;
 use crate::source::Source;
@@ -165,6 +165,7 @@ fn fixed_size(form: u64) -> Option<u64>
 #[inline(always)]
 #[tactic(auto, using(crate::proofs::FormLemmas::fixed_ends))]
 pub fn fixed_end(form: u64, unit_end: u64, at: usize) -> Option<usize>
+    ensures exact { result ≡ fixed_end_of (fixed_size_of (shape_of form)) unit_end at }
     ensures end { IfSome result (λ end. (implicit : ℤ) (unit_start entry : ℕ) (bytes : List ℕ) → unit_end ≤ length bytes → place_after (value_at form implicit unit_start unit_end entry bytes at) ≡ Ok end) }
     ensures after { IfSome result (λ end. at ≤ end) }
     ensures inside { IfSome result (λ end. at ≤ unit_end → end ≤ unit_end) }
