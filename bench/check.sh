@@ -6,8 +6,8 @@
 # read, and all but the first against a build in which one structure is changed. Beside them run readelf --debug-dump=info on one
 # library, sha256sum on both, and abidw and abidiff where they are there. Prints seconds of processor time, the least of five runs
 # (of one for libabigail's tools), ratios, and peak memory. Beside the yes of a library against itself stands `abi verify` on its
-# certificate. Then it checks libraries of 1,000, 10,000 and 50,000 exported functions, and makes trials of as
-# many, to show how it grows.
+# certificate. Then it checks libraries of 1,000, 10,000 and 50,000 exported functions against copies with one more
+# byte, and makes trials of as many, to show how it grows.
 #
 # usage: bench/check.sh [ABI]   (default: the program that `rt run` built in crates/abi_cli/out)
 set -eu
@@ -138,7 +138,8 @@ for count in 1000 10000 50000; do
         }
     }' >functions.c
     built "functions_$count.so" gcc functions.c
-    echo "$count exported functions: abi check $(least 3 "$abi" check "functions_$count.so" "functions_$count.so") s, peak $(peak_memory "$abi" check "functions_$count.so" "functions_$count.so") MB"
+    other=$(longer "functions_$count.so")
+    echo "$count exported functions: abi check $(least 3 "$abi" check "functions_$count.so" "$other") s, peak $(peak_memory "$abi" check "functions_$count.so" "$other") MB"
 done
 
 for count in 1000 10000 50000; do
