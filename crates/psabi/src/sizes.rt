@@ -1,47 +1,66 @@
 // The sizes of types in bytes (System V psABI for x86-64, section 3.1.2 "Data Representation", figure "Scalar Types").
 
+/// `char`.
 pub const CHAR: u64 = 1;
 
+/// `short`.
 pub const SHORT: u64 = 2;
 
+/// `int`.
 pub const INT: u64 = 4;
 
+/// `long`, `long long` and pointers.
 pub const LONG: u64 = 8;
 
+/// `__int128`.
 pub const INT128: u64 = 16;
 
+/// `_Float16`.
 pub const FLOAT16: u64 = 2;
 
+/// `float`.
 pub const FLOAT: u64 = 4;
 
+/// `double`.
 pub const DOUBLE: u64 = 8;
 
+/// `long double`, of which 10 bytes are the number.
 pub const LONG_DOUBLE: u64 = 16;
 
+/// `__float128`.
 pub const FLOAT128: u64 = 16;
 
+/// `_Decimal32`.
 pub const DECIMAL32: u64 = 4;
 
+/// `_Decimal64`.
 pub const DECIMAL64: u64 = 8;
 
+/// `_Decimal128`.
 pub const DECIMAL128: u64 = 16;
 
-// A complex number is two numbers of its base type.
+/// A complex number of two `_Float16`.
 pub const COMPLEX_FLOAT16: u64 = 2 * FLOAT16;
 
+/// A complex number of two `float`.
 pub const COMPLEX_FLOAT: u64 = 2 * FLOAT;
 
+/// A complex number of two `double`.
 pub const COMPLEX_DOUBLE: u64 = 2 * DOUBLE;
 
+/// A complex number of two `long double`.
 pub const COMPLEX_LONG_DOUBLE: u64 = 2 * LONG_DOUBLE;
 
-// The vectors `__m64`, `__m128`, `__m256` and `__m512`.
+/// The vector `__m64`.
 pub const M64: u64 = 8;
 
+/// The vector `__m128`.
 pub const M128: u64 = 16;
 
+/// The vector `__m256`.
 pub const M256: u64 = 32;
 
+/// The vector `__m512`.
 pub const M512: u64 = 64;
 
 /// How many bits a byte has.
