@@ -4,20 +4,22 @@ ghost use Rattle.std.specs.Option.{option_copied};
 ghost use Rattle.abi_types.specs.Plain.{plain_exports};
 ghost use Rattle.abi_types.specs.Libraries.{plain_library, IsLibrary};
 ghost use Rattle.abi_types.specs.Names.{AreNamed};
+ghost use Rattle.sha2.specs.Sha256.{sha256};
 
 use crate::export::Export;
 use crate::graph::Graph;
 use crate::index::Index;
 use crate::names::{name_order_of, named_in};
 use abi_base::{List, NoMemory};
+use sha2::{Digest, Sha256};
 use std::alloc::Global;
 use std::marker::Model;
 
-/// A library: the digest of its file, its soname, its exports, and the types that they have. Contracts see it as a
-/// `PlainLibrary`.
+/// A library: its file, its soname, its exports, and the types that they have. Contracts see it as a `PlainLibrary`, which has
+/// the digest of the file in the place of its bytes.
 #[derive(Drop)]
 pub struct Library<'a, Ix: Index> {
-    digest: [u8; 32],
+    file: &'a [u8],
     soname: Option<&'a [u8]>,
     exports: List<Export<'a>>,
     graph: Graph<'a, Ix>,
@@ -33,27 +35,28 @@ impl<'a, Ix: Index> Model for Library<'a, Ix> {
     ghost use Rattle.abi_types.specs.Plain.{plain_exports};
     ghost use Rattle.abi_types.specs.Libraries.{plain_library, IsLibrary};
     ghost use Rattle.abi_types.specs.Names.{IsNameOrder};
+    ghost use Rattle.sha2.specs.Sha256.{sha256};
 
-    ghost view = { λ l. plain_library l.digest l.soname l.exports l.graph };
+    ghost view = { λ l. plain_library (sha256 l.file.now) l.soname l.exports l.graph };
 
     ghost invariant = { λ l. IsLibrary (plain_exports l.exports) l.graph × IsNameOrder l.by_name.items (plain_exports l.exports) };
 }
 
 impl<'a, Ix: Index> Library<'a, Ix> {
-    /// The library of these parts.
+    /// The library of these parts, which stand in the bytes of its file. The digest is not computed yet.
     pub fn new(
         alloc: Global,
-        digest: [u8; 32],
+        file: &'a [u8],
         soname: Option<&'a [u8]>,
         exports: List<Export<'a>>,
         graph: Graph<'a, Ix>,
     ) -> Result<Library<'a, Ix>, NoMemory>
         requires { IsLibrary (plain_exports exports) graph }
-        ensures { IfOk result (λ library. library ≡ plain_library digest soname.entry exports.entry graph.entry) }
+        ensures { IfOk result (λ library. library ≡ plain_library (sha256 file.now) soname.entry exports.entry graph.entry) }
     {
         let by_name = name_order_of(alloc, exports.as_slice())?;
         Ok(Library {
-            digest,
+            file,
             soname,
             exports,
             graph,
@@ -61,11 +64,18 @@ impl<'a, Ix: Index> Library<'a, Ix> {
         })
     }
 
-    /// The SHA-256 of its file.
+    /// The bytes of its file.
+    pub fn file(&self) -> &'a [u8]
+        ensures { self.now.digest ≡ sha256 result.now }
+    {
+        self.file
+    }
+
+    /// The SHA-256 of its file, which is computed at each call: only a certificate needs it.
     pub fn digest(&self) -> [u8; 32]
         ensures { result ≡ self.now.digest }
     {
-        self.digest
+        Sha256::digest(self.file)
     }
 
     /// Its soname, where it has one.

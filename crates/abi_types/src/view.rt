@@ -10,24 +10,25 @@ use abi_base::List;
 use std::marker::Model;
 
 /// What a type looks like. Fields that a kind does not use hold 0, `false`, `Group::Bool` or nothing.
+// Fields of one byte stand together, and share eight bytes: a library has a view for each of its types.
 #[derive(Drop)]
 pub struct View<'a, Ix: Index> {
     /// What sort of type it is.
     pub kind: Kind,
+    /// What the bits of a scalar mean.
+    pub group: Group,
     /// Whether the type is declared here, and its parts are told nowhere in this unit.
     pub declared_only: bool,
+    /// Whether a function takes further arguments after its parameters.
+    pub variadic: bool,
     /// The tag of a structure, a union or an enumeration, or nothing.
     pub tag: &'a [u8],
     /// How many bytes it has.
     pub size: u64,
-    /// What the bits of a scalar mean.
-    pub group: Group,
     /// The alignment that its declaration asks for, in bytes, or 0.
     pub align: u64,
     /// How many elements an array or a vector has.
     pub count: u64,
-    /// Whether a function takes further arguments after its parameters.
-    pub variadic: bool,
     /// Its members, enumerators, target, element type, or result and parameters.
     pub parts: Parts<'a, Ix>,
     /// Where a function's result and arguments are.

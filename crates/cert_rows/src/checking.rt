@@ -100,7 +100,7 @@ fn library<'a, Ix: Index>(
     exports.push(export)?;
     let is_made = is_library(exports.as_slice(), &graph);
     assert!(rt; is_made);
-    Library::new(alloc, [0; 32], Some(soname), exports, graph)
+    Library::new(alloc, b"abc", Some(soname), exports, graph)
 }
 
 // The library in whose place the other one is to stand.
@@ -141,23 +141,30 @@ fn marks_of(alloc: Global, changes: &str) -> Result<Marks, NoMemory> {
     })
 }
 
-// The digest of each input, and another one.
-const DIGEST: &str = "0000000000000000000000000000000000000000000000000000000000000000";
+// The SHA-256 of "abc", which both files hold (FIPS 180-2, appendix B.1), that of the rules, and another one.
+const DIGEST_OF_ABC: &str = "ba7816bf8f01cfea414140de5dae2223b00361a396177a9cb410ff61f20015ad";
+
+const DIGEST_OF_RULES: &str = "0000000000000000000000000000000000000000000000000000000000000000";
 
 const OTHER: &str = "1111111111111111111111111111111111111111111111111111111111111111";
 
 // The line of the digest of an input, which may be another one.
-fn push_digest(text: &mut String, input: &str, is_other: bool) -> Result<(), NoMemory> {
-    let digest = if is_other { OTHER } else { DIGEST };
+fn push_digest(
+    text: &mut String,
+    input: &str,
+    digest: &str,
+    is_other: bool,
+) -> Result<(), NoMemory> {
+    let digest = if is_other { OTHER } else { digest };
     writeln!(text, "{input} {digest}")?;
     Ok(())
 }
 
 fn text_of(alloc: Global, changes: &str, lines: &str) -> Result<String, NoMemory> {
     let mut text = String::from_str(alloc, "yes 2\n")?;
-    push_digest(&mut text, "old", has(changes, "old"))?;
-    push_digest(&mut text, "new", has(changes, "new"))?;
-    push_digest(&mut text, "rules", has(changes, "rules"))?;
+    push_digest(&mut text, "old", DIGEST_OF_ABC, has(changes, "old"))?;
+    push_digest(&mut text, "new", DIGEST_OF_ABC, has(changes, "new"))?;
+    push_digest(&mut text, "rules", DIGEST_OF_RULES, has(changes, "rules"))?;
     for line in lines.split(';') {
         writeln!(text, "{line}")?;
     }

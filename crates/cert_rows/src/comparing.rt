@@ -88,8 +88,14 @@ fn library<'a, Ix: Index>(
     let mut exports = List::new(alloc);
     exports.push(export_of(symbol, b"f"))?;
     assert!(rt; is_library(exports.as_slice(), &graph));
-    Library::new(alloc, [7; 32], None, exports, graph)
+    Library::new(alloc, b"abc", None, exports, graph)
 }
+
+// The SHA-256 of "abc" (FIPS 180-2, appendix B.1).
+const DIGEST_OF_ABC: [u8; 32] = [
+    0xba, 0x78, 0x16, 0xbf, 0x8f, 0x01, 0xcf, 0xea, 0x41, 0x41, 0x40, 0xde, 0x5d, 0xae, 0x22, 0x23,
+    0xb0, 0x03, 0x61, 0xa3, 0x96, 0x17, 0x7a, 0x9c, 0xb4, 0x10, 0xff, 0x61, 0xf2, 0x00, 0x15, 0xad,
+];
 
 // What a comparison tells of the library whose structure has 4 bytes, and of one whose structure has so many.
 fn compared(rt: &impl Abort, alloc: Global, size: u64) -> Result<Comparison, NoMemory> {
@@ -105,7 +111,8 @@ fn the_same_types_are_compatible(rt: HostRuntime) -> Result<(), Fail> {
     match compared(&rt, rt.alloc(), INTEGER_SIZE)? {
         Comparison::Broken(rows) => panic!(rt; "{}", rows.as_slice().len()),
         Comparison::Compatible(cert) => {
-            assert_eq!(rt; cert.old_digest, [7; 32]);
+            assert_eq!(rt; cert.old_digest, DIGEST_OF_ABC);
+            assert_eq!(rt; cert.new_digest, DIGEST_OF_ABC);
             assert_eq!(rt; cert.binds.as_slice(), [(1, 2)].as_slice());
             assert_eq!(rt; cert.pairs.as_slice().len(), 5);
         }

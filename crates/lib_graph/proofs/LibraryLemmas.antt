@@ -115,11 +115,11 @@ unfolding typed_exports_of
 typed-are f file before after held read is =
     is ∙ ap (map (typed (debug_of file))) read ∙ ap (λ (x : List ℕ). map (typed (debug_of x)) (untyped_exports_of x)) held
 
-pub library-is : (f digest : List ℕ) (soname : Option (Bor (List ℕ))) (exports : List Export) (nodes : List PlainNode) → digest ≡ sha256 f → option_copied soname ≡ soname_of f → plain_exports exports ≡ typed_exports_of f → nodes ≡ graph_of f
-    → plain_library digest soname exports nodes ≡ library_of f
+pub library-is : (f : List ℕ) (soname : Option (Bor (List ℕ))) (exports : List Export) (nodes : List PlainNode) → option_copied soname ≡ soname_of f → plain_exports exports ≡ typed_exports_of f → nodes ≡ graph_of f
+    → plain_library (sha256 f) soname exports nodes ≡ library_of f
 unfolding library_of
-library-is f digest soname exports nodes same_digest same_soname same_exports same_graph =
-    λ i. record { digest = same_digest i; soname = same_soname i; exports = same_exports i; graph = same_graph i }
+library-is f soname exports nodes same_soname same_exports same_graph =
+    λ i. record { digest = sha256 f; soname = same_soname i; exports = same_exports i; graph = same_graph i }
 
 pub called-is : (f : List ℕ) (nodes : List PlainNode) (calls : List CallShape) (called : List PlainNode) → nodes ≡ uncalled_graph_of f → calls ≡ calls_of nodes → called ≡ shaped nodes calls → called ≡ graph_of f
 unfolding graph_of

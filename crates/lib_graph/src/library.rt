@@ -16,7 +16,6 @@ use abi_base::{NoMemory, Refusal};
 use abi_types::{Index, Library};
 use elf_file::read_elf;
 use psabi::call_shapes;
-use sha2::{Digest, Sha256};
 use std::alloc::Global;
 
 // The library of a readable file, by what was read of it. Its functions get the places of their calls.
@@ -37,7 +36,7 @@ fn library_with<'a, Ix: Index>(
     let Typed { exports, graph } = typed;
     let calls = call_shapes(alloc, &graph)?;
     let graph = graph.with_calls(calls);
-    Library::new(alloc, Sha256::digest(bytes), soname, exports, graph)
+    Library::new(alloc, bytes, soname, exports, graph)
 }
 
 /// The library that a file is. The fault is the first one of its header and sections, of its symbols, of its dynamic table, of

@@ -156,5 +156,5 @@ pub fn copied<'a, From: Index, To: Index>(
     let exports = List::copy_of(alloc, library.exports())?;
     let graph = copied_graph(alloc, library.graph())?;
     library.known();
-    Library::new(alloc, library.digest(), library.soname(), exports, graph)
+    Library::new(alloc, library.file(), library.soname(), exports, graph)
 }

@@ -165,7 +165,7 @@ fn library<'a>(alloc: Global, names: &'a [u8], count: u32) -> Result<Library<'a,
     if !is_library(exports.as_slice(), &graph) {
         return Err(Trouble::Wrong);
     }
-    Ok(Library::new(alloc, [0; 32], None, exports, graph)?)
+    Ok(Library::new(alloc, b"", None, exports, graph)?)
 }
 
 // How many flags are set.

@@ -102,7 +102,7 @@ fn library<'a, Ix: Index>(
     let is_made = is_library(exports.as_slice(), &graph);
     assert!(rt; is_made, "{cell}");
     let soname = cell.split_whitespace().next().unwrap_or("");
-    Library::new(alloc, [7; 32], Some(soname.as_bytes()), exports, graph)
+    Library::new(alloc, b"", Some(soname.as_bytes()), exports, graph)
 }
 
 fn no_flags(alloc: Global, count: usize) -> Result<List<bool>, NoMemory> {

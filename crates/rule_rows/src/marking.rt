@@ -339,7 +339,7 @@ fn library(
     let graph = graph_of(rt, alloc)?;
     let exports = List::copy_of(alloc, exports().as_slice())?;
     assert!(rt; is_library(exports.as_slice(), &graph));
-    Library::new(alloc, [7; 32], soname, exports, graph)
+    Library::new(alloc, b"", soname, exports, graph)
 }
 
 fn rules_in(rt: &impl Abort, alloc: Global, text: &str) -> Rules {

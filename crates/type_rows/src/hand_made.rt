@@ -79,12 +79,12 @@ fn a_small_library_is_made(rt: HostRuntime) -> Result<(), Fail> {
     assert_eq!(rt; calls.as_slice().len(), graph.len());
     let graph = graph.with_calls(calls);
     assert!(rt; is_library(exports.as_slice(), &graph));
-    let library = Library::new(alloc, [7; 32], None, exports, graph)?;
+    let library = Library::new(alloc, b"abc", None, exports, graph)?;
     assert_eq!(rt; library.exports_named(b"f"), [1].as_slice());
     assert_eq!(rt; library.exports_named(b"g"), [0, 2].as_slice());
     assert_eq!(rt; library.exports_named(b"").len(), 0);
     let copy: Library<NewIx> = copied(alloc, &library)?;
-    assert_eq!(rt; copy.digest(), [7; 32]);
+    assert_eq!(rt; copy.file(), b"abc".as_slice());
     assert_eq!(rt; copy.soname(), None);
     assert_eq!(rt; copy.exports_named(b"g"), [0, 2].as_slice());
     assert_eq!(rt; copy.graph().len(), 4);

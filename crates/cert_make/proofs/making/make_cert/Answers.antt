@@ -24,7 +24,7 @@ invariant_of-result c =
     made_is c.visits_are_pair_lines.ensures s c.args.old_classes.now c.args.new_classes.now c.args.visits.now c.graph-old_graph.result.now c.graph-new_graph.result.now cert c.graph-old_graph.ensures c.graph-new_graph.ensures c.known-3.ensures c.known-4.ensures c.known-5.ensures c.known-6.ensures
     c.requires.types (record {
       old_digest = c.is_digest-old_digest.ensures.value ∙ c.digest.ensures;
-      new_digest = c.is_digest-new_digest.ensures.value ∙ c.digest-2.ensures;
+      new_digest = c.is_digest-new_digest.ensures.value ∙ c.digest_beside.ensures;
       rules_digest = c.is_digest-rules_digest.ensures.value;
       binds = c.in_ok-binds.ensures;
       alike_old = c.in_ok-alike_old.ensures.lines;
@@ -55,7 +55,7 @@ returns-clause-certificate c =
     made_is c.visits_are_pair_lines.ensures s c.args.old_classes.now c.args.new_classes.now c.args.visits.now c.graph-old_graph.result.now c.graph-new_graph.result.now cert c.graph-old_graph.ensures c.graph-new_graph.ensures c.known-3.ensures c.known-4.ensures c.known-5.ensures c.known-6.ensures
     c.requires.types (record {
       old_digest = c.is_digest-old_digest.ensures.value ∙ c.digest.ensures;
-      new_digest = c.is_digest-new_digest.ensures.value ∙ c.digest-2.ensures;
+      new_digest = c.is_digest-new_digest.ensures.value ∙ c.digest_beside.ensures;
       rules_digest = c.is_digest-rules_digest.ensures.value;
       binds = c.in_ok-binds.ensures;
       alike_old = c.in_ok-alike_old.ensures.lines;
@@ -81,7 +81,7 @@ returns-clause-accepted c =
     made_is c.visits_are_pair_lines.ensures s c.args.old_classes.now c.args.new_classes.now c.args.visits.now c.graph-old_graph.result.now c.graph-new_graph.result.now cert c.graph-old_graph.ensures c.graph-new_graph.ensures c.known-3.ensures c.known-4.ensures c.known-5.ensures c.known-6.ensures
     c.requires.types (record {
       old_digest = c.is_digest-old_digest.ensures.value ∙ c.digest.ensures;
-      new_digest = c.is_digest-new_digest.ensures.value ∙ c.digest-2.ensures;
+      new_digest = c.is_digest-new_digest.ensures.value ∙ c.digest_beside.ensures;
       rules_digest = c.is_digest-rules_digest.ensures.value;
       binds = c.in_ok-binds.ensures;
       alike_old = c.in_ok-alike_old.ensures.lines;

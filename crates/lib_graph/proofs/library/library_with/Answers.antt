@@ -19,4 +19,4 @@ returns g c =
     let f = c.args.bytes.now in
     let nodes = called-is f c.args.typed.graph c.in_ok-calls.calls c.with_calls-graph.result c.requires.graph c.in_ok-calls.ensures.shapes c.with_calls-graph.ensures in
     subst (λ (l : PlainLibrary). IfOk c.new.result (λ (library : PlainLibrary). library ≡ l))
-    (library-is f c.digest.result c.args.soname c.args.typed.exports c.with_calls-graph.result c.digest.ensures c.requires.soname c.requires.exports nodes) c.new.ensures
+    (library-is f c.args.soname c.args.typed.exports c.with_calls-graph.result c.requires.soname c.requires.exports nodes) c.new.ensures
