@@ -1,5 +1,5 @@
 -- Values of attributes, form by form (DWARF 5, section 7.5.6 "Form Encodings").
-use Rattle.std.specs.Prelude.{◌≡◌, ℕ, ◌+◌, ◌-◌, ◌%◌, ◌^◌, ◌==◌, not, nat_le, true, if◌then◌else◌, List, [], ◌∷◌, length, take, Option, Some, None, Result, Ok, Err, ℤ, find}
+use Rattle.std.specs.Prelude.{◌≡◌, ◌≤◌, ℕ, ◌+◌, ◌-◌, ◌%◌, ◌^◌, ◌==◌, not, nat_le, true, if◌then◌else◌, List, [], ◌∷◌, length, take, Option, Some, None, Result, Ok, Err, ℤ, find}
 use Rattle.std.specs.Option.{option_map}
 use Rattle.abi_base.specs.declared.fault.Fault.{Fault}
 use Rattle.abi_base.specs.declared.fault.FaultKind.{FaultKind}
@@ -165,7 +165,7 @@ value_at form implicit unit end entry bytes at = do
   value_of named implicit unit entry (take end bytes) at
 
 -- the place after what was read, or the fault
-abbrev pub place_after : Result (Value × ℕ) Fault → Result ℕ Fault
+abbrev pub place_after : {A : Type 0} → Result (A × ℕ) Fault → Result ℕ Fault
 place_after (Ok read) = Ok read.1
 place_after (Err f) = Err f
 
@@ -182,7 +182,13 @@ abbrev pub fixed_end_of : Option ℕ → ℕ → ℕ → Option ℕ
 fixed_end_of None end at = None
 fixed_end_of (Some size) end at = if nat_le size (end - at) then Some (at + size) else None
 
--- the same of a form that stands for itself, which is any other than DW_FORM_indirect
+-- Values of forms that fix their size end so many bytes on, where they end in the unit.
+abbrev pub FixedSizesEnd : Type 0
+FixedSizesEnd =
+    (form size : ℕ) (implicit : ℤ) (unit end entry : ℕ) (bytes : List ℕ) (at : ℕ) → fixed_size_of (shape_of form) ≡ Some size → size ≤ end - at → end ≤ length bytes
+    → place_after (value_at form implicit unit end entry bytes at) ≡ Ok (at + size)
+
+-- the value of a form that stands for itself, which is any other than DW_FORM_indirect
 abbrev pub direct_at : ℕ → ℤ → ℕ → ℕ → List ℕ → ℕ → Result (Value × ℕ) Fault
 direct_at form implicit unit entry bytes at = do
   named ← or_end (shape_of form) (fault kind.Form entry)

@@ -2,7 +2,7 @@
 ghost use Rattle.std.specs.Prelude.{◌≡◌, ◌≤◌, ℕ, ℤ, List, Ok};
 ghost use Rattle.abi_base.specs.Dwarf.{dw_form_ref_addr, dw_form_ref1, dw_form_ref2, dw_form_ref4, dw_form_ref8, dw_form_ref_udata};
 ghost use Rattle.dw_forms.specs.declared.values.Value.{Value};
-ghost use Rattle.dw_forms.specs.Values.{value_at, Refers, RefersByUleb, absolute, from_unit};
+ghost use Rattle.dw_forms.specs.Values.{FixedSizesEnd, value_at, Refers, RefersByUleb, absolute, from_unit};
 
 /// The place after a value is not before the value's own, and not past the end of the unit.
 pub fn reading_moves_on_inside_the_unit()
@@ -19,4 +19,9 @@ pub fn references_count_from_their_unit()
     ensures ref4 { Refers dw_form_ref4 4 from_unit }
     ensures ref8 { Refers dw_form_ref8 8 from_unit }
     ensures ref_udata { RefersByUleb dw_form_ref_udata from_unit }
+{}
+
+/// A value of a form that fixes its size ends that many bytes on, whatever the bytes are, where it ends in the unit.
+pub fn values_of_a_fixed_size_end_behind_it()
+    ensures { FixedSizesEnd }
 {}

@@ -1,15 +1,10 @@
--- Entries whose values are passed over, and what the reader of entries comes to.
+-- Entries whose values were passed over.
 use Rattle.std.specs.Prelude.{ℕ, List, [], Result, Ok, Err}
 use Rattle.abi_base.specs.declared.fault.Fault.{Fault}
 use Rattle.dw_abbrev.specs.declared.abbrev.Abbrev.{Abbrev}
 use Rattle.dw_forms.specs.declared.values.Value.{Value}
 use Rattle.dw_units.specs.declared.entry.Entry.{Entry}
 use Rattle.dw_units.specs.Units.{PlainUnit, values_at}
-
--- the place after the values that were read, or the fault
-abbrev pub place_after_values : Result (List (ℕ × Value) × ℕ) Fault → Result ℕ Fault
-place_after_values (Ok read) = Ok read.1
-place_after_values (Err f) = Err f
 
 -- the values that were read, or none
 abbrev pub values_read : Result (List (ℕ × Value) × ℕ) Fault → List (ℕ × Value)

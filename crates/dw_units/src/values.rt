@@ -1,8 +1,7 @@
 // The values of an entry, and the place after them.
 ghost use Rattle.std.specs.Prelude.{◌≡◌};
 ghost use Rattle.abi_base.specs.Outcome.{Gives};
-ghost use Rattle.dw_forms.specs.Values.{value_at};
-ghost use Rattle.dw_units.specs.Outlines.{place_after_values};
+ghost use Rattle.dw_forms.specs.Values.{place_after, value_at};
 ghost use Rattle.dw_units.specs.Plain.{plain_unit};
 ghost use Rattle.dw_units.specs.Units.{values_at};
 
@@ -56,7 +55,7 @@ pub fn values_in(
 #[inline]
 #[tactic(auto, using(crate::proofs::ValuesLoop::passed_all))]
 pub fn values_end(unit: &Unit<'_>, entry: u64, specs: &[Spec], at: usize) -> Result<usize, Fault>
-    ensures { result ≡ place_after_values (values_at (plain_unit unit.now) entry specs.now at) }
+    ensures { result ≡ place_after (values_at (plain_unit unit.now) entry specs.now at) }
 {
     let mut place = at;
     for spec in specs {
