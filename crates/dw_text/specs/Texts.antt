@@ -1,5 +1,5 @@
 -- The texts and addresses that values of attributes lead to.
-use Rattle.std.specs.Prelude.{ℕ, List, Option, Result, Ok, Err}
+use Rattle.std.specs.Prelude.{◌≡◌, ℕ, nat_lt, is_some, List, Option, Some, None, Result, Ok, Err}
 use Rattle.abi_base.specs.declared.fault.Fault.{Fault}
 use Rattle.abi_base.specs.declared.fault.FaultKind.TheVariants as kind
 use Rattle.abi_base.specs.Numbers.{text_at}
@@ -24,6 +24,15 @@ text_of info str line_str str_offsets base entry (value.StrIndex k) = do
   place ← or_end (entry_of_table 4 str_offsets base k) (fault kind.Index entry)
   text_in str place entry
 text_of info str line_str str_offsets base entry other = Err (fault kind.Text entry)
+
+-- the fault of what was read, if it has one
+abbrev pub fault_of : {A : Type 0} → Result A Fault → Option Fault
+fault_of (Ok x) = None
+fault_of (Err f) = Some f
+
+-- texts begin at the places before this one, and at no other
+abbrev pub TextsEnd : List ℕ → ℕ → Type 0
+TextsEnd section end = (place : ℕ) → is_some (text_at section place) ≡ nat_lt place end
 
 -- The address that a value stands for (DWARF 5, section 7.5.5, class address): it stands in the value, or in `.debug_addr`,
 -- whose part for the unit begins at a base.

@@ -3,8 +3,10 @@
 
 mod addresses;
 mod bases;
+mod ends;
 mod texts;
 
 pub use addresses::address;
 pub use bases::Bases;
-pub use texts::text;
+pub use ends::texts_end;
+pub use texts::{text, text_fault};

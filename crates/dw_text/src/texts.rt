@@ -1,9 +1,9 @@
 // The texts that values stand for.
-ghost use Rattle.std.specs.Prelude.{◌≡◌};
+ghost use Rattle.std.specs.Prelude.{◌≡◌, ℕ, List};
 ghost use Rattle.std.specs.Result.{result_map_both};
 ghost use Rattle.abi_base.specs.declared.fault.FaultKind.TheVariants as kind;
 ghost use Rattle.dw_forms.specs.Values.{fault};
-ghost use Rattle.dw_text.specs.Texts.{text_of, text_in as the_text_in};
+ghost use Rattle.dw_text.specs.Texts.{TextsEnd, fault_of as the_fault_of, text_of, text_in as the_text_in};
 
 use crate::bases::Bases;
 use abi_base::{Fault, FaultKind, table_offset, text_at};
@@ -56,5 +56,55 @@ pub fn text<'a>(
             }),
         },
         _ => Err(no_text(entry)),
+    }
+}
+
+// The fault of the text at a place of a section whose texts end at another one.
+fn fault_before(end: usize, place: u64, entry: u64) -> Option<Fault>
+    ensures { (section : List ℕ) → TextsEnd section end → result ≡ the_fault_of (the_text_in section place entry) }
+{
+    if place < end as u64 {
+        None
+    } else {
+        Some(no_text(entry))
+    }
+}
+
+// The fault of what was read.
+fn fault_of(read: Result<&[u8], Fault>) -> Option<Fault>
+    ensures { result ≡ the_fault_of (result_map_both (λ t. t.now) (λ f. f) read.entry) }
+{
+    match read {
+        Ok(_) => None,
+        Err(fault) => Some(fault),
+    }
+}
+
+/// The fault of the text that a value stands for, which `text` gives, too. `str_end` is where the texts of `.debug_str` end, so
+/// that the end of a text there need not be looked for.
+pub fn text_fault(
+    value: &Value,
+    bases: &Bases,
+    sections: &Sections<'_>,
+    str_end: usize,
+    entry: u64,
+) -> Option<Fault>
+    requires { TextsEnd sections.now.str.now str_end }
+    ensures { result ≡ the_fault_of (text_of sections.now.info.now sections.now.str.now sections.now.line_str.now sections.now.str_offsets.now bases.now.str_offsets entry value.now) }
+{
+    match *value {
+        Value::StrOffset(place) => fault_before(str_end, place, entry),
+        Value::StrIndex(index) => match table_offset(
+            sections.str_offsets,
+            bases.str_offsets,
+            index,
+        ) {
+            Some(place) => fault_before(str_end, u64::from(place), entry),
+            None => Some(Fault {
+                kind: FaultKind::Index,
+                at: entry,
+            }),
+        },
+        _ => fault_of(text(value, bases, sections, entry)),
     }
 }
