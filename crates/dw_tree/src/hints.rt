@@ -2,7 +2,7 @@
 // are right: they make it short.
 ghost use Rattle.std.specs.Prelude.{◌<◌, ◌^◌, length};
 
-use crate::kept::Kept;
+use crate::kept::Stored;
 use abi_base::NoMemory;
 use std::alloc::Global;
 
@@ -13,7 +13,7 @@ const HINT_BYTES: u32 = 32;
 pub(crate) const MOST_BETWEEN: usize = 32;
 
 // For each so many bytes of `.debug_info` the place of the first entry that begins there, and 0 where none does.
-pub(crate) fn hints_of(alloc: Global, entries: &[Kept]) -> Result<Vec<u32>, NoMemory>
+pub(crate) fn hints_of(alloc: Global, entries: &[Stored]) -> Result<Vec<u32>, NoMemory>
     requires { length entries.now < 2 ^ 32 }
 {
     let Some(last) = entries.last() else {

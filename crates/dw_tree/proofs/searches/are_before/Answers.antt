@@ -1,12 +1,12 @@
 use Rattle.std.proofs.Common.{◌<◌, ◌-◌, subst, sym, arith}
 use Rattle.std.proofs.lemmas.Bool.{ltb-true}
-use Rattle.dw_tree.specs.declared.kept.Kept.{Kept}
+use Rattle.dw_tree.specs.declared.kept.Stored.{Stored}
 use Rattle.dw_tree.proofs.SearchLemmas.{before_through}
 use Rattle.dw_tree.proofs.searches.are_before.Goals as goal
 
 pub returns-in-Some : goal.returns-in-Some
 returns-in-Some c = λ less k d before.
-    let begins : c.in-Some.kept.now.offset < c.args.offset = omega (arith, c.from.ensures, ltb-true c.from.result c.args.offset less) in
-    before_through c.args.entries.now c.args.offset c.requires (c.args.place - 1) c.in-Some.kept.now
+    let begins : c.in-Some.stored.now.offset < c.args.offset = omega (arith, c.from.ensures, ltb-true c.from.result c.args.offset less) in
+    before_through c.args.entries.now c.args.offset c.requires (c.args.place - 1) c.in-Some.stored.now
     (ltb-true (c.args.place - 1) _ (sym c.in-Some.ensures.lookup.0))
-    (subst (λ (x : Kept). x.offset < c.args.offset) c.in-Some.ensures.lookup.1 begins) k d (omega (arith, before))
+    (subst (λ (x : Stored). x.offset < c.args.offset) c.in-Some.ensures.lookup.1 begins) k d (omega (arith, before))
