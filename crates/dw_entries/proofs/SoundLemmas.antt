@@ -2,7 +2,7 @@
 use Rattle.std.proofs.Common.{◌≡◌, ◌∙◌, ℕ, zero, suc, ◌<◌, Bool, true, false, List, [], ◌∷◌, length, map, Option, Some, None, Result, Ok, Err, refl, sym, ap, subst, inl, inr}
 use Rattle.std.specs.Prelude.{◌⊎◌, ◌&&◌, ◌==◌, find, is_some, IfSome, IsSome, IsOk}
 use Rattle.std.specs.List.{list_any}
-use Rattle.std.specs.Option.{option_map, option_map_or}
+use Rattle.std.specs.Option.{option_map_or}
 use Rattle.std.proofs.lemmas.Bool.{or_parts}
 use Rattle.std.proofs.lemmas.List.Quantifiers.{position-Some}
 use Rattle.std.proofs.lemmas.Option.{same_Some}
@@ -19,7 +19,9 @@ use Rattle.dw_forms.specs.Values.{fault}
 use Rattle.dw_text.specs.Texts.{text_of}
 use Rattle.dw_tree.specs.Trees.{PlainTree, entry_at, entry_of, head_at, no_entry, own_of}
 use Rattle.dw_entries.specs.Addresses.{tag_at}
-use Rattle.dw_entries.specs.Chains.{is_own_attribute, is_read_tag, is_too_deep, signed_of, target_of, read_link, link_by, link_of, holder_of, attribute_along, name_of, own_text, known_text}
+use Rattle.dw_entries.specs.Chains.{is_own_attribute, is_read_tag, is_too_deep, signed_of, target_of, linked, either_link, read_link, link_by, link_of, holder_of, attribute_along, name_of, own_text, known_text}
+use Rattle.dw_entries.specs.declared.link.Link.{Link}
+use Rattle.dw_entries.specs.declared.link.Link.TheVariants.{Missing, Nowhere, To}
 use Rattle.dw_entries.specs.Debug.{PlainDwarf, bases_of, text_at_entry}
 use Rattle.dw_entries.specs.Pass.{address_faults, entry_fault, entry_rows, has_bad_reference, name_fault, of_kind, references, refers_nowhere, is_signed, lacks_unit}
 use Rattle.dw_entries.specs.Sound.{AreFaultless, IsSound, RefersThere}
@@ -131,7 +133,7 @@ target_inside t (value.Reference offset) f h = entry_inside t offset f h
 target_inside t (value.Signature signature) f h = type_inside t _ f h
 target_inside t other f h = absurd cc
 
-read_there : (t : PlainTree) (own : Option Value) (f : ℕ) → read_link t (option_map (target_of t) own) ≡ Some (Some f) → IsReadThere t f
+read_there : (t : PlainTree) (own : Option Value) (f : ℕ) → linked (read_link t own) ≡ Some f → IsReadThere t f
 read_there t None f h = absurd cc
 read_there t (Some v) f h =
     option_cases (target_of t v) (λ is. absurd (let e = rw is at h in cc)) (λ g is.
@@ -141,14 +143,18 @@ read_there t (Some v) f h =
     let same : g ≡ f = cc in
     subst (λ (k : ℕ). IsReadThere t k) same (record { inside = target_inside t v g is; tag = yes })) (λ no. absurd (let e = rw no at h1 in cc)))
 
+either_there : (link other : Link) (f : ℕ) → either_link link other ≡ Some f → (linked link ≡ Some f) ⊎ (linked other ≡ Some f)
+either_there Missing other f h = inr h
+either_there Nowhere other f h = absurd cc
+either_there (To g) other f h = inl h
+
 link_there : (t : PlainTree) (e f : ℕ) → link_of t e ≡ Some f → IsReadThere t f
 unfolding link_of
 link_there t e f h =
-    option_cases (link_by t e dw_at_abstract_origin) (λ none.
-    let h1 = rw none at h in
-    option_cases (link_by t e dw_at_specification) (λ no. absurd (let g = rw no at h1 in cc))
-    (λ to is. let same = rw is at h1 in read_there t (own_of t e dw_at_specification) f (is ∙ ap (λ (o : Option ℕ). Some o) same)))
-    (λ to is. let same = rw is at h in read_there t (own_of t e dw_at_abstract_origin) f (is ∙ ap (λ (o : Option ℕ). Some o) same))
+    elim (either_there (link_by t e dw_at_abstract_origin) (link_by t e dw_at_specification) f h) [
+      | inl origin ↦ read_there t (own_of t e dw_at_abstract_origin) f origin
+      | inr specification ↦ read_there t (own_of t e dw_at_specification) f specification
+    ]
 
 in_rest : (t : PlainTree) (p : ℕ → Bool) (n e f : ℕ) → IsReadThere t e → find p (rest_of t n e) ≡ Some f → IsReadThere t f
 unfolding rest_of

@@ -1,6 +1,6 @@
 -- The rows of an entry in the parts in which they are asked: most entries have no addresses, and of these only the name and the
 -- references are.
-use Rattle.std.specs.Prelude.{ℕ, ◌==◌, ◌||◌, Bool, List, [], ◌∷◌, map, Option}
+use Rattle.std.specs.Prelude.{ℕ, ◌==◌, ◌||◌, Bool, List, [], ◌∷◌, ◌++◌, map, Option}
 use Rattle.abi_base.specs.declared.fault.Fault.{Fault}
 use Rattle.abi_base.specs.declared.fault.FaultKind.TheVariants as kind
 use Rattle.abi_base.specs.Outcome.{fault_if, first}
@@ -22,8 +22,4 @@ reference_rows t e = fault_if (has_bad_reference t e) kind.Reference (entry_at t
 
 abbrev pub rows_behind_name : PlainDwarf → ℕ → List (Option Fault)
 rows_behind_name d e =
-    first (map (of_kind kind.Index) (address_faults d e))
-    ∷ fault_if (has_bad_reference d.tree e) kind.Reference (entry_at d.tree e).offset
-    ∷ fault_if (is_too_deep d.tree e) kind.OriginTooDeep (entry_at d.tree e).offset
-    ∷ first (map (of_kind kind.Ranges) (address_faults d e))
-    ∷ []
+    first (map (of_kind kind.Index) (address_faults d e)) ∷ (reference_rows d.tree e ++ first (map (of_kind kind.Ranges) (address_faults d e)) ∷ [])

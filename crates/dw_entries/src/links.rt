@@ -1,13 +1,14 @@
 // The tree of entries, and how its entries refer to one another.
-ghost use Rattle.std.specs.Prelude.{◌≡◌, ◌<◌, Some, None, length, is_some, IfSome, IfOk};
+ghost use Rattle.std.specs.Prelude.{◌≡◌, ◌<◌, Some, None, length, is_some, find, IfSome, IfOk};
 ghost use Rattle.std.specs.Option.{option_map, option_map_or};
 ghost use Rattle.abi_base.specs.Limits.{chain_limit};
 ghost use Rattle.dw_tree.specs.Trees.{PlainTree, entry_at, head_at, own_of, entry_of};
 ghost use Rattle.dw_entries.specs.Places.{HoldUnits};
-ghost use Rattle.dw_entries.specs.Chains.{signed_of, target_of, link_by as the_link_by, link_of, either_link, after_links, holder_of, attribute_along, origin_of};
+ghost use Rattle.dw_entries.specs.Chains.{signed_of, target_of, read_link, link_by as the_link_by, link_of, linked, either_link, after_links, chain_within, holder_of, attribute_along, origin_of};
 
 use crate::attributes::is_own_attribute;
-use crate::constants::{CHAIN_ENTRIES, CHAIN_LINKS};
+use crate::constants::CHAIN_LINKS;
+use crate::link::Link;
 use crate::places::{keep_first, place_of};
 use crate::tags::is_read_tag;
 use abi_base::NoMemory;
@@ -84,25 +85,34 @@ impl<'a> Links<'a> {
         }
     }
 
-    // Where an attribute links an entry to: none where there is no such link, and inside of it none where the link leads
-    // nowhere.
-    pub(crate) fn link_by(&self, e: usize, name: u64) -> Option<Option<usize>>
+    // Where an attribute with this value links an entry to.
+    #[inline(never)]
+    fn link_through(&self, value: &Value) -> Link
+        ensures found { result ≡ read_link self.now (Some value.now) }
+        ensures inside { IfSome (linked result) (λ f. f < length self.now.entries) }
+    {
+        match self.target(value) {
+            Some(to) => {
+                if is_read_tag(self.tree.tag(to)) {
+                    Link::To(to)
+                } else {
+                    Link::Missing
+                }
+            }
+            None => Link::Nowhere,
+        }
+    }
+
+    // Where an attribute links an entry to. This stands in its callers, since most entries lack the attribute.
+    #[inline(always)]
+    pub(crate) fn link_by(&self, e: usize, name: u64) -> Link
         requires { e < length self.now.entries }
         ensures found { result ≡ the_link_by self.now e name }
-        ensures inside { IfSome result (λ to. IfSome to (λ f. f < length self.now.entries)) }
+        ensures inside { IfSome (linked result) (λ f. f < length self.now.entries) }
     {
         match self.tree.own(e, name) {
-            Some(value) => match self.target(&value) {
-                Some(to) => {
-                    if is_read_tag(self.tree.tag(to)) {
-                        Some(Some(to))
-                    } else {
-                        None
-                    }
-                }
-                None => Some(None),
-            },
-            None => None,
+            Some(value) => self.link_through(&value),
+            None => Link::Missing,
         }
     }
 
@@ -114,11 +124,9 @@ impl<'a> Links<'a> {
         ensures inside { IfSome result (λ f. f < length self.now.entries) }
     {
         match self.link_by(e, DW_AT_abstract_origin) {
-            Some(to) => to,
-            None => match self.link_by(e, DW_AT_specification) {
-                Some(to) => to,
-                None => None,
-            },
+            Link::To(to) => Some(to),
+            Link::Nowhere => None,
+            Link::Missing => self.link_by(e, DW_AT_specification).entry(),
         }
     }
 
@@ -138,18 +146,14 @@ impl<'a> Links<'a> {
     }
 
     // Whether the chain of an entry has more links than are followed, by where the entry's own two links lead.
-    pub(crate) fn is_too_deep(
-        &self,
-        origin: Option<Option<usize>>,
-        specification: Option<Option<usize>>,
-    ) -> bool
-        requires origin { IfSome origin (λ to. IfSome to (λ f. f < length self.now.entries)) }
-        requires specification { IfSome specification (λ to. IfSome to (λ f. f < length self.now.entries)) }
+    pub(crate) fn is_too_deep(&self, origin: Link, specification: Link) -> bool
+        requires origin { IfSome (linked origin) (λ f. f < length self.now.entries) }
+        requires specification { IfSome (linked specification) (λ f. f < length self.now.entries) }
         ensures { result ≡ is_some (option_map_or (λ f. after_links self.now f chain_limit) (either_link origin specification) None) }
     {
-        match origin.or(specification) {
-            Some(Some(to)) => self.leads_on(to, CHAIN_LINKS),
-            _ => false,
+        match origin.entry_or(specification) {
+            Some(to) => self.leads_on(to, CHAIN_LINKS),
+            None => false,
         }
     }
 
@@ -169,15 +173,16 @@ impl<'a> Links<'a> {
         at
     }
 
-    // The first entry of the chain that has an attribute, and its value.
-    pub(crate) fn held(&self, e: usize, name: u64) -> Option<(usize, Value)>
+    // The first of so many entries of the chain that has an attribute, and its value.
+    #[inline(never)]
+    fn held_within(&self, e: usize, entries: usize, name: u64) -> Option<(usize, Value)>
         requires { e < length self.now.entries }
-        ensures holder { option_map (λ held. held.0) result ≡ holder_of self.now e name }
+        ensures holder { option_map (λ held. held.0) result ≡ find (λ f. is_some (own_of self.now f name)) (chain_within self.now e entries) }
         ensures value { IfSome result (λ held. own_of self.now held.0 name ≡ Some held.1) }
         ensures inside { IfSome result (λ held. held.0 < length self.now.entries) }
     {
         let mut at = e;
-        'chain: for followed in 0..CHAIN_ENTRIES {
+        'chain: for followed in 0..entries {
             match self.own(at, name) {
                 Some(value) => return Some((at, value)),
                 None => match self.link(at) {
@@ -189,16 +194,50 @@ impl<'a> Links<'a> {
         None
     }
 
+    // The first entry of the chain that has an attribute, and its value, where the entry itself lacks the attribute. This stands
+    // in its callers, since most entries have no link.
+    #[inline(always)]
+    fn held_behind(&self, e: usize, name: u64) -> Option<(usize, Value)>
+        requires inside { e < length self.now.entries }
+        requires lacks { own_of self.now e name ≡ None }
+        ensures holder { option_map (λ held. held.0) result ≡ holder_of self.now e name }
+        ensures value { IfSome result (λ held. own_of self.now held.0 name ≡ Some held.1) }
+        ensures inside { IfSome result (λ held. held.0 < length self.now.entries) }
+    {
+        match self.link(e) {
+            Some(to) => self.held_within(to, CHAIN_LINKS, name),
+            None => None,
+        }
+    }
+
+    // The first entry of the chain that has an attribute, and its value.
+    #[tactic(auto, using(crate::proofs::ChainLemmas::holder_here))]
+    pub(crate) fn held(&self, e: usize, name: u64) -> Option<(usize, Value)>
+        requires { e < length self.now.entries }
+        ensures holder { option_map (λ held. held.0) result ≡ holder_of self.now e name }
+        ensures value { IfSome result (λ held. own_of self.now held.0 name ≡ Some held.1) }
+        ensures inside { IfSome result (λ held. held.0 < length self.now.entries) }
+    {
+        match self.own(e, name) {
+            Some(value) => Some((e, value)),
+            None => self.held_behind(e, name),
+        }
+    }
+
     // The value that an entry has of an attribute: its own, where the attribute speaks of the entry itself, else along the
     // chain.
+    #[tactic(auto, using(crate::proofs::ChainLemmas::along_here))]
     pub(crate) fn attr(&self, e: usize, name: u64) -> Option<Value>
         requires { e < length self.now.entries }
         ensures { result ≡ attribute_along self.now e name }
     {
-        if is_own_attribute(name) {
-            return self.tree.own(e, name);
+        if let Some(value) = self.tree.own(e, name) {
+            return Some(value);
         }
-        match self.held(e, name) {
+        if is_own_attribute(name) {
+            return None;
+        }
+        match self.held_behind(e, name) {
             Some((_, value)) => Some(value),
             None => None,
         }
