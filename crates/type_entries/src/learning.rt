@@ -57,7 +57,7 @@ fn learn(
     }
     let parts = parts_of(alloc, dwarf, e)?;
     let steps = steps_of(alloc, dwarf, e, parts.as_slice())?;
-    let mut of_steps = Vec::new(alloc);
+    let mut of_steps = Vec::with_capacity(alloc, steps.len())?;
     'steps: for k in 0..steps.len() {
         if budget == 0 {
             return Ok(None);

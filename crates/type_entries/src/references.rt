@@ -113,7 +113,7 @@ fn all_types(
     requires parts_inside { All (λ c. c < length dwarf.now.tree.entries) parts.now }
     ensures { IfOk result (λ types. types.items ≡ the_types_of dwarf.now.tree e) }
 {
-    let mut types = Vec::new(alloc);
+    let mut types = Vec::with_capacity(alloc, parts.len() + 1)?;
     push_own(dwarf, &mut types, e)?;
     'parts: for k in 0..parts.len() {
         types.push(type_of(dwarf, parts[k]))?;
