@@ -1,20 +1,20 @@
 -- Which forms stand for themselves, and what references count from.
-use Rattle.std.proofs.Common.{◌≡◌, ◌≢◌, ℕ, zero, suc, ◌+◌, ◌-◌, ◌<◌, ◌≤◌, Bool, true, false, leb, List, [], ◌∷◌, length, get_or, take, Option, Some, None, Result, Ok, refl, sym, ap, arith}
+use Rattle.std.proofs.Common.{◌≡◌, ◌≢◌, ℕ, zero, suc, ◌+◌, ◌-◌, ◌<◌, ◌≤◌, Bool, true, false, leb, List, [], ◌∷◌, length, get_or, take, Option, Some, None, Result, Ok, refl, sym, ap, arith, inl, inr}
 use Rattle.std.specs.Prelude.{ℤ, ◌==◌, ◌||◌, not, find}
 use Rattle.std.specs.List.{list_all}
 use Rattle.std.specs.Option.{option_map}
 use Rattle.std.proofs.Math.Seq.{drop-cons}
-use Rattle.std.proofs.lemmas.Bool.{eqb-true, le-leb}
+use Rattle.std.proofs.lemmas.Bool.{cases_Bool, eqb-true, le-leb}
 use Rattle.std.proofs.lemmas.List.{length-take-le}
 use Rattle.std.proofs.lemmas.Option.{same_Some}
 use Rattle.abi_base.specs.Numbers.{number, number_at}
 use Rattle.abi_base.proofs.lemmas.Numbers.{number_of-nil, number_of-cons}
-use Rattle.abi_base.proofs.lemmas.Cases.{bool_cases, option_cases}
 use Rattle.abi_base.specs.declared.fault.Fault.{Fault}
 use Rattle.dw_forms.specs.declared.meaning.Meaning.{Meaning}
 use Rattle.abi_base.specs.Dwarf.{dw_form_indirect, dw_form_implicit_const, dw_form_ref_addr, dw_form_ref1, dw_form_ref2, dw_form_ref4, dw_form_ref8, dw_form_ref_udata}
 use Rattle.abi_base.specs.Leb.{uleb_at}
 use Rattle.dw_forms.specs.Values.{Shape, fixed, of_uleb, implicit_const, indirect, forms, shape_of, named_shape, spelled, place_after, fixed_size_of, value_of, value_at, direct_at, indirect_at, Refers, RefersByUleb, absolute, from_unit, of_sleb, sixteen_bytes, block_behind, block_behind_uleb, inline_text, is_present, supplementary}
+use Rattle.dw_forms.proofs.Cases.{option_cases}
 
 -- the number in one byte is the byte
 pub number_one : (bytes : List ℕ) (at : ℕ) → at < length bytes → number 1 bytes at ≡ get_or bytes at 0
@@ -25,15 +25,17 @@ number_one bytes at lt = rw (drop-cons bytes at 0 lt, number_of-cons, number_of-
 row_found : (ok : ℕ → Shape → Bool) (form : ℕ) (rows : List (ℕ × Shape)) (s : Shape) → list_all (λ row. ok row.0 row.1) rows ≡ true → option_map (λ row. row.1) (find (λ row. row.0 == form) rows) ≡ Some s → ok form s ≡ true
 row_found ok form [] s all h = absurd cc
 row_found ok form ((f, t) ∷ rows) s all h =
-    bool_cases (ok f t)
-    (λ good. let others = rw good at all in
-    bool_cases (f == form)
-    (λ is. let found = rw is at h in
-    let same : t ≡ s = same_Some t s found in
-    let key : f ≡ form = eqb-true f form is in
-    rw (← same, ← key) good)
-    (λ is. row_found ok form rows s others (rw is at h)))
-    (λ bad. absurd (let none = rw bad at all in cc))
+    elim (cases_Bool (ok f t)) [
+      | inl good ↦ let others = rw good at all in
+          elim (cases_Bool (f == form)) [
+            | inl is ↦ let found = rw is at h in
+                let same : t ≡ s = same_Some t s found in
+                let key : f ≡ form = eqb-true f form is in
+                rw (← same, ← key) good
+            | inr is ↦ row_found ok form rows s others (rw is at h)
+          ]
+      | inr bad ↦ absurd (let none = rw bad at all in cc)
+    ]
 
 -- a shape that only one form has
 abbrev only : (Shape → Bool) → ℕ → ℕ → Shape → Bool

@@ -1,2 +1,3 @@
+mod Cases
 mod FormLemmas
 pub mod lemmas

@@ -135,10 +135,10 @@ pub fn value(
     }
 }
 
-// How many bytes each value of a form has, where all of them have as many.
+/// How many bytes each value of a form has, where all of them have as many.
 #[inline(always)]
 #[tactic(auto, unfolding(crate::specs::Values::shape_of, crate::specs::Values::forms))]
-fn fixed_size(form: u64) -> Option<u64>
+pub fn fixed_size(form: u64) -> Option<u16>
     ensures { result ≡ fixed_size_of (shape_of form) }
 {
     match form {
@@ -172,8 +172,8 @@ pub fn fixed_end(form: u64, unit_end: u64, at: usize) -> Option<usize>
 {
     match fixed_size(form) {
         Some(size) => {
-            if unit_end.saturating_sub(at as u64) >= size {
-                Some(at + size as usize)
+            if unit_end.saturating_sub(at as u64) >= u64::from(size) {
+                Some(at + usize::from(size))
             } else {
                 None
             }

@@ -8,6 +8,6 @@ mod sections;
 mod source;
 mod values;
 
-pub use forms::{fixed_end, value, value_end};
+pub use forms::{fixed_end, fixed_size, value, value_end};
 pub use sections::Sections;
 pub use values::Value;

@@ -1,20 +1,20 @@
 -- Reading a value moves on, and stays inside the unit.
-use Rattle.std.proofs.Common.{◌≡◌, ℕ, ◌+◌, ◌<◌, ◌≤◌, List, length, take, drop, leb, Some, Result, Ok, Err, ap, arith}
+use Rattle.std.proofs.Common.{◌≡◌, ℕ, ◌+◌, ◌<◌, ◌≤◌, List, length, take, drop, leb, Some, Result, Ok, Err, ap, arith, inl, inr}
 use Rattle.std.specs.Prelude.{ℤ, true, position}
 use Rattle.std.proofs.lemmas.List.{length-take, length-drop}
 use Rattle.std.proofs.lemmas.List.Quantifiers.{position-Some}
 use Rattle.std.proofs.lemmas.Option.{same_Some}
-use Rattle.std.proofs.lemmas.Bool.{leb-true}
+use Rattle.std.proofs.lemmas.Bool.{cases_Bool, leb-true}
 use Rattle.abi_base.specs.declared.fault.Fault.{Fault}
 use Rattle.abi_base.specs.declared.fault.FaultKind.TheVariants as kind
 use Rattle.abi_base.specs.Numbers.{number_at, text_at, is_zero}
 use Rattle.abi_base.specs.Leb.{uleb_at, sleb_at}
 use Rattle.abi_base.proofs.lemmas.Numbers.{number_inside}
 use Rattle.abi_base.proofs.lemmas.Leb.{uleb_inside, sleb_inside}
-use Rattle.abi_base.proofs.lemmas.Cases.{option_cases, bool_cases, same_Ok}
 use Rattle.dw_forms.specs.declared.values.Value.{Value}
 use Rattle.dw_forms.specs.declared.values.Value.TheVariants as value
 use Rattle.dw_forms.specs.Values.{Shape, fixed, block_behind_uleb, of_uleb, of_sleb, implicit_const, sixteen_bytes, block_behind, inline_text, is_present, indirect, supplementary, means, block, fault, spelled, named_shape, shape_of, indirect_at, value_of, value_at}
+use Rattle.dw_forms.proofs.Cases.{option_cases, same_Ok}
 
 -- the place after a value that begins at a place, in a unit that ends at a place
 pub record Moves (at end next : ℕ) : Type 0 where
@@ -37,10 +37,11 @@ text_inside bytes at t h =
 
 block_moves : (bytes : List ℕ) (end from len : ℕ) (f : Fault) (r : Value × ℕ) → length bytes ≤ end → block bytes from len (Err f) ≡ Ok r → Moves from end r.1
 block_moves bytes end from len f r small h =
-    bool_cases (leb (from + len) (length bytes))
-    (λ is. let le = leb-true (from + len) (length bytes) is in
-    moved (value.Block from (from + len)) from end (from + len) r (rw is at h) (omega arith) (λ i. omega arith))
-    (λ is. absurd (let e = rw is at h in cc))
+    elim (cases_Bool (leb (from + len) (length bytes))) [
+      | inl is ↦ let le = leb-true (from + len) (length bytes) is in
+          moved (value.Block from (from + len)) from end (from + len) r (rw is at h) (omega arith) (λ i. omega arith)
+      | inr is ↦ absurd (let e = rw is at h in cc)
+    ]
 
 then : (at end next last : ℕ) → at ≤ next → next ≤ end → Moves next end last → Moves at end last
 then at end next last le inside m = record { after = omega (arith, m.after); inside = λ i. omega (arith, m.inside inside) }
@@ -60,10 +61,11 @@ spelled_moves of_sleb implicit unit end entry bytes at r small h =
     moved (value.Signed n.0) at end n.1 r (rw is at h) (omega arith) (λ i. omega arith))
 spelled_moves implicit_const implicit unit end entry bytes at r small h = moved (value.Signed implicit) at end at r h (omega arith) (λ i. i)
 spelled_moves sixteen_bytes implicit unit end entry bytes at r small h =
-    bool_cases (leb (at + 16) (length bytes))
-    (λ is. let le = leb-true (at + 16) (length bytes) is in
-    moved (value.Wide at) at end (at + 16) r (rw is at h) (omega arith) (λ i. omega arith))
-    (λ is. absurd (let e = rw is at h in cc))
+    elim (cases_Bool (leb (at + 16) (length bytes))) [
+      | inl is ↦ let le = leb-true (at + 16) (length bytes) is in
+          moved (value.Wide at) at end (at + 16) r (rw is at h) (omega arith) (λ i. omega arith)
+      | inr is ↦ absurd (let e = rw is at h in cc)
+    ]
 spelled_moves (block_behind size) implicit unit end entry bytes at r small h =
     option_cases (number_at size bytes at) (λ is. absurd (let e = rw is at h in cc))
     (λ n is. let le = number_inside size bytes at n is in
