@@ -1,17 +1,17 @@
 -- Units stand one after the other inside the section.
-use Rattle.std.proofs.Common.{◌≡◌, ℕ, ◌+◌, ◌<◌, ◌≤◌, ltb, Bool, true, false, List, [], ◌∷◌, length, Option, Some, None, Ok, refl, ap, subst, arith, lit<}
+use Rattle.std.proofs.Common.{◌≡◌, ℕ, ◌+◌, ◌<◌, ◌≤◌, ltb, Bool, true, false, List, [], ◌∷◌, length, Option, Some, None, Ok, refl, ap, subst, arith, lit<, inl, inr}
 use Rattle.std.specs.Prelude.{◌&&◌, ◌==◌, nat_lt, nat_le, is_some, if◌then◌else◌}
-use Rattle.std.proofs.lemmas.Bool.{ltb-false, or_parts}
+use Rattle.std.proofs.lemmas.Bool.{cases_Bool, ltb-false, or_parts}
 use Rattle.abi_base.specs.Dwarf.{length_size, dwarf64_length, reserved_length, header_size_4, dwarf_4, type_signature_at}
 use Rattle.abi_base.specs.declared.fault.Fault.{Fault}
 use Rattle.abi_base.specs.declared.fault.FaultKind.{FaultKind}
 use Rattle.abi_base.specs.declared.fault.FaultKind.TheVariants as kind
 use Rattle.abi_base.specs.Numbers.{number}
 use Rattle.abi_base.specs.Outcome.{first, fault_if}
-use Rattle.abi_base.proofs.lemmas.Cases.{option_cases, bool_cases, same_Ok}
 use Rattle.dw_abbrev.specs.Abbrevs.{table_run}
 use Rattle.dw_units.specs.Units.{PlainUnit, header_size_of, is_type_unit}
 use Rattle.dw_units.specs.Sequence.{UnitStands, unit_version, is_type_at, unit_abbrevs, unit_length, unit_end, header_size_at, bad_length, kind_rows, header_fault, unit_fault, unit_of, unit_step}
+use Rattle.dw_units.proofs.Cases.{option_cases, same_Ok}
 
 none_both : (o : Option Fault) (others : List (Option Fault)) → first (o ∷ others) ≡ None → (o ≡ None) × (first others ≡ None)
 none_both None others h = (refl, h)
@@ -45,8 +45,14 @@ signed true signature = refl
 signed false signature = refl
 
 some_header : (version : ℕ) (is_type : Bool) → 0 < header_size_of version is_type
-some_header version true = bool_cases (version == dwarf_4) (λ is. rw is (lit< tt)) (λ is. rw is (lit< tt))
-some_header version false = bool_cases (version == dwarf_4) (λ is. rw is (lit< tt)) (λ is. rw is (lit< tt))
+some_header version true = elim (cases_Bool (version == dwarf_4)) [
+  | inl is ↦ rw is (lit< tt)
+  | inr is ↦ rw is (lit< tt)
+]
+some_header version false = elim (cases_Bool (version == dwarf_4)) [
+  | inl is ↦ rw is (lit< tt)
+  | inr is ↦ rw is (lit< tt)
+]
 
 made_stands : (info abbrevs : List ℕ) (at : ℕ) → unit_fault info abbrevs at ≡ None → UnitStands info at (unit_of info abbrevs at) (unit_of info abbrevs at).end
 unfolding unit_fault unit_of
@@ -64,11 +70,12 @@ made_stands info abbrevs at none =
 pub unit_stands : (info abbrevs : List ℕ) (at : ℕ) (u : PlainUnit) (next : ℕ) → unit_step info abbrevs at ≡ Ok (u, next) → UnitStands info at u next
 unfolding unit_step
 unit_stands info abbrevs at u next h =
-    bool_cases (ltb at (length info)) (λ lt.
-    let h1 = rw lt at h in
-    option_cases (unit_fault info abbrevs at)
-    (λ is. let h2 = rw is at h1 in
-    let made = unit_of info abbrevs at in
-    subst (λ (p : PlainUnit × ℕ). UnitStands info at p.0 p.1) (same_Ok (made, made.end) (u, next) h2) (made_stands info abbrevs at is))
-    (λ f is. absurd (let g = rw is at h1 in cc)))
-    (λ ge. absurd (let g = rw ge at h in cc))
+    elim (cases_Bool (ltb at (length info))) [
+      | inl lt ↦ let h1 = rw lt at h in
+          option_cases (unit_fault info abbrevs at)
+          (λ is. let h2 = rw is at h1 in
+          let made = unit_of info abbrevs at in
+          subst (λ (p : PlainUnit × ℕ). UnitStands info at p.0 p.1) (same_Ok (made, made.end) (u, next) h2) (made_stands info abbrevs at is))
+          (λ f is. absurd (let g = rw is at h1 in cc))
+      | inr ge ↦ absurd (let g = rw ge at h in cc)
+    ]

@@ -1,5 +1,6 @@
 // The values of an entry, and the place after them.
-ghost use Rattle.std.specs.Prelude.{◌≡◌};
+ghost use Rattle.std.specs.Prelude.{◌≡◌, Some};
+ghost use Rattle.dw_abbrev.specs.Abbrevs.{abbrev_of};
 ghost use Rattle.abi_base.specs.Outcome.{Gives};
 ghost use Rattle.dw_forms.specs.Values.{place_after, value_at};
 ghost use Rattle.dw_units.specs.Plain.{plain_unit};
@@ -7,7 +8,7 @@ ghost use Rattle.dw_units.specs.Units.{values_at};
 
 use crate::unit::Unit;
 use abi_base::{Fault, List, Refusal};
-use dw_abbrev::Spec;
+use dw_abbrev::{Abbrev, Spec};
 use dw_forms::{Value, fixed_end, value, value_end};
 use std::alloc::Global;
 
@@ -51,10 +52,10 @@ pub fn values_in(
     Ok((attributes, place))
 }
 
-/// The place after the values of an entry, which are passed over, or the fault of the first that cannot be read.
-#[inline]
+// The place after the values of an entry, which are passed over, or the fault of the first that cannot be read.
+#[inline(never)]
 #[tactic(auto, using(crate::proofs::ValuesLoop::passed_all))]
-pub fn values_end(unit: &Unit<'_>, entry: u64, specs: &[Spec], at: usize) -> Result<usize, Fault>
+fn values_end(unit: &Unit<'_>, entry: u64, specs: &[Spec], at: usize) -> Result<usize, Fault>
     ensures { result ≡ place_after (values_at (plain_unit unit.now) entry specs.now at) }
 {
     let mut place = at;
@@ -68,4 +69,25 @@ pub fn values_end(unit: &Unit<'_>, entry: u64, specs: &[Spec], at: usize) -> Res
         }
     }
     Ok(place)
+}
+
+/// The place after the values of an entry of a code, which begin at a place and are passed over, or the fault of the first that
+/// cannot be read.
+#[inline(always)]
+pub fn entry_end(
+    unit: &Unit<'_>,
+    entry: u64,
+    code: u64,
+    form: &Abbrev,
+    at: usize,
+) -> Result<usize, Fault>
+    requires { abbrev_of unit.now.table.value code ≡ Some form.now }
+    ensures { result ≡ place_after (values_at (plain_unit unit.now) entry form.now.specs at) }
+{
+    match unit.table.size(code) {
+        Some(size) if unit.end.saturating_sub(at as u64) >= u64::from(size) => {
+            Ok(at + usize::from(size))
+        }
+        _ => values_end(unit, entry, form.specs.as_slice(), at),
+    }
 }
