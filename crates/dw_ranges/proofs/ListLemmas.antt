@@ -1,6 +1,7 @@
 -- The first range of a list, entry by entry.
-use Rattle.std.proofs.Common.{◌≡◌, ℕ, suc, ◌+◌, ◌-◌, ◌<◌, ◌≤◌, List, [], length, Option, Some, None, Result, Ok, Err, ap, ◌∙◌, arith}
+use Rattle.std.proofs.Common.{◌≡◌, ℕ, suc, ◌+◌, ◌-◌, ◌<◌, ◌≤◌, List, [], length, Option, Some, None, Result, Ok, Err, ap, ◌∙◌, arith, inl, inr}
 use Rattle.std.specs.Prelude.{◌==◌, ◌&&◌}
+use Rattle.std.proofs.lemmas.Bool.{cases_Bool}
 use Rattle.abi_base.specs.declared.fault.Fault.{Fault}
 use Rattle.abi_base.specs.Numbers.{number_at}
 use Rattle.abi_base.specs.Leb.{uleb_at}
@@ -9,12 +10,12 @@ use Rattle.abi_base.specs.Runs.{Run, run, Chain}
 use Rattle.abi_base.proofs.lemmas.Numbers.{number_inside}
 use Rattle.abi_base.proofs.lemmas.Leb.{uleb_inside}
 use Rattle.abi_base.proofs.lemmas.Runs.{Falls, run_more, run_end, run_chain}
-use Rattle.abi_base.proofs.lemmas.Cases.{option_cases, bool_cases, result_cases, same_Ok}
 use Rattle.dw_ranges.specs.declared.layout.Field.{Field}
 use Rattle.dw_ranges.specs.declared.layout.Field.TheVariants as field
 use Rattle.dw_ranges.specs.declared.layout.Layout.{Layout}
 use Rattle.abi_base.specs.Dwarf.{dw_rle_end_of_list}
 use Rattle.dw_ranges.specs.RangeLists.{State, Entry, field_at, fields_step, layout_of, meant, kind_step, list_step, pair_means, pair_step, list_run, pair_run, first_or_end, first_start}
+use Rattle.dw_ranges.proofs.Cases.{option_cases, result_cases, same_Ok}
 
 -- ---- any list whose steps move on
 
@@ -67,13 +68,15 @@ fields_after addr addr_base entry bytes layout s x next h =
 kind_after : (addr : List ℕ) (addr_base : Option ℕ) (entry : ℕ) (bytes : List ℕ) (code : ℕ) (s : State) (x : Entry) (next : State) → kind_step addr addr_base entry bytes code s ≡ Ok (x, next) → s.0 ≤ next.0
 unfolding kind_step
 kind_after addr addr_base entry bytes code s x next h =
-    bool_cases (code == dw_rle_end_of_list) (λ is. absurd (let g = rw is at h in cc)) (λ is.
-    let h1 = rw is at h in
-    option_cases (layout_of code) (λ no. absurd (let g = rw no at h1 in cc)) (λ layout so.
-    let h2 = rw so at h1 in
-    result_cases (fields_step addr addr_base entry bytes layout s)
-    (λ r js. fields_after addr addr_base entry bytes layout s x next (js ∙ fields_same r (rw js at h2)))
-    (λ e js. absurd (let g = rw js at h2 in cc))))
+    elim (cases_Bool (code == dw_rle_end_of_list)) [
+      | inl is ↦ absurd (let g = rw is at h in cc)
+      | inr is ↦ let h1 = rw is at h in
+          option_cases (layout_of code) (λ no. absurd (let g = rw no at h1 in cc)) (λ layout so.
+          let h2 = rw so at h1 in
+          result_cases (fields_step addr addr_base entry bytes layout s)
+          (λ r js. fields_after addr addr_base entry bytes layout s x next (js ∙ fields_same r (rw js at h2)))
+          (λ e js. absurd (let g = rw js at h2 in cc)))
+    ]
   where
     fields_same : (r : Entry × State) → ◌≡◌ {A = Result (Entry × State) (Option Fault)} (Ok r) (Ok (x, next)) → ◌≡◌ {A = Result (Entry × State) Fault} (Ok r) (Ok (x, next))
     fields_same r e = ap (λ (p : Entry × State). let o : Result (Entry × State) Fault = Ok p in o) (same_Ok r (x, next) e)
@@ -101,10 +104,12 @@ pair_after entry bytes s x next h =
     let h1 = rw is at h in
     option_cases (number_at 8 bytes (s.0 + 8)) (λ no. absurd (let g = rw no at h1 in cc)) (λ second so.
     let h2 = rw so at h1 in
-    bool_cases (first == 0 && second == 0) (λ zero. absurd (let g = rw zero at h2 in cc)) (λ other.
-    let same = same_Ok ((pair_means s.1 first second).0, (s.0 + 16, (pair_means s.1 first second).1)) (x, next) (rw other at h2) in
-    let place : s.0 + 16 ≡ next.0 = ap (λ (p : Entry × State). p.1.0) same in
-    omega (arith, inside, place))))
+    elim (cases_Bool (first == 0 && second == 0)) [
+      | inl zero ↦ absurd (let g = rw zero at h2 in cc)
+      | inr other ↦ let same = same_Ok ((pair_means s.1 first second).0, (s.0 + 16, (pair_means s.1 first second).1)) (x, next) (rw other at h2) in
+          let place : s.0 + 16 ≡ next.0 = ap (λ (p : Entry × State). p.1.0) same in
+          omega (arith, inside, place)
+    ]))
 
 pair_falls : (entry : ℕ) (bytes : List ℕ) → Falls (pair_step entry bytes) (left bytes)
 pair_falls entry bytes = record { falls = pair_after entry bytes }

@@ -1,13 +1,12 @@
 -- Where the texts of a section end.
-use Rattle.std.proofs.Common.{◌≡◌, ◌∙◌, ℕ, zero, suc, ◌+◌, ◌-◌, ◌<◌, ◌≤◌, Bool, true, false, List, ◌∷◌, length, drop, Option, Some, None, refl, sym, ap, arith}
+use Rattle.std.proofs.Common.{◌≡◌, ◌∙◌, ℕ, zero, suc, ◌+◌, ◌-◌, ◌<◌, ◌≤◌, Bool, true, false, List, ◌∷◌, length, drop, Option, Some, None, refl, sym, ap, arith, inl, inr}
 use Rattle.std.specs.Prelude.{is_some, position}
 use Rattle.std.specs.List.{position_or_len}
 use Rattle.std.specs.Option.{option_map}
 use Rattle.std.proofs.Math.ListN.{get_or}
 use Rattle.std.proofs.Math.Dec.{ltb}
-use Rattle.std.proofs.lemmas.Bool.{lt-ltb, ltb-true, ltb-false, eqb-true}
+use Rattle.std.proofs.lemmas.Bool.{cases_Bool, lt-ltb, ltb-true, ltb-false, eqb-true}
 use Rattle.std.proofs.lemmas.List.{at_drop_more, at_drop_all}
-use Rattle.abi_base.proofs.lemmas.Cases.{bool_cases}
 use Rattle.abi_base.specs.Numbers.{text_at, is_zero}
 use Rattle.dw_text.specs.Texts.{TextsEnd}
 
@@ -64,22 +63,25 @@ module _ (section : List ℕ) (place : ℕ) (inside : place < length section) wh
 
 -- one place back
 pub none_before : (section : List ℕ) (end : ℕ) → 0 < end → end ≤ length section → NoText section end → is_zero (get_or section (end - 1) 0) ≡ false → NoText section (end - 1)
-none_before section end some inside none other place from = bool_cases (ltb place end)
-    (λ here. let same : end - 1 ≡ place = omega (arith, ltb-true place end here, from, some) in
-    let next : is_some (text_at section (end - 1)) ≡ is_some (text_at section (end - 1 + 1)) = text_later section (end - 1) (omega (arith, some, inside)) other in
-    rw same at (next ∙ none (end - 1 + 1) (omega (arith, some))))
-    (λ past. none place (ltb-false place end past))
+none_before section end some inside none other place from = elim (cases_Bool (ltb place end)) [
+  | inl here ↦ let same : end - 1 ≡ place = omega (arith, ltb-true place end here, from, some) in
+      let next : is_some (text_at section (end - 1)) ≡ is_some (text_at section (end - 1 + 1)) = text_later section (end - 1) (omega (arith, some, inside)) other in
+      rw same at (next ∙ none (end - 1 + 1) (omega (arith, some)))
+  | inr past ↦ none place (ltb-false place end past)
+]
 
 -- texts end behind a 0 byte, where none begins from there on
 pub ends_behind : (section : List ℕ) (end : ℕ) → 0 < end → end ≤ length section → NoText section end → get_or section (end - 1) 0 ≡ 0 → TextsEnd section end
-ends_behind section end some inside none is place = bool_cases (ltb place end)
-    (λ before. there (end - 1 - place) place (omega (arith, ltb-true place end before)) ∙ sym before)
-    (λ past. none place (ltb-false place end past) ∙ sym past)
+ends_behind section end some inside none is place = elim (cases_Bool (ltb place end)) [
+  | inl before ↦ there (end - 1 - place) place (omega (arith, ltb-true place end before)) ∙ sym before
+  | inr past ↦ none place (ltb-false place end past) ∙ sym past
+]
   where
     there : (steps place : ℕ) → place + steps ≡ end - 1 → is_some (text_at section place) ≡ true
     there zero place same =
         let here : place ≡ end - 1 = omega (arith, same) in
         text_here section place (omega (arith, same, some, inside)) (rw here is)
-    there (suc steps) place same = bool_cases (is_zero (get_or section place 0))
-        (λ zero_byte. text_here section place (omega (arith, same, some, inside)) (eqb-true (get_or section place 0) 0 zero_byte))
-        (λ other. text_later section place (omega (arith, same, some, inside)) other ∙ there steps (place + 1) (omega (arith, same)))
+    there (suc steps) place same = elim (cases_Bool (is_zero (get_or section place 0))) [
+      | inl zero_byte ↦ text_here section place (omega (arith, same, some, inside)) (eqb-true (get_or section place 0) 0 zero_byte)
+      | inr other ↦ text_later section place (omega (arith, same, some, inside)) other ∙ there steps (place + 1) (omega (arith, same))
+    ]
