@@ -1,13 +1,12 @@
 -- The children of an entry, listed one after the other.
-use Rattle.std.proofs.Common.{◌≡◌, ◌∙◌, ◌<◌, ◌≤◌, ◌+◌, ◌-◌, ◌==◌, ℕ, zero, suc, Bool, true, false, List, [], ◌∷◌, ◌++◌, Option, Some, None, refl, sym, ap, subst, arith, append_assoc}
+use Rattle.std.proofs.Common.{◌≡◌, ◌∙◌, ◌<◌, ◌≤◌, ◌+◌, ◌-◌, ◌==◌, ℕ, zero, suc, Bool, true, false, List, [], ◌∷◌, ◌++◌, Option, Some, None, refl, sym, ap, subst, arith, append_assoc, inl, inr}
 use Rattle.std.specs.Prelude.{find, filter, nat_lt, slice_get, IfSome}
 use Rattle.std.specs.List.{range_with_len}
 use Rattle.std.specs.Option.{option_map_or, ForSome}
-use Rattle.std.proofs.lemmas.Bool.{lt-ltb, le-ltb, ltb-true}
+use Rattle.std.proofs.lemmas.Bool.{cases_Bool, le-ltb, lt-ltb, ltb-true}
 use Rattle.std.proofs.lemmas.List.Elements.{filter-append}
 use Rattle.std.proofs.lemmas.List.{append-nil}
 use Rattle.std.proofs.lemmas.Option.{same_Some, none-some}
-use Rattle.abi_base.proofs.lemmas.Cases.{bool_cases}
 use Rattle.dw_tree.specs.Trees.{PlainTree, depth_at, count_below, children_of, from_child, next_child_of, is_after, is_tagged}
 
 -- ---- numbers of a range that pass a test
@@ -16,31 +15,45 @@ use Rattle.dw_tree.specs.Trees.{PlainTree, depth_at, count_below, children_of, f
 found_from : (p q : ℕ → Bool) (a n c : ℕ) → find q (filter p (range_with_len a n)) ≡ Some c → a ≤ c
 found_from p q a zero c is = absurd (none-some c is)
 found_from p q a (suc n) c is =
-    bool_cases (p a)
-    (λ kept. bool_cases (q a)
-    (λ here. let e = same_Some a c (rw (kept, here) at is) in omega (arith, e))
-    (λ later. let e = found_from p q (a + 1) n c (rw (kept, later) at is) in omega (arith, e)))
-    (λ passed. let e = found_from p q (a + 1) n c (rw passed at is) in omega (arith, e))
+    elim (cases_Bool (p a)) [
+      | inl kept ↦ elim (cases_Bool (q a)) [
+        | inl here ↦ let e = same_Some a c (rw (kept, here) at is) in omega (arith, e)
+        | inr later ↦ let e = found_from p q (a + 1) n c (rw (kept, later) at is) in omega (arith, e)
+      ]
+      | inr passed ↦ let e = found_from p q (a + 1) n c (rw passed at is) in omega (arith, e)
+    ]
 
 got_from : (p : ℕ → Bool) (a n k c : ℕ) → slice_get (filter p (range_with_len a n)) k ≡ Some c → a ≤ c
 got_from p a zero k c is = absurd (none-some c is)
 got_from p a (suc n) zero c is =
-    bool_cases (p a) (λ kept. let e = same_Some a c (rw kept at is) in omega (arith, e)) (λ passed. let e = got_from p (a + 1) n zero c (rw passed at is) in omega (arith, e))
+    elim (cases_Bool (p a)) [
+      | inl kept ↦ let e = same_Some a c (rw kept at is) in omega (arith, e)
+      | inr passed ↦ let e = got_from p (a + 1) n zero c (rw passed at is) in omega (arith, e)
+    ]
 got_from p a (suc n) (suc k) c is =
-    bool_cases (p a) (λ kept. let e = got_from p (a + 1) n k c (rw kept at is) in omega (arith, e)) (λ passed. let e = got_from p (a + 1) n (suc k) c (rw passed at is) in omega (arith, e))
+    elim (cases_Bool (p a)) [
+      | inl kept ↦ let e = got_from p (a + 1) n k c (rw kept at is) in omega (arith, e)
+      | inr passed ↦ let e = got_from p (a + 1) n (suc k) c (rw passed at is) in omega (arith, e)
+    ]
 
 -- all that is after a number is after each smaller one
 all_pass : (p q : ℕ → Bool) (a n : ℕ) → ((i : ℕ) → a ≤ i → q i ≡ true) → filter q (filter p (range_with_len a n)) ≡ filter p (range_with_len a n)
 all_pass p q a zero pass = refl
 all_pass p q a (suc n) pass =
     let later = all_pass p q (a + 1) n (λ i le. pass i (omega arith)) in
-    bool_cases (p a) (λ kept. let here = pass a (omega arith) in rw (kept, here) (ap (λ xs. a ∷ xs) later)) (λ passed. rw passed later)
+    elim (cases_Bool (p a)) [
+      | inl kept ↦ let here = pass a (omega arith) in rw (kept, here) (ap (λ xs. a ∷ xs) later)
+      | inr passed ↦ rw passed later
+    ]
 
 -- the first one is found where all pass
 first_found : (p q : ℕ → Bool) (a n : ℕ) → ((i : ℕ) → a ≤ i → q i ≡ true) → find q (filter p (range_with_len a n)) ≡ slice_get (filter p (range_with_len a n)) 0
 first_found p q a zero pass = refl
 first_found p q a (suc n) pass =
-    bool_cases (p a) (λ kept. let here = pass a (omega arith) in rw (kept, here) refl) (λ passed. rw passed (first_found p q (a + 1) n (λ i le. pass i (omega arith))))
+    elim (cases_Bool (p a)) [
+      | inl kept ↦ let here = pass a (omega arith) in rw (kept, here) refl
+      | inr passed ↦ rw passed (first_found p q (a + 1) n (λ i le. pass i (omega arith)))
+    ]
 
 is_after-later : (after : Option ℕ) (a i : ℕ) → is_after after a ≡ true → a ≤ i → is_after after i ≡ true
 is_after-later None a i is le = refl
@@ -51,46 +64,49 @@ found_first : (p : ℕ → Bool) (after : Option ℕ) (a n c : ℕ) → find (is
     → filter (is_after after) (filter p (range_with_len a n)) ≡ c ∷ filter (is_after (Some c)) (filter p (range_with_len a n))
 found_first p after a zero c is = absurd (none-some c is)
 found_first p after a (suc n) c is =
-    bool_cases (p a)
-    (λ kept. bool_cases (is_after after a)
-    (λ here.
-    let e = same_Some a c (rw (kept, here) at is) in
-    let own : nat_lt a a ≡ false = le-ltb a a (omega arith) in
-    let rest = all_pass p (is_after after) (a + 1) n (λ i le. is_after-later after a i here (omega arith)) in
-    let rest2 = all_pass p (is_after (Some a)) (a + 1) n (λ i le. lt-ltb a i (omega arith)) in
-    let xs : List ℕ = a ∷ filter p (range_with_len (a + 1) n) in
-    let here_is : filter (is_after after) xs ≡ a ∷ filter (is_after (Some a)) xs = rw (here, own, rest, rest2) refl in
-    rw kept (subst (λ x. filter (is_after after) xs ≡ x ∷ filter (is_after (Some x)) xs) e here_is))
-    (λ later.
-    let was = rw (kept, later) at is in
-    let le = found_from p (is_after after) (a + 1) n c was in
-    let not_after : nat_lt c a ≡ false = le-ltb c a (omega (arith, le)) in
-    rw (kept, later, not_after) (found_first p after (a + 1) n c was)))
-    (λ passed. let was = rw passed at is in rw passed (found_first p after (a + 1) n c was))
+    elim (cases_Bool (p a)) [
+      | inl kept ↦ elim (cases_Bool (is_after after a)) [
+        | inl here ↦ let e = same_Some a c (rw (kept, here) at is) in
+            let own : nat_lt a a ≡ false = le-ltb a a (omega arith) in
+            let rest = all_pass p (is_after after) (a + 1) n (λ i le. is_after-later after a i here (omega arith)) in
+            let rest2 = all_pass p (is_after (Some a)) (a + 1) n (λ i le. lt-ltb a i (omega arith)) in
+            let xs : List ℕ = a ∷ filter p (range_with_len (a + 1) n) in
+            let here_is : filter (is_after after) xs ≡ a ∷ filter (is_after (Some a)) xs = rw (here, own, rest, rest2) refl in
+            rw kept (subst (λ x. filter (is_after after) xs ≡ x ∷ filter (is_after (Some x)) xs) e here_is)
+        | inr later ↦ let was = rw (kept, later) at is in
+            let le = found_from p (is_after after) (a + 1) n c was in
+            let not_after : nat_lt c a ≡ false = le-ltb c a (omega (arith, le)) in
+            rw (kept, later, not_after) (found_first p after (a + 1) n c was)
+      ]
+      | inr passed ↦ let was = rw passed at is in rw passed (found_first p after (a + 1) n c was)
+    ]
 
 found_none : {X : Type 0} (q : X → Bool) (xs : List X) → find q xs ≡ None → filter q xs ≡ []
 found_none q [] is = refl
 found_none q (x ∷ xs) is =
-    bool_cases (q x) (λ here. absurd (let e = rw here at is in cc)) (λ other. rw other (found_none q xs (rw other at is)))
+    elim (cases_Bool (q x)) [
+      | inl here ↦ absurd (let e = rw here at is in cc)
+      | inr other ↦ rw other (found_none q xs (rw other at is))
+    ]
 
 -- after an item comes the next one
 next_got : (p : ℕ → Bool) (a n k c : ℕ) → slice_get (filter p (range_with_len a n)) k ≡ Some c → find (is_after (Some c)) (filter p (range_with_len a n)) ≡ slice_get (filter p (range_with_len a n)) (suc k)
 next_got p a zero k c is = absurd (none-some c is)
 next_got p a (suc n) zero c is =
-    bool_cases (p a)
-    (λ kept.
-    let e : a ≡ c = same_Some a c (rw kept at is) in
-    let early : nat_lt c a ≡ false = le-ltb c a (omega arith) in
-    rw (kept, early) (first_found p (is_after (Some c)) (a + 1) n (λ i le. lt-ltb c i (omega arith))))
-    (λ passed. rw passed (next_got p (a + 1) n zero c (rw passed at is)))
+    elim (cases_Bool (p a)) [
+      | inl kept ↦ let e : a ≡ c = same_Some a c (rw kept at is) in
+          let early : nat_lt c a ≡ false = le-ltb c a (omega arith) in
+          rw (kept, early) (first_found p (is_after (Some c)) (a + 1) n (λ i le. lt-ltb c i (omega arith)))
+      | inr passed ↦ rw passed (next_got p (a + 1) n zero c (rw passed at is))
+    ]
 next_got p a (suc n) (suc k) c is =
-    bool_cases (p a)
-    (λ kept.
-    let was = rw kept at is in
-    let le = got_from p (a + 1) n k c was in
-    let early : nat_lt c a ≡ false = le-ltb c a (omega (arith, le)) in
-    rw (kept, early) (next_got p (a + 1) n k c was))
-    (λ passed. rw passed (next_got p (a + 1) n (suc k) c (rw passed at is)))
+    elim (cases_Bool (p a)) [
+      | inl kept ↦ let was = rw kept at is in
+          let le = got_from p (a + 1) n k c was in
+          let early : nat_lt c a ≡ false = le-ltb c a (omega (arith, le)) in
+          rw (kept, early) (next_got p (a + 1) n k c was)
+      | inr passed ↦ rw passed (next_got p (a + 1) n (suc k) c (rw passed at is))
+    ]
 
 -- ---- children
 

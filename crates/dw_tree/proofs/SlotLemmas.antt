@@ -1,9 +1,8 @@
 -- Where slots lead, and how they are made.
 use Rattle.std.proofs.Common.{◌≡◌, ◌≢◌, ◌∙◌, ◌+◌, ◌-◌, ℕ, ◌≤◌, List, [], ◌∷◌, ◌++◌, length, get_or, Option, Some, None, Ok, refl, sym, ap, subst, arith, inl, inr}
 use Rattle.std.specs.Prelude.{ℤ, pos, take, nat_le}
-use Rattle.std.proofs.lemmas.Bool.{cases_lt, eq-eqb, leb-true}
+use Rattle.std.proofs.lemmas.Bool.{cases_Bool, cases_lt, eq-eqb, leb-true}
 use Rattle.std.proofs.lemmas.Option.{none-some, same_Some}
-use Rattle.abi_base.proofs.lemmas.Cases.{bool_cases}
 use Rattle.std.proofs.lemmas.List.{get_or_append_left, length_push}
 use Rattle.std.proofs.Math.Seq.{get_or-append_seam}
 use Rattle.dw_abbrev.specs.declared.abbrev.Spec.{Spec}
@@ -74,9 +73,10 @@ pub record EndsBefore (size : Option ℕ) (limit at after : ℕ) : Type 0 where
 pub ends_before : (size : Option ℕ) (limit at after : ℕ) → fixed_end_of size limit at ≡ Some after → EndsBefore size limit at after
 ends_before None limit at after h = absurd (none-some after h)
 ends_before (Some size) limit at after h =
-    bool_cases (nat_le size (limit - at))
-    (λ is. let found = rw is at h in record { bytes = size; is = refl; next = sym (same_Some (at + size) after found); inside = leb-true size (limit - at) is })
-    (λ isnt. absurd (let none = rw isnt at h in none-some after none))
+    elim (cases_Bool (nat_le size (limit - at))) [
+      | inl is ↦ let found = rw is at h in record { bytes = size; is = refl; next = sym (same_Some (at + size) after found); inside = leb-true size (limit - at) is }
+      | inr isnt ↦ absurd (let none = rw isnt at h in none-some after none)
+    ]
 
 -- ---- the loop that makes slots
 
