@@ -3,12 +3,12 @@ use Rattle.std.proofs.Common.{◌≡◌, ◌∙◌, ℕ, zero, suc, ◌+◌, ◌
 use Rattle.std.specs.Prelude.{find, position, slice_index_or}
 use Rattle.std.specs.List.{range_with_len}
 use Rattle.std.specs.Option.{option_map_or}
-use Rattle.std.proofs.lemmas.Bool.{cases_lt}
+use Rattle.std.proofs.lemmas.Bool.{cases_Bool, cases_lt}
 use Rattle.std.proofs.lemmas.List.{length-map}
 use Rattle.std.proofs.lemmas.Option.{same_Some}
 use Rattle.abi_base.specs.declared.fault.Fault.{Fault}
 use Rattle.abi_base.specs.Runs.{Chain}
-use Rattle.abi_base.proofs.lemmas.Cases.{option_cases, bool_cases, same_Ok}
+use Rattle.dw_entries.proofs.Cases.{option_cases}
 use Rattle.dw_units.specs.Units.{PlainUnit}
 use Rattle.dw_units.specs.Sequence.{UnitStands, unit_fault, unit_of, unit_step, units_of}
 use Rattle.dw_tree.specs.Trees.{IsOrdered, entry_at, entry_of, head_at, head_of, no_head, tree_of}
@@ -29,19 +29,20 @@ pub record IsFirst (passes : ℕ → Bool) (from end k : ℕ) : Type 0 where
 first_from : (p : ℕ → Bool) (a n k : ℕ) → find p (range_with_len a n) ≡ Some k → IsFirst p a (a + n) k
 first_from p a zero k is = absurd cc
 first_from p a (suc n) k is =
-    bool_cases (p a) (λ here.
-    let same : a ≡ k = same_Some a k (rw here at is) in
-    record { inside = omega arith; itself = ap p (sym same) ∙ here; before = λ i from below. absurd (omega arith) }) (λ apart.
-    let later = first_from p (a + 1) n k (rw apart at is) in
-    record {
-      inside = omega (arith, later.inside);
-      itself = later.itself;
-      before = λ i from below.
-          elim (cases_lt a i) [
-            | inl lt ↦ later.before i (omega arith) below
-            | inr le ↦ let same : a ≡ i = omega arith in ap p (sym same) ∙ apart
-          ];
-    })
+    elim (cases_Bool (p a)) [
+      | inl here ↦ let same : a ≡ k = same_Some a k (rw here at is) in
+          record { inside = omega arith; itself = ap p (sym same) ∙ here; before = λ i from below. absurd (omega arith) }
+      | inr apart ↦ let later = first_from p (a + 1) n k (rw apart at is) in
+          record {
+            inside = omega (arith, later.inside);
+            itself = later.itself;
+            before = λ i from below.
+                elim (cases_lt a i) [
+                  | inl lt ↦ later.before i (omega arith) below
+                  | inr le ↦ let same : a ≡ i = omega arith in ap p (sym same) ∙ apart
+                ];
+          }
+    ]
 
 first_of : (p : ℕ → Bool) (n k : ℕ) → find p (range_with_len 0 n) ≡ Some k → IsFirst p 0 n k
 first_of p n k is =
@@ -51,11 +52,13 @@ first_of p n k is =
 nowhere_from : (p : ℕ → Bool) (a n i : ℕ) → find p (range_with_len a n) ≡ None → a ≤ i → i < a + n → p i ≡ false
 nowhere_from p a zero i is from below = absurd (omega arith)
 nowhere_from p a (suc n) i is from below =
-    bool_cases (p a) (λ here. absurd (let e = rw here at is in cc)) (λ apart.
-    elim (cases_lt a i) [
-      | inl lt ↦ nowhere_from p (a + 1) n i (rw apart at is) (omega arith) (omega arith)
-      | inr le ↦ let same : a ≡ i = omega arith in ap p (sym same) ∙ apart
-    ])
+    elim (cases_Bool (p a)) [
+      | inl here ↦ absurd (let e = rw here at is in cc)
+      | inr apart ↦ elim (cases_lt a i) [
+        | inl lt ↦ nowhere_from p (a + 1) n i (rw apart at is) (omega arith) (omega arith)
+        | inr le ↦ let same : a ≡ i = omega arith in ap p (sym same) ∙ apart
+      ]
+    ]
 
 -- the first one is not behind another one
 not_behind : (p : ℕ → Bool) (n k i : ℕ) → IsFirst p 0 n k → p i ≡ true → k ≤ i
@@ -99,14 +102,15 @@ rising_wider from from' (u ∷ us) le is = (omega (arith, is.0), is.1)
 unit_begins : (info abbrevs : List ℕ) (at : ℕ) (u : PlainUnit) (next : ℕ) → unit_step info abbrevs at ≡ Ok (u, next) → u.offset ≡ at
 unfolding unit_step unit_of
 unit_begins info abbrevs at u next h =
-    bool_cases (ltb at (length info)) (λ lt.
-    let h1 = rw lt at h in
-    option_cases (unit_fault info abbrevs at)
-    (λ is. let h2 = rw is at h1 in
-    let made = unit_of info abbrevs at in
-    subst (λ (p : PlainUnit × ℕ). p.0.offset ≡ at) (same_Ok (made, made.end) (u, next) h2) refl)
-    (λ f is. absurd (let g = rw is at h1 in cc)))
-    (λ ge. absurd (let g = rw ge at h in cc))
+    elim (cases_Bool (ltb at (length info))) [
+      | inl lt ↦ let h1 = rw lt at h in
+          option_cases (unit_fault info abbrevs at)
+          (λ is. let h2 = rw is at h1 in
+          let made = unit_of info abbrevs at in
+          subst (λ (p : PlainUnit × ℕ). p.0.offset ≡ at) (let same : ◌≡◌ {A = PlainUnit × ℕ} (made, made.end) (u, next) = cc in same) refl)
+          (λ f is. absurd (let g = rw is at h1 in cc))
+      | inr ge ↦ absurd (let g = rw ge at h in cc)
+    ]
 
 abbrev offset_at : List PlainUnit → ℕ → ℕ
 offset_at us k = (slice_index_or (map head_of us) k no_head).offset

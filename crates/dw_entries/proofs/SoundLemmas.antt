@@ -3,7 +3,7 @@ use Rattle.std.proofs.Common.{◌≡◌, ◌∙◌, ℕ, zero, suc, ◌<◌, Boo
 use Rattle.std.specs.Prelude.{◌⊎◌, ◌&&◌, ◌==◌, find, is_some, IfSome, IsSome, IsOk}
 use Rattle.std.specs.List.{list_any}
 use Rattle.std.specs.Option.{option_map_or}
-use Rattle.std.proofs.lemmas.Bool.{or_parts}
+use Rattle.std.proofs.lemmas.Bool.{cases_Bool, or_parts}
 use Rattle.std.proofs.lemmas.List.Quantifiers.{position-Some}
 use Rattle.std.proofs.lemmas.Option.{same_Some}
 use Rattle.abi_base.specs.Dwarf.{dw_at_name, dw_at_abstract_origin, dw_at_specification, dw_at_type}
@@ -12,7 +12,7 @@ use Rattle.abi_base.specs.declared.fault.FaultKind.{FaultKind}
 use Rattle.abi_base.specs.declared.fault.FaultKind.TheVariants as kind
 use Rattle.abi_base.specs.Outcome.{fault_if, first, or_end}
 use Rattle.abi_base.specs.Tables.{entry_of_table}
-use Rattle.abi_base.proofs.lemmas.Cases.{option_cases, bool_cases}
+use Rattle.dw_entries.proofs.Cases.{option_cases}
 use Rattle.dw_forms.specs.declared.values.Value.{Value}
 use Rattle.dw_forms.specs.declared.values.Value.TheVariants as value
 use Rattle.dw_forms.specs.Values.{fault}
@@ -138,10 +138,12 @@ read_there t None f h = absurd cc
 read_there t (Some v) f h =
     option_cases (target_of t v) (λ is. absurd (let e = rw is at h in cc)) (λ g is.
     let h1 = rw is at h in
-    bool_cases (is_read_tag (tag_at t g)) (λ yes.
-    let h2 = rw yes at h1 in
-    let same : g ≡ f = cc in
-    subst (λ (k : ℕ). IsReadThere t k) same (record { inside = target_inside t v g is; tag = yes })) (λ no. absurd (let e = rw no at h1 in cc)))
+    elim (cases_Bool (is_read_tag (tag_at t g))) [
+      | inl read ↦ let h2 = rw read at h1 in
+          let same : g ≡ f = cc in
+          subst (λ (k : ℕ). IsReadThere t k) same (record { inside = target_inside t v g is; tag = read })
+      | inr unread ↦ absurd (let e = rw unread at h1 in cc)
+    ])
 
 either_there : (link other : Link) (f : ℕ) → either_link link other ≡ Some f → (linked link ≡ Some f) ⊎ (linked other ≡ Some f)
 either_there Missing other f h = inr h
@@ -160,7 +162,10 @@ in_rest : (t : PlainTree) (p : ℕ → Bool) (n e f : ℕ) → IsReadThere t e �
 unfolding rest_of
 in_rest t p zero e f there h = absurd cc
 in_rest t p (suc n) e f there h =
-    bool_cases (p e) (λ here. subst (λ (k : ℕ). IsReadThere t k) (same_Some e f (rw here at h)) there) (λ apart. others (link_of t e) refl (rw apart at h) (λ g reached found. in_rest t p n g f reached found))
+    elim (cases_Bool (p e)) [
+      | inl here ↦ subst (λ (k : ℕ). IsReadThere t k) (same_Some e f (rw here at h)) there
+      | inr apart ↦ others (link_of t e) refl (rw apart at h) (λ g reached found. in_rest t p n g f reached found)
+    ]
   where
     others : (link : Option ℕ) → link_of t e ≡ link → find p (option_map_or (rest_of t n) (link_of t e) []) ≡ Some f → ((g : ℕ) → IsReadThere t g → find p (rest_of t n g) ≡ Some f → IsReadThere t f)
         → IsReadThere t f

@@ -1,6 +1,6 @@
 // The debug information of a file.
 ghost use Rattle.std.specs.Prelude.{◌≡◌, ◌<◌, None, filter, length, All, Contains, IfOk, IfSome};
-ghost use Rattle.std.specs.Option.{option_copied, ForSome};
+ghost use Rattle.std.specs.Option.{option_copied, option_map_or, ForSome};
 ghost use Rattle.abi_base.specs.Outcome.{Judges};
 ghost use Rattle.dw_tree.specs.Trees.{entry_at, own_of, entry_of, children_of, next_child_of, IsOrdered, is_tagged};
 ghost use Rattle.dw_entries.specs.Debug.{plain_sections, dwarf_of};
@@ -149,11 +149,22 @@ impl<'a> Dwarf<'a> {
     /// The value that an entry has of an attribute, itself or along the chain of entries that it stands for: by
     /// `DW_AT_abstract_origin`, else by `DW_AT_specification`. `DW_AT_low_pc`, `DW_AT_ranges`, `DW_AT_entry_pc`,
     /// `DW_AT_location` and `DW_AT_declaration` speak of the entry itself, and are not looked for along the chain.
+    #[inline(always)]
     pub fn attr(&self, e: usize, name: u64) -> Option<Value>
         requires { e < length self.now.tree.entries }
         ensures { result ≡ attribute_along self.now.tree e name }
     {
         self.source.links().attr(e, name)
+    }
+
+    /// The entry that the value of an attribute refers to: `target` of the value that `attr` gives, in less time than both. None
+    /// exactly where there is no such value, and where it refers to no entry.
+    pub fn attr_target(&self, e: usize, name: u64) -> Option<usize>
+        requires { e < length self.now.tree.entries }
+        ensures found { result ≡ option_map_or (target_of self.now.tree) (attribute_along self.now.tree e name) None }
+        ensures inside { IfSome result (λ f. f < length self.now.tree.entries) }
+    {
+        self.source.links().attr_target(e, name)
     }
 
     /// Whether an entry has a flag that holds, itself or along the chain. A value of another class counts as none.

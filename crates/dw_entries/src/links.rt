@@ -4,7 +4,7 @@ ghost use Rattle.std.specs.Option.{option_map, option_map_or};
 ghost use Rattle.abi_base.specs.Limits.{chain_limit};
 ghost use Rattle.dw_tree.specs.Trees.{PlainTree, entry_at, head_at, own_of, entry_of};
 ghost use Rattle.dw_entries.specs.Places.{HoldUnits};
-ghost use Rattle.dw_entries.specs.Chains.{signed_of, target_of, read_link, link_by as the_link_by, link_of, linked, either_link, after_links, chain_within, holder_of, attribute_along, origin_of};
+ghost use Rattle.dw_entries.specs.Chains.{signed_of, target_of, link_to as the_link_to, link_by as the_link_by, link_of, linked, either_link, after_links, chain_within, holder_of, attribute_along, origin_of};
 
 use crate::attributes::is_own_attribute;
 use crate::constants::CHAIN_LINKS;
@@ -85,13 +85,14 @@ impl<'a> Links<'a> {
         }
     }
 
-    // Where an attribute with this value links an entry to.
-    #[inline(never)]
-    fn link_through(&self, value: &Value) -> Link
-        ensures found { result ≡ read_link self.now (Some value.now) }
+    // Where an attribute that refers to an entry, or to none, links to.
+    #[inline(always)]
+    fn link_to(&self, target: Option<usize>) -> Link
+        requires { IfSome target (λ f. f < length self.now.entries) }
+        ensures found { result ≡ the_link_to self.now target }
         ensures inside { IfSome (linked result) (λ f. f < length self.now.entries) }
     {
-        match self.target(value) {
+        match target {
             Some(to) => {
                 if is_read_tag(self.tree.tag(to)) {
                     Link::To(to)
@@ -103,6 +104,22 @@ impl<'a> Links<'a> {
         }
     }
 
+    // Where an attribute links an entry to, which may have it.
+    #[inline(never)]
+    fn read_link(&self, e: usize, name: u64) -> Link
+        requires { e < length self.now.entries }
+        ensures found { result ≡ the_link_by self.now e name }
+        ensures inside { IfSome (linked result) (λ f. f < length self.now.entries) }
+    {
+        if let Some(offset) = self.tree.short_reference(e, name) {
+            return self.link_to(self.tree.find(offset));
+        }
+        match self.tree.own(e, name) {
+            Some(value) => self.link_to(self.target(&value)),
+            None => Link::Missing,
+        }
+    }
+
     // Where an attribute links an entry to. This stands in its callers, since most entries lack the attribute.
     #[inline(always)]
     pub(crate) fn link_by(&self, e: usize, name: u64) -> Link
@@ -110,13 +127,15 @@ impl<'a> Links<'a> {
         ensures found { result ≡ the_link_by self.now e name }
         ensures inside { IfSome (linked result) (λ f. f < length self.now.entries) }
     {
-        match self.tree.own(e, name) {
-            Some(value) => self.link_through(&value),
-            None => Link::Missing,
+        if self.tree.may_have(e, name) {
+            self.read_link(e, name)
+        } else {
+            Link::Missing
         }
     }
 
     // The next entry of the chain.
+    #[inline(always)]
     #[tactic(auto, unfolding(crate::specs::Chains::link_of))]
     fn link(&self, e: usize) -> Option<usize>
         requires { e < length self.now.entries }
@@ -226,6 +245,7 @@ impl<'a> Links<'a> {
 
     // The value that an entry has of an attribute: its own, where the attribute speaks of the entry itself, else along the
     // chain.
+    #[inline(always)]
     #[tactic(auto, using(crate::proofs::ChainLemmas::along_here))]
     pub(crate) fn attr(&self, e: usize, name: u64) -> Option<Value>
         requires { e < length self.now.entries }
@@ -239,6 +259,22 @@ impl<'a> Links<'a> {
         }
         match self.held_behind(e, name) {
             Some((_, value)) => Some(value),
+            None => None,
+        }
+    }
+
+    // The entry that the value of an attribute refers to, which an entry has as `attr` gives it.
+    #[tactic(auto, using(crate::proofs::ChainLemmas::along_here))]
+    pub(crate) fn attr_target(&self, e: usize, name: u64) -> Option<usize>
+        requires { e < length self.now.entries }
+        ensures found { result ≡ option_map_or (target_of self.now) (attribute_along self.now e name) None }
+        ensures inside { IfSome result (λ f. f < length self.now.entries) }
+    {
+        if let Some(offset) = self.tree.short_reference(e, name) {
+            return self.tree.find(offset);
+        }
+        match self.attr(e, name) {
+            Some(value) => self.target(&value),
             None => None,
         }
     }
