@@ -1,7 +1,8 @@
 mod EntryLemmas
+mod LeafLemmas
 mod LikeLemmas
 mod LookupLemmas
 mod NameLemmas
+mod Recursion
 mod ShapedLemmas
 mod WalkLemmas
-pub mod lemmas

@@ -14,8 +14,8 @@ use Rattle.abi_types.specs.Forms.{is_aggregate, is_leaf}
 use Rattle.abi_types.specs.Inside.{Inside, inside_at, count_inside}
 use Rattle.abi_types.specs.Leaves.{leaf_of, leaves_inside, leaves_step, leaves_of}
 use Rattle.abi_types.specs.Walks.{IsWalk}
-use Rattle.abi_types.proofs.lemmas.Recursion.{by_value-induction}
-use Rattle.abi_types.proofs.lemmas.Leaves.{range-more, leaves_of-step, inside-named, is_zero}
+use Rattle.abi_types.proofs.Recursion.{by_value-induction}
+use Rattle.abi_types.proofs.LeafLemmas.{range-more, leaves_of-step, inside-named, is_zero}
 
 flat-more : {A : Type 0} (f : ℕ → List A) (n : ℕ) → flat_map f (range_with_len 0 (suc n)) ≡ flat_map f (range_with_len 0 n) ++ f n
 flat-more {A} f n =

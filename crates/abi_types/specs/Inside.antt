@@ -1,5 +1,5 @@
 -- What stands inside aggregates: members of structures and unions, and elements of arrays, under one number.
-use Rattle.std.specs.Prelude.{ℕ, ◌*◌, if◌then◌else◌, List, length, Option, Some, None}
+use Rattle.std.specs.Prelude.{◌≡◌, ℕ, ◌*◌, if◌then◌else◌, List, length, Option, Some, None}
 use Rattle.abi_types.specs.Types.{PlainPart, Member, PlainView, PlainNode}
 use Rattle.abi_types.specs.Forms.{is_array}
 use Rattle.abi_types.specs.Graphs.{view_at, part_at, inner_of}
@@ -26,3 +26,7 @@ count_inside v = if is_array v.kind then v.count else length v.parts
 -- the one of a number, counted from 0
 abbrev pub inside_at : List PlainNode → PlainView → ℕ → Option Inside
 inside_at nodes v n = if is_array v.kind then element_inside nodes (inner_of (part_at v 0)) n else member_inside (part_at v n)
+
+-- what stands inside is what a part names by value
+abbrev pub PartsNameWhatIsInside : Type 0
+PartsNameWhatIsInside = (nodes : List PlainNode) (v : PlainView) (n : ℕ) (x : Inside) → inside_at nodes v n ≡ Some x → (k : ℕ) × (inner_of (part_at v k) ≡ Some x.to)

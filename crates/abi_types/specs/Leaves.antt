@@ -1,11 +1,11 @@
 -- The leaves of objects: the scalars, pointers, enumerations and vectors that they are made of, each where it stands. The
 -- eightbytes of an object are classified by them (System V psABI for x86-64, section 3.2.3 "Parameter Passing").
-use Rattle.std.specs.Prelude.{ℕ, ◌==◌, ◌+◌, if◌then◌else◌, List, [], ◌∷◌, Option, Some, None}
+use Rattle.std.specs.Prelude.{◌≡◌, ℕ, ◌==◌, ◌+◌, if◌then◌else◌, List, [], ◌∷◌, Option, Some, None}
 use Rattle.std.specs.List.{flat_map, range_with_len}
 use Rattle.abi_types.specs.Types.{PlainView, PlainNode}
 use Rattle.abi_types.specs.declared.leaf.Leaf.{Leaf}
 use Rattle.abi_types.specs.Forms.{is_aggregate, is_leaf}
-use Rattle.abi_types.specs.Graphs.{view_at}
+use Rattle.abi_types.specs.Graphs.{IsGraph, view_at}
 use Rattle.abi_types.specs.Inside.{Inside, inside_at, count_inside}
 use Rattle.abi_types.specs.ByValue.{by_value}
 
@@ -34,3 +34,7 @@ no_leaves bit width = []
 -- members, and arrays element by element
 unfoldable pub leaves_of : List PlainNode → ℕ → ℕ → ℕ → List Leaf
 leaves_of nodes = by_value no_leaves (leaves_step nodes) nodes
+
+-- the leaves of an object are itself, or the leaves of all that stands inside it
+abbrev pub LeavesAreThoseInside : Type 0
+LeavesAreThoseInside = (nodes : List PlainNode) → IsGraph nodes → (i bit width : ℕ) → leaves_of nodes i bit width ≡ leaves_step nodes (leaves_of nodes) i bit width

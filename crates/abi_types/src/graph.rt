@@ -7,7 +7,7 @@ ghost use Rattle.abi_types.specs.Graphs.{IsGraph, node_at, node_of, shaped, shap
 use crate::entries::{entries_of, number_beside};
 use crate::index::Index;
 use crate::kind::Kind;
-use crate::place::CallShape;
+use crate::place::Call;
 use crate::view::{Label, Node, View};
 use abi_base::{List, NoMemory};
 use std::alloc::Global;
@@ -36,7 +36,7 @@ impl<'a, Ix: Index> Model for Graph<'a, Ix> {
 }
 
 // Puts a call into a node, where it is that of a function.
-fn put_call<'a, Ix: Index>(node: &mut Node<'a, Ix>, call: CallShape)
+fn put_call<'a, Ix: Index>(node: &mut Node<'a, Ix>, call: Call)
     ensures { node.new ≡ the_shaped_node node.old call }
 {
     match node.view.kind {
@@ -48,7 +48,7 @@ fn put_call<'a, Ix: Index>(node: &mut Node<'a, Ix>, call: CallShape)
 // The nodes with a call in each function among them, from the last one on.
 fn with_each_call<'a, Ix: Index>(
     mut nodes: Vec<Node<'a, Ix>>,
-    mut calls: Vec<CallShape>,
+    mut calls: Vec<Call>,
 ) -> Vec<Node<'a, Ix>>
     requires { length calls.items ≡ length nodes.items }
     ensures { result.items ≡ shaped nodes.entry.items calls.items }
@@ -71,7 +71,7 @@ impl<'a, Ix: Index> Graph<'a, Ix> {
     }
 
     /// The same graph, in which the call of each function is the shape at its number, and all else stays.
-    pub fn with_calls(self, calls: List<CallShape>) -> Graph<'a, Ix>
+    pub fn with_calls(self, calls: List<Call>) -> Graph<'a, Ix>
         requires { length calls ≡ length self }
         ensures { result ≡ shaped self.entry calls }
     {

@@ -29,7 +29,7 @@ pub use leaf::Leaf;
 pub use library::{Library, Marks};
 pub use part::Part;
 pub use parts::Parts;
-pub use place::{CallShape, Place, Slot};
+pub use place::{Call, CallShape, Place, Slot};
 pub use rule::RuleName;
 pub use shown::{push_label, push_shown};
 pub use view::{Label, Node, View};

@@ -37,8 +37,9 @@ impl<'a, Ix: Index> Model for Parts<'a, Ix> {
     ghost invariant = { λ parts. ForSome parts.lookup (λ kept. IsLookup kept.value (map (plain_part Ix.number_of) parts.items)) };
 }
 
-// So many parts are looked through one by one. Longer lists keep where their parts stand.
-const SHORT: usize = 8;
+// So many parts are looked through one by one, which takes less time than to keep where each stands: of all types that a library
+// has, few are compared. Longer lists keep where their parts stand.
+const SHORT: usize = 64;
 
 // Where the parts of a longer list stand.
 fn kept_lookup<'a, Ix: Index>(

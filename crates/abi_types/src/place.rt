@@ -1,5 +1,10 @@
 // Where a call puts an argument or a result (System V psABI for x86-64, section 3.2.3 "Parameter Passing").
-use abi_base::List;
+ghost use Rattle.std.specs.Prelude.{◌≡◌, IfOk};
+ghost use Rattle.abi_types.specs.Forms.{no_call};
+
+use abi_base::{List, NoMemory};
+use std::alloc::Global;
+use std::marker::Model;
 
 /// What holds an eightbyte of an argument or a result. General registers are numbered in the order rdi, rsi, rdx, rcx, r8,
 /// r9, rax; vector registers from xmm0 on; x87 registers from st0 on.
@@ -37,4 +42,75 @@ pub struct CallShape {
     pub outcome: Place,
     /// The places of the parameters, in order.
     pub params: List<Place>,
+}
+
+/// Where the result and the arguments of a function are, in memory of its own. A type that is no function has no places, which
+/// take no memory. Contracts see the shape, or that of no places.
+// Few types of a library are functions, and each type has this field: a shape in its place would take three times its room.
+#[derive(Drop)]
+pub struct Call {
+    shape: Option<Box<CallShape>>,
+}
+
+impl Model for Call {
+    ghost use Rattle.abi_types.specs.declared.place.CallShape.{CallShape};
+
+    ghost Value = { CallShape };
+
+    ghost use Rattle.std.specs.Option.{option_map, unwrap_or};
+    ghost use Rattle.abi_types.specs.Forms.{no_call};
+
+    ghost view = { λ call. unwrap_or (option_map (λ kept. kept.value) call.shape) no_call };
+}
+
+impl Call {
+    /// No places. It takes no memory.
+    pub fn none() -> Call
+        ensures { result ≡ no_call }
+    {
+        Call { shape: None }
+    }
+
+    /// The places of a shape.
+    pub fn of(alloc: Global, shape: CallShape) -> Result<Call, NoMemory>
+        ensures { IfOk result (λ call. call ≡ shape) }
+    {
+        Ok(Call {
+            shape: Some(Box::new(alloc, shape)?),
+        })
+    }
+
+    /// The place of the result.
+    pub fn outcome(&self) -> Place
+        ensures { result ≡ self.now.outcome }
+    {
+        match &self.shape {
+            Some(shape) => shape.outcome,
+            None => Place::Nothing,
+        }
+    }
+
+    /// The places of the parameters, in order.
+    pub fn params(&self) -> &[Place]
+        ensures { result.now ≡ self.now.params }
+    {
+        match &self.shape {
+            Some(shape) => shape.params.as_slice(),
+            None => &[],
+        }
+    }
+
+    /// The same places in memory of their own.
+    pub fn copy(&self, alloc: Global) -> Result<Call, NoMemory>
+        ensures { IfOk result (λ copy. copy ≡ self.now) }
+    {
+        match &self.shape {
+            Some(shape) => {
+                let outcome = shape.outcome;
+                let params = List::copy_of(alloc, shape.params.as_slice())?;
+                Call::of(alloc, CallShape { outcome, params })
+            }
+            None => Ok(Call::none()),
+        }
+    }
 }

@@ -5,7 +5,7 @@ use crate::index::Index;
 use crate::kind::{Group, Kind, LabelKind};
 use crate::part::Part;
 use crate::parts::Parts;
-use crate::place::CallShape;
+use crate::place::Call;
 use abi_base::List;
 use std::marker::Model;
 
@@ -32,7 +32,7 @@ pub struct View<'a, Ix: Index> {
     /// Its members, enumerators, target, element type, or result and parameters.
     pub parts: Parts<'a, Ix>,
     /// Where a function's result and arguments are.
-    pub call: CallShape,
+    pub call: Call,
 }
 
 impl<'a, Ix: Index> Model for View<'a, Ix> {

@@ -1,5 +1,5 @@
 use Rattle.std.proofs.Common.{◌∙◌, ◌++◌, ◌∷◌, [], ℕ, List, sym, ap, arith}
-use Rattle.abi_types.proofs.lemmas.Leaves.{range-more}
+use Rattle.abi_types.proofs.LeafLemmas.{range-more}
 use Rattle.abi_types.proofs.names.numbers.Goals as goal
 
 pub loop-i-preserved : goal.loop-i-preserved

@@ -1,25 +1,15 @@
 -- The leaves of a node are its step.
-use Rattle.std.proofs.Common.{◌≡◌, ◌≢◌, ◌+◌, ◌∙◌, ℕ, zero, suc, List, [], ◌∷◌, ◌++◌, Option, Some, None, refl, ap, subst, append-nil, arith}
+use Rattle.std.proofs.Common.{◌≡◌, ◌≢◌, ◌+◌, ℕ, zero, suc, List, [], ◌∷◌, ◌++◌, Option, Some, None, refl, ap, subst, arith}
 use Rattle.std.specs.Prelude.{Bool, true, false, ◌==◌}
 use Rattle.std.specs.List.{flat_map, range_with_len}
-use Rattle.std.proofs.lemmas.List.Concat.{flat_map-append}
 use Rattle.abi_types.specs.Types.{PlainPart, Member, Enumerator, Target, Element, Outcome, Param, PlainView, PlainNode}
 use Rattle.abi_types.specs.Forms.{is_array}
-use Rattle.abi_types.specs.Graphs.{IsGraph, view_at, part_at, to_of, inner_of}
+use Rattle.abi_types.specs.Graphs.{IsGraph, view_at, part_at, inner_of}
 use Rattle.abi_types.specs.declared.leaf.Leaf.{Leaf}
 use Rattle.abi_types.specs.ByValue.{AsksInside}
 use Rattle.abi_types.specs.Inside.{Inside, member_inside, element_inside, inside_at, count_inside}
-use Rattle.abi_types.specs.Leaves.{leaves_inside, leaves_of_all, leaves_step, no_leaves, leaves_of}
-use Rattle.abi_types.proofs.lemmas.Recursion.{by_value-step}
-
--- a node that a part names by value is one that it names
-pub to_from_inner : (p : PlainPart) (to : ℕ) → inner_of p ≡ Some to → to_of p ≡ Some to
-to_from_inner (Member name bit width at) to e = e
-to_from_inner (Enumerator name value) to e = cc
-to_from_inner (Target at) to e = cc
-to_from_inner (Element at) to e = e
-to_from_inner (Outcome at) to e = e
-to_from_inner (Param at) to e = e
+use Rattle.abi_types.specs.Leaves.{leaves_inside, leaves_step, no_leaves, leaves_of}
+use Rattle.abi_types.proofs.Recursion.{by_value-step}
 
 pub range-more : (a n j : ℕ) → a + n ≡ j → range_with_len a (n + 1) ≡ range_with_len a n ++ j ∷ []
 range-more a zero j e = let f : j ≡ a = omega arith in rw f refl
@@ -72,14 +62,6 @@ leaves_step-inside nodes f g i same = same_functions (leaves_step nodes f i) (le
 pub leaves_of-step : (nodes : List PlainNode) → IsGraph nodes → (i bit width : ℕ) → leaves_of nodes i bit width ≡ leaves_step nodes (leaves_of nodes) i bit width
 unfolding leaves_of
 leaves_of-step nodes is i bit width = ap (λ (h : ℕ → ℕ → List Leaf). h bit width) (by_value-step no_leaves (leaves_step nodes) nodes is (leaves_step-inside nodes) i)
-
-flat_map-one : {X A : Type 0} (f : X → List A) (x : X) → flat_map f (x ∷ []) ≡ f x
-flat_map-one f x = append-nil (f x)
-
-pub leaves_of_all-more : (nodes : List PlainNode) (f : ℕ → ℕ → ℕ → List Leaf) (v : PlainView) (bit n : ℕ) → leaves_of_all nodes f v bit (n + 1) ≡ leaves_of_all nodes f v bit n ++ leaves_inside f bit (inside_at nodes v n)
-leaves_of_all-more nodes f v bit n =
-    let F = λ (k : ℕ). leaves_inside f bit (inside_at nodes v k) in
-    ap (flat_map F) (range-more 0 n n (omega arith)) ∙ flat_map-append F (range_with_len 0 n) (n ∷ []) ∙ ap (λ (xs : List Leaf). flat_map F (range_with_len 0 n) ++ xs) (flat_map-one F n)
 
 pub is_zero : (n : ℕ) → n ≢ 0 → (n == 0) ≡ false
 is_zero n ne = grind arith

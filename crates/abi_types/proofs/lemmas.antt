@@ -1,3 +1,0 @@
--- What crates above may use of proofs: laws of the definitions of `specs/`.
-pub mod Leaves
-pub mod Recursion
