@@ -1,39 +1,47 @@
 -- The leaves of a node are its step.
-use Rattle.std.proofs.Common.{◌≡◌, ◌<◌, ◌≤◌, ◌+◌, ◌*◌, ℕ, List, [], ◌∷◌, length, get_or, Option, Some, None, ◌≢◌, refl, ap, subst, arith}
+use Rattle.std.proofs.Common.{◌≡◌, ◌<◌, ◌≤◌, ◌+◌, ◌*◌, ◌∙◌, ℕ, List, [], ◌∷◌, ◌++◌, length, get_or, Option, Some, None, ◌≢◌, refl, ap, subst, append-nil, arith}
 use Rattle.std.specs.Prelude.{Bool, true, false, ◌||◌, ◌==◌, nat_lt}
-use Rattle.std.specs.List.{list_any}
+use Rattle.std.specs.List.{flat_map, list_any, range_with_len}
+use Rattle.std.proofs.lemmas.List.Concat.{flat_map-append}
 use Rattle.abi_types.specs.declared.kind.Kind.TheVariants as kind
+use Rattle.abi_types.specs.declared.leaf.Leaf.{Leaf}
 use Rattle.abi_types.specs.Types.{PlainPart, Member, Enumerator, Target, Element, Outcome, Param, PlainView, PlainNode}
 use Rattle.abi_types.specs.declared.kind.Kind.{Kind}
 use Rattle.abi_types.specs.Forms.{HasForm, is_one_element, is_aggregate, is_leaf, is_array}
-use Rattle.abi_types.proofs.lemmas.Leaves.{to_from_inner, leaves_of-step, leaves_of_all-more, is_zero}
 use Rattle.abi_types.specs.Graphs.{IsGraph, view_at, part_at, no_part, inner_of}
 use Rattle.psabi.specs.declared.eightbytes.Eightbytes.{Eightbytes}
 use Rattle.psabi.specs.Merging.{MergesLeaves}
 use Rattle.psabi.proofs.Merges.{MergesLeaves-none, MergesLeaves-append}
 use Rattle.std.proofs.lemmas.List.Folds.{list_any_at}
 use Rattle.std.proofs.lemmas.Bool.{ltb-false}
+use Rattle.psabi.proofs.Named.{to_from_inner}
 use Rattle.psabi.proofs.PastLemmas.{ends_past-step, element-room}
+use Rattle.psabi.proofs.Ranges.{range-more}
 use Rattle.abi_types.specs.Inside.{Inside, member_inside, element_inside, inside_at, count_inside}
-use Rattle.abi_types.specs.Leaves.{leaf_of, leaves_of_all, leaves_of}
+use Rattle.abi_types.specs.Leaves.{leaf_of, leaves_inside, leaves_of_all, leaves_of, LeavesAreThoseInside}
 use Rattle.psabi.specs.Past.{extent, ends_past, part_past}
 
 same_Some_Inside : (x y : Inside) → Some x ≡ Some y → x ≡ y
 same_Some_Inside x y e = cc
 
+is_zero : (n : ℕ) → n ≢ 0 → (n == 0) ≡ false
+is_zero n ne = grind arith
+
+leaves_of_all-more : (nodes : List PlainNode) (f : ℕ → ℕ → ℕ → List Leaf) (v : PlainView) (bit n : ℕ) → leaves_of_all nodes f v bit (n + 1) ≡ leaves_of_all nodes f v bit n ++ leaves_inside f bit (inside_at nodes v n)
+leaves_of_all-more nodes f v bit n =
+    let F = λ (k : ℕ). leaves_inside f bit (inside_at nodes v k) in
+    ap (flat_map F) (range-more 0 n n (omega arith)) ∙ flat_map-append F (range_with_len 0 n) (n ∷ []) ∙ ap (λ (xs : List Leaf). flat_map F (range_with_len 0 n) ++ xs) (append-nil (F n))
+
 -- ---- what is merged on the way
 
-pub merges-zero : (nodes : List PlainNode) → IsGraph nodes → (i bit width : ℕ) (s : Eightbytes) → (view_at nodes i).size ≡ 0 → MergesLeaves (leaves_of nodes i bit width) s s
-merges-zero nodes is i bit width s e = rw (leaves_of-step nodes is i bit width, e) (MergesLeaves-none s)
+pub merges-zero : LeavesAreThoseInside → (nodes : List PlainNode) → IsGraph nodes → (i bit width : ℕ) (s : Eightbytes) → (view_at nodes i).size ≡ 0 → MergesLeaves (leaves_of nodes i bit width) s s
+merges-zero steps nodes is i bit width s e = rw (steps nodes is i bit width, e) (MergesLeaves-none s)
 
-pub merges-leaf : (nodes : List PlainNode) → IsGraph nodes → (i bit width : ℕ) (a b : Eightbytes) → (view_at nodes i).size ≢ 0 → is_leaf (view_at nodes i).kind ≡ true → MergesLeaves (leaf_of (view_at nodes i) bit width ∷ []) a b → MergesLeaves (leaves_of nodes i bit width) a b
-merges-leaf nodes is i bit width a b ne leaf e = rw (leaves_of-step nodes is i bit width, is_zero (view_at nodes i).size ne, leaf) e
+pub merges-leaf : LeavesAreThoseInside → (nodes : List PlainNode) → IsGraph nodes → (i bit width : ℕ) (a b : Eightbytes) → (view_at nodes i).size ≢ 0 → is_leaf (view_at nodes i).kind ≡ true → MergesLeaves (leaf_of (view_at nodes i) bit width ∷ []) a b → MergesLeaves (leaves_of nodes i bit width) a b
+merges-leaf steps nodes is i bit width a b ne leaf e = rw (steps nodes is i bit width, is_zero (view_at nodes i).size ne, leaf) e
 
-pub merges-other : (nodes : List PlainNode) → IsGraph nodes → (i bit width : ℕ) (s : Eightbytes) → (view_at nodes i).size ≢ 0 → is_leaf (view_at nodes i).kind ≡ false → is_aggregate (view_at nodes i).kind ≡ false → MergesLeaves (leaves_of nodes i bit width) s s
-merges-other nodes is i bit width s ne leaf whole = rw (leaves_of-step nodes is i bit width, is_zero (view_at nodes i).size ne, leaf, whole) (MergesLeaves-none s)
-
-pub merges-whole : (nodes : List PlainNode) → IsGraph nodes → (i bit width n : ℕ) (a b : Eightbytes) → (view_at nodes i).size ≢ 0 → is_leaf (view_at nodes i).kind ≡ false → is_aggregate (view_at nodes i).kind ≡ true → n ≡ count_inside (view_at nodes i) → MergesLeaves (leaves_of_all nodes (leaves_of nodes) (view_at nodes i) bit n) a b → MergesLeaves (leaves_of nodes i bit width) a b
-merges-whole nodes is i bit width n a b ne leaf whole all e = rw (leaves_of-step nodes is i bit width, is_zero (view_at nodes i).size ne, leaf, whole, ← all) e
+pub merges-whole : LeavesAreThoseInside → (nodes : List PlainNode) → IsGraph nodes → (i bit width n : ℕ) (a b : Eightbytes) → (view_at nodes i).size ≢ 0 → is_leaf (view_at nodes i).kind ≡ false → is_aggregate (view_at nodes i).kind ≡ true → n ≡ count_inside (view_at nodes i) → MergesLeaves (leaves_of_all nodes (leaves_of nodes) (view_at nodes i) bit n) a b → MergesLeaves (leaves_of nodes i bit width) a b
+merges-whole steps nodes is i bit width n a b ne leaf whole all e = rw (steps nodes is i bit width, is_zero (view_at nodes i).size ne, leaf, whole, ← all) e
 
 pub merges-more : (nodes : List PlainNode) (v : PlainView) (bit n : ℕ) (x : Inside) (a b c : Eightbytes) → inside_at nodes v n ≡ Some x → MergesLeaves (leaves_of_all nodes (leaves_of nodes) v bit n) a b → MergesLeaves (leaves_of nodes x.to (bit + x.bit) x.width) b c → MergesLeaves (leaves_of_all nodes (leaves_of nodes) v bit (n + 1)) a c
 merges-more nodes v bit n x a b c e f g = rw (leaves_of_all-more nodes (leaves_of nodes) v bit n, e) (MergesLeaves-append _ _ a b c f g)

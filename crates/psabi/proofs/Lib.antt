@@ -5,7 +5,9 @@ mod ClassLemmas
 mod LawLemmas
 mod LeafLemmas
 mod Merges
+mod Named
 mod PassingLemmas
 mod PastLemmas
 mod Ranges
+mod Recursion
 mod ShapedCalls

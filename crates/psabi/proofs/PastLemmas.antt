@@ -11,7 +11,7 @@ use Rattle.abi_types.specs.Forms.{has_elements, is_aggregate}
 use Rattle.abi_types.specs.Graphs.{IsGraph, view_at, part_at, no_part, to_of, inner_of}
 use Rattle.abi_types.specs.ByValue.{AsksInside}
 use Rattle.psabi.specs.Past.{own_past, led_to, part_past, past_step, ends_past}
-use Rattle.abi_types.proofs.lemmas.Recursion.{by_value-step}
+use Rattle.psabi.proofs.Recursion.{by_value-step}
 use Rattle.psabi.proofs.AlignLemmas.{named_or-same}
 
 -- ---- elements

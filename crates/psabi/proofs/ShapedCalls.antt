@@ -14,7 +14,7 @@ use Rattle.abi_types.specs.Forms.{is_function, no_call}
 use Rattle.abi_types.specs.Graphs.{IsGraph, node_at, view_at, part_at, void_node, call_at, shaped_node, shaped, to_of, inner_of, params_of}
 use Rattle.abi_types.specs.Inside.{element_inside, inside_at, count_inside}
 use Rattle.abi_types.specs.Leaves.{leaves_inside, leaves_step, no_leaves, leaves_of}
-use Rattle.abi_types.proofs.lemmas.Recursion.{by_value-same}
+use Rattle.psabi.proofs.Recursion.{by_value-same}
 use Rattle.psabi.specs.declared.class.Class.TheVariants.{NoClass}
 use Rattle.psabi.specs.declared.taken.Taken.{Taken}
 use Rattle.psabi.specs.Alignment.{align_step, align_of, named_or}

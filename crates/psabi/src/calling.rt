@@ -8,7 +8,7 @@ use crate::kinds::is_function;
 use crate::outcome::{outcome, taken_by_result};
 use crate::passing::Known;
 use abi_base::{List, NoMemory};
-use abi_types::{CallShape, Graph, Index, Place};
+use abi_types::{Call, CallShape, Graph, Index};
 use std::alloc::Global;
 
 // Where a call of the node's function puts its result and its arguments, with what is known of types.
@@ -17,7 +17,7 @@ fn shape_with<Ix: Index>(
     graph: &Graph<Ix>,
     ix: Ix,
     known: &mut Known,
-) -> Result<CallShape, NoMemory>
+) -> Result<Call, NoMemory>
     requires inside { Ix.number_of ix < length graph.now }
     requires right { IsRight graph.now known.now }
     ensures right { IsRight graph.now known.new }
@@ -25,13 +25,10 @@ fn shape_with<Ix: Index>(
 {
     graph.known();
     let view = graph.view(ix);
-    let mut params = List::new(alloc);
     if !is_function(view.kind) {
-        return Ok(CallShape {
-            outcome: Place::Nothing,
-            params,
-        });
+        return Ok(Call::none());
     }
+    let mut params = List::new(alloc);
     let outcome = outcome(graph, ix, known);
     let mut taken = taken_by_result(&outcome);
     for k in 0..view.parts_len() {
@@ -40,16 +37,12 @@ fn shape_with<Ix: Index>(
             params.push(place)?;
         }
     }
-    Ok(CallShape { outcome, params })
+    Call::of(alloc, CallShape { outcome, params })
 }
 
 /// Where a call of the node's function puts its result and its arguments: nowhere at a node that is no function. It fails
 /// where memory runs out, and nowhere else.
-pub fn call_shape<Ix: Index>(
-    alloc: Global,
-    graph: &Graph<Ix>,
-    ix: Ix,
-) -> Result<CallShape, NoMemory>
+pub fn call_shape<Ix: Index>(alloc: Global, graph: &Graph<Ix>, ix: Ix) -> Result<Call, NoMemory>
     requires { Ix.number_of ix < length graph.now }
     ensures { IfOk result (λ shape. shape ≡ call_of graph.now (Ix.number_of ix)) }
 {
@@ -59,7 +52,7 @@ pub fn call_shape<Ix: Index>(
 
 /// The call shapes of all nodes, each at the number of its node. What a type asks for is found once for all calls. It fails
 /// where memory runs out, and nowhere else.
-pub fn call_shapes<Ix: Index>(alloc: Global, graph: &Graph<Ix>) -> Result<List<CallShape>, NoMemory>
+pub fn call_shapes<Ix: Index>(alloc: Global, graph: &Graph<Ix>) -> Result<List<Call>, NoMemory>
     ensures shapes { IfOk result (λ shapes. shapes ≡ calls_of graph.now) }
     ensures many { IfOk result (λ shapes. length shapes ≡ length graph.now) }
 {

@@ -8,6 +8,7 @@ ghost use Rattle.psabi.specs.Merging.{MergesLeaves};
 use crate::eightbytes::Eightbytes;
 use crate::inside::{count_inside, inside_of};
 use crate::kinds::{is_aggregate, is_leaf};
+use abi_types::laws::{leaves_are_those_inside, parts_name_what_is_inside};
 use abi_types::{Graph, Index, Leaf};
 
 /// Merges the leaves of the node's object, which stands at `bit` and is a bit field of `width` bits, or none where that is 0.
@@ -26,6 +27,8 @@ pub fn add_leaves<Ix: Index>(
     ensures { MergesLeaves (leaves_of graph.now (Ix.number_of ix) bit width) eightbytes.old eightbytes.new }
 {
     graph.known();
+    leaves_are_those_inside();
+    parts_name_what_is_inside();
     let view = graph.view(ix);
     if view.size == 0 {
         return;

@@ -35,12 +35,11 @@ fn result_slot(classes: &[Class; 8], k: usize) -> Slot
     requires { k < eightbyte_limit }
     ensures { result ≡ the_result_slot classes.now k }
 {
-    let general = general_count(&classes[..k]);
-    let vector = vector_count(&classes[..k]);
+    let before = &classes[..k];
     match classes[k] {
-        Class::Integer => Slot::General(result_register(general)),
-        Class::Sse => Slot::Vector(vector as u8),
-        Class::SseUp => Slot::Upper(vector.saturating_sub(1) as u8),
+        Class::Integer => Slot::General(result_register(general_count(before))),
+        Class::Sse => Slot::Vector(vector_count(before) as u8),
+        Class::SseUp => Slot::Upper(vector_count(before).saturating_sub(1) as u8),
         Class::X87 | Class::X87Up => Slot::X87(ST0),
         Class::ComplexX87 => Slot::X87((k / X87_EIGHTBYTES) as u8),
         _ => Slot::Unused,

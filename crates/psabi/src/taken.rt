@@ -90,12 +90,11 @@ fn argument_slot(taken: Taken, classes: &[Class; 8], k: usize) -> Slot
     requires k { k < eightbyte_limit }
     ensures { result ≡ the_argument_slot taken classes.now k }
 {
-    let general = taken.general + general_count(&classes[..k]);
-    let vector = taken.vector + vector_count(&classes[..k]);
+    let before = &classes[..k];
     match classes[k] {
-        Class::Integer => Slot::General(general as u8),
-        Class::Sse => Slot::Vector(vector as u8),
-        Class::SseUp => Slot::Upper(vector.saturating_sub(1) as u8),
+        Class::Integer => Slot::General((taken.general + general_count(before)) as u8),
+        Class::Sse => Slot::Vector((taken.vector + vector_count(before)) as u8),
+        Class::SseUp => Slot::Upper((taken.vector + vector_count(before)).saturating_sub(1) as u8),
         _ => Slot::Unused,
     }
 }

@@ -4,7 +4,7 @@ use Rattle.std.specs.Prelude.{max, true, false, []}
 use Rattle.abi_types.specs.Graphs.{view_at, part_at, inner_of}
 use Rattle.psabi.specs.Alignment.{natural_align, inner_align, align_of}
 use Rattle.abi_types.specs.Forms.{is_aggregate}
-use Rattle.abi_types.proofs.lemmas.Leaves.{to_from_inner}
+use Rattle.psabi.proofs.Named.{to_from_inner}
 use Rattle.psabi.proofs.AlignLemmas.{greatest_none, align_of-alone, align_of-whole, greatest-part_some, greatest-part_none}
 use Rattle.psabi.proofs.alignment.+align.Goals as goal
 use Rattle.psabi.proofs.alignment.+align.Goals.{in-Some, in_default}

@@ -1,6 +1,8 @@
 -- Parameter by parameter.
 use Rattle.abi_types.specs.Forms.{is_function}
-use Rattle.std.proofs.Common.{◌≡◌, true, false, ◌<◌, ◌++◌, ◌∷◌, [], Some, None, length, sym, ◌∙◌, arith}
+use Rattle.std.specs.Prelude.{IfOk}
+use Rattle.std.proofs.Common.{◌≡◌, true, false, ◌<◌, ◌++◌, ◌∷◌, [], Some, None, length, sym, ◌∙◌, subst, arith}
+use Rattle.abi_types.specs.declared.place.CallShape.{CallShape}
 use Rattle.abi_types.specs.Graphs.{view_at, part_at, param_of}
 use Rattle.psabi.specs.Results.{taken_by_result}
 use Rattle.psabi.proofs.CallLemmas.{param-named, params-none, placed-params, placed-taken, placed-stack, passed-stack, call-none, call-whole, result-takes, places-none, taken-none}
@@ -64,10 +66,11 @@ pub returns-then-not-is_function-clause-shape : goal.returns-then-not-is_functio
 returns-then-not-is_function-clause-shape g c =
     let i = g.Ix.Index.number_of c.args.ix in
     let other : is_function (view_at c.args.graph.now i).kind ≡ false = rw (← c.view-view.ensures, ← c.view.view_is) (cc) in
-    rw c.new-params.ensures (call-none c.args.graph.now i other)
+    c.none.ensures ∙ call-none c.args.graph.now i other
 
 pub returns-clause-shape : goal.returns-clause-shape
 returns-clause-shape g c =
     let i = g.Ix.Index.number_of c.args.ix in
     let function : is_function (view_at c.args.graph.now i).kind ≡ true = rw (← c.view-view.ensures, ← c.view.view_is) (cc) in
-    call-whole c.args.graph.now i c.loop-k.k c.view-view.result.now c.outcome-outcome.result c.loop-k.params c.view-view.ensures function (omega arith) c.outcome-outcome.ensures.place c.loop-k.invariant.params
+    let whole = call-whole c.args.graph.now i c.loop-k.k c.view-view.result.now c.outcome-outcome.result c.loop-k.params c.view-view.ensures function (omega arith) c.outcome-outcome.ensures.place c.loop-k.invariant.params in
+    subst (λ (shape : CallShape). IfOk c.of.result (λ call. call ≡ shape)) whole c.of.ensures

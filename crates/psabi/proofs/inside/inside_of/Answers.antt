@@ -2,7 +2,7 @@
 use Rattle.std.proofs.Common.{◌≡◌, ◌<◌, Some, refl, sym, arith}
 use Rattle.abi_types.specs.declared.kind.Kind.TheVariants as kind
 use Rattle.abi_types.specs.Graphs.{view_at, part_at, inner_of}
-use Rattle.abi_types.proofs.lemmas.Leaves.{to_from_inner}
+use Rattle.psabi.proofs.Named.{to_from_inner}
 use Rattle.psabi.proofs.PastLemmas.{element-fits}
 use Rattle.psabi.proofs.inside.inside_of.Goals as goal
 

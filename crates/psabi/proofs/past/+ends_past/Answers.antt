@@ -3,7 +3,7 @@ use Rattle.std.proofs.Common.{◌≡◌, ◌<◌, ◌≤◌, Some, None, sym, ar
 use Rattle.abi_types.specs.Graphs.{view_at, part_at}
 use Rattle.abi_types.specs.Forms.{is_aggregate}
 use Rattle.psabi.specs.Past.{led_to, own_past}
-use Rattle.abi_types.proofs.lemmas.Leaves.{to_from_inner}
+use Rattle.psabi.proofs.Named.{to_from_inner}
 use Rattle.psabi.proofs.PastLemmas.{inner_of-led, past-part, past-alone, past-none, past-more, part_past-led, part_past-own, part_past-none}
 use Rattle.psabi.proofs.past.+ends_past.Goals as goal
 use Rattle.psabi.proofs.past.+ends_past.Goals.{in-Some+else-ends_past, in_default}
