@@ -235,7 +235,7 @@ fn value_changed(
 fn param_place<Ix: Index>(view: &View<Ix>, number: usize) -> Place
     ensures { result ≡ the_param_place view.now number }
 {
-    match view.call.params.as_slice().get(number) {
+    match view.call.params().get(number) {
         Some(place) => *place,
         None => Place::Nothing,
     }
@@ -258,8 +258,8 @@ fn outcome_changed(
 ) -> Result<String, AllocError>
     ensures { IfOk result (λ text. string_bytes text ≡ the_change (codes "result in") (the_place_text old.now.call.outcome) (the_place_text new.now.call.outcome)) }
 {
-    let old = place_text(alloc, &old.call.outcome)?;
-    let new = place_text(alloc, &new.call.outcome)?;
+    let old = place_text(alloc, &old.call.outcome())?;
+    let new = place_text(alloc, &new.call.outcome())?;
     changed(alloc, "result in", &old, &new)
 }
 

@@ -4,7 +4,7 @@ ghost use Rattle.abi_types.specs.Plain.{plain_export, plain_exports};
 ghost use Rattle.export_list.specs.ExportLines.{call_text, entry_text, export_line, exports_text, place_behind, places_text, type_text};
 
 use abi_base::NoMemory;
-use abi_types::{CallShape, Export, Graph, Index, Kind, Library, Place, View, push_label};
+use abi_types::{Call, Export, Graph, Index, Kind, Library, Place, View, push_label};
 use break_report::{kind_word, push_place};
 use std::alloc::{AllocError, Global};
 use std::fmt::Write;
@@ -42,13 +42,13 @@ fn push_places(text: &mut String, places: &[Place]) -> Result<(), AllocError>
 }
 
 // Appends where a call puts its arguments and its result.
-fn push_call(text: &mut String, call: &CallShape) -> Result<(), AllocError>
+fn push_call(text: &mut String, call: &Call) -> Result<(), AllocError>
     ensures { OnOk result (string_bytes text.new ≡ string_bytes text.old ++ call_text call.now) }
 {
     text.push_str(" params ")?;
-    push_places(text, call.params.as_slice())?;
+    push_places(text, call.params())?;
     text.push_str(" result ")?;
-    push_place(text, &call.outcome)
+    push_place(text, &call.outcome())
 }
 
 // Appends what is said of a type.

@@ -4,7 +4,7 @@ ghost use Rattle.std.specs.List.{list_all};
 ghost use Rattle.abi_types.specs.Parts.{plain_part};
 ghost use Rattle.abi_types.specs.Forms.{has_tag as the_kind_has_tag, has_elements as the_kind_has_elements, is_scalar, is_function, size_of_kind as the_size_of_kind, is_member as the_part_is_member, is_enumerator as the_part_is_enumerator, is_param as the_part_is_param, is_one_target as they_are_one_target, is_one_element as they_are_one_element, are_of_function as they_are_of_function, parts_fit as they_fit, no_call, HasForm};
 
-use abi_types::{CallShape, Group, Index, Kind, Part, Place, View};
+use abi_types::{Call, Group, Index, Kind, Part, Place, View};
 
 // Whether the types of a kind have tags.
 fn has_tag(kind: Kind) -> bool
@@ -122,12 +122,12 @@ fn parts_fit<Ix: Index>(kind: Kind, parts: &[Part<Ix>]) -> bool
     }
 }
 
-// Whether the shape has no places.
-fn is_no_call(call: &CallShape) -> bool
+// Whether the call has no places.
+fn is_no_call(call: &Call) -> bool
     ensures { IsTrue result ↔ (call.now ≡ no_call) }
 {
-    match call.outcome {
-        Place::Nothing => call.params.as_slice().is_empty(),
+    match call.outcome() {
+        Place::Nothing => call.params().is_empty(),
         _ => false,
     }
 }

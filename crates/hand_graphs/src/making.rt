@@ -8,7 +8,7 @@ ghost use Rattle.hand_graphs.specs.Made.{made_view, made_node, made_member, para
 
 use crate::valid::is_graph;
 use abi_base::{List, NoMemory};
-use abi_types::{CallShape, Graph, Group, Index, Kind, Marks, Node, Part, Parts, Place, View};
+use abi_types::{Call, Graph, Group, Index, Kind, Marks, Node, Part, Parts, View};
 use std::alloc::Global;
 
 /// A view of a kind with a size and parts, and nothing in its other fields.
@@ -30,10 +30,7 @@ pub fn view<'a, Ix: Index>(
         count: 0,
         variadic: false,
         parts: Parts::of(alloc, parts)?,
-        call: CallShape {
-            outcome: Place::Nothing,
-            params: List::new(alloc),
-        },
+        call: Call::none(),
     })
 }
 

@@ -125,9 +125,7 @@ fn has_places<Ix: Index>(view: &View<Ix>) -> bool
     ensures { IsTrue result ↔ HasPlaces view.now }
 {
     match view.kind {
-        Kind::Function => {
-            view.call.params.as_slice().len() == count_params(view.parts.as_slice())
-        }
+        Kind::Function => view.call.params().len() == count_params(view.parts.as_slice()),
         _ => true,
     }
 }

@@ -9,7 +9,7 @@ ghost use Rattle.abi_types.specs.Parts.{plain_part};
 ghost use Rattle.abi_types.specs.Plain.{plain_label};
 
 use abi_base::{List, NoMemory};
-use abi_types::{CallShape, Graph, Index, Label, Library, Node, Part, Parts, View};
+use abi_types::{Graph, Index, Label, Library, Node, Part, Parts, View};
 use std::alloc::Global;
 
 // The node of the same number in the copy.
@@ -65,16 +65,6 @@ fn copied_parts<'a, From: Index, To: Index>(
     Parts::of(alloc, items)
 }
 
-// The same call in memory of its own.
-fn copied_call(alloc: Global, call: &CallShape) -> Result<CallShape, NoMemory>
-    ensures { IfOk result (λ copy. copy ≡ call.now) }
-{
-    Ok(CallShape {
-        outcome: call.outcome,
-        params: List::copy_of(alloc, call.params.as_slice())?,
-    })
-}
-
 // The same view of the copy.
 fn copied_view<'a, From: Index, To: Index>(
     alloc: Global,
@@ -92,7 +82,7 @@ fn copied_view<'a, From: Index, To: Index>(
         count: view.count,
         variadic: view.variadic,
         parts: copied_parts(alloc, &view.parts)?,
-        call: copied_call(alloc, &view.call)?,
+        call: view.call.copy(alloc)?,
     })
 }
 

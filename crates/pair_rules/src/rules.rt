@@ -1,5 +1,5 @@
 // The rules of two types.
-ghost use Rattle.std.specs.Prelude.{◌≡◌, ◌<◌, ◌+◌, ◌++◌, ◌↔◌, ℕ, true, [], List, Option, length, take, map, filter, slice_index_or, count_by, IsTrue, OnOk, IfOk};
+ghost use Rattle.std.specs.Prelude.{◌≡◌, ◌<◌, ◌+◌, ◌++◌, ◌↔◌, ℕ, true, [], List, Option, length, take, map, filter, slice_index_or, count_by, not, IsTrue, OnOk, IfOk};
 ghost use Rattle.std.specs.List.{range_with_len};
 ghost use Rattle.abi_types.specs.Forms.{has_elements as the_kind_has_elements};
 ghost use Rattle.abi_types.specs.Graphs.{part_at};
@@ -187,6 +187,13 @@ pub fn value_at<Ix: Index>(view: &View<Ix>, j: usize) -> u64
     }
 }
 
+// Whether the places of the results differ.
+fn outcome_moved(old: &View<OldIx>, new: &View<NewIx>) -> bool
+    ensures { result ≡ not (the_same_place old.now.call.outcome new.now.call.outcome) }
+{
+    !same_place(old.call.outcome(), new.call.outcome())
+}
+
 // Whether the place of the old parameter at position `i` differs from that of its match, where both are there.
 fn param_moved(old: &View<OldIx>, new: &View<NewIx>, i: usize, found: Option<usize>) -> bool
     requires inside { i < length old.now.parts }
@@ -197,10 +204,7 @@ fn param_moved(old: &View<OldIx>, new: &View<NewIx>, i: usize, found: Option<usi
         return false;
     }
     let number = number_of(old, i);
-    match (
-        old.call.params.as_slice().get(number),
-        new.call.params.as_slice().get(number),
-    ) {
+    match (old.call.params().get(number), new.call.params().get(number)) {
         (Some(old), Some(new)) => !same_place(*old, *new),
         _ => false,
     }
@@ -234,7 +238,7 @@ fn breaks_part(
             Some(j) => in_bytes(old.size, *value) != value_at(new, j),
             None => false,
         },
-        (RuleName::L14, Part::Outcome { .. }) => !same_place(old.call.outcome, new.call.outcome),
+        (RuleName::L14, Part::Outcome { .. }) => outcome_moved(old, new),
         (RuleName::L14, Part::Param { .. }) => param_moved(old, new, i, found),
         _ => false,
     }

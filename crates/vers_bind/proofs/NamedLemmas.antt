@@ -3,11 +3,11 @@ use Rattle.std.proofs.Common.{◌≡◌, ◌<◌, ◌≤◌, ◌+◌, ℕ, zero,
 use Rattle.std.specs.Prelude.{◌==◌, find, position, count_by, is_some}
 use Rattle.std.specs.List.{position_from}
 use Rattle.std.specs.Option.{option_or}
+use Rattle.std.proofs.lemmas.Bool.{cases_Bool}
 use Rattle.std.proofs.lemmas.Iterator.Adapters.{position_from-zero}
 use Rattle.std.proofs.lemmas.List.Sums.{sum_by-cons}
 use Rattle.std.proofs.lemmas.Option.{slice_get-map, none-some, same_Some}
 use Rattle.std.proofs.lemmas.Slice.Eq.{bytes_eq-Decides}
-use Rattle.abi_base.proofs.lemmas.Cases.{bool_cases}
 use Rattle.abi_base.proofs.lemmas.Lists.{contains_at, at_contains}
 use Rattle.abi_types.specs.Exports.{PlainExport}
 use Rattle.abi_types.specs.Names.{IsNamed, AreNamed}
@@ -89,9 +89,10 @@ module _ (q : PlainExport → Bool) where
   places_are : (es : List PlainExport) (i : ℕ) (ks : List ℕ) → ArePlaces i es ks → ks ≡ places_from i es
   places_are [] i ks are = none_there i ks are
   places_are (e ∷ es) i ks are =
-      bool_cases (q e)
-      (λ passes. rw passes (some_there passes ks are (λ ls there. places_are es (i + 1) ls there)))
-      (λ fails. rw fails (places_are es (i + 1) ks (same_places i e es ks fails are)))
+      elim (cases_Bool (q e)) [
+        | inl passes ↦ rw passes (some_there passes ks are (λ ls there. places_are es (i + 1) ls there))
+        | inr fails ↦ rw fails (places_are es (i + 1) ks (same_places i e es ks fails are))
+      ]
     where
       some_there : q e ≡ true → (ks : List ℕ) → ArePlaces i (e ∷ es) ks → ((ls : List ℕ) → ArePlaces (i + 1) es ls → ls ≡ places_from (i + 1) es)
           → ks ≡ i ∷ places_from (i + 1) es
@@ -118,15 +119,16 @@ module _ (q : PlainExport → Bool) where
         subst (λ (m : ℕ). test m ≡ p x) same (agrees (suc n) x at)
 
     fails_too : (e : PlainExport) → q e ≡ false → p e ≡ false
-    fails_too e fails = bool_cases (p e) (λ passes. absurd (let two : true ≡ false = sym (implied e passes) ∙ fails in cc)) (λ no. no)
+    fails_too e fails = elim (cases_Bool (p e)) [ inl passes ↦ absurd (let two : true ≡ false = sym (implied e passes) ∙ fails in cc) | inr fails_p ↦ fails_p ]
 
     find_same : (es : List PlainExport) (i : ℕ) → Agrees test p i es → find test (places_from i es) ≡ position_from p i es
     find_same [] i agrees = refl
     find_same (e ∷ es) i agrees =
         let rest : find test (places_from (i + 1) es) ≡ position_from p (i + 1) es = find_same es (i + 1) (behind i e es agrees) in
-        bool_cases (q e)
-        (λ passes. rw (passes, here i e es agrees, rest) refl)
-        (λ fails. rw (fails, fails_too e fails) rest)
+        elim (cases_Bool (q e)) [
+          | inl passes ↦ rw (passes, here i e es agrees, rest) refl
+          | inr fails ↦ rw (fails, fails_too e fails) rest
+        ]
 
     count_same : (es : List PlainExport) (i : ℕ) → Agrees test p i es → count_by test (places_from i es) ≡ count_by p es
     count_same [] i agrees = refl
@@ -134,11 +136,12 @@ module _ (q : PlainExport → Bool) where
         let rest : count_by test (places_from (i + 1) es) ≡ count_by p es = count_same es (i + 1) (behind i e es agrees) in
         let first : cond (test i) 1 0 + count_by test (places_from (i + 1) es) ≡ cond (p e) 1 0 + count_by p es = rw (here i e es agrees, rest) refl in
         let all : count_by p (e ∷ es) ≡ cond (p e) 1 0 + count_by p es = sum_by-cons (λ x. cond (p x) 1 0) e es in
-        bool_cases (q e)
-        (λ passes. rw passes (sum_by-cons (λ k. cond (test k) 1 0) i (places_from (i + 1) es) ∙ first ∙ sym all))
-        (λ fails.
-        let none : cond (p e) 1 0 + count_by p es ≡ count_by p es = rw (fails_too e fails) (omega arith) in
-        rw fails (rest ∙ sym (all ∙ none)))
+        elim (cases_Bool (q e)) [
+          | inl passes ↦ rw passes (sum_by-cons (λ k. cond (test k) 1 0) i (places_from (i + 1) es) ∙ first ∙ sym all)
+          | inr fails ↦
+              let none : cond (p e) 1 0 + count_by p es ≡ count_by p es = rw (fails_too e fails) (omega arith) in
+              rw fails (rest ∙ sym (all ∙ none))
+        ]
 
 -- ---- the exports of one name
 
