@@ -1,5 +1,5 @@
 -- Blocks after single steps, on their lists.
-use Rattle.std.proofs.Common.{Vec, Global, take, drop, ◌-◌, ◌≡◌, ◌+◌, ◌<◌, ◌≤◌, ℕ, eqb, ltb, leb, Bool, true, false, ◌||◌, ◌&&◌, ◌⊎◌, inl, inr, List, [], ◌∷◌, ◌++◌, length, get_or, set, refl, sym, ◌∙◌, ap, arith, subst}
+use Rattle.std.proofs.Common.{take, drop, ◌-◌, ◌≡◌, ◌+◌, ◌<◌, ◌≤◌, ℕ, eqb, ltb, leb, Bool, true, false, ◌||◌, ◌&&◌, ◌⊎◌, inl, inr, List, [], ◌∷◌, ◌++◌, length, get_or, set, refl, sym, ◌∙◌, ap, arith, subst}
 use Rattle.std.specs.Prelude.{◌↔◌, Contains, if◌then◌else◌}
 use Rattle.std.proofs.lemmas.Bool.{cases_eq, cases_lt}
 use Rattle.std.proofs.lemmas.Bool.Decides.{nat_tests}

@@ -4,10 +4,10 @@ mod BlockSplits
 mod ClassLemmas
 mod EdgeLemmas
 mod Layouts
+mod LookLemmas
 mod NumberLemmas
 mod RefineLemmas
 mod RepLemmas
 mod ShapeLemmas
 mod SpellingLemmas
 mod SplitLemmas
-pub mod lemmas

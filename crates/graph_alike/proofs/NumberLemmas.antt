@@ -14,7 +14,6 @@ use Rattle.abi_types.specs.Types.{PlainNode, PlainLabel, PlainView}
 use Rattle.abi_types.specs.Graphs.{node_at, view_at}
 use Rattle.abi_types.specs.Seen.{Look, shape_of}
 use Rattle.graph_alike.specs.declared.shapes.Spelling.{Spelling}
-use Rattle.graph_alike.specs.Shapes.{spelled, letters_of}
 use Rattle.graph_alike.specs.Numbered.{Numbers, same_numbers, same_spelling, number_in, AreOneSpelling, IsSpellingOf, IsNumbered}
 use Rattle.graph_alike.specs.Splits.{number_at, stands_beside, HaveSameKeys}
 use Rattle.graph_alike.proofs.SpellingLemmas.{own_look, AreTold, AreSpelledAlike, same_from_spelling, spelling_from_same}

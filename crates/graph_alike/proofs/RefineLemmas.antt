@@ -1,5 +1,5 @@
 -- Classes of nodes, refined by one class after the other.
-use Rattle.std.proofs.Common.{Vec, Global, ◌≡◌, ◌+◌, ◌<◌, ◌≤◌, ℕ, eqb, Bool, true, false, ◌&&◌, inl, inr, List, length, map, get_or, Option, Some, None, refl, sym, ◌∙◌, ap, arith, subst}
+use Rattle.std.proofs.Common.{◌≡◌, ◌+◌, ◌<◌, ◌≤◌, ℕ, eqb, Bool, true, false, ◌&&◌, inl, inr, List, length, map, get_or, Option, Some, None, refl, sym, ◌∙◌, ap, arith, subst}
 use Rattle.std.specs.Prelude.{◌↔◌, Contains, if◌then◌else◌}
 use Rattle.std.specs.List.{IsDistinct}
 use Rattle.std.proofs.lemmas.Bool.{cases_eq, cases_Bool, eqb-true, eq-eqb}
@@ -15,7 +15,8 @@ use Rattle.graph_alike.specs.declared.blocks.Blocks.{Blocks}
 use Rattle.graph_alike.specs.Alike.{AreAlike}
 use Rattle.graph_alike.specs.Blocks.{no_block, first_at, len_of, count_of, class_in, AreBlocks, ListsMarks, HasNoMarks}
 use Rattle.graph_alike.specs.Splits.{number_at, stands_beside, HaveSameKeys, IsSplitBy}
-use Rattle.graph_alike.specs.Edges.{list_at, AreIncoming}
+use Rattle.graph_alike.specs.declared.edges.Incoming.{Incoming}
+use Rattle.graph_alike.specs.Edges.{node_count, IsIncoming, AreIncoming}
 use Rattle.graph_alike.specs.Refined.{IsRefined}
 use Rattle.graph_alike.proofs.AlikeLemmas.{named_too}
 
@@ -72,10 +73,10 @@ named_in-true class c (Some a) e = (a, refl, eqb-true (class a) c e)
 pub record AreOfClass (nodes : List PlainNode) (class : ℕ → ℕ) (c : ℕ) (pairs : List (ℕ × ℕ)) : Type 0 where
   pub are : (k x : ℕ) → x < length nodes → stands_beside pairs k x ≡ named_in class c (to_of (part_at (view_at nodes x) k))
 
-AreOfClass-from : (nodes : List PlainNode) (lists : List (Vec (ℕ × ℕ) Global)) (members : List ℕ) (pairs : List (ℕ × ℕ)) (class : ℕ → ℕ) (c : ℕ) → IsGraph nodes → AreIncoming nodes (length nodes) lists
+AreOfClass-from : (nodes : List PlainNode) (edges : Incoming) (members : List ℕ) (pairs : List (ℕ × ℕ)) (class : ℕ → ℕ) (c : ℕ) → IsGraph nodes → AreIncoming nodes (length nodes) edges
     → ((s : ℕ) → Contains members s ↔ ((s < length nodes) × (class s ≡ c)))
-    → ((e : ℕ × ℕ) → Contains pairs e ↔ ((s : ℕ) × Contains members s × Contains (list_at lists s) e)) → AreOfClass nodes class c pairs
-AreOfClass-from nodes lists members pairs class c graph incoming of_class joined = record {
+    → ((e : ℕ × ℕ) → Contains pairs e ↔ ((s : ℕ) × Contains members s × IsIncoming edges s e)) → AreOfClass nodes class c pairs
+AreOfClass-from nodes edges members pairs class c graph incoming of_class joined = record {
   are = λ k x x_in. same_bools (stands_beside pairs k x) (named_in class c (to_of (part_at (view_at nodes x) k)))
       (λ e.
       let (s, member, there) = (joined (k, x)).0 (beside-contains pairs k x e) in
@@ -88,36 +89,33 @@ AreOfClass-from nodes lists members pairs class c graph incoming of_class joined
       contains-beside pairs k x ((joined (k, x)).1 (s, (of_class s).1 (s_in, s_of), (incoming.edges s k x).1 (x_in, names))));
 }
 
--- the same, by slices of the lists and the pairs
-pub AreOfClass-sliced : (nodes : List PlainNode) (lists sliced : List (Vec (ℕ × ℕ) Global)) (members : List ℕ) (pairs sliced_pairs : List (ℕ × ℕ)) (class : ℕ → ℕ) (c n : ℕ) → IsGraph nodes → AreIncoming nodes (length nodes) lists
-    → sliced ≡ lists → sliced_pairs ≡ pairs → n ≡ length nodes → ((s : ℕ) → Contains members s ↔ ((s < n) × (class s ≡ c)))
-    → ((e : ℕ × ℕ) → Contains pairs e ↔ ((s : ℕ) × Contains members s × Contains (list_at sliced s) e)) → AreOfClass nodes class c sliced_pairs
-AreOfClass-sliced nodes lists sliced members pairs sliced_pairs class c n graph incoming of_lists of_pairs of_nodes of_class joined =
+-- the same, by a slice of the pairs
+pub AreOfClass-sliced : (nodes : List PlainNode) (edges : Incoming) (members : List ℕ) (pairs sliced : List (ℕ × ℕ)) (class : ℕ → ℕ) (c n : ℕ) → IsGraph nodes → AreIncoming nodes (length nodes) edges
+    → sliced ≡ pairs → n ≡ length nodes → ((s : ℕ) → Contains members s ↔ ((s < n) × (class s ≡ c)))
+    → ((e : ℕ × ℕ) → Contains pairs e ↔ ((s : ℕ) × Contains members s × IsIncoming edges s e)) → AreOfClass nodes class c sliced
+AreOfClass-sliced nodes edges members pairs sliced class c n graph incoming of_pairs of_nodes of_class joined =
     subst (λ (ps : List (ℕ × ℕ)). AreOfClass nodes class c ps) (sym of_pairs)
-    (AreOfClass-from nodes sliced members pairs class c graph (subst (λ (ls : List (Vec (ℕ × ℕ) Global)). AreIncoming nodes (length nodes) ls) (sym of_lists) incoming)
-    (λ s. (λ h. let (below, of_c) = (of_class s).0 h in (omega arith, of_c), λ (below, of_c). (of_class s).1 (omega arith, of_c)))
-    joined)
+    (AreOfClass-from nodes edges members pairs class c graph incoming (λ s. (λ h. let (below, of_c) = (of_class s).0 h in (omega arith, of_c), λ (below, of_c). (of_class s).1 (omega arith, of_c))) joined)
 
 -- the numbers of the pairs are nodes
-pub numbers_inside : (nodes : List PlainNode) (lists sliced : List (Vec (ℕ × ℕ) Global)) (members : List ℕ) (pairs sliced_pairs : List (ℕ × ℕ)) (n : ℕ) → AreIncoming nodes (length nodes) lists
-    → sliced ≡ lists → sliced_pairs ≡ pairs → n ≡ length nodes
-    → ((e : ℕ × ℕ) → Contains pairs e ↔ ((s : ℕ) × Contains members s × Contains (list_at sliced s) e)) → (i : ℕ) → i < length sliced_pairs → number_at sliced_pairs i < n
-numbers_inside nodes lists sliced members pairs sliced_pairs n incoming of_lists of_pairs of_nodes joined i below =
+pub numbers_inside : (nodes : List PlainNode) (edges : Incoming) (members : List ℕ) (pairs sliced : List (ℕ × ℕ)) (n : ℕ) → AreIncoming nodes (length nodes) edges
+    → sliced ≡ pairs → n ≡ length nodes
+    → ((e : ℕ × ℕ) → Contains pairs e ↔ ((s : ℕ) × Contains members s × IsIncoming edges s e)) → (i : ℕ) → i < length sliced → number_at sliced i < n
+numbers_inside nodes edges members pairs sliced n incoming of_pairs of_nodes joined i below =
     let e : ℕ × ℕ = get_or pairs i (0, 0) in
     let len = ap (λ (ps : List (ℕ × ℕ)). length ps) of_pairs in
-    let same : number_at sliced_pairs i ≡ e.1 = ap (λ (ps : List (ℕ × ℕ)). number_at ps i) of_pairs in
+    let same : number_at sliced i ≡ e.1 = ap (λ (ps : List (ℕ × ℕ)). number_at ps i) of_pairs in
     let i_in : i < length pairs = omega arith in
     let (s, member, there) = (joined e).0 (i, i_in, get_or_default pairs i e (0, 0) i_in) in
-    let there' : Contains (list_at lists s) (e.0, e.1) = subst (λ (ls : List (Vec (ℕ × ℕ) Global)). Contains (list_at ls s) e) of_lists there in
+    let there' : IsIncoming edges s (e.0, e.1) = there in
     let (lt, names) = (incoming.edges s e.0 e.1).0 there' in
     omega arith
 
--- the numbers of a class have lists
-pub members_inside : (nodes : List PlainNode) (lists sliced : List (Vec (ℕ × ℕ) Global)) (members : List ℕ) (class : ℕ → ℕ) (c n : ℕ) → AreIncoming nodes (length nodes) lists
-    → sliced ≡ lists → n ≡ length nodes → ((s : ℕ) → Contains members s ↔ ((s < n) × (class s ≡ c))) → (s : ℕ) → Contains members s → s < length sliced
-members_inside nodes lists sliced members class c n incoming of_lists of_nodes of_class s member =
+-- the numbers of a class are nodes
+pub members_inside : (nodes : List PlainNode) (edges : Incoming) (members : List ℕ) (class : ℕ → ℕ) (c n : ℕ) → AreIncoming nodes (length nodes) edges
+    → n ≡ length nodes → ((s : ℕ) → Contains members s ↔ ((s < n) × (class s ≡ c))) → (s : ℕ) → Contains members s → s < node_count edges
+members_inside nodes edges members class c n incoming of_nodes of_class s member =
     let (lt, of_c) = (of_class s).0 member in
-    let len = ap (λ (ls : List (Vec (ℕ × ℕ) Global)). length ls) of_lists in
     let many = incoming.many in
     omega arith
 

@@ -6,7 +6,7 @@ use Rattle.std.proofs.lemmas.List.{length-set, get_or-set_same, get_or-set_other
 use Rattle.abi_types.specs.Types.{PlainNode}
 use Rattle.abi_types.specs.Graphs.{IsGraph, node_at}
 use Rattle.graph_alike.specs.declared.blocks.Blocks.{Blocks}
-use Rattle.abi_types.specs.Seen.{look_of, shape_of}
+use Rattle.abi_types.specs.Seen.{shape_of}
 use Rattle.graph_alike.specs.Alike.{AreAlike}
 use Rattle.pair_rules.specs.Stable.{IsStable}
 use Rattle.graph_alike.specs.Classes.{PlainClasses, rep_in, rep_of, AreSound, AreCoarsest, IsLeast, IsLeastEntry}
@@ -15,7 +15,7 @@ use Rattle.graph_alike.specs.Splits.{HaveSameKeys, IsSplitBy}
 use Rattle.graph_alike.specs.Refined.{IsRefined}
 use Rattle.graph_alike.specs.Reps.{entry_at, AreOfClasses, IsLowered, AreReps}
 use Rattle.graph_alike.proofs.AlikeLemmas.{alike_from_stable}
-use Rattle.graph_alike.proofs.lemmas.Looks.{same_look}
+use Rattle.graph_alike.proofs.LookLemmas.{same_look}
 
 -- ---- a node for each class
 

@@ -1,10 +1,13 @@
 -- A spelling tells what it spells, and where it ends.
-use Rattle.std.proofs.Common.{◌≡◌, ℕ, suc, eqb, Bool, true, false, List, [], ◌∷◌, ◌++◌, length, map, refl, sym, ◌∙◌, ap, arith, append_assoc}
+use Rattle.std.proofs.Common.{◌≡◌, ◌+◌, ◌*◌, ◌/◌, ◌%◌, ◌<◌, ℕ, suc, eqb, Bool, true, false, List, [], ◌∷◌, ◌++◌, length, map, refl, sym, ◌∙◌, ap, arith, append_assoc}
 use Rattle.std.specs.Prelude.{◌↔◌, flat_map}
 use Rattle.std.proofs.lemmas.Bool.{eq-eqb, false≢true}
 use Rattle.std.proofs.lemmas.List.{length-map}
+use Rattle.std.proofs.lemmas.Nat.{div-mul-add, mod-mul-add}
 use Rattle.abi_types.specs.declared.kind.Kind.{Kind}
+use Rattle.abi_types.specs.declared.kind.Kind.TheVariants as kind
 use Rattle.abi_types.specs.declared.kind.Group.{Group}
+use Rattle.abi_types.specs.declared.kind.Group.TheVariants as group
 use Rattle.abi_types.specs.declared.kind.LabelKind.{LabelKind}
 use Rattle.abi_types.specs.declared.kind.LabelKind.TheVariants as label
 use Rattle.abi_types.specs.declared.place.Slot.{Slot}
@@ -15,7 +18,7 @@ use Rattle.abi_types.specs.declared.place.CallShape.{CallShape}
 use Rattle.abi_types.specs.Types.{PlainPart, Member, Enumerator, Target, Element, Outcome, Param, PlainView, PlainLabel, PlainNode}
 use Rattle.pair_rules.specs.Same.{kind_number, group_number, same_kind, same_group}
 use Rattle.abi_types.specs.Seen.{part_seen, view_seen, Look, shape_of}
-use Rattle.graph_alike.specs.Shapes.{label_number, truth_number, spelled_list, spelled_slot, spelled_place, spelled_call, spelled_part, spelled_label, spelled_numbers, spelled_view, spelled, letters_of_label, letters_of_part, letters_of}
+use Rattle.graph_alike.specs.Shapes.{label_number, slot_number, head_number, truth_number, spelled_list, spelled_slot, spelled_place, spelled_call, spelled_part, spelled_label, spelled_numbers, spelled_view, spelled, letters_of_label, letters_of_part, letters_of}
 
 -- A spelling with anything after it tells what a function gives of what is spelled, and what comes after.
 abbrev Tells : {X Y : Type 0} → (X → List ℕ) → (X → Y) → Type 0
@@ -88,36 +91,45 @@ slot_tag (slot.Vector n) = 2
 slot_tag (slot.Upper n) = 3
 slot_tag (slot.X87 n) = 4
 
-slot_number : Slot → ℕ
-slot_number slot.Unused = 0
-slot_number (slot.General n) = n
-slot_number (slot.Vector n) = n
-slot_number (slot.Upper n) = n
-slot_number (slot.X87 n) = n
+slot_value : Slot → ℕ
+slot_value slot.Unused = 0
+slot_value (slot.General n) = n
+slot_value (slot.Vector n) = n
+slot_value (slot.Upper n) = n
+slot_value (slot.X87 n) = n
 
-slot_is : (a : Slot) (s : List ℕ) → spelled_slot a ++ s ≡ slot_tag a ∷ slot_number a ∷ s
-unfolding slot_tag slot_number
-slot_is slot.Unused s = refl
-slot_is (slot.General n) s = refl
-slot_is (slot.Vector n) s = refl
-slot_is (slot.Upper n) s = refl
-slot_is (slot.X87 n) s = refl
+slot_is : (a : Slot) → (slot_number a ≡ 5 * slot_value a + slot_tag a) × (slot_tag a < 5)
+unfolding slot_tag slot_value
+slot_is slot.Unused = (refl, omega arith)
+slot_is (slot.General n) = (refl, omega arith)
+slot_is (slot.Vector n) = (refl, omega arith)
+slot_is (slot.Upper n) = (refl, omega arith)
+slot_is (slot.X87 n) = (refl, omega arith)
 
-slot_same : (a b : Slot) → eqb (slot_tag a) (slot_tag b) ≡ true → slot_number a ≡ slot_number b → a ≡ b
-unfolding slot_tag slot_number
-slot_same slot.Unused slot.Unused tags numbers = refl
-slot_same (slot.General m) (slot.General n) tags numbers = ap slot.General numbers
-slot_same (slot.Vector m) (slot.Vector n) tags numbers = ap slot.Vector numbers
-slot_same (slot.Upper m) (slot.Upper n) tags numbers = ap slot.Upper numbers
-slot_same (slot.X87 m) (slot.X87 n) tags numbers = ap slot.X87 numbers
-slot_same _ _ tags numbers = absurd (false≢true tags)
+slot_same : (a b : Slot) → eqb (slot_tag a) (slot_tag b) ≡ true → slot_value a ≡ slot_value b → a ≡ b
+unfolding slot_tag slot_value
+slot_same slot.Unused slot.Unused tags values = refl
+slot_same (slot.General m) (slot.General n) tags values = ap slot.General values
+slot_same (slot.Vector m) (slot.Vector n) tags values = ap slot.Vector values
+slot_same (slot.Upper m) (slot.Upper n) tags values = ap slot.Upper values
+slot_same (slot.X87 m) (slot.X87 n) tags values = ap slot.X87 values
+slot_same _ _ tags values = absurd (false≢true tags)
+
+-- a number tells its last digit and what is before it
+digits_tell : (base p q m n : ℕ) → m < base → n < base → p * base + m ≡ q * base + n → (p ≡ q) × (m ≡ n)
+digits_tell base p q m n small_m small_n e = (
+  sym (div-mul-add p base m small_m) ∙ ap (λ (x : ℕ). x / base) e ∙ div-mul-add q base n small_n,
+  sym (mod-mul-add p base m small_m) ∙ ap (λ (x : ℕ). x % base) e ∙ mod-mul-add q base n small_n,
+)
 
 slot_tells : Tells spelled_slot (λ a. a)
 slot_tells a b s t e =
-    let both : slot_tag a ∷ slot_number a ∷ s ≡ slot_tag b ∷ slot_number b ∷ t = sym (slot_is a s) ∙ e ∙ slot_is b t in
-    let tags : slot_tag a ≡ slot_tag b = cc in
     let numbers : slot_number a ≡ slot_number b = cc in
-    (slot_same a b (eq-eqb (slot_tag a) (slot_tag b) tags) numbers, let u : s ≡ t = cc in u)
+    let (is_a, small_a) = slot_is a in
+    let (is_b, small_b) = slot_is b in
+    let digits : slot_value a * 5 + slot_tag a ≡ slot_value b * 5 + slot_tag b = let e = sym is_a ∙ numbers ∙ is_b in omega (arith, e) in
+    let (values, tags) = digits_tell 5 (slot_value a) (slot_value b) (slot_tag a) (slot_tag b) small_a small_b digits in
+    (slot_same a b (eq-eqb (slot_tag a) (slot_tag b) tags) values, let u : s ≡ t = cc in u)
 
 place_tag : Place → ℕ
 place_tag place.Nothing = 0
@@ -241,6 +253,41 @@ truth_same true true e = refl
 truth_same false false e = refl
 truth_same _ _ e = absurd (false≢true e)
 
+kind_small : (k : Kind) → kind_number k < 9
+kind_small kind.Void = omega arith
+kind_small kind.Scalar = omega arith
+kind_small kind.Pointer = omega arith
+kind_small kind.Enumeration = omega arith
+kind_small kind.Structure = omega arith
+kind_small kind.Union = omega arith
+kind_small kind.Array = omega arith
+kind_small kind.Vector = omega arith
+kind_small kind.Function = omega arith
+
+group_small : (g : Group) → group_number g < 7
+group_small group.Bool = omega arith
+group_small group.Signed = omega arith
+group_small group.Unsigned = omega arith
+group_small group.Float = omega arith
+group_small group.Quad = omega arith
+group_small group.Complex = omega arith
+group_small group.Decimal = omega arith
+
+truth_small : (b : Bool) → truth_number b < 2
+truth_small true = omega arith
+truth_small false = omega arith
+
+heads_tell : (k l : Kind) (g h : Group) (a b c d : Bool) → head_number k g a c ≡ head_number l h b d
+    → (kind_number k ≡ kind_number l) × (group_number g ≡ group_number h) × (truth_number a ≡ truth_number b) × (truth_number c ≡ truth_number d)
+heads_tell k l g h a b c d e =
+    let first : (group_number g + 7 * truth_number a + 14 * truth_number c) * 9 + kind_number k ≡ (group_number h + 7 * truth_number b + 14 * truth_number d) * 9 + kind_number l = omega (arith, e) in
+    let (more, kinds) = digits_tell 9 (group_number g + 7 * truth_number a + 14 * truth_number c) (group_number h + 7 * truth_number b + 14 * truth_number d) (kind_number k) (kind_number l) (kind_small k) (kind_small l) first in
+    let second : (truth_number a + 2 * truth_number c) * 7 + group_number g ≡ (truth_number b + 2 * truth_number d) * 7 + group_number h = omega (arith, more) in
+    let (last, groups) = digits_tell 7 (truth_number a + 2 * truth_number c) (truth_number b + 2 * truth_number d) (group_number g) (group_number h) (group_small g) (group_small h) second in
+    let third : truth_number c * 2 + truth_number a ≡ truth_number d * 2 + truth_number b = omega (arith, last) in
+    let (variadics, declared) = digits_tell 2 (truth_number c) (truth_number d) (truth_number a) (truth_number b) (truth_small a) (truth_small b) third in
+    (kinds, groups, declared, variadics)
+
 made_view : Kind → Bool → List ℕ → ℕ → Group → ℕ → ℕ → Bool → List PlainPart → CallShape → PlainView
 made_view kind declared_only tag size group align count variadic parts call = record {
   kind = kind;
@@ -284,13 +331,11 @@ view_tells told v w s t u x e letters =
     let rest_v : List ℕ = spelled_list spelled_part v.parts ++ (spelled_call v.call ++ s) in
     let rest_w : List ℕ = spelled_list spelled_part w.parts ++ (spelled_call w.call ++ t) in
     let both : spelled_numbers v ++ rest_v ≡ spelled_numbers w ++ rest_w = sym (view_is v s) ∙ e ∙ view_is w t in
-    let kinds : kind_number v.kind ≡ kind_number w.kind = cc in
-    let declared : truth_number v.declared_only ≡ truth_number w.declared_only = cc in
+    let heads : head_number v.kind v.group v.declared_only v.variadic ≡ head_number w.kind w.group w.declared_only w.variadic = cc in
+    let (kinds, groups, declared, variadics) = heads_tell v.kind w.kind v.group w.group v.declared_only w.declared_only v.variadic w.variadic heads in
     let sizes : v.size ≡ w.size = cc in
-    let groups : group_number v.group ≡ group_number w.group = cc in
     let aligns : v.align ≡ w.align = cc in
     let counts : v.count ≡ w.count = cc in
-    let variadics : truth_number v.variadic ≡ truth_number w.variadic = cc in
     let lens : length v.tag ≡ length w.tag = cc in
     let rest : rest_v ≡ rest_w = cc in
     let names : v.tag ++ (flat_map letters_of_part v.parts ++ u) ≡ w.tag ++ (flat_map letters_of_part w.parts ++ x) = sym (append_assoc v.tag (flat_map letters_of_part v.parts) u) ∙ letters ∙ append_assoc w.tag (flat_map letters_of_part w.parts) x in

@@ -1,5 +1,5 @@
 -- Nodes that cannot be told apart.
-use Rattle.std.specs.Prelude.{◌≡◌, ℕ, Bool, true, List, Some}
+use Rattle.std.specs.Prelude.{◌≡◌, ◌<◌, ℕ, Bool, true, List, length, Some}
 use Rattle.abi_types.specs.Types.{PlainNode}
 use Rattle.abi_types.specs.Graphs.{node_at, view_at, part_at, to_of}
 use Rattle.abi_types.specs.Seen.{shape_of}
@@ -13,3 +13,7 @@ pub record IsAlikeness (nodes : List PlainNode) (r : ℕ → ℕ → Bool) : Typ
 -- Two nodes are alike where some such relation has them: alike is the greatest of them.
 abbrev pub AreAlike : List PlainNode → ℕ → ℕ → Type 0
 AreAlike nodes i j = (r : ℕ → ℕ → Bool) × IsAlikeness nodes r × (r i j ≡ true)
+
+-- alike nodes are of one class
+abbrev pub KeepsAlike : List PlainNode → (ℕ → ℕ) → Type 0
+KeepsAlike nodes class = (i j : ℕ) → i < length nodes → j < length nodes → AreAlike nodes i j → class i ≡ class j

@@ -1,7 +1,8 @@
 -- Shapes numbered by the first node of each.
-use Rattle.std.specs.Prelude.{◌≡◌, ◌<◌, ◌↔◌, ◌==◌, ◌&&◌, ℕ, Bool, List, length, Option, Contains}
+use Rattle.std.specs.Prelude.{◌≡◌, ◌<◌, ◌↔◌, ◌==◌, ◌&&◌, ℕ, Bool, List, [], ◌∷◌, length, Option, Contains}
 use Rattle.std.specs.Global.{Vec}
 use Rattle.std.specs.Cmp.Lexicographic.{pointwise}
+use Rattle.std.specs.Hash.{HashWrites}
 use Rattle.std.specs.HashMap.{HashMap, get_by}
 use Rattle.std.specs.declared.hash.FoldHasher.{FoldHasher}
 use Rattle.std.specs.declared.hash.BuildHasherDefault.{BuildHasherDefault}
@@ -20,6 +21,10 @@ pub record IsSpellingOf (s : Spelling) (l : Look) : Type 0 where
 pub record AreOneSpelling (s t : Spelling) : Type 0 where
   pub numbers : s.numbers.items ≡ t.numbers.items
   pub letters : s.letters.items ≡ t.letters.items
+
+-- letters that are written to a hasher at once
+abbrev pub fed_text : List ℕ → HashWrites
+fed_text letters = letters ∷ []
 
 abbrev pub same_numbers : List ℕ → List ℕ → Bool
 same_numbers = pointwise (λ m n. m == n)

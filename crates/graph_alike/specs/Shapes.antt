@@ -1,5 +1,7 @@
 -- Shapes of nodes, spelled as numbers and letters: equal shapes are spelled alike, and others are not.
-use Rattle.std.specs.Prelude.{ℕ, ◌++◌, Bool, List, [], ◌∷◌, length, flat_map, if◌then◌else◌}
+use Rattle.std.specs.Prelude.{ℕ, ◌+◌, ◌*◌, ◌++◌, Bool, List, [], ◌∷◌, length, flat_map, if◌then◌else◌}
+use Rattle.abi_types.specs.declared.kind.Kind.{Kind}
+use Rattle.abi_types.specs.declared.kind.Group.{Group}
 use Rattle.abi_types.specs.declared.kind.LabelKind.{LabelKind}
 use Rattle.abi_types.specs.declared.kind.LabelKind.TheVariants as label
 use Rattle.abi_types.specs.declared.place.Slot.{Slot}
@@ -29,12 +31,16 @@ spelled_list f xs = length xs ∷ flat_map f xs
 abbrev pub spelled_number : ℕ → List ℕ
 spelled_number n = n ∷ []
 
+-- each slot has a number of its own
+abbrev pub slot_number : Slot → ℕ
+slot_number slot.Unused = 0
+slot_number (slot.General n) = 5 * n + 1
+slot_number (slot.Vector n) = 5 * n + 2
+slot_number (slot.Upper n) = 5 * n + 3
+slot_number (slot.X87 n) = 5 * n + 4
+
 abbrev pub spelled_slot : Slot → List ℕ
-spelled_slot slot.Unused = 0 ∷ 0 ∷ []
-spelled_slot (slot.General n) = 1 ∷ n ∷ []
-spelled_slot (slot.Vector n) = 2 ∷ n ∷ []
-spelled_slot (slot.Upper n) = 3 ∷ n ∷ []
-spelled_slot (slot.X87 n) = 4 ∷ n ∷ []
+spelled_slot s = slot_number s ∷ []
 
 unfoldable pub spelled_place : Place → List ℕ
 spelled_place place.Nothing = 0 ∷ []
@@ -57,9 +63,13 @@ spelled_part (Param to) = 5 ∷ []
 abbrev pub spelled_label : PlainLabel → List ℕ
 spelled_label l = label_number l.kind ∷ length l.name ∷ []
 
+-- each kind and group, with two truths, has a number of its own
+abbrev pub head_number : Kind → Group → Bool → Bool → ℕ
+head_number kind group declared_only variadic = kind_number kind + 9 * group_number group + 63 * truth_number declared_only + 126 * truth_number variadic
+
 -- what a view says in numbers alone
 abbrev pub spelled_numbers : PlainView → List ℕ
-spelled_numbers v = kind_number v.kind ∷ truth_number v.declared_only ∷ v.size ∷ group_number v.group ∷ v.align ∷ v.count ∷ truth_number v.variadic ∷ length v.tag ∷ []
+spelled_numbers v = head_number v.kind v.group v.declared_only v.variadic ∷ v.size ∷ v.align ∷ v.count ∷ length v.tag ∷ []
 
 unfoldable pub spelled_view : PlainView → List ℕ
 spelled_view v = spelled_numbers v ++ spelled_list spelled_part v.parts ++ spelled_call v.call

@@ -5,115 +5,155 @@ ghost use Rattle.abi_types.specs.Graphs.{IsGraph, to_of};
 ghost use Rattle.abi_types.specs.Parts.{plain_part};
 ghost use Rattle.graph_alike.specs.Blocks.{at};
 ghost use Rattle.graph_alike.specs.Splits.{key_of};
-ghost use Rattle.graph_alike.specs.Edges.{list_at, Names, AreIncoming, IsPushed};
+ghost use Rattle.graph_alike.specs.Edges.{node_count, AreLinked, IsIncoming, IsAdded, Names, AreIncoming};
 
 use abi_base::NoMemory;
 use abi_types::{Graph, Index, Part};
 use std::alloc::Global;
 
-// So many empty lists.
-fn empty_lists(alloc: Global, count: usize) -> Result<Vec<Vec<(usize, usize)>>, NoMemory>
-    ensures many { IfOk result (λ lists. length lists.items ≡ count) }
-    ensures empty { IfOk result (λ lists. (s : ℕ) → list_at lists.items s ≡ []) }
-{
-    let mut lists = Vec::new(alloc);
-    for _ in 0..count {
-        lists.push(Vec::new(alloc))?;
+/// A part that names a node.
+#[derive(Clone, Copy)]
+pub struct Edge {
+    /// The node that it names.
+    pub to: usize,
+    /// Its position, and the node that it is of.
+    pub part: (usize, usize),
+    /// One more than the number of the last edge before it that leads to the same node, or 0 where there is none.
+    pub earlier: usize,
+}
+
+/// The parts that name nodes, as they were added. Those that name one node are linked, from the last to the first.
+#[derive(Drop)]
+pub struct Incoming {
+    edges: Vec<Edge>,
+    // For each node one more than the number of the last edge that leads to it, or 0 where there is none.
+    last: Vec<usize>,
+}
+
+impl Incoming {
+    // So many nodes that no part names.
+    fn none(alloc: Global, count: usize) -> Result<Incoming, NoMemory>
+        ensures edges { IfOk result (λ i. i.edges.items ≡ []) }
+        ensures count { IfOk result (λ i. node_count i ≡ count) }
+        ensures last { IfOk result (λ i. (s : ℕ) → s < count → at i.last.items s ≡ 0) }
+    {
+        let mut last = Vec::new(alloc);
+        last.resize(count, 0)?;
+        Ok(Incoming {
+            edges: Vec::new(alloc),
+            last,
+        })
     }
-    Ok(lists)
+
+    // Adds a part, given by its position and its node, that names a node.
+    fn add(&mut self, to: usize, part: (usize, usize)) -> Result<(), NoMemory>
+        requires linked { AreLinked self.old }
+        requires inside { to < node_count self.old }
+        ensures { OnOk result (IsAdded self.old self.new to part) }
+    {
+        let edge = Edge {
+            to,
+            part,
+            earlier: self.last[to],
+        };
+        self.edges.push(edge)?;
+        self.last[to] = self.edges.len();
+        Ok(())
+    }
+
+    // Puts the parts that name a node last.
+    fn push_parts(&self, into: &mut Vec<(usize, usize)>, node: usize) -> Result<(), NoMemory>
+        requires linked { AreLinked self.now }
+        requires inside { node < node_count self.now }
+        ensures { OnOk result ((e : ℕ × ℕ) → Contains into.new.items e ↔ (Contains into.old.items e ⊎ IsIncoming self.now node e)) }
+    {
+        let mut link = self.last[node];
+        'edges: while link > 0 {
+            let edge = self.edges[link - 1];
+            into.push(edge.part)?;
+            link = edge.earlier;
+        }
+        Ok(())
+    }
 }
 
-// Puts a pair last in the list at a number.
-fn push_pair(
-    lists: &mut Vec<Vec<(usize, usize)>>,
-    to: usize,
-    pair: (usize, usize),
-) -> Result<(), NoMemory>
-    requires { to < length lists.old.items }
-    ensures { OnOk result (IsPushed lists.old.items lists.new.items to pair) }
-{
-    let list = &mut lists[to];
-    list.push(pair)?;
-    Ok(())
-}
-
-// Puts a part, given by its position and its node, into the list of the node that it names, if it names one.
+// Adds a part, given by its position and its node, if it names a node.
 fn add_part<Ix: Index>(
-    lists: &mut Vec<Vec<(usize, usize)>>,
+    incoming: &mut Incoming,
     part: &Part<Ix>,
     pair: (usize, usize),
 ) -> Result<(), NoMemory>
-    requires { (s : ℕ) → to_of (plain_part Ix.number_of part.now) ≡ Some s → s < length lists.old.items }
-    ensures many { OnOk result (length lists.new.items ≡ length lists.old.items) }
-    ensures pairs { OnOk result ((s : ℕ) (e : ℕ × ℕ) → Contains (list_at lists.new.items s) e
-        ↔ (Contains (list_at lists.old.items s) e ⊎ ((to_of (plain_part Ix.number_of part.now) ≡ Some s) × (e ≡ pair)))) }
+    requires linked { AreLinked incoming.old }
+    requires inside { (s : ℕ) → to_of (plain_part Ix.number_of part.now) ≡ Some s → s < node_count incoming.old }
+    ensures linked { OnOk result (AreLinked incoming.new) }
+    ensures many { OnOk result (node_count incoming.new ≡ node_count incoming.old) }
+    ensures pairs { OnOk result ((s : ℕ) (e : ℕ × ℕ) → IsIncoming incoming.new s e
+        ↔ (IsIncoming incoming.old s e ⊎ ((to_of (plain_part Ix.number_of part.now) ≡ Some s) × (e ≡ pair)))) }
 {
     match part.to() {
-        Some(to) => push_pair(lists, to.number(), pair),
+        Some(to) => incoming.add(to.number(), pair),
         None => Ok(()),
     }
 }
 
-// Puts the parts of a node into the lists of the nodes that they name.
+// Adds the parts of a node that name nodes.
 fn add_parts<Ix: Index>(
-    lists: &mut Vec<Vec<(usize, usize)>>,
+    incoming: &mut Incoming,
     graph: &Graph<Ix>,
     node: usize,
 ) -> Result<(), NoMemory>
     requires inside { node < length graph.now }
-    requires before { AreIncoming graph.now node lists.old.items }
-    ensures { OnOk result (AreIncoming graph.now (node + 1) lists.new.items) }
+    requires before { AreIncoming graph.now node incoming.old }
+    ensures { OnOk result (AreIncoming graph.now (node + 1) incoming.new) }
 {
     graph.known();
     let view = graph.view(Ix::of(node));
     'parts: for k in 0..view.parts_len() {
-        add_part(lists, view.part(k), (k, node))?;
+        add_part(incoming, view.part(k), (k, node))?;
     }
     Ok(())
 }
 
 /// For each node of the graph the parts that name it, each by its position and the node that it is of.
-pub fn incoming<Ix: Index>(
-    alloc: Global,
-    graph: &Graph<Ix>,
-) -> Result<Vec<Vec<(usize, usize)>>, NoMemory>
-    ensures { IfOk result (λ lists. AreIncoming graph.now (length graph.now) lists.items) }
+pub fn incoming_of<Ix: Index>(alloc: Global, graph: &Graph<Ix>) -> Result<Incoming, NoMemory>
+    ensures { IfOk result (AreIncoming graph.now (length graph.now)) }
 {
-    let mut lists = empty_lists(alloc, graph.len())?;
+    let mut incoming = Incoming::none(alloc, graph.len())?;
     'nodes: for node in 0..graph.len() {
-        add_parts(&mut lists, graph, node)?;
+        add_parts(&mut incoming, graph, node)?;
     }
-    Ok(lists)
+    Ok(incoming)
 }
 
-// The pairs in the lists at these numbers.
-fn joined(
-    alloc: Global,
-    lists: &[Vec<(usize, usize)>],
+// Puts the parts that name these nodes in place of what was there.
+fn join(
+    into: &mut Vec<(usize, usize)>,
+    incoming: &Incoming,
     nodes: &[usize],
-) -> Result<Vec<(usize, usize)>, NoMemory>
-    requires { (s : ℕ) → Contains nodes.now s → s < length lists.now }
-    ensures { IfOk result (λ pairs. (e : ℕ × ℕ) → Contains pairs.items e ↔ ((s : ℕ) × Contains nodes.now s × Contains (list_at lists.now s) e)) }
+) -> Result<(), NoMemory>
+    requires linked { AreLinked incoming.now }
+    requires inside { (s : ℕ) → Contains nodes.now s → s < node_count incoming.now }
+    ensures { OnOk result ((e : ℕ × ℕ) → Contains into.new.items e ↔ ((s : ℕ) × Contains nodes.now s × IsIncoming incoming.now s e)) }
 {
-    let mut pairs = Vec::new(alloc);
+    into.clear();
     'nodes: for i in 0..nodes.len() {
-        let list = &lists[nodes[i]];
-        pairs.extend_from_slice(list.as_slice())?;
+        incoming.push_parts(into, nodes[i])?;
     }
-    Ok(pairs)
+    Ok(())
 }
 
-/// The parts that name one of these nodes, in order of their positions.
-pub fn incoming_of(
-    alloc: Global,
-    lists: &[Vec<(usize, usize)>],
+/// Puts the parts that name one of these nodes, in order of their positions, in place of what was there.
+pub fn join_incoming(
+    into: &mut Vec<(usize, usize)>,
+    incoming: &Incoming,
     nodes: &[usize],
-) -> Result<Vec<(usize, usize)>, NoMemory>
-    requires { (s : ℕ) → Contains nodes.now s → s < length lists.now }
-    ensures rising { IfOk result (λ pairs. IsNonDecreasingBy key_of pairs.items) }
-    ensures pairs { IfOk result (λ pairs. (e : ℕ × ℕ) → Contains pairs.items e ↔ ((s : ℕ) × Contains nodes.now s × Contains (list_at lists.now s) e)) }
+) -> Result<(), NoMemory>
+    requires linked { AreLinked incoming.now }
+    requires inside { (s : ℕ) → Contains nodes.now s → s < node_count incoming.now }
+    ensures rising { OnOk result (IsNonDecreasingBy key_of into.new.items) }
+    ensures pairs { OnOk result ((e : ℕ × ℕ) → Contains into.new.items e ↔ ((s : ℕ) × Contains nodes.now s × IsIncoming incoming.now s e)) }
 {
-    let mut pairs = joined(alloc, lists, nodes)?;
-    pairs.sort_unstable_by_key(|pair| pair.0);
-    Ok(pairs)
+    join(into, incoming, nodes)?;
+    into.sort_unstable_by_key(|pair| pair.0);
+    Ok(())
 }

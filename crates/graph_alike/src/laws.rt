@@ -4,7 +4,8 @@ ghost use Rattle.abi_types.specs.Types.{PlainNode, PlainView};
 ghost use Rattle.abi_types.specs.Graphs.{IsGraph, node_at, view_at};
 ghost use Rattle.pair_rules.specs.TypeRules.{breaks};
 ghost use Rattle.pair_rules.specs.Partners.{partner_at};
-ghost use Rattle.graph_alike.specs.Alike.{AreAlike};
+ghost use Rattle.abi_types.specs.Seen.{look_of};
+ghost use Rattle.graph_alike.specs.Alike.{AreAlike, KeepsAlike};
 ghost use Rattle.pair_rules.specs.Stable.{IsStable};
 ghost use Rattle.graph_alike.specs.Classes.{PlainClasses, AreSound, AreCoarsest, IsLeastEntry, rep_of};
 
@@ -36,6 +37,12 @@ pub fn alike_nodes_break_the_same_rules()
 {
     rules_see_no_nodes();
 }
+
+/// By classes that alike nodes share, alike nodes look the same, with the class of each node that a part names in its place.
+pub fn alike_nodes_look_the_same()
+    ensures { (nodes : List PlainNode) (class : ℕ → ℕ) → IsGraph nodes → KeepsAlike nodes class → (i j : ℕ) → AreAlike nodes i j
+        → look_of class (node_at nodes i) ≡ look_of class (node_at nodes j) }
+{}
 
 /// Where nodes are of one class exactly where they are alike, the entry of the node that stands for a class is the least of those
 /// of the nodes that are alike to one of it, and no other entry is.

@@ -4,7 +4,7 @@ ghost use Rattle.graph_alike.specs.Blocks.{len_of, class_in, AreBlocks, ListsMar
 ghost use Rattle.graph_alike.specs.Refined.{IsRefined};
 
 use crate::blocks::Blocks;
-use crate::edges::{incoming, incoming_of};
+use crate::edges::{incoming_of, join_incoming};
 use crate::split::split_by_keys;
 use abi_base::NoMemory;
 use abi_types::{Graph, Index};
@@ -29,10 +29,11 @@ pub fn refine<Ix: Index>(
     ensures refined { OnOk result (IsRefined graph.now (class_in blocks.new) (λ c. c)) }
 {
     graph.known();
-    let lists = incoming(alloc, graph)?;
+    let edges = incoming_of(alloc, graph)?;
+    let mut pairs = Vec::new(alloc);
     let mut class = 0;
     'classes: while class < blocks.count() {
-        let pairs = incoming_of(alloc, lists.as_slice(), blocks.members(class))?;
+        join_incoming(&mut pairs, &edges, blocks.members(class))?;
         split_by_keys(blocks, pairs.as_slice())?;
         class += 1;
     }

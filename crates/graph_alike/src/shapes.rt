@@ -1,35 +1,53 @@
 // What a node looks like in all but the nodes that its parts name, spelled as numbers and letters.
 ghost use Rattle.std.specs.Prelude.{◌≡◌, ◌<◌, ◌↔◌, ◌++◌, ◌⊎◌, ℕ, List, [], ◌∷◌, length, map, flat_map, if◌then◌else◌, Some, IfOk, OnOk, Contains};
 ghost use Rattle.std.specs.List.Sorted.{IsNonDecreasingBy};
+ghost use Rattle.std.specs.Hash as fed;
+ghost use Rattle.std.specs.Hash.{same_Alike, on_Alike, items_Alike, and-Alike};
+ghost use Rattle.std.specs.Cmp.{unsigned_Decides};
+ghost use Rattle.std.specs.Cmp.Lexicographic.{pointwise_decides};
 ghost use Rattle.abi_types.specs.Types.{PlainPart};
 ghost use Rattle.abi_types.specs.Graphs.{node_at};
 ghost use Rattle.abi_types.specs.Plain.{plain_label};
 ghost use Rattle.abi_types.specs.Parts.{plain_part};
 ghost use Rattle.abi_types.specs.Seen.{shape_of};
 ghost use Rattle.pair_rules.specs.Same.{kind_number as the_kind_number, group_number as the_group_number};
-ghost use Rattle.graph_alike.specs.Shapes.{label_number as the_label_number, truth_number, spelled_list, spelled_number, spelled_slot, spelled_place, spelled_call, spelled_part, spelled_label, spelled_numbers, spelled_view, spelled, letters_of_label, letters_of_part as the_letters_of_part, letters_of};
+ghost use Rattle.graph_alike.specs.Shapes.{label_number as the_label_number, slot_number as the_slot_number, head_number as the_head_number, truth_number, spelled_list, spelled_number, spelled_slot, spelled_place, spelled_call, spelled_part, spelled_label, spelled_numbers, spelled_view, spelled, letters_of_label, letters_of_part as the_letters_of_part, letters_of};
 ghost use Rattle.graph_alike.specs.Splits.{key_of, number_at, HaveSameKeys};
-ghost use Rattle.graph_alike.specs.Numbered.{number_in, AreOneSpelling, IsSpellingOf, IsNumbered};
+ghost use Rattle.graph_alike.specs.Numbered.{fed_text, number_in, AreOneSpelling, IsSpellingOf, IsNumbered};
 ghost use Rattle.graph_alike.specs.declared.shapes.Spelling.{Spelling};
 
 use abi_base::NoMemory;
-use abi_types::{CallShape, Graph, Group, Index, Kind, Label, LabelKind, Part, Place, Slot, View};
+use abi_types::{Call, Graph, Group, Index, Kind, Label, LabelKind, Part, Place, Slot, View};
 use pair_rules::laws::the_same_are_equal;
 use std::alloc::Global;
 use std::collections::HashMap;
+use std::hash::{Hash, Hasher};
 
 /// A shape as it is spelled: its numbers, among them the length of each name, and the letters of its names, one name after the
 /// other.
-#[derive(PartialEq, Eq, Hash, Drop)]
+#[derive(PartialEq, Eq, Drop)]
 pub struct Spelling {
     pub numbers: Vec<u64>,
     pub letters: Vec<u8>,
 }
 
+// The letters are hashed as one text, which is faster than letter by letter.
+impl Hash for Spelling {
+    ghost hash_input = { λ s. fed.slice fed.u64 s.numbers.items ++ fed_text s.letters.items };
+
+    ghost respects_eq = { (and-Alike (on_Alike (λ s. s.numbers.items) (items_Alike (same_Alike fed.u64 unsigned_Decides))) (on_Alike (λ s. s.letters.items) (same_Alike fed_text (pointwise_decides unsigned_Decides)))).fed };
+
+    fn hash<H: Hasher>(&self, state: &mut H) {
+        self.numbers.hash(state);
+        state.write(self.letters.as_slice());
+    }
+}
+
 // Each kind has a number of its own, and so have groups, kinds of labels, slots, places and parts.
 
 fn kind_number(kind: Kind) -> u64
-    ensures { result ≡ the_kind_number kind }
+    ensures number { result ≡ the_kind_number kind }
+    ensures small { result < 9 }
 {
     match kind {
         Kind::Void => 0,
@@ -45,7 +63,8 @@ fn kind_number(kind: Kind) -> u64
 }
 
 fn group_number(group: Group) -> u64
-    ensures { result ≡ the_group_number group }
+    ensures number { result ≡ the_group_number group }
+    ensures small { result < 7 }
 {
     match group {
         Group::Bool => 0,
@@ -78,15 +97,15 @@ fn push_pair(into: &mut Vec<u64>, one: u64, other: u64) -> Result<(), NoMemory>
     Ok(())
 }
 
-fn push_slot(into: &mut Vec<u64>, slot: Slot) -> Result<(), NoMemory>
-    ensures { OnOk result (into.new.items ≡ into.old.items ++ spelled_slot slot) }
+fn slot_number(slot: Slot) -> u64
+    ensures { result ≡ the_slot_number slot }
 {
     match slot {
-        Slot::Unused => push_pair(into, 0, 0),
-        Slot::General(number) => push_pair(into, 1, u64::from(number)),
-        Slot::Vector(number) => push_pair(into, 2, u64::from(number)),
-        Slot::Upper(number) => push_pair(into, 3, u64::from(number)),
-        Slot::X87(number) => push_pair(into, 4, u64::from(number)),
+        Slot::Unused => 0,
+        Slot::General(number) => 5 * u64::from(number) + 1,
+        Slot::Vector(number) => 5 * u64::from(number) + 2,
+        Slot::Upper(number) => 5 * u64::from(number) + 3,
+        Slot::X87(number) => 5 * u64::from(number) + 4,
     }
 }
 
@@ -95,7 +114,7 @@ fn push_slots(into: &mut Vec<u64>, slots: &[Slot]) -> Result<(), NoMemory>
 {
     into.push(slots.len() as u64)?;
     'slots: for i in 0..slots.len() {
-        push_slot(into, slots[i])?;
+        into.push(slot_number(slots[i]))?;
     }
     Ok(())
 }
@@ -146,15 +165,15 @@ fn push_places(into: &mut Vec<u64>, places: &[Place]) -> Result<(), NoMemory>
 fn push_member(into: &mut Vec<u64>, letters: usize, bit: u64, width: u64) -> Result<(), NoMemory>
     ensures { OnOk result (into.new.items ≡ into.old.items ++ 0 ∷ letters ∷ bit ∷ width ∷ []) }
 {
-    push_pair(into, 0, letters as u64)?;
-    push_pair(into, bit, width)
+    into.extend_from_slice(&[0, letters as u64, bit, width])?;
+    Ok(())
 }
 
 fn push_enumerator(into: &mut Vec<u64>, letters: usize, value: u64) -> Result<(), NoMemory>
     ensures { OnOk result (into.new.items ≡ into.old.items ++ 1 ∷ letters ∷ value ∷ []) }
 {
-    push_pair(into, 1, letters as u64)?;
-    push_number(into, value)
+    into.extend_from_slice(&[1, letters as u64, value])?;
+    Ok(())
 }
 
 #[tactic(auto, unfolding(crate::specs::Shapes::spelled_part))]
@@ -203,20 +222,29 @@ fn push_labels(into: &mut Vec<u64>, labels: &[Label]) -> Result<(), NoMemory>
 }
 
 #[tactic(auto, unfolding(crate::specs::Shapes::spelled_call))]
-fn push_call(into: &mut Vec<u64>, call: &CallShape) -> Result<(), NoMemory>
+fn push_call(into: &mut Vec<u64>, call: &Call) -> Result<(), NoMemory>
     ensures { OnOk result (into.new.items ≡ into.old.items ++ spelled_call call.now) }
 {
-    push_place(into, &call.outcome)?;
-    push_places(into, call.params.as_slice())
+    push_place(into, &call.outcome())?;
+    push_places(into, call.params())
+}
+
+fn head_number(kind: Kind, group: Group, declared_only: bool, variadic: bool) -> u64
+    ensures { result ≡ the_head_number kind group declared_only variadic }
+{
+    kind_number(kind)
+        + 9 * group_number(group)
+        + 63 * u64::from(declared_only)
+        + 126 * u64::from(variadic)
 }
 
 fn push_numbers<Ix: Index>(into: &mut Vec<u64>, view: &View<Ix>) -> Result<(), NoMemory>
     ensures { OnOk result (into.new.items ≡ into.old.items ++ spelled_numbers view.now) }
 {
-    push_pair(into, kind_number(view.kind), u64::from(view.declared_only))?;
-    push_pair(into, view.size, group_number(view.group))?;
-    push_pair(into, view.align, view.count)?;
-    push_pair(into, u64::from(view.variadic), view.tag.len() as u64)
+    let head = head_number(view.kind, view.group, view.declared_only, view.variadic);
+    let letters = view.tag.len() as u64;
+    into.extend_from_slice(&[head, view.size, view.align, view.count, letters])?;
+    Ok(())
 }
 
 #[tactic(auto, unfolding(crate::specs::Shapes::spelled_view))]

@@ -1,14 +1,9 @@
--- A sort moves pairs alone.
-use Rattle.std.proofs.Common.{ℕ, rules}
-use Rattle.std.proofs.lemmas.List.Sorted.{IsNonDecreasingBy-from_sort_by_key}
-use Rattle.graph_alike.specs.Splits.{key_of}
-use Rattle.std.specs.Prelude.{Contains}
-use Rattle.graph_alike.specs.Edges.{list_at}
-use Rattle.graph_alike.proofs.EdgeLemmas.{moved_pairs}
+-- All nodes are in.
+use Rattle.std.proofs.Common.{◌≡◌, length, arith}
+use Rattle.graph_alike.proofs.EdgeLemmas.{AreIncoming-all}
 use Rattle.graph_alike.proofs.edges.incoming_of.Goals as goal
 
-pub returns-clause-pairs : goal.returns-clause-pairs
-returns-clause-pairs c = moved_pairs c.in_ok-pairs.pairs.items c.sort_unstable_by_key.new.self.items (λ e. (s : ℕ) × Contains c.args.nodes.now s × Contains (list_at c.args.lists.now s) e) c.sort_unstable_by_key.ensures.permutation c.in_ok-pairs.ensures
-
-pub returns-clause-rising : goal.returns-clause-rising
-returns-clause-rising c = IsNonDecreasingBy-from_sort_by_key key_of c.sort_unstable_by_key.new.self.items c.sort_unstable_by_key.ensures.sorted (λ a r q k. search rules)
+pub returns : goal.returns
+returns g c =
+    let all : c.nodes.node ≡ length c.args.graph.now = omega arith in
+    AreIncoming-all c.args.graph.now c.nodes.node (length c.args.graph.now) c.nodes.incoming all c.nodes.invariant

@@ -1,5 +1,5 @@
 -- One class more is used.
-use Rattle.std.proofs.Common.{arith, ◌∙◌}
+use Rattle.std.proofs.Common.{arith}
 use Rattle.graph_alike.specs.Blocks.{class_in, len_of}
 use Rattle.graph_alike.proofs.RefineLemmas.{IsRefining-start, IsRefining-more, IsRefining-all, AreOfClass-sliced, numbers_inside, members_inside, count-le}
 use Rattle.graph_alike.proofs.refine.refine.Goals as goal
@@ -7,19 +7,18 @@ use Rattle.graph_alike.proofs.refine.refine.Goals as goal
 pub classes-init : goal.classes-init
 classes-init g c = IsRefining-start c.args.graph.now c.args.blocks.now c.requires.blocks c.requires.listed c.requires.unmarked c.requires.len c.requires.refined
 
-pub incoming_of-requires : goal.incoming_of-requires
-incoming_of-requires g c =
-    members_inside c.args.graph.now c.in_ok-lists.lists.items c.as_slice.result.now c.members.result.now (class_in c.classes.blocks) c.classes.class (len_of c.classes.blocks) c.in_ok-lists.ensures c.as_slice.ensures.value c.classes.invariant.len c.members.ensures.all
+pub join_incoming-requires-clause-inside : goal.join_incoming-requires-clause-inside
+join_incoming-requires-clause-inside g c =
+    members_inside c.args.graph.now c.in_ok-edges.edges c.members.result.now (class_in c.classes.blocks) c.classes.class (len_of c.classes.blocks) c.in_ok-edges.ensures c.classes.invariant.len c.members.ensures.all
 
 pub split_by_keys-requires-clause-numbers : goal.split_by_keys-requires-clause-numbers
 split_by_keys-requires-clause-numbers g c =
-    numbers_inside c.args.graph.now c.in_ok-lists.lists.items c.as_slice.result.now c.members.result.now c.in_ok-pairs.pairs.items c.as_slice-in-classes.result.now (len_of c.classes.blocks) c.in_ok-lists.ensures c.as_slice.ensures.value c.as_slice-in-classes.ensures.value
-    c.classes.invariant.len c.in_ok-pairs.ensures.pairs
+    numbers_inside c.args.graph.now c.in_ok-edges.edges c.members.result.now c.join_incoming.new.into.items c.as_slice.result.now (len_of c.classes.blocks) c.in_ok-edges.ensures c.as_slice.ensures.value c.classes.invariant.len c.in_ok-join_incoming.ensures.pairs
 
 pub classes-preserved : goal.classes-preserved
 classes-preserved g c =
-    IsRefining-more c.args.graph.now c.classes.blocks c.split_by_keys.new.blocks c.classes.class c.as_slice-in-classes.result.now c.known.ensures c.classes.invariant (let e = c.count.ensures in omega arith)
-    (AreOfClass-sliced c.args.graph.now c.in_ok-lists.lists.items c.as_slice.result.now c.members.result.now c.in_ok-pairs.pairs.items c.as_slice-in-classes.result.now (class_in c.classes.blocks) c.classes.class (len_of c.classes.blocks) c.known.ensures c.in_ok-lists.ensures c.as_slice.ensures.value c.as_slice-in-classes.ensures.value c.classes.invariant.len c.members.ensures.all c.in_ok-pairs.ensures.pairs)
+    IsRefining-more c.args.graph.now c.classes.blocks c.split_by_keys.new.blocks c.classes.class c.as_slice.result.now c.known.ensures c.classes.invariant (let e = c.count.ensures in omega arith)
+    (AreOfClass-sliced c.args.graph.now c.in_ok-edges.edges c.members.result.now c.join_incoming.new.into.items c.as_slice.result.now (class_in c.classes.blocks) c.classes.class (len_of c.classes.blocks) c.known.ensures c.in_ok-edges.ensures c.as_slice.ensures.value c.classes.invariant.len c.members.ensures.all c.in_ok-join_incoming.ensures.pairs)
     c.in_ok-split_by_keys.ensures
 
 pub classes-smaller : goal.classes-smaller

@@ -1,8 +1,9 @@
 -- Looks from shapes: nodes that are equal in all but the nodes that parts name look the same by classes of these.
-use Rattle.std.proofs.Common.{◌≡◌, ◌+◌, ◌<◌, ℕ, zero, suc, Bool, true, false, List, [], ◌∷◌, length, map, get_or, Option, Some, None, refl, sym, ◌∙◌, ap}
+use Rattle.std.proofs.Common.{◌≡◌, ℕ, suc, List, [], ◌∷◌, map, get_or, Some, refl, sym, ◌∙◌, ap}
 use Rattle.abi_types.specs.Types.{PlainPart, Member, Enumerator, Target, Element, Outcome, Param, PlainView, PlainNode, PlainLabel}
-use Rattle.abi_types.specs.Graphs.{part_at, no_part, to_of}
+use Rattle.abi_types.specs.Graphs.{IsGraph, node_at, part_at, no_part, to_of}
 use Rattle.abi_types.specs.Seen.{part_seen, view_seen, Look, look_of, shape_of}
+use Rattle.graph_alike.specs.Alike.{AreAlike, KeepsAlike}
 
 part_seen-same : (f : ℕ → ℕ) (p q : PlainPart) → part_seen (λ _. 0) p ≡ part_seen (λ _. 0) q → ((a b : ℕ) → to_of p ≡ Some a → to_of q ≡ Some b → f a ≡ f b) → part_seen f p ≡ part_seen f q
 part_seen-same f (Member m b w s) (Member n c x t) e same = let s' = same s t refl refl in cc
@@ -55,3 +56,9 @@ pub same_look : (f : ℕ → ℕ) (m n : PlainNode) → shape_of m ≡ shape_of 
 same_look f m n shapes named =
     ap (λ (ls : List PlainLabel). let l : Look = record { labels = ls; view = view_seen f m.view } in l) (ap (λ (l : Look). l.labels) shapes)
     ∙ ap (λ (v : PlainView). let l : Look = record { labels = n.labels; view = v } in l) (view_seen-same f m.view n.view (ap (λ (l : Look). l.view) shapes) named)
+
+-- alike nodes look the same by classes that alike nodes share
+pub alike_look : (nodes : List PlainNode) (class : ℕ → ℕ) → IsGraph nodes → KeepsAlike nodes class → (i j : ℕ) → AreAlike nodes i j → look_of class (node_at nodes i) ≡ look_of class (node_at nodes j)
+alike_look nodes class graph keeps i j (r, is, h) =
+    same_look class (node_at nodes i) (node_at nodes j) (is.shapes i j h)
+    (λ k a b to_a to_b. keeps a b (graph.inside i k a to_a) (graph.inside j k b to_b) (r, is, is.parts i j k a b h to_a to_b))
