@@ -23,7 +23,7 @@ use Rattle.cert_check.specs.Relation.{relation_of}
 use Rattle.cert_check.specs.TypedPairs.{IsTypedPair, HasTypes}
 use Rattle.cert_check.specs.Accepted.{Place, heads, joined, Binding, Rules, AlikeOld, AlikeNew, Root, Rule, Partners, groups, places, binding_places, pair_places, IsAccepted, Case, line_of, rep, class_in, old_class, new_class, listed, is_line, KeepsAlike, KeepsBinding, KeepsRule, KeepsPartners, Keeps}
 use Rattle.cert_check.proofs.First.{grouped, join, each-at, each-from, twos-at, twos-from, find_range, filter_map-given}
-use Rattle.cert_check.proofs.lemmas.Numbered.{given_there, given_ascends}
+use Rattle.cert_check.proofs.Numbered.{given_there, given_ascends}
 use Rattle.cert_check.proofs.Lines.{line_of-some, rep-some, rep-none, is_line-at}
 
 -- ---- the node of an entry

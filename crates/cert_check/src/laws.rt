@@ -1,5 +1,5 @@
 //! What an accepted certificate proves. Each law is the contract of a function that does nothing.
-ghost use Rattle.std.specs.Prelude.{◌≡◌, ◌<◌, ◌↔◌, ℕ, true, List, Some, None, Contains, slice_get};
+ghost use Rattle.std.specs.Prelude.{◌≡◌, ◌<◌, ◌↔◌, ℕ, true, List, Option, Some, None, Contains, slice_get};
 ghost use Rattle.abi_types.specs.Graphs.{IsGraph};
 ghost use Rattle.abi_types.specs.Libraries.{AreNumbered};
 ghost use Rattle.pair_rules.specs.Steps.{PlainRoot};
@@ -9,6 +9,7 @@ ghost use Rattle.cert_text.specs.Certs.{PairLine, PlainCert1};
 ghost use Rattle.cert_check.specs.Compatible.{Sides, IsCompatible, task_of, typed_roots};
 ghost use Rattle.cert_check.specs.TypedPairs.{IsTypedPair, HasTypes};
 ghost use Rattle.cert_check.specs.Accepted.{Case, Place, IsAccepted, IsFirstFailing, is_line, line_of, places};
+ghost use Rattle.cert_check.specs.Given.{StandInOrder};
 ghost use Rattle.cert_check.specs.Kept.{KeepsAll};
 ghost use Rattle.cert_check.specs.Relation.{relation_of};
 ghost use Rattle.cert_check.specs.FirstVersion.{AreOneMark, IsAccepted1, migrated_case};
@@ -51,6 +52,11 @@ pub fn lines_are_found_where_they_stand()
     ensures found { (lines : List (ℕ × ℕ)) (n m : ℕ) → line_of lines n ≡ Some m → Contains lines (n, m) }
     ensures missing { (lines : List (ℕ × ℕ)) (n m : ℕ) → line_of lines n ≡ None → Contains lines (n, m) → ⊥ }
     ensures pairs { (lines : List PairLine) (line : PairLine) → (is_line lines line ≡ true) ↔ Contains lines line }
+{}
+
+/// Lines that are given for numbers stand in the order of the numbers.
+pub fn lines_stand_in_the_order_of_their_numbers()
+    ensures { (line : ℕ → Option (ℕ × ℕ)) → StandInOrder line }
 {}
 
 /// The roots that are explored are exactly the typed pairs, in strictly ascending order of their exports, and are nodes.

@@ -13,7 +13,7 @@ ghost use Rattle.cert_check.specs.Ground.{NamesNodes};
 ghost use Rattle.cert_check.specs.Looks.{same_label_kind as the_label_kinds_are_same, same_label as the_labels_are_same, same_part as the_parts_are_same, same_heads as the_heads_are_same, NamesInside};
 
 use crate::lookups::rep;
-use abi_types::{CallShape, Graph, Group, Index, Kind, Label, LabelKind, Part, Place, View};
+use abi_types::{Call, Graph, Group, Index, Kind, Label, LabelKind, Part, Place, View};
 use pair_rules::laws::the_same_are_equal;
 
 fn same_bytes(one: &[u8], other: &[u8]) -> bool
@@ -206,12 +206,11 @@ fn same_params(one: &[Place], other: &[Place]) -> bool
 }
 
 // Whether two calls have the same places.
-fn same_call(one: &CallShape, other: &CallShape) -> bool
+fn same_call(one: &Call, other: &Call) -> bool
     ensures { IsTrue result ↔ (one.now ≡ other.now) }
 {
     the_same_are_equal();
-    same_place(one.outcome, other.outcome)
-        && same_params(one.params.as_slice(), other.params.as_slice())
+    same_place(one.outcome(), other.outcome()) && same_params(one.params(), other.params())
 }
 
 /// Whether two nodes have the same labels, and the same views but for the nodes that parts name, which are of one class

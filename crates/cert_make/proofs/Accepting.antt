@@ -1,5 +1,5 @@
 -- The certificate of compatible libraries is accepted.
-use Rattle.std.proofs.Common.{◌≡◌, ◌<◌, ℕ, Bool, true, false, List, [], length, get_or, slice_get, Option, Some, None, refl, sym, ◌∙◌, ap, subst}
+use Rattle.std.proofs.Common.{◌≡◌, ◌<◌, ℕ, true, false, List, [], length, slice_get, Option, Some, None, refl, sym, ◌∙◌, ap, subst}
 use Rattle.std.specs.Prelude.{◌↔◌, is_some}
 use Rattle.std.specs.List.{Contains}
 use Rattle.std.proofs.lemmas.Option.{same_Some, slice_get_within, get_or_from_slice_get}
@@ -7,25 +7,24 @@ use Rattle.abi_base.proofs.lemmas.Lists.{contains_at, at_contains}
 use Rattle.abi_types.specs.declared.kind.Way.{Way}
 use Rattle.abi_types.specs.declared.kind.Way.TheVariants.{Direct}
 use Rattle.abi_types.specs.Exports.{PlainExport}
-use Rattle.abi_types.specs.Types.{PlainNode}
-use Rattle.abi_types.specs.Graphs.{IsGraph, node_at, node_of, view_at}
+use Rattle.abi_types.specs.Graphs.{node_of, view_at}
 use Rattle.abi_types.specs.Limits.{symbol_limit}
 use Rattle.pair_rules.specs.ExportRules.{export_breaks}
 use Rattle.pair_rules.specs.Steps.{PlainRoot, Task, Triple, is_marked, breaks_of, step}
 use Rattle.pair_rules.specs.Stable.{IsInside, classed}
-use Rattle.pair_rules.specs.Paths.{Path, From, Then, IsReachable, root_triple}
-use Rattle.graph_alike.specs.Alike.{AreAlike}
+use Rattle.pair_rules.specs.Paths.{From, Then, IsReachable, root_triple}
 use Rattle.graph_alike.specs.Classes.{IsLeastEntry}
 use Rattle.cert_text.specs.Certs.{PlainCert, PairLine}
-use Rattle.cert_check.specs.Compatible.{Sides, IsCompared, IsCompatible, bound, is_typed, typed_roots, task_of}
+use Rattle.cert_check.specs.Compatible.{Sides, IsCompatible, typed_roots, task_of}
 use Rattle.cert_check.specs.TypedPairs.{IsTypedPair, HasTypes}
-use Rattle.cert_check.specs.Accepted.{Case, KeepsBinding, KeepsRules, KeepsRoot, KeepsRule, KeepsPartners, IsOf, line_of, is_line, rep, class_in, old_class, new_class, listed}
+use Rattle.cert_check.specs.Accepted.{Case, KeepsBinding, KeepsRules, KeepsRoot, KeepsRule, KeepsPartners, IsOf, line_of, is_line, rep, old_class, new_class, listed}
 use Rattle.cert_check.specs.Kept.{KeepsAll}
 use Rattle.cert_make.specs.Lines.{IsReachedPair, bind_lines}
 use Rattle.cert_make.specs.Certificates.{IsCertificateOf, AreLibraries, AreMarkedAlike}
 use Rattle.cert_make.proofs.Leasts.{AlikeLaws, node_of-is, node_there, least_moved}
 use Rattle.cert_make.proofs.AlikeLemmas.{LineLaws, rep_least, lines_kept}
 use Rattle.cert_make.proofs.Leading.{RuleLaws, goes_alike}
+use Rattle.cert_make.proofs.BindLemmas.{GivenLaw}
 use Rattle.cert_make.proofs.BindLines.{export_of_line, line_says, bound_place}
 
 pub record RootLaws : Type 0 where
@@ -36,7 +35,7 @@ some_node : (o : Option ℕ) → is_some o ≡ true → (n : ℕ) × (o ≡ Some
 some_node None e = absurd cc
 some_node (Some n) e = (n, refl)
 
-module _ (alike : AlikeLaws) (look_ups : LineLaws) (rules : RuleLaws) (root_laws : RootLaws) (s : Sides) (c : PlainCert) (libraries : AreLibraries s) (marks : AreMarkedAlike (task_of s)) (compatible : IsCompatible s) (is : IsCertificateOf s c) where
+module _ (alike : AlikeLaws) (look_ups : LineLaws) (given : GivenLaw) (rules : RuleLaws) (root_laws : RootLaws) (s : Sides) (c : PlainCert) (libraries : AreLibraries s) (marks : AreMarkedAlike (task_of s)) (compatible : IsCompatible s) (is : IsCertificateOf s c) where
   abbrev case : Case
   case = record { sides = s; cert = c }
 
@@ -134,10 +133,10 @@ module _ (alike : AlikeLaws) (look_ups : LineLaws) (rules : RuleLaws) (root_laws
         record {
           partner = b.partner;
           binds = b.binds;
-          says = ap (λ (lines : List (ℕ × ℕ)). line_of lines symbol) is.binds ∙ ap (line_of (bind_lines s)) (sym same) ∙ line_says s libraries.old.numbered look_ups k e b.partner compared b.binds;
+          says = ap (λ (lines : List (ℕ × ℕ)). line_of lines symbol) is.binds ∙ ap (line_of (bind_lines s)) (sym same) ∙ line_says given s libraries.old.numbered look_ups k e b.partner compared b.binds;
         };
     owned = λ j found.
-        let h = export_of_line s (symbol, j) (look_ups.found (bind_lines s) symbol j (ap (λ (lines : List (ℕ × ℕ)). line_of lines symbol) (sym is.binds) ∙ found)) in
+        let h = export_of_line given s (symbol, j) (look_ups.found (bind_lines s) symbol j (ap (λ (lines : List (ℕ × ℕ)). line_of lines symbol) (sym is.binds) ∙ found)) in
         (h.place, h.is.old, h.is.compared, h.is.symbol);
   }
 

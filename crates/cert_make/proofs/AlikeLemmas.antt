@@ -1,17 +1,15 @@
 -- What the alike lines of a graph come to.
-use Rattle.std.proofs.Common.{◌≡◌, ◌<◌, ℕ, List, length, slice_get, Option, Some, None, refl, sym, ◌∙◌, ap, subst, arith}
+use Rattle.std.proofs.Common.{◌≡◌, ◌<◌, ℕ, List, length, Option, Some, None, refl, sym, ◌∙◌, subst, arith}
 use Rattle.std.specs.Prelude.{◌↔◌, true}
 use Rattle.std.specs.List.{Contains}
 use Rattle.abi_base.proofs.lemmas.Lists.{contains_at}
 use Rattle.abi_types.specs.Types.{PlainNode}
-use Rattle.abi_types.specs.Graphs.{IsGraph, node_at, node_of}
-use Rattle.abi_types.specs.Seen.{look_of}
+use Rattle.abi_types.specs.Graphs.{IsGraph, node_at}
 use Rattle.graph_alike.specs.Alike.{AreAlike}
 use Rattle.graph_alike.specs.Classes.{IsLeastEntry}
 use Rattle.cert_text.specs.Certs.{PairLine}
 use Rattle.cert_check.specs.Accepted.{line_of, rep, is_line, class_in, KeepsAlike}
-use Rattle.cert_make.specs.Lines.{IsAlikeEntry, AreAlikeLines}
-use Rattle.graph_alike.proofs.lemmas.Looks.{same_look}
+use Rattle.cert_make.specs.Lines.{AreAlikeLines}
 use Rattle.cert_make.proofs.Leasts.{AlikeLaws, node_there, one_least, own_least}
 
 -- what look-ups find among lines
@@ -59,11 +57,6 @@ module _ (laws : AlikeLaws) (look_ups : LineLaws) (nodes : List PlainNode) (grap
         let is_r : r ≡ e = one_least laws nodes graph r e line.node a line.inside a_in near line.least least in
         absurd (line.other (sym is_r))
 
-  looks_same : (i j : ℕ) → AreAlike nodes i j → look_of class (node_at nodes i) ≡ look_of class (node_at nodes j)
-  looks_same i j (r, is, h) =
-      same_look class (node_at nodes i) (node_at nodes j) (is.shapes i j h)
-      (λ k a b to_a to_b. class_same a b (graph.inside i k a to_a) (graph.inside j k b to_b) (r, is, is.parts i j k a b h to_a to_b))
-
   pub lines_kept : (k : ℕ) → KeepsAlike nodes lines k
   lines_kept k line at =
       let is = (are.exact line).0 (contains_at lines k line at) in
@@ -74,5 +67,5 @@ module _ (laws : AlikeLaws) (look_ups : LineLaws) (nodes : List PlainNode) (grap
         stands = node_there nodes graph line.0 is.node is.inside is.entry;
         for_it = node_there nodes graph line.1 m.node m.inside m.is;
         own = least_free line.1 is.node is.inside m;
-        looks = looks_same is.node m.node m.alike;
+        looks = laws.looks nodes class graph class_same is.node m.node m.alike;
       }

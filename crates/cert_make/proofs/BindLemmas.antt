@@ -1,5 +1,5 @@
 -- Exports as the code reads them, and their lines.
-use Rattle.std.proofs.Common.{◌≡◌, ◌+◌, ℕ, false, true, List, [], ◌++◌, length, map, Option, Some, None, refl, sym, ◌∙◌, ap, slice_get, slice_index_or}
+use Rattle.std.proofs.Common.{◌≡◌, ◌+◌, ℕ, false, true, List, [], ◌++◌, length, Option, Some, None, refl, sym, ◌∙◌, ap, slice_get, slice_index_or}
 use Rattle.std.specs.Prelude.{option_and_then, option_to_list}
 use Rattle.std.specs.Option.{option_map}
 use Rattle.std.proofs.lemmas.Option.{slice_get-map}
@@ -10,7 +10,7 @@ use Rattle.vers_bind.specs.Binding.{bind_to}
 use Rattle.cert_check.specs.Compatible.{Sides, bound}
 use Rattle.cert_make.specs.Lines.{line_between, line_from, bind_line, bind_lines}
 use Rattle.cert_make.specs.LineLists.{binds_below}
-use Rattle.cert_check.proofs.lemmas.Numbered.{given_more}
+use Rattle.cert_check.specs.Given.{StandInOrder}
 
 pub export_read : (exports : List Export) (plain : List PlainExport) (k : ℕ) (e : Export) → plain_exports exports ≡ plain → slice_get exports k ≡ Some e → slice_get plain k ≡ Some (plain_export e)
 export_read exports plain k e same at = ap (λ (es : List PlainExport). slice_get es k) (sym same) ∙ slice_get-map plain_export exports k ∙ ap (option_map plain_export) at
@@ -47,14 +47,18 @@ line_bound s k e f at kept binds = line_kept s k e at kept ∙ ap (line_between 
 
 -- ---- the lines of the first exports
 
+-- lines that are given for numbers stand in the order of the numbers
+abbrev pub GivenLaw : Type 0
+GivenLaw = (line : ℕ → Option (ℕ × ℕ)) → StandInOrder line
+
 pub binds-zero : (s : Sides) → binds_below s 0 ≡ []
 unfolding binds_below
 binds-zero s = refl
 
-pub binds-more : (s : Sides) (n : ℕ) (line : Option (ℕ × ℕ)) (lines more : List (ℕ × ℕ)) → lines ≡ binds_below s n → line ≡ bind_line s n → more ≡ lines ++ option_to_list line → more ≡ binds_below s (n + 1)
+pub binds-more : GivenLaw → (s : Sides) (n : ℕ) (line : Option (ℕ × ℕ)) (lines more : List (ℕ × ℕ)) → lines ≡ binds_below s n → line ≡ bind_line s n → more ≡ lines ++ option_to_list line → more ≡ binds_below s (n + 1)
 unfolding binds_below
-binds-more s n line lines more so_far is pushed =
-    pushed ∙ ap (λ (ls : List (ℕ × ℕ)). ls ++ option_to_list line) so_far ∙ ap (λ (o : Option (ℕ × ℕ)). binds_below s n ++ option_to_list o) is ∙ sym (given_more (bind_line s) n)
+binds-more given s n line lines more so_far is pushed =
+    pushed ∙ ap (λ (ls : List (ℕ × ℕ)). ls ++ option_to_list line) so_far ∙ ap (λ (o : Option (ℕ × ℕ)). binds_below s n ++ option_to_list o) is ∙ sym ((given (bind_line s)).more n)
 
 pub binds-all : (s : Sides) (n : ℕ) (lines : List (ℕ × ℕ)) → n ≡ length s.old.exports → lines ≡ binds_below s n → lines ≡ bind_lines s
 unfolding binds_below bind_lines

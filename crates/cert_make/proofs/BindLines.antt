@@ -1,6 +1,6 @@
 -- What the bind lines say.
-use Rattle.std.proofs.Common.{◌≡◌, ◌<◌, ◌^◌, ℕ, Bool, true, false, List, length, get_or, Option, Some, None, refl, sym, ◌∙◌, ap, subst, inl, inr, arith, slice_get, slice_index_or}
-use Rattle.std.specs.List.{All, AllPairs, Contains, range_with_len}
+use Rattle.std.proofs.Common.{◌≡◌, ◌<◌, ◌^◌, ℕ, false, length, get_or, Option, Some, None, refl, sym, ◌∙◌, ap, inl, inr, arith, slice_get, slice_index_or}
+use Rattle.std.specs.List.{All, Contains}
 use Rattle.std.specs.Prelude.{option_and_then}
 use Rattle.std.specs.declared.cmp.Ordering.TheVariants.{Less}
 use Rattle.std.proofs.lemmas.Bool.{cases_Bool, cases_order}
@@ -14,8 +14,7 @@ use Rattle.cert_text.specs.Certs.{Ascend, IsBelow, first_cmp}
 use Rattle.cert_check.specs.Compatible.{Sides, IsCompared, bound}
 use Rattle.cert_check.specs.Accepted.{line_of}
 use Rattle.cert_make.specs.Lines.{line_between, line_from, bind_line, bind_lines}
-use Rattle.cert_check.proofs.lemmas.Numbered.{given_there, given_source, given_ascends}
-use Rattle.cert_make.proofs.BindLemmas.{line_bound}
+use Rattle.cert_make.proofs.BindLemmas.{GivenLaw, line_bound}
 use Rattle.cert_make.proofs.AlikeLemmas.{LineLaws}
 use Rattle.cert_make.proofs.Orders.{nat_less}
 
@@ -50,15 +49,15 @@ pub record HasExport (s : Sides) (line : ℕ × ℕ) : Type 0 where
   pub place : ℕ
   pub is : IsBindLine s place line
 
-pub export_of_line : (s : Sides) (line : ℕ × ℕ) → Contains (bind_lines s) line → HasExport s line
+pub export_of_line : GivenLaw → (s : Sides) (line : ℕ × ℕ) → Contains (bind_lines s) line → HasExport s line
 unfolding bind_lines
-export_of_line s line h = let from = given_source (bind_line s) (length s.old.exports) line h in record { place = from.number; is = bind_line-parts s from.number line from.gives }
+export_of_line given s line h = let from = (given (bind_line s)).source (length s.old.exports) line h in record { place = from.number; is = bind_line-parts s from.number line from.gives }
 
-line_there : (s : Sides) (k : ℕ) (e f : PlainExport) → IsCompared s k e → bound s e ≡ Some f → Contains (bind_lines s) (e.symbol, f.symbol)
+line_there : GivenLaw → (s : Sides) (k : ℕ) (e f : PlainExport) → IsCompared s k e → bound s e ≡ Some f → Contains (bind_lines s) (e.symbol, f.symbol)
 unfolding bind_lines
-line_there s k e f compared binds = given_there (bind_line s) (length s.old.exports) k (e.symbol, f.symbol) (slice_get_within s.old.exports k e compared.at) (line_bound s k e f compared.at compared.kept binds)
+line_there given s k e f compared binds = (given (bind_line s)).there (length s.old.exports) k (e.symbol, f.symbol) (slice_get_within s.old.exports k e compared.at) (line_bound s k e f compared.at compared.kept binds)
 
-module _ (s : Sides) (numbered : AreNumbered s.old.exports) where
+module _ (given : GivenLaw) (s : Sides) (numbered : AreNumbered s.old.exports) where
   -- one export has a number
   one_place : (j k : ℕ) (e f : PlainExport) → slice_get s.old.exports j ≡ Some e → slice_get s.old.exports k ≡ Some f → e.symbol ≡ f.symbol → e ≡ f
   one_place j k e f at there same = elim (cases_order j k) [
@@ -70,9 +69,9 @@ module _ (s : Sides) (numbered : AreNumbered s.old.exports) where
   pub line_says : (look_ups : LineLaws) (k : ℕ) (e f : PlainExport) → IsCompared s k e → bound s e ≡ Some f → line_of (bind_lines s) e.symbol ≡ Some f.symbol
   line_says look_ups k e f compared binds = go (line_of (bind_lines s) e.symbol) refl where
     go : (o : Option ℕ) → line_of (bind_lines s) e.symbol ≡ o → line_of (bind_lines s) e.symbol ≡ Some f.symbol
-    go None is = absurd (look_ups.missing (bind_lines s) e.symbol f.symbol is (line_there s k e f compared binds))
+    go None is = absurd (look_ups.missing (bind_lines s) e.symbol f.symbol is (line_there given s k e f compared binds))
     go (Some m) is =
-        let h = export_of_line s (e.symbol, m) (look_ups.found (bind_lines s) e.symbol m is) in
+        let h = export_of_line given s (e.symbol, m) (look_ups.found (bind_lines s) e.symbol m is) in
         let same : h.is.old ≡ e = one_place h.place k h.is.old e h.is.compared.at compared.at h.is.symbol in
         let partner : h.is.new ≡ f = same_Some h.is.new f (sym h.is.binds ∙ ap (bound s) same ∙ binds) in
         is ∙ ap (λ (n : ℕ). Some n) (sym h.is.partner ∙ ap (λ (x : PlainExport). x.symbol) partner)
@@ -85,7 +84,9 @@ module _ (s : Sides) (numbered : AreNumbered s.old.exports) where
 
   places_rise : (i j : ℕ) (x y : ℕ × ℕ) → i < j → slice_get (bind_lines s) i ≡ Some x → slice_get (bind_lines s) j ≡ Some y → first_cmp x y ≡ Less
   unfolding bind_lines
-  places_rise i j x y less at there = given_ascends (bind_line s) (λ (x y : ℕ × ℕ). first_cmp x y ≡ Less) (length s.old.exports) rises 0 (length s.old.exports) i j x y (omega arith) less at there
+  places_rise i j x y less at there =
+      let numbers = (given (bind_line s)).order (length s.old.exports) i j x y less at there in
+      rises numbers.first numbers.later x y numbers.less numbers.below numbers.gives_first numbers.gives_later
 
   pub binds_ascend : Ascend first_cmp (bind_lines s)
   binds_ascend i j d less inside =
@@ -102,10 +103,10 @@ small : symbol_limit ≡ 2 ^ 32
 unfolding symbol_limit
 small = refl
 
-pub binds_below : (s : Sides) → AreNumbered s.old.exports → AreNumbered s.new.exports → All (IsBelow (2 ^ 32)) (bind_lines s)
-binds_below s old new k d inside =
+pub binds_below : GivenLaw → (s : Sides) → AreNumbered s.old.exports → AreNumbered s.new.exports → All (IsBelow (2 ^ 32)) (bind_lines s)
+binds_below given s old new k d inside =
     let line = get_or (bind_lines s) k d in
-    let h = export_of_line s line (contains_at (bind_lines s) k line (slice_get-get_or (bind_lines s) k d inside)) in
+    let h = export_of_line given s line (contains_at (bind_lines s) k line (slice_get-get_or (bind_lines s) k d inside)) in
     let there = bound_place s h.is.old h.is.new h.is.binds in
     let one = old.below h.place h.is.old h.is.compared.at in
     let other = new.below there.0 h.is.new there.1 in

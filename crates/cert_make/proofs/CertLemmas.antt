@@ -1,6 +1,6 @@
 -- What is made is the certificate.
-use Rattle.std.proofs.Common.{◌≡◌, ◌<◌, ◌+◌, ◌^◌, ℕ, false, true, List, map, length, slice_index_or, refl, sym, ◌∙◌, ap, subst, arith}
-use Rattle.std.specs.List.{All, Contains}
+use Rattle.std.proofs.Common.{◌≡◌, ◌<◌, ◌+◌, ◌^◌, ℕ, List, map, length, sym, ◌∙◌, ap, subst, arith}
+use Rattle.std.specs.List.{All}
 use Rattle.std.specs.List.Sorted.{IsPermutation, IsSorted}
 use Rattle.abi_types.specs.declared.kind.Way.{Way}
 use Rattle.abi_types.specs.declared.kind.Way.TheVariants.{Direct, Pointer}
@@ -10,18 +10,17 @@ use Rattle.abi_types.specs.Libraries.{IsLibrary}
 use Rattle.pair_rules.specs.Steps.{is_marked}
 use Rattle.pair_rules.specs.Closed.{AreCompatible}
 use Rattle.graph_alike.specs.Alike.{AreAlike}
-use Rattle.graph_alike.specs.Classes.{PlainClasses, AreSound, AreCoarsest, rep_of}
+use Rattle.graph_alike.specs.Classes.{PlainClasses, AreSound, rep_of}
 use Rattle.pair_explorer.specs.declared.visits.Visit.{Visit}
-use Rattle.pair_explorer.specs.Scopes.{Scope}
 use Rattle.cert_text.specs.Certs.{PlainCert, PairLine, IsCert, IsDigest, IsBelow, IsPairBelow, Ascend, first_cmp, pair_cmp}
 use Rattle.cert_check.specs.Compatible.{Sides, IsCompatible, task_of}
-use Rattle.cert_check.specs.Accepted.{IsAccepted}
 use Rattle.cert_make.specs.Lines.{AreAlikeLines, ArePairLines, bind_lines}
 use Rattle.cert_make.specs.Certificates.{IsCertificateOf, AreLibraries, AreMarkedAlike}
 use Rattle.cert_make.specs.LineLists.{pair_line}
-use Rattle.cert_make.specs.Searches.{scope_of, AreBound, AreClassesOf, IsUnbroken}
+use Rattle.cert_make.specs.Searches.{AreBound, AreClassesOf, IsUnbroken}
 use Rattle.cert_make.proofs.Orders.{first_cmp_total, pair_cmp_total}
 use Rattle.cert_make.proofs.OneList.{one_list}
+use Rattle.cert_make.proofs.BindLemmas.{GivenLaw}
 use Rattle.cert_make.proofs.BindLines.{binds_ascend, binds_below}
 
 -- ---- one certificate
@@ -76,9 +75,9 @@ pub record AreBelow (c : PlainCert) : Type 0 where
   pub alike_new : All (IsBelow (2 ^ 64)) c.alike_new
   pub pairs : All (IsPairBelow (2 ^ 64)) c.pairs
 
-pub cert_kept : (s : Sides) (c : PlainCert) → AreLibraries s → IsCertificateOf s c → AreDigests c → AreBelow c → 5 + length c.binds + length c.alike_old + length c.alike_new + length c.pairs < 2 ^ 64 → IsCert c
-cert_kept s c libraries is digests below fits = record {
-  binds = subst (λ ls. Ascend first_cmp ls) (sym is.binds) (binds_ascend s libraries.old.numbered);
+pub cert_kept : GivenLaw → (s : Sides) (c : PlainCert) → AreLibraries s → IsCertificateOf s c → AreDigests c → AreBelow c → 5 + length c.binds + length c.alike_old + length c.alike_new + length c.pairs < 2 ^ 64 → IsCert c
+cert_kept given s c libraries is digests below fits = record {
+  binds = subst (λ ls. Ascend first_cmp ls) (sym is.binds) (binds_ascend given s libraries.old.numbered);
   alike_old = is.alike_old.ascending;
   alike_new = is.alike_new.ascending;
   pairs = is.pairs.ascending;
@@ -86,7 +85,7 @@ cert_kept s c libraries is digests below fits = record {
     old_digest = digests.old;
     new_digest = digests.new;
     rules_digest = digests.rules;
-    binds = subst (All (IsBelow (2 ^ 32))) (sym is.binds) (binds_below s libraries.old.numbered libraries.new.numbered);
+    binds = subst (All (IsBelow (2 ^ 32))) (sym is.binds) (binds_below given s libraries.old.numbered libraries.new.numbered);
     alike_old = below.alike_old;
     alike_new = below.alike_new;
     pairs = below.pairs;

@@ -1,7 +1,7 @@
 -- The lines of nodes that do not stand for their classes are the alike lines of the graph.
-use Rattle.std.proofs.Common.{◌≡◌, ◌==◌, ◌<◌, ◌+◌, ◌^◌, ℕ, zero, suc, Bool, true, false, List, [], ◌∷◌, ◌++◌, length, get_or, slice_get, Option, Some, None, refl, sym, ◌∙◌, ap, subst, inl, inr, arith, append-nil}
-use Rattle.std.specs.Prelude.{option_to_list, IfSome, filter_map}
-use Rattle.std.specs.List.{All, Contains, range_with_len}
+use Rattle.std.proofs.Common.{◌≡◌, ◌==◌, ◌<◌, ◌+◌, ℕ, true, false, List, [], ◌++◌, length, get_or, slice_get, Option, Some, None, refl, sym, ◌∙◌, ap, subst, inl, inr, arith, append-nil}
+use Rattle.std.specs.Prelude.{option_to_list, IfSome}
+use Rattle.std.specs.List.{All, Contains}
 use Rattle.std.specs.List.Sorted.{IsPermutation, IsSorted}
 use Rattle.std.specs.Ordering.{eq_by_cmp}
 use Rattle.std.proofs.lemmas.Bool.{cases_Bool, eqb-true, eq-eqb, false≢true}
@@ -11,10 +11,10 @@ use Rattle.std.proofs.lemmas.Option.{none-some, same_Some, slice_get-get_or}
 use Rattle.abi_types.specs.Types.{PlainNode}
 use Rattle.abi_types.specs.Graphs.{IsGraph, node_at}
 use Rattle.graph_alike.specs.Classes.{PlainClasses, AreSound, AreCoarsest, IsLeastEntry, rep_of}
-use Rattle.cert_text.specs.Certs.{IsBelow, first_cmp}
+use Rattle.cert_text.specs.Certs.{first_cmp}
 use Rattle.cert_make.specs.Lines.{IsAlikeEntry, AreAlikeLines}
 use Rattle.cert_make.specs.LineLists.{alike_line, alike_below}
-use Rattle.cert_check.proofs.lemmas.Numbered.{given_more, given_there, given_source, given_ascends}
+use Rattle.cert_make.proofs.BindLemmas.{GivenLaw}
 use Rattle.cert_make.proofs.Orders.{sorted_ascends, first_cmp_total, first_same, line_eq}
 
 -- what is below a limit stays so with one more
@@ -76,10 +76,10 @@ pub alike-zero : (c : PlainClasses) → alike_below c 0 ≡ []
 unfolding alike_below
 alike-zero c = refl
 
-pub alike-more : (c : PlainClasses) (n : ℕ) (line : Option (ℕ × ℕ)) (lines more : List (ℕ × ℕ)) → lines ≡ alike_below c n → line ≡ alike_line c n → more ≡ lines ++ option_to_list line → more ≡ alike_below c (n + 1)
+pub alike-more : GivenLaw → (c : PlainClasses) (n : ℕ) (line : Option (ℕ × ℕ)) (lines more : List (ℕ × ℕ)) → lines ≡ alike_below c n → line ≡ alike_line c n → more ≡ lines ++ option_to_list line → more ≡ alike_below c (n + 1)
 unfolding alike_below
-alike-more c n line lines more so_far is pushed =
-    pushed ∙ ap (λ (ls : List (ℕ × ℕ)). ls ++ option_to_list line) so_far ∙ ap (λ (o : Option (ℕ × ℕ)). alike_below c n ++ option_to_list o) is ∙ sym (given_more (alike_line c) n)
+alike-more given c n line lines more so_far is pushed =
+    pushed ∙ ap (λ (ls : List (ℕ × ℕ)). ls ++ option_to_list line) so_far ∙ ap (λ (o : Option (ℕ × ℕ)). alike_below c n ++ option_to_list o) is ∙ sym ((given (alike_line c)).more n)
 
 -- ---- the lines
 
@@ -88,13 +88,13 @@ pub record ClassLaws : Type 0 where
   pub stands : (c : PlainClasses) (a : ℕ) → AreSound c → AreCoarsest c → a < length c.nodes → IsLeastEntry c.nodes (node_at c.nodes (rep_of c a)).entry a
   pub alone : (c : PlainClasses) (entry a : ℕ) → AreSound c → AreCoarsest c → a < length c.nodes → IsLeastEntry c.nodes entry a → (node_at c.nodes (rep_of c a)).entry ≡ entry
 
-module _ (laws : ClassLaws) (c : PlainClasses) (sound : AreSound c) (coarsest : AreCoarsest c) (graph : IsGraph c.nodes) where
+module _ (laws : ClassLaws) (given : GivenLaw) (c : PlainClasses) (sound : AreSound c) (coarsest : AreCoarsest c) (graph : IsGraph c.nodes) where
   entry_from : (line : ℕ × ℕ) → Contains (alike_below c (length c.nodes)) line → IsAlikeEntry c.nodes line
   unfolding alike_below
   entry_from line h =
-      let from = given_source (alike_line c) (length c.nodes) line h in
+      let from = (given (alike_line c)).source (length c.nodes) line h in
       let i = from.number in
-      let inside : i < length c.nodes = omega (arith, from.below) in
+      let inside = from.below in
       let is = line_parts c i line from.gives in
       record {
         node = i;
@@ -110,7 +110,7 @@ module _ (laws : ClassLaws) (c : PlainClasses) (sound : AreSound c) (coarsest : 
       let i = is.node in
       let new : (node_at c.nodes (rep_of c i)).entry ≡ line.1 = laws.alone c line.1 i sound coarsest is.inside is.least in
       let other : rep_of c i ≡ i → ⊥ = λ own. is.other (is.entry ∙ ap (λ (k : ℕ). (node_at c.nodes k).entry) (sym own) ∙ new) in
-      given_there (alike_line c) (length c.nodes) i line is.inside (line_other c i other ∙ ap (λ (l : ℕ × ℕ). Some l) (line_eq ((node_at c.nodes i).entry, (node_at c.nodes (rep_of c i)).entry) line (sym is.entry) new))
+      (given (alike_line c)).there (length c.nodes) i line is.inside (line_other c i other ∙ ap (λ (l : ℕ × ℕ). Some l) (line_eq ((node_at c.nodes i).entry, (node_at c.nodes (rep_of c i)).entry) line (sym is.entry) new))
 
   firsts_differ : (m n : ℕ) (x y : ℕ × ℕ) → m < n → n < length c.nodes → alike_line c m ≡ Some x → alike_line c n ≡ Some y → x.0 ≡ y.0 → ⊥
   firsts_differ m n x y less n_in one two same =
@@ -121,7 +121,9 @@ module _ (laws : ClassLaws) (c : PlainClasses) (sound : AreSound c) (coarsest : 
 
   places_differ : (i j : ℕ) (x y : ℕ × ℕ) → i < j → slice_get (alike_below c (length c.nodes)) i ≡ Some x → slice_get (alike_below c (length c.nodes)) j ≡ Some y → x.0 ≡ y.0 → ⊥
   unfolding alike_below
-  places_differ i j x y less at there = given_ascends (alike_line c) (λ (x y : ℕ × ℕ). x.0 ≡ y.0 → ⊥) (length c.nodes) firsts_differ 0 (length c.nodes) i j x y (omega arith) less at there
+  places_differ i j x y less at there =
+      let numbers = (given (alike_line c)).order (length c.nodes) i j x y less at there in
+      firsts_differ numbers.first numbers.later x y numbers.less numbers.below numbers.gives_first numbers.gives_later
 
   lines_apart : (i j : ℕ) (d : ℕ × ℕ) → i < j → j < length (alike_below c (length c.nodes)) → eq_by_cmp first_cmp (get_or (alike_below c (length c.nodes)) i d) (get_or (alike_below c (length c.nodes)) j d) ≡ false
   lines_apart i j d less inside =
@@ -143,8 +145,8 @@ module _ (laws : ClassLaws) (c : PlainClasses) (sound : AreSound c) (coarsest : 
   }
 
 -- the same, of the graph of which the classes are
-pub alike_made : ClassLaws → (c : PlainClasses) (nodes : List PlainNode) → c.nodes ≡ nodes → AreSound c → AreCoarsest c → IsGraph nodes → (found sorted_lines lines : List (ℕ × ℕ)) → found ≡ alike_below c (length nodes) → IsPermutation found sorted_lines → IsSorted first_cmp sorted_lines
+pub alike_made : ClassLaws → GivenLaw → (c : PlainClasses) (nodes : List PlainNode) → c.nodes ≡ nodes → AreSound c → AreCoarsest c → IsGraph nodes → (found sorted_lines lines : List (ℕ × ℕ)) → found ≡ alike_below c (length nodes) → IsPermutation found sorted_lines → IsSorted first_cmp sorted_lines
     → lines ≡ sorted_lines → AreAlikeLines nodes lines
-alike_made laws c nodes is sound coarsest graph found sorted_lines lines found_is moved sorted end =
+alike_made laws given c nodes is sound coarsest graph found sorted_lines lines found_is moved sorted end =
     subst (AreAlikeLines nodes) (sym end) (subst (λ (ns : List PlainNode). AreAlikeLines ns sorted_lines) is
-    (alike_lines_are laws c sound coarsest (subst IsGraph (sym is) graph) sorted_lines (subst (λ (xs : List (ℕ × ℕ)). IsPermutation xs sorted_lines) (found_is ∙ ap (λ (ns : List PlainNode). alike_below c (length ns)) (sym is)) moved) sorted))
+    (alike_lines_are laws given c sound coarsest (subst IsGraph (sym is) graph) sorted_lines (subst (λ (xs : List (ℕ × ℕ)). IsPermutation xs sorted_lines) (found_is ∙ ap (λ (ns : List PlainNode). alike_below c (length ns)) (sym is)) moved) sorted))

@@ -1,13 +1,14 @@
 -- The least entry of those alike to a node.
-use Rattle.std.proofs.Common.{◌≡◌, ◌<◌, ◌≤◌, ◌==◌, ◌+◌, ℕ, zero, suc, Bool, true, false, List, length, get_or, Option, Some, None, refl, sym, ◌∙◌, ap, subst, inl, inr, arith}
+use Rattle.std.proofs.Common.{◌≡◌, ◌<◌, ◌≤◌, ◌==◌, ◌+◌, ℕ, zero, suc, Bool, true, List, length, Some, refl, sym, ◌∙◌, ap, inl, inr, arith}
 use Rattle.std.specs.Prelude.{find}
 use Rattle.std.specs.List.{range_with_len}
 use Rattle.std.proofs.lemmas.Bool.{cases_Bool, cases_lt, cases_order, eqb-true, eq-eqb}
 use Rattle.std.proofs.lemmas.Option.{same_Some, none-some}
 use Rattle.abi_types.specs.Types.{PlainNode}
 use Rattle.abi_types.specs.Graphs.{IsGraph, node_at, node_of}
-use Rattle.graph_alike.specs.Alike.{AreAlike}
-use Rattle.graph_alike.specs.Classes.{IsLeast, IsLeastEntry}
+use Rattle.abi_types.specs.Seen.{look_of}
+use Rattle.graph_alike.specs.Alike.{AreAlike, KeepsAlike}
+use Rattle.graph_alike.specs.Classes.{IsLeastEntry}
 
 -- ---- the node of an entry
 
@@ -48,6 +49,7 @@ pub record AlikeLaws : Type 0 where
   pub reflexive : (nodes : List PlainNode) (i : ℕ) → AreAlike nodes i i
   pub symmetric : (nodes : List PlainNode) (i j : ℕ) → AreAlike nodes i j → AreAlike nodes j i
   pub transitive : (nodes : List PlainNode) (i j k : ℕ) → IsGraph nodes → i < length nodes → j < length nodes → k < length nodes → AreAlike nodes i j → AreAlike nodes j k → AreAlike nodes i k
+  pub looks : (nodes : List PlainNode) (class : ℕ → ℕ) → IsGraph nodes → KeepsAlike nodes class → (i j : ℕ) → AreAlike nodes i j → look_of class (node_at nodes i) ≡ look_of class (node_at nodes j)
 
 module _ (laws : AlikeLaws) (nodes : List PlainNode) (graph : IsGraph nodes) where
   -- alike nodes have one least entry

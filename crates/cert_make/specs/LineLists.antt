@@ -1,5 +1,5 @@
 -- Lines in the order in which they are found.
-use Rattle.std.specs.Prelude.{◌≡◌, ◌<◌, ◌==◌, ℕ, if◌then◌else◌, List, Option, Some, None, length, slice_get, map, filter_map}
+use Rattle.std.specs.Prelude.{◌≡◌, ◌<◌, ◌==◌, ℕ, if◌then◌else◌, List, Option, Some, None, length, slice_get, filter_map}
 use Rattle.std.specs.List.{range_with_len}
 use Rattle.graph_alike.specs.Classes.{PlainClasses, rep_of}
 use Rattle.abi_types.specs.Types.{PlainNode}

@@ -9,6 +9,7 @@ ghost use Rattle.cert_make.specs.LineLists.{alike_line as the_alike_line, alike_
 use crate::lists::push_some;
 use abi_base::{List, NoMemory};
 use abi_types::{Graph, Index};
+use cert_check::laws::lines_stand_in_the_order_of_their_numbers;
 use graph_alike::Classes;
 use graph_alike::laws::classes_stand_by_their_least_entries;
 use std::alloc::Global;
@@ -42,6 +43,7 @@ fn lines_of<Ix: Index>(
     ensures lines { IfOk result (λ lines. lines ≡ alike_below classes.now (length graph.now)) }
     ensures numbers { IfOk result (All (IsBelow (2 ^ 64))) }
 {
+    lines_stand_in_the_order_of_their_numbers();
     let mut lines = List::new(alloc);
     for number in 0..graph.len() {
         let line = alike_line(graph, classes, number);
@@ -69,6 +71,7 @@ pub fn alike_lines<Ix: Index>(
     ensures numbers { IfOk result (All (IsBelow (2 ^ 64))) }
 {
     classes_stand_by_their_least_entries();
+    lines_stand_in_the_order_of_their_numbers();
     graph.known();
     classes.known();
     let mut lines = lines_of(alloc, graph, classes)?.into_vec();

@@ -8,6 +8,7 @@ ghost use Rattle.cert_make.specs.Lines.{bind_line as the_bind_line, bind_lines a
 use crate::lists::push_some;
 use abi_base::{List, NoMemory};
 use abi_types::{Export, Index, Library, Marks, NewIx, OldIx};
+use cert_check::laws::lines_stand_in_the_order_of_their_numbers;
 use std::alloc::Global;
 use vers_bind::bind_in;
 
@@ -87,6 +88,7 @@ pub fn bind_lines(
 ) -> Result<List<(u32, u32)>, NoMemory>
     ensures { IfOk result (λ lines. lines ≡ the_bind_lines (sides old.now new.now marks.now)) }
 {
+    lines_stand_in_the_order_of_their_numbers();
     let mut lines = List::new(alloc);
     for k in 0..export_count(old) {
         let line = bind_line(old, new, marks, k);

@@ -10,9 +10,12 @@ ghost use Rattle.cert_make.specs.Searches.{scope_of, AreMarksOf};
 ghost use Rattle.cert_make.specs.Certificates.{IsCertificateOf, AreLibraries, AreMarkedAlike};
 
 use cert_check::laws::{
-    lines_are_found_where_they_stand, roots_are_typed_pairs, what_is_accepted_keeps_all,
+    lines_are_found_where_they_stand, lines_stand_in_the_order_of_their_numbers,
+    roots_are_typed_pairs, what_is_accepted_keeps_all,
 };
-use graph_alike::laws::{alike_is_an_equivalence, alike_nodes_break_the_same_rules};
+use graph_alike::laws::{
+    alike_is_an_equivalence, alike_nodes_break_the_same_rules, alike_nodes_look_the_same,
+};
 use pair_rules::laws::{
     closed_relations_hold_what_is_reachable, partners_name_nodes, parts_see_no_nodes,
     paths_lead_to_nodes, steps_lead_to_nodes,
@@ -31,9 +34,11 @@ pub fn the_certificate_of_the_compatible_is_accepted()
 {
     what_is_accepted_keeps_all();
     lines_are_found_where_they_stand();
+    lines_stand_in_the_order_of_their_numbers();
     roots_are_typed_pairs();
     alike_is_an_equivalence();
     alike_nodes_break_the_same_rules();
+    alike_nodes_look_the_same();
     steps_lead_to_nodes();
     partners_name_nodes();
     paths_lead_to_nodes();

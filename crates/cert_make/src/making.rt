@@ -12,6 +12,8 @@ use crate::laws::the_certificate_of_the_compatible_is_accepted;
 use crate::pairs::{pair_lines, visits_are_pair_lines};
 use abi_base::NoMemory;
 use abi_types::{Library, Marks, NewIx, OldIx, Way};
+use cert_check::digest_beside;
+use cert_check::laws::lines_stand_in_the_order_of_their_numbers;
 use cert_text::Cert;
 use graph_alike::Classes;
 use pair_explorer::Visits;
@@ -24,18 +26,6 @@ fn is_digest(digest: [u8; 32]) -> [u8; 32]
     ensures is { IsDigest digest }
 {
     digest
-}
-
-// The SHA-256 of the new file, where that of the old one is known. Files that hold the same bytes are hashed once.
-fn digest_beside(old: &Library<OldIx>, known: [u8; 32], new: &Library<NewIx>) -> [u8; 32]
-    requires { known ≡ old.now.digest }
-    ensures { result ≡ new.now.digest }
-{
-    if old.file() == new.file() {
-        known
-    } else {
-        new.digest()
-    }
 }
 
 // The lines that fit in memory have numbers.
@@ -70,6 +60,7 @@ pub fn make_cert(
 {
     the_certificate_of_the_compatible_is_accepted();
     visits_are_pair_lines();
+    lines_stand_in_the_order_of_their_numbers();
     no_break_is_compatible();
     old.known();
     new.known();

@@ -6,7 +6,7 @@ use Rattle.cert_make.proofs.alike.alike_lines.Goals as goal
 
 pub returns-clause-lines : goal.returns-clause-lines
 returns-clause-lines g c =
-    alike_made (record { stands = c.classes_stand_by_their_least_entries.ensures.stands; alone = c.classes_stand_by_their_least_entries.ensures.alone }) c.args.classes.now c.args.graph.now
+    alike_made (record { stands = c.classes_stand_by_their_least_entries.ensures.stands; alone = c.classes_stand_by_their_least_entries.ensures.alone }) c.lines_stand_in_the_order_of_their_numbers.ensures c.args.classes.now c.args.graph.now
     c.requires.nodes c.known-2.ensures c.requires.coarsest c.known.ensures c.into_vec-lines.result.items c.sort.new.lines.items c.of.result
     (c.into_vec-lines.ensures ∙ c.in_ok-lines_of.ensures.lines) c.sort.ensures.moved c.sort.ensures.sorted c.of.ensures
 

@@ -6,8 +6,9 @@ pub returns : goal.returns
 returns c =
     λ s cert libraries marks compatible is. (c.what_is_accepted_keeps_all.ensures (record { sides = s; cert = cert })).1
     (all_kept
-    (record { reflexive = c.alike_is_an_equivalence.ensures.reflexive; symmetric = c.alike_is_an_equivalence.ensures.symmetric; transitive = c.alike_is_an_equivalence.ensures.transitive })
+    (record { reflexive = c.alike_is_an_equivalence.ensures.reflexive; symmetric = c.alike_is_an_equivalence.ensures.symmetric; transitive = c.alike_is_an_equivalence.ensures.transitive; looks = c.alike_nodes_look_the_same.ensures })
     (record { found = c.lines_are_found_where_they_stand.ensures.found; missing = c.lines_are_found_where_they_stand.ensures.missing; pairs = c.lines_are_found_where_they_stand.ensures.pairs })
+    c.lines_stand_in_the_order_of_their_numbers.ensures
     (record {
       steps = c.steps_lead_to_nodes.ensures.exact;
       step_inside = c.steps_lead_to_nodes.ensures.inside;

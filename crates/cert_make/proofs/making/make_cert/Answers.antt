@@ -1,5 +1,5 @@
 -- What is made is the certificate, and it is accepted.
-use Rattle.std.proofs.Common.{◌≡◌, ◌<◌, ◌+◌, ◌^◌, [], length, refl, sym, ◌∙◌, ap, arith}
+use Rattle.std.proofs.Common.{◌<◌, ◌+◌, ◌^◌, [], length, refl, ◌∙◌, ap, arith}
 use Rattle.cert_text.specs.Certs.{PlainCert}
 use Rattle.cert_check.specs.Compatible.{Sides, sides}
 use Rattle.pair_explorer.specs.Scopes.{Scope}
@@ -35,7 +35,7 @@ invariant_of-result c =
     let libraries : AreLibraries s = libraries_of s c.graph-old_graph.result.now c.graph-new_graph.result.now c.known.ensures c.known-2.ensures c.graph-old_graph.ensures c.graph-new_graph.ensures c.known-3.ensures c.known-4.ensures in
     let fits : 5 + length c.in_ok-binds.binds + length c.in_ok-alike_old.alike_old + length c.in_ok-alike_new.alike_new + length c.in_ok-pairs.pairs < 2 ^ 64 =
     omega (arith, c.lines_have_numbers.ensures, ap length c.as_slice.ensures, ap length c.as_slice-2.ensures, ap length c.as_slice-3.ensures, ap length c.as_slice-4.ensures) in
-    cert_kept s cert libraries is
+    cert_kept c.lines_stand_in_the_order_of_their_numbers.ensures s cert libraries is
     (record { old = rw c.is_digest-old_digest.ensures.value c.is_digest-old_digest.ensures.is; new = rw c.is_digest-new_digest.ensures.value c.is_digest-new_digest.ensures.is; rules = rw c.is_digest-rules_digest.ensures.value c.is_digest-rules_digest.ensures.is })
     (record { alike_old = c.in_ok-alike_old.ensures.numbers; alike_new = c.in_ok-alike_new.ensures.numbers; pairs = c.in_ok-pairs.ensures.numbers }) fits
 

@@ -6,6 +6,7 @@ use Rattle.std.proofs.lemmas.Bool.{cases_order}
 use Rattle.std.proofs.lemmas.List.Elements.{filter_map-append}
 use Rattle.std.proofs.lemmas.Option.{none-some}
 use Rattle.abi_base.proofs.lemmas.Lists.{contains_at, at_contains}
+use Rattle.cert_check.specs.Given.{given_below, IsGivenBy, AreGivenInOrder, StandInOrder}
 
 range_more : (a n : ℕ) → range_with_len a (suc n) ≡ range_with_len a n ++ (a + n) ∷ []
 range_more a zero = ap (λ k. k ∷ []) (omega arith)
@@ -94,3 +95,17 @@ module _ {X : Type 0} (f : ℕ → Option X) where
       ascends_with R a n i j x y (f a) refl less
       (λ z l gives other. let from = of_number (a + 1) n l y other in rises a from.number z y (omega (arith, from.above)) (omega (arith, from.below, fits)) gives from.gives)
       (λ k l lt. given_ascends R top rises (a + 1) n k l x y (omega (arith, fits)) lt) at there
+
+in_order : (line : ℕ → Option (ℕ × ℕ)) (bound i j : ℕ) (x y : ℕ × ℕ) → i < j → slice_get (given_below line bound) i ≡ Some x → slice_get (given_below line bound) j ≡ Some y → AreGivenInOrder line bound x y
+in_order line bound i j x y less at there =
+    given_ascends line (AreGivenInOrder line bound) bound
+    (λ m n a b lt below one other. record { first = m; later = n; less = lt; below = below; gives_first = one; gives_later = other })
+    0 bound i j x y (omega arith) less at there
+
+pub stand_in_order : (line : ℕ → Option (ℕ × ℕ)) → StandInOrder line
+stand_in_order line = record {
+  more = given_more line;
+  there = given_there line;
+  source = λ n x h. let from = given_source line n x h in record { number = from.number; below = omega (arith, from.below); gives = from.gives };
+  order = in_order line;
+}

@@ -1,2 +1,0 @@
--- What crates above may use of proofs.
-pub mod Numbered
