@@ -2,13 +2,12 @@
 use Rattle.std.proofs.Common.{◌≡◌, ◌<◌, ◌≤◌, ◌+◌, ℕ, zero, suc, List, [], ◌∷◌, ◌++◌, length, map, take, set, get_or, slice_get, Option, Some, None, refl, sym, ◌∙◌, ap, subst, arith, inl, inr, ◌⊎◌}
 use Rattle.std.specs.Prelude.{Contains, All, nat_eq, position, IfSome}
 use Rattle.std.specs.List.{position_or_len}
-use Rattle.std.proofs.lemmas.Bool.{cases_lt, eqb-true, eq-eqb, lt-ltb}
+use Rattle.std.proofs.lemmas.Bool.{cases_Bool, cases_lt, eqb-true, eq-eqb, lt-ltb}
 use Rattle.std.proofs.lemmas.List.{take_more, take_all, map-append}
 use Rattle.std.proofs.lemmas.List.Elements.{All-contains}
 use Rattle.std.proofs.lemmas.List.Quantifiers.{position-Some}
 use Rattle.std.proofs.lemmas.Option.{same_Some, slice_get_within, slice_get_read}
 use Rattle.dw_tree.specs.Trees.{PlainTree}
-use Rattle.abi_base.proofs.lemmas.Cases.{bool_cases}
 use Rattle.abi_base.specs.Limits.{depth_limit}
 use Rattle.type_entries.specs.declared.facts.Facts.{Facts}
 use Rattle.dw_entries.specs.Debug.{PlainDwarf}
@@ -148,10 +147,13 @@ rank-bound d n r le few =
 pub first-lt : (found : List ℕ) (e : ℕ) → Contains found e → position_or_len (nat_eq e) found < length found
 first-lt [] e h = absurd (not_in_none e h)
 first-lt (x ∷ found) e h =
-    bool_cases (nat_eq e x) (λ here. rw here (omega arith)) (λ other. elim (in_front x found e h) [
-      | inl same ↦ absurd (let is = eq-eqb e x (sym same) in cc)
-      | inr later ↦ rw other (omega (arith, first-lt found e later))
-    ])
+    elim (cases_Bool (nat_eq e x)) [
+      | inl here ↦ rw here (omega arith)
+      | inr other ↦ elim (in_front x found e h) [
+        | inl same ↦ absurd (let is = eq-eqb e x (sym same) in cc)
+        | inr later ↦ rw other (omega (arith, first-lt found e later))
+      ]
+    ]
 
 pub number_there : (found : List ℕ) (e : ℕ) → Contains found e → None ≡ position (nat_eq e) found → ⊥
 number_there found e h none = let lt = lt-ltb (position_or_len (nat_eq e) found) (length found) (first-lt found e h) in absurd (let is = rw lt at none in cc)
@@ -172,7 +174,7 @@ known_there d found known number e r x are long at read is =
 steps_in_types : (t : PlainTree) (e : ℕ) (s : Type_) → Contains (steps_of t e) s → Contains (types_of t e) s
 unfolding steps_of
 steps_in_types t e s h =
-    bool_cases (holds_none (role_of t e)) (λ is. absurd (not_in_none s (rw is at h))) (λ other. rw other at h)
+    elim (cases_Bool (holds_none (role_of t e))) [ inl is ↦ absurd (not_in_none s (rw is at h)) | inr other ↦ rw other at h ]
 
 pub step_there : (t : PlainTree) (found : List ℕ) (e : ℕ) (s : Type_) → IsClosed t found → Contains found e → Contains (steps_of t e) s → IfSome s (λ x. Contains found x)
 step_there t found e None closed there has = tt

@@ -2,11 +2,10 @@
 use Rattle.std.proofs.Common.{◌≡◌, ◌<◌, ◌≤◌, ◌+◌, ℕ, zero, suc, Bool, true, List, length, map, Option, Some, None, refl, sym, ◌∙◌, ap, arith, inl, inr}
 use Rattle.std.specs.Prelude.{Contains, filter}
 use Rattle.std.specs.List.{range_with_len}
-use Rattle.std.proofs.lemmas.Bool.{cases_lt}
+use Rattle.std.proofs.lemmas.Bool.{cases_Bool, cases_lt}
 use Rattle.abi_base.specs.declared.fault.Fault.{Fault}
 use Rattle.abi_base.specs.declared.fault.FaultKind.TheVariants as fault
 use Rattle.abi_base.specs.Outcome.{first}
-use Rattle.abi_base.proofs.lemmas.Cases.{bool_cases}
 use Rattle.dw_tree.specs.Trees.{PlainTree}
 use Rattle.abi_base.specs.Limits.{depth_limit}
 use Rattle.type_entries.specs.Reached.{IsReached, IsWalk}
@@ -23,7 +22,7 @@ first-filtered p g a (suc n) e f from below pe ge before =
     elim (cases_lt a e) [
       | inl lt ↦
           let later = first-filtered p g (a + 1) n e f (omega arith) (omega arith) pe ge before in
-          bool_cases (p a) (λ kept. let none = before a lt kept in rw (kept, none) later) (λ passed. rw passed later)
+          elim (cases_Bool (p a)) [ inl kept ↦ let none = before a lt kept in rw (kept, none) later | inr passed ↦ rw passed later ]
       | inr ge' ↦
           let same : a ≡ e = omega arith in
           let pa : p a ≡ true = ap p same ∙ pe in
@@ -35,12 +34,12 @@ none-filtered : (p : ℕ → Bool) (g : ℕ → Option Fault) (a n : ℕ) → ((
 none-filtered p g a zero none = refl
 none-filtered p g a (suc n) none =
     let later = none-filtered p g (a + 1) n none in
-    bool_cases (p a) (λ kept. let here = none a kept in rw (kept, here) later) (λ passed. rw passed later)
+    elim (cases_Bool (p a)) [ inl kept ↦ let here = none a kept in rw (kept, here) later | inr passed ↦ rw passed later ]
 
 deep_fault-none : (t : PlainTree) (e : ℕ) → (IsTooDeep t (Some e) → ⊥) → deep_fault t e ≡ None
 unfolding deep_fault
 deep_fault-none t e shallow =
-    bool_cases (steps_on t (depth_limit + 1) (Some e)) (λ on. absurd (shallow ((steps_on-is t (depth_limit + 1) (Some e)).0 on))) (λ off. rw off refl)
+    elim (cases_Bool (steps_on t (depth_limit + 1) (Some e))) [ inl on ↦ absurd (shallow ((steps_on-is t (depth_limit + 1) (Some e)).0 on)) | inr off ↦ rw off refl ]
 
 deep_fault-some : (t : PlainTree) (e : ℕ) → IsTooDeep t (Some e) → deep_fault t e ≡ Some (record { kind = fault.TooDeep; at = at_entry t e })
 unfolding deep_fault

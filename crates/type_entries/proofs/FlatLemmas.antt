@@ -1,11 +1,11 @@
 -- Flat members of what is no entry that stands for its type.
 use Rattle.std.proofs.Common.{◌≡◌, ◌+◌, ℕ, zero, suc, List, [], ◌∷◌, ◌++◌, map, Option, Some, None, refl, sym, ◌∙◌, ap, subst, arith, ◌⊎◌, inl, inr}
+use Rattle.std.proofs.lemmas.Bool.{cases_Bool}
 use Rattle.std.specs.Prelude.{Contains, zip, flat_map, ◌||◌}
 use Rattle.std.specs.List.{list_any}
 use Rattle.std.proofs.lemmas.List.{append-nil}
 use Rattle.std.proofs.lemmas.List.Elements.{Contains-append_cases}
 use Rattle.abi_types.specs.Types.{PlainLabel}
-use Rattle.abi_base.proofs.lemmas.Cases.{bool_cases}
 use Rattle.abi_base.specs.Limits.{depth_limit}
 use Rattle.dw_tree.specs.Trees.{PlainTree}
 use Rattle.dw_entries.specs.Addresses.{is_declared_only}
@@ -62,8 +62,7 @@ unfolding members_of
 member-step t e m has = go (role_of t e) refl has where
   go : (k : Role) → role_of t e ≡ k → Contains (members_for k t e) m → Contains (steps_of t e) (type_of t m)
   go role.Aggregate is h =
-      bool_cases (is_declared_only t e) (λ only. absurd (not_in_none m (rw only at h)))
-      (λ defined. subst (λ ss. Contains ss (type_of t m)) (sym (aggregate-steps t e is)) (Contains-map (type_of t) (parts_of t e) m (rw defined at h)))
+      elim (cases_Bool (is_declared_only t e)) [ inl only ↦ absurd (not_in_none m (rw only at h)) | inr defined ↦ subst (λ ss. Contains ss (type_of t m)) (sym (aggregate-steps t e is)) (Contains-map (type_of t) (parts_of t e) m (rw defined at h)) ]
   go role.Passed is h = absurd (not_in_none m h)
   go role.Function is h = absurd (not_in_none m h)
   go role.Part is h = absurd (not_in_none m h)
@@ -97,11 +96,12 @@ module _ (d : PlainDwarf) (found : List ℕ) (closed : IsClosed d.tree found) wh
         | inr none ↦ absurd (not_in_none m none)
       ]
   given-lower e p inner m None shallow there has below h =
-      bool_cases (facts_of d (type_of d.tree p)).aggregate
-      (λ yes'. let from = from_map (moved (declared_bit d p)) inner m (rw yes' at h) in
-      let low = below from.0 from.1 in
-      subst (IsLower d found (Some e)) from.2 (lower-step (Some e) (type_of d.tree p) (moved (declared_bit d p) from.0) shallow has (record { there = low.there; low = low.low })))
-      (λ no'. absurd (not_in_none m (rw no' at h)))
+      elim (cases_Bool (facts_of d (type_of d.tree p)).aggregate) [
+        | inl yes' ↦ let from = from_map (moved (declared_bit d p)) inner m (rw yes' at h) in
+            let low = below from.0 from.1 in
+            subst (IsLower d found (Some e)) from.2 (lower-step (Some e) (type_of d.tree p) (moved (declared_bit d p) from.0) shallow has (record { there = low.there; low = low.low }))
+        | inr no' ↦ absurd (not_in_none m (rw no' at h))
+      ]
 
   lower-within : (k : ℕ) (r : Type_) → (StepsOn d.tree k r → ⊥) → (IsTooDeep d.tree r → ⊥) → IsFound found r → (m : Flat) → Contains (flat_of d r) m → IsLower d found r m
   lower-within zero r none shallow there m h = absurd (none (StepsOn-none d.tree r))

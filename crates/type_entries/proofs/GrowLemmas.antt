@@ -2,13 +2,13 @@
 use Rattle.std.proofs.Common.{◌≡◌, ◌<◌, ◌≤◌, ◌+◌, ℕ, zero, suc, List, [], ◌∷◌, ◌++◌, length, map, drop, get_or, Some, None, refl, sym, ◌∙◌, ap, subst, arith, inl, inr, ◌⊎◌}
 use Rattle.std.specs.Prelude.{Contains, nat_eq}
 use Rattle.std.specs.List.{list_any}
-use Rattle.std.proofs.lemmas.Bool.{eqb-true}
+use Rattle.std.proofs.lemmas.Bool.{cases_Bool, eqb-true}
 use Rattle.std.proofs.lemmas.List.{append-nil, append_assoc, at_drop_more, drop_all}
 use Rattle.std.proofs.lemmas.List.Elements.{Contains-append_left, Contains-push, Contains-push_cases}
 use Rattle.std.proofs.lemmas.Map.Views.{Contains-from_any}
 use Rattle.std.proofs.lemmas.Option.{same_Some, none-some}
-use Rattle.abi_base.proofs.lemmas.Cases.{bool_cases}
-use Rattle.type_entries.specs.References.{Type_}
+use Rattle.dw_tree.specs.Trees.{PlainTree}
+use Rattle.type_entries.specs.References.{Type_, type_of, own_types, types_of, parts_of}
 use Rattle.type_entries.specs.Reached.{with_entry, with_type, with_types}
 
 -- the list grew at its end, by these types
@@ -34,19 +34,20 @@ not_in_none y h = omega (arith, h.1)
 
 Grew-one : (found : List ℕ) (e : ℕ) → Grew found (Some e ∷ []) (with_entry found e)
 Grew-one found e =
-    bool_cases (list_any (nat_eq e) found)
-    (λ there. rw there (record {
-      more = [];
-      is = sym (append-nil found);
-      all = λ f h. elim (in_front (Some e) [] (Some f) h) [ inl same ↦ subst (Contains found) (same_Some e f same) (Contains-from_any eqb-true e found there) | inr none ↦ absurd (not_in_none (Some f) none) ];
-      only = λ f h. inl h;
-    }))
-    (λ new. rw new (record {
-      more = e ∷ [];
-      is = refl;
-      all = λ f h. elim (in_front (Some e) [] (Some f) h) [ inl same ↦ subst (Contains (found ++ e ∷ [])) (same_Some e f same) (Contains-push found e) | inr none ↦ absurd (not_in_none (Some f) none) ];
-      only = λ f h. elim (Contains-push_cases found e f h) [ inl was ↦ inl was | inr same ↦ inr (subst (λ x. Contains (Some e ∷ []) (Some x)) same (first_of_all (Some e) [])) ];
-    }))
+    elim (cases_Bool (list_any (nat_eq e) found)) [
+      | inl there ↦ rw there (record {
+        more = [];
+        is = sym (append-nil found);
+        all = λ f h. elim (in_front (Some e) [] (Some f) h) [ inl same ↦ subst (Contains found) (same_Some e f same) (Contains-from_any eqb-true e found there) | inr none ↦ absurd (not_in_none (Some f) none) ];
+        only = λ f h. inl h;
+      })
+      | inr new ↦ rw new (record {
+        more = e ∷ [];
+        is = refl;
+        all = λ f h. elim (in_front (Some e) [] (Some f) h) [ inl same ↦ subst (Contains (found ++ e ∷ [])) (same_Some e f same) (Contains-push found e) | inr none ↦ absurd (not_in_none (Some f) none) ];
+        only = λ f h. elim (Contains-push_cases found e f h) [ inl was ↦ inl was | inr same ↦ inr (subst (λ x. Contains (Some e ∷ []) (Some x)) same (first_of_all (Some e) [])) ];
+      })
+    ]
 
 Grew-none : (found : List ℕ) → Grew found (None ∷ []) found
 Grew-none found = record {
@@ -111,12 +112,14 @@ pub with_types-step : {X : Type 0} (g : X → Type_) (found new : List ℕ) (xs 
 with_types-step g found new xs k x whole lt read grown was =
     ap (λ ys. with_types ys (map g (drop (k + 1) xs))) (grown ∙ ap (λ y. with_type found (g y)) read) ∙ sym (with_types-more g found xs k x lt) ∙ was
 
--- ---- the same over a list of types
+-- ---- what an entry leads to
 
-pub with_types-next : (found new : List ℕ) (types : List Type_) (k : ℕ) (ty : Type_) (whole : List ℕ) → k < length types → ty ≡ get_or types k ty → new ≡ with_type found ty → with_types found (drop k types) ≡ whole → with_types new (drop (k + 1) types) ≡ whole
+with_types-append : (found : List ℕ) (a b : List Type_) → with_types (with_types found a) b ≡ with_types found (a ++ b)
 unfolding with_types
-with_types-next found new types k ty whole lt read grown was =
-    ap (λ ys. with_types ys (drop (k + 1) types)) (grown ∙ ap (with_type found) read) ∙ sym (at_drop_more (λ ys. with_types found ys) types k ty lt) ∙ was
+with_types-append found [] b = refl
+with_types-append found (ty ∷ a) b = with_types-append (with_type found ty) a b
 
-pub with_types-past : (found : List ℕ) (types : List Type_) (k : ℕ) (whole : List ℕ) → length types ≤ k → with_types found (drop k types) ≡ whole → found ≡ whole
-with_types-past found types k whole le is = sym (ap (with_types found) (drop_all k types le) ∙ with_types-none found) ∙ is
+-- its own types, and then those of its parts
+pub with_types-both : (t : PlainTree) (e : ℕ) (found : List ℕ) → with_types (with_types found (own_types t e)) (map (type_of t) (parts_of t e)) ≡ with_types found (types_of t e)
+unfolding types_of
+with_types-both t e found = with_types-append found (own_types t e) (map (type_of t) (parts_of t e))

@@ -3,11 +3,10 @@ use Rattle.std.proofs.Common.{◌≡◌, ◌+◌, ℕ, zero, suc, Bool, true, fa
 use Rattle.std.specs.Prelude.{Contains, flat_map, ◌||◌, ℤ, pos, negsuc, ◌+ℤ◌, ◌≤ℤ◌, ◌<ℤ◌, nat_le, int_lt}
 use Rattle.std.specs.List.{list_any}
 use Rattle.std.specs.Int.{int_min, int_max}
-use Rattle.std.proofs.lemmas.Bool.{cases_lt, or_parts, le-leb, leb-true, false≢true}
+use Rattle.std.proofs.lemmas.Bool.{cases_Bool, cases_lt, or_parts, le-leb, leb-true, false≢true}
 use Rattle.std.proofs.lemmas.Int.{ints, clamps}
 use Rattle.std.proofs.lemmas.List.{append-nil}
 use Rattle.std.proofs.lemmas.List.Elements.{Contains-append_cases, Contains-append_left, Contains-append_right}
-use Rattle.abi_base.proofs.lemmas.Cases.{bool_cases}
 use Rattle.abi_base.specs.Limits.{depth_limit}
 use Rattle.abi_types.specs.Limits.{bit_limit}
 use Rattle.dw_entries.specs.Chains.{name_of}
@@ -43,10 +42,10 @@ IsHull (Some s) xs = IsHullOf s xs
 -- ---- hulls of parts
 
 least-of : (a b : ℤ) → ((int_min a b ≡ a) × (a ≤ℤ b)) ⊎ ((int_min a b ≡ b) × (b ≤ℤ a))
-least-of a b = bool_cases (int_lt b a) (λ below. inr (rw below refl, omega (arith, ints, clamps, below))) (λ other. inl (rw other refl, omega (arith, ints, clamps, other)))
+least-of a b = elim (cases_Bool (int_lt b a)) [ inl below ↦ inr (rw below refl, omega (arith, ints, clamps, below)) | inr other ↦ inl (rw other refl, omega (arith, ints, clamps, other)) ]
 
 greatest-of : (a b : ℤ) → ((int_max a b ≡ a) × (b ≤ℤ a)) ⊎ ((int_max a b ≡ b) × (a ≤ℤ b))
-greatest-of a b = bool_cases (int_lt b a) (λ below. inl (rw below refl, omega (arith, ints, clamps, below))) (λ other. inr (rw other refl, omega (arith, ints, clamps, other)))
+greatest-of a b = elim (cases_Bool (int_lt b a)) [ inl below ↦ inl (rw below refl, omega (arith, ints, clamps, below)) | inr other ↦ inr (rw other refl, omega (arith, ints, clamps, other)) ]
 
 hull-both : (a b : Span) (xs ys : List Flat) → IsHullOf a xs → IsHullOf b ys → IsHullOf (record { low = int_min a.low b.low; high = int_max a.high b.high }) (xs ++ ys)
 hull-both a b xs ys one two = record {
@@ -98,9 +97,7 @@ hull-member d m below = go (name_of d m) refl where
   go : (name : Option (List ℕ)) → name_of d m ≡ name → IsHull (member_span d (m, facts_of d (type_of d.tree m))) (given_by d m (name_of d m) (flat_of d (type_of d.tree m)))
   go (Some name) is = rw is (hull-one (record { name = name; bit = declared_bit d m; width = _; to = type_of d.tree m }))
   go None is =
-      bool_cases (facts_of d (type_of d.tree m)).aggregate
-      (λ yes'. rw (is, yes') (hull-moved (declared_bit d m) (facts_of d (type_of d.tree m)).span (flat_of d (type_of d.tree m)) below))
-      (λ no'. rw (is, no') refl)
+      elim (cases_Bool (facts_of d (type_of d.tree m)).aggregate) [ inl yes' ↦ rw (is, yes') (hull-moved (declared_bit d m) (facts_of d (type_of d.tree m)).span (flat_of d (type_of d.tree m)) below) | inr no' ↦ rw (is, no') refl ]
 
 hull-members : (d : PlainDwarf) (ms : List ℕ) → ((m : ℕ) → Contains ms m → IsHull (facts_of d (type_of d.tree m)).span (flat_of d (type_of d.tree m)))
     → IsHull (spread (map (member_span d) (map (λ m. (m, facts_of d (type_of d.tree m))) ms))) (flat_map (member_gives d) ms)
@@ -142,7 +139,7 @@ beyond-parts (pos n) is = elim (cases_lt n bit_limit) [ inl lt ↦ (omega (arith
 beyond-parts (negsuc n) is = absurd (false≢true (sym is))
 
 beyond-from : (z : ℤ) → pos 0 ≤ℤ z → z <ℤ pos bit_limit → is_beyond z ≡ false
-beyond-from (pos n) low high = bool_cases (nat_le bit_limit n) (λ above. absurd (let le = leb-true bit_limit n above in omega (arith, ints))) (λ below. below)
+beyond-from (pos n) low high = elim (cases_Bool (nat_le bit_limit n)) [ inl above ↦ absurd (let le = leb-true bit_limit n above in omega (arith, ints)) | inr below ↦ below ]
 beyond-from (negsuc n) low high = absurd (omega (arith, ints))
 
 none-beyond : (xs : List Flat) → list_any begins_beyond xs ≡ false → (x : Flat) → Contains xs x → is_beyond x.bit ≡ false

@@ -4,11 +4,13 @@ mod FactLemmas
 mod FlatLemmas
 mod GrowLemmas
 mod HullLemmas
+mod LeadLemmas
 mod LearnLemmas
 mod LoopLemmas
 mod NearLemmas
 mod OrderLemmas
 mod RankLemmas
+mod RowLemmas
 mod ReachedLemmas
 mod ListedLemmas
 mod CoreLemmas

@@ -3,11 +3,10 @@ use Rattle.std.proofs.Common.{◌≡◌, ◌<◌, ◌≤◌, ◌+◌, ℕ, zero,
 use Rattle.std.specs.Prelude.{Contains, nat_eq, filter, IsPermutation, ◌↔◌}
 use Rattle.std.specs.List.{range_with_len}
 use Rattle.std.specs.List.Sorted.{IsNonDecreasing}
-use Rattle.std.proofs.lemmas.Bool.{cases_order, false≢true, eq-eqb, eqb-true, ne_eqb}
+use Rattle.std.proofs.lemmas.Bool.{cases_Bool, cases_order, false≢true, eq-eqb, eqb-true, ne_eqb}
 use Rattle.std.proofs.lemmas.List.Sorted.{Contains-permutation, IsPermutation-sym}
 use Rattle.std.proofs.lemmas.Map.Keys.{IsDistinct-IsPermutation, apart_from_distinct}
 use Rattle.dw_tree.specs.Trees.{PlainTree}
-use Rattle.abi_base.proofs.lemmas.Cases.{bool_cases}
 use Rattle.type_entries.specs.References.{Type_}
 use Rattle.type_entries.specs.Reached.{IsWalk}
 use Rattle.type_entries.specs.ReachedList.{is_reached, reached_of}
@@ -51,7 +50,7 @@ pub rising-filter : (p : ℕ → Bool) (a n : ℕ) → Rising a (filter p (range
 unfolding Rising
 rising-filter p a zero = tt
 rising-filter p a (suc n) =
-    bool_cases (p a) (λ kept. rw kept (omega arith, rising-filter p (a + 1) n)) (λ passed. rw passed (rising-weaker a (a + 1) (filter p (range_with_len (a + 1) n)) (omega arith) (rising-filter p (a + 1) n)))
+    elim (cases_Bool (p a)) [ inl kept ↦ rw kept (omega arith, rising-filter p (a + 1) n) | inr passed ↦ rw passed (rising-weaker a (a + 1) (filter p (range_with_len (a + 1) n)) (omega arith) (rising-filter p (a + 1) n)) ]
 
 rising-list : (low : ℕ) (xs : List ℕ) → ((e : ℕ) → Contains xs e → low ≤ e) → ((i j : ℕ) (d : ℕ) → i < j → j < length xs → get_or xs i d < get_or xs j d) → Rising low xs
 unfolding Rising
@@ -67,18 +66,16 @@ pub filter-there : (p : ℕ → Bool) (xs : List ℕ) (e : ℕ) → Contains xs 
 filter-there p [] e h is = absurd (not_in_none e h)
 filter-there p (x ∷ xs) e h is = elim (in_front x xs e h) [
   | inl same ↦ let kept : p x ≡ true = ap p same ∙ is in rw kept (subst (Contains (x ∷ filter p xs)) same (first_of_all x (filter p xs)))
-  | inr later ↦ bool_cases (p x) (λ kept. rw kept (behind_first x (filter p xs) e (filter-there p xs e later is))) (λ passed. rw passed (filter-there p xs e later is))
+  | inr later ↦ elim (cases_Bool (p x)) [ inl kept ↦ rw kept (behind_first x (filter p xs) e (filter-there p xs e later is)) | inr passed ↦ rw passed (filter-there p xs e later is) ]
 ]
 
 pub filter-from : (p : ℕ → Bool) (xs : List ℕ) (e : ℕ) → Contains (filter p xs) e → p e ≡ true
 filter-from p [] e h = absurd (not_in_none e h)
 filter-from p (x ∷ xs) e h =
-    bool_cases (p x)
-    (λ kept. elim (in_front x (filter p xs) e (rw kept at h)) [ inl same ↦ ap p (sym same) ∙ kept | inr later ↦ filter-from p xs e later ])
-    (λ passed. filter-from p xs e (rw passed at h))
+    elim (cases_Bool (p x)) [ inl kept ↦ elim (in_front x (filter p xs) e (rw kept at h)) [ inl same ↦ ap p (sym same) ∙ kept | inr later ↦ filter-from p xs e later ] | inr passed ↦ filter-from p xs e (rw passed at h) ]
 
 flips : (x y : ℕ) → nat_eq x y ≡ nat_eq y x
-flips x y = bool_cases (nat_eq x y) (λ same. same ∙ sym (eq-eqb y x (sym (eqb-true x y same)))) (λ differ. differ ∙ sym (ne_eqb y x (λ e. false≢true (sym differ ∙ eq-eqb x y (sym e)))))
+flips x y = elim (cases_Bool (nat_eq x y)) [ inl same ↦ same ∙ sym (eq-eqb y x (sym (eqb-true x y same))) | inr differ ↦ differ ∙ sym (ne_eqb y x (λ e. false≢true (sym differ ∙ eq-eqb x y (sym e)))) ]
 
 strictly : (x y : ℕ) → x ≤ y → (x ≡ y → ⊥) → x < y
 strictly x y le other = elim (cases_order x y) [ inl same ↦ absurd (other same) | inr (inl below) ↦ below | inr (inr above) ↦ absurd (omega arith) ]

@@ -2,10 +2,9 @@
 use Rattle.std.proofs.Common.{◌≡◌, ◌<◌, ◌≤◌, ◌+◌, ℕ, zero, suc, Bool, true, List, [], ◌∷◌, length, map, Some, None, refl, sym, ◌∙◌, ap, subst, arith, inl, inr}
 use Rattle.std.specs.Prelude.{Contains, nat_eq, ◌↔◌, ◌&&◌}
 use Rattle.std.specs.List.{list_any, range_with_len, IsDistinct}
-use Rattle.std.proofs.lemmas.Bool.{cases_lt, eqb-true, eq-eqb, and_parts, false≢true}
+use Rattle.std.proofs.lemmas.Bool.{cases_Bool, cases_lt, eqb-true, eq-eqb, and_parts, false≢true}
 use Rattle.std.proofs.lemmas.Option.{slice_get_cases}
 use Rattle.dw_tree.specs.Trees.{PlainTree}
-use Rattle.abi_base.proofs.lemmas.Cases.{bool_cases}
 use Rattle.type_entries.specs.References.{Type_, types_of}
 use Rattle.type_entries.specs.Reached.{Leads, IsReached, with_type, with_types}
 use Rattle.type_entries.specs.ReachedList.{is_entry, refers, leads, is_reached}
@@ -20,12 +19,12 @@ pub any_there : {X : Type 0} (p : X → Bool) (xs : List X) (x : X) → Contains
 any_there p [] x h is = absurd (not_in_none x h)
 any_there p (y ∷ ys) x h is = elim (in_front y ys x h) [
   | inl same ↦ let here : p y ≡ true = ap p same ∙ is in rw here refl
-  | inr later ↦ bool_cases (p y) (λ here. rw here refl) (λ other. rw other (any_there p ys x later is))
+  | inr later ↦ elim (cases_Bool (p y)) [ inl here ↦ rw here refl | inr other ↦ rw other (any_there p ys x later is) ]
 ]
 
 pub any_found : {X : Type 0} (p : X → Bool) (xs : List X) → list_any p xs ≡ true → (x : X) × Contains xs x × (p x ≡ true)
 any_found p [] h = absurd (false≢true h)
-any_found p (y ∷ ys) h = bool_cases (p y) (λ here. (y, first_of_all y ys, here)) (λ other. let r = any_found p ys (rw other at h) in (r.0, behind_first y ys r.0 r.1, r.2))
+any_found p (y ∷ ys) h = elim (cases_Bool (p y)) [ inl here ↦ (y, first_of_all y ys, here) | inr other ↦ let r = any_found p ys (rw other at h) in (r.0, behind_first y ys r.0 r.1, r.2) ]
 
 pub in_range : (a n i : ℕ) → a ≤ i → i < a + n → Contains (range_with_len a n) i
 in_range a zero i le lt = absurd (omega arith)
@@ -68,7 +67,7 @@ leads-from t roots inside (suc n) f (e, before, has) =
 distinct-type : (found : List ℕ) (ty : Type_) → IsDistinct nat_eq found → IsDistinct nat_eq (with_type found ty)
 distinct-type found None once = once
 distinct-type found (Some e) once =
-    bool_cases (list_any (nat_eq e) found) (λ there. rw there once) (λ new. rw new (IsDistinct-push nat_eq_equiv found e once new))
+    elim (cases_Bool (list_any (nat_eq e) found)) [ inl there ↦ rw there once | inr new ↦ rw new (IsDistinct-push nat_eq_equiv found e once new) ]
 
 distinct-types : (found : List ℕ) (types : List Type_) → IsDistinct nat_eq found → IsDistinct nat_eq (with_types found types)
 unfolding with_types

@@ -1,7 +1,7 @@
 -- The steps from entries of each role.
-use Rattle.std.proofs.Common.{◌≡◌, ℕ, List, [], ◌∷◌, map, refl, ap, ◌∙◌}
+use Rattle.std.proofs.Common.{◌≡◌, ℕ, List, [], ◌∷◌, map, refl, ap, ◌∙◌, inl, inr}
+use Rattle.std.proofs.lemmas.Bool.{cases_Bool}
 use Rattle.std.specs.Prelude.{zip}
-use Rattle.abi_base.proofs.lemmas.Cases.{bool_cases}
 use Rattle.dw_tree.specs.Trees.{PlainTree}
 use Rattle.dw_entries.specs.Addresses.{is_declared_only}
 use Rattle.type_entries.specs.declared.role.Role.{Role}
@@ -31,8 +31,7 @@ unfolding members_of
 members-beside f t e = go (role_of t e) refl where
   go : (k : Role) → role_of t e ≡ k → zip (members_for k t e) (map f (steps_of t e)) ≡ map (λ m. (m, f (type_of t m))) (members_for k t e)
   go role.Aggregate is =
-      bool_cases (is_declared_only t e) (λ only. rw only refl)
-      (λ defined. rw defined (ap (λ ss. zip (parts_of t e) (map f ss)) (aggregate-steps t e is) ∙ zip-made f t (parts_of t e)))
+      elim (cases_Bool (is_declared_only t e)) [ inl only ↦ rw only refl | inr defined ↦ rw defined (ap (λ ss. zip (parts_of t e) (map f ss)) (aggregate-steps t e is) ∙ zip-made f t (parts_of t e)) ]
   go role.Passed is = refl
   go role.Function is = refl
   go role.Part is = refl

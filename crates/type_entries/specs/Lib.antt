@@ -3,12 +3,15 @@ pub mod Cores
 pub mod Facts
 pub mod Faults
 pub mod Flat
+pub mod Leads
 pub mod Placement
 pub mod Reached
 pub mod ReachedList
 pub mod References
+pub mod Rows
 pub mod Shapes
 pub mod Sizes
+pub mod Summaries
 pub mod TypeLaws
 pub mod Values
 pub mod Views

@@ -1,15 +1,16 @@
 // What is made of a type from the same of the types that it holds by value.
-ghost use Rattle.std.specs.Prelude.{◌≡◌, ◌<◌, ◌≤◌, ◌+◌, length, map, zip, drop, All, Some, IfOk, IfSome};
+ghost use Rattle.std.specs.Prelude.{◌≡◌, ◌<◌, ◌≤◌, ◌+◌, length, map, drop, All, Some, IfOk, IfSome};
+ghost use Rattle.std.specs.List.{list_any};
 ghost use Rattle.abi_base.specs.Limits.{depth_limit};
-ghost use Rattle.type_entries.specs.References.{role_of as the_role_of, parts_of as the_parts_of, members_of as the_members_of};
+ghost use Rattle.type_entries.specs.References.{role_of as the_role_of, parts_of as the_parts_of};
 ghost use Rattle.type_entries.specs.Placement.{IsNear};
-ghost use Rattle.type_entries.specs.Facts.{above as the_above, total as the_total, rank_in, weight_in, room_of as the_room_of, first_of, own_size as the_own_size, size_for, count_for, weight_for, core_for, aggregate_for, rooms_for, align_from, own_span, span_for, beyond_for, facts_from, IsSpanNear};
+ghost use Rattle.type_entries.specs.Facts.{above as the_above, total as the_total, rank_in, weight_in, room_of as the_room_of, first_of, own_size as the_own_size, size_for, count_for, weight_for, core_for, aggregate_for, rooms_for, align_from, members_with, member_align, member_beyond, most, own_span, span_for, beyond_for, facts_from, IsSpanNear};
 
 use crate::arrays::array_count;
 use crate::constants::{ALIGN_ROOM, POINTER_SIZE};
-use crate::held::{any_beyond, greatest_align, own_align, span_beyond, spread};
+use crate::held::{held_of, own_align, span_beyond};
 use crate::references::members_among;
-use crate::role::{Role, role_of};
+use crate::role::Role;
 use crate::values::number_at;
 use abi_base::NoMemory;
 use abi_base::dwarf::DW_AT_byte_size;
@@ -233,11 +234,10 @@ fn aggregate(role: Role, facts: &[Facts]) -> bool
 
 // The explicit alignment.
 #[tactic(auto, unfolding(crate::specs::Facts::align_from))]
-fn align(dwarf: &Dwarf, e: usize, role: Role, members: &[usize], facts: &[Facts]) -> u64
+fn align(dwarf: &Dwarf, e: usize, role: Role, facts: &[Facts], held: u64) -> u64
     requires inside { e < length dwarf.now.tree.entries }
     requires role { role ≡ the_role_of dwarf.now.tree e }
-    requires members { members.now ≡ the_members_of dwarf.now.tree e }
-    requires members_inside { All (λ m. m < length dwarf.now.tree.entries) members.now }
+    requires held { held ≡ most (map (member_align dwarf.now) (members_with dwarf.now.tree e facts.now)) }
     ensures { result ≡ align_from dwarf.now e facts.now }
 {
     let one = first(facts);
@@ -245,7 +245,7 @@ fn align(dwarf: &Dwarf, e: usize, role: Role, members: &[usize], facts: &[Facts]
         Role::Passed => one.align,
         _ => 0,
     };
-    own_align(dwarf, e).max(passed.max(greatest_align(dwarf, members, facts)))
+    own_align(dwarf, e).max(passed.max(held))
 }
 
 // Where the flat members of the core begin.
@@ -278,19 +278,18 @@ fn beyond(
     dwarf: &Dwarf,
     e: usize,
     role: Role,
-    members: &[usize],
     facts: &[Facts],
+    held: bool,
     own: Option<Span>,
 ) -> bool
+    requires held { held ≡ list_any (member_beyond dwarf.now) (members_with dwarf.now.tree e facts.now) }
     requires own { own ≡ own_span dwarf.now e facts.now }
-    requires members { members.now ≡ the_members_of dwarf.now.tree e }
-    requires members_inside { All (λ m. m < length dwarf.now.tree.entries) members.now }
     ensures { result ≡ beyond_for role dwarf.now e facts.now }
 {
     let one = first(facts);
     match role {
         Role::Passed => one.beyond,
-        _ => any_beyond(dwarf, members, facts) || span_beyond(own),
+        _ => held || span_beyond(own),
     }
 }
 
@@ -300,10 +299,12 @@ pub(crate) fn combine(
     alloc: Global,
     dwarf: &Dwarf,
     e: usize,
-    parts: &[usize],
+    role: Role,
+    parts: &[u32],
     facts: &[Facts],
 ) -> Result<Facts, NoMemory>
     requires inside { e < length dwarf.now.tree.entries }
+    requires role { role ≡ the_role_of dwarf.now.tree e }
     requires parts { parts.now ≡ the_parts_of dwarf.now.tree e }
     requires parts_inside { All (λ c. c < length dwarf.now.tree.entries) parts.now }
     requires ranks { All (λ x. x.rank < depth_limit) facts.now }
@@ -311,20 +312,19 @@ pub(crate) fn combine(
     ensures is { IfOk result (λ x. x ≡ facts_from dwarf.now (Some e) facts.now) }
     ensures near { IfOk result IsSpanNear }
 {
-    let role = role_of(dwarf, e);
-    let members = members_among(dwarf, e, parts);
+    let members = members_among(dwarf, e, role, parts);
     let rank = above(facts);
-    let own = spread(dwarf, members, facts, rank);
+    let held = held_of(dwarf, members, facts, rank);
     let count = count(alloc, dwarf, e, role, facts)?;
     Ok(Facts {
         rank,
         size: size(dwarf, e, role, facts, count),
         count,
         weight: weight(role, facts),
-        align: align(dwarf, e, role, members, facts),
+        align: align(dwarf, e, role, facts, held.align),
         rooms: rooms(role, facts),
-        span: flat_span(dwarf, e, role, facts, own, rank),
-        beyond: beyond(dwarf, e, role, members, facts, own),
+        span: flat_span(dwarf, e, role, facts, held.span, rank),
+        beyond: beyond(dwarf, e, role, facts, held.beyond, held.span),
         core: core(e, role, facts),
         aggregate: aggregate(role, facts),
     })

@@ -72,6 +72,17 @@ impl Found {
         self.place(e)
     }
 
+    /// The number of an entry that was found.
+    pub fn number_of(&self, e: usize) -> usize
+        requires { Contains self.now e }
+        ensures { slice_get self.now result ≡ Some e }
+    {
+        match self.number(e) {
+            Some(number) => number,
+            None => unreachable!(),
+        }
+    }
+
     /// No entry stands twice.
     pub fn known(&self)
         ensures { IsDistinct nat_eq self.now }

@@ -1,27 +1,14 @@
 // What the members of an aggregate come to, each beside the facts of its type.
-ghost use Rattle.std.specs.Prelude.{◌≡◌, ◌<◌, ◌≤◌, ◌+◌, length, map, zip, All, IfSome, ◌+ℤ◌};
+ghost use Rattle.std.specs.Prelude.{◌≡◌, ◌<◌, ◌≤◌, ◌+◌, ◌||◌, length, map, zip, All, IfSome, ◌+ℤ◌};
 ghost use Rattle.std.specs.List.{list_any};
-ghost use Rattle.type_entries.specs.Placement.{IsNear};
-ghost use Rattle.type_entries.specs.Facts.{is_replaced as the_member_is_replaced, own_align as the_own_align, member_align as the_member_align, most as the_most, moved_span as the_moved_span, joined as the_joined, member_span as the_member_span, spread as the_spread, span_beyond as the_span_is_beyond, member_beyond as the_member_is_beyond, IsSpanNear};
+ghost use Rattle.type_entries.specs.Placement.{bit_of as the_bit_of, is_nameless as the_member_is_nameless, IsNear};
+ghost use Rattle.type_entries.specs.Facts.{own_align as the_own_align, member_align as the_member_align, most as the_most, moved_span as the_moved_span, joined as the_joined, member_span as the_member_span, spread as the_spread, span_beyond as the_span_is_beyond, member_beyond as the_member_is_beyond, IsSpanNear};
 
 use crate::facts::{Facts, Span};
 use crate::placement::{bit_of, is_beyond, is_nameless};
 use crate::values::number_at;
 use abi_base::dwarf::DW_AT_alignment;
 use dw_entries::Dwarf;
-
-// Whether the members of its type replace a member.
-#[tactic(auto, unfolding(crate::specs::Facts::is_replaced))]
-fn is_replaced(dwarf: &Dwarf, m: usize, of_type: &Facts) -> bool
-    requires { m < length dwarf.now.tree.entries }
-    ensures { result ≡ the_member_is_replaced dwarf.now (m, of_type.now) }
-{
-    if is_nameless(dwarf, m) {
-        of_type.aggregate
-    } else {
-        false
-    }
-}
 
 // The explicit alignment that an entry says itself.
 #[tactic(auto, unfolding(crate::specs::Facts::own_align))]
@@ -32,33 +19,19 @@ pub(crate) fn own_align(dwarf: &Dwarf, e: usize) -> u64
     number_at(dwarf, e, DW_AT_alignment)
 }
 
-// The explicit alignment that a member brings.
-#[tactic(auto, unfolding(crate::specs::Facts::member_align))]
-fn member_align(dwarf: &Dwarf, m: usize, of_type: &Facts) -> u64
-    requires { m < length dwarf.now.tree.entries }
+// The explicit alignment that a member brings, which has a name or none.
+#[tactic(auto, unfolding(crate::specs::Facts::member_align, crate::specs::Facts::is_replaced))]
+fn member_align(dwarf: &Dwarf, m: usize, of_type: &Facts, nameless: bool) -> u64
+    requires inside { m < length dwarf.now.tree.entries }
+    requires nameless { nameless ≡ the_member_is_nameless dwarf.now m }
     ensures { result ≡ the_member_align dwarf.now (m, of_type.now) }
 {
-    if is_replaced(dwarf, m, of_type) {
-        own_align(dwarf, m).max(of_type.align)
+    let own = own_align(dwarf, m);
+    if nameless && of_type.aggregate {
+        own.max(of_type.align)
     } else {
-        own_align(dwarf, m)
+        own
     }
-}
-
-// The greatest explicit alignment that members bring.
-pub(crate) fn greatest_align(dwarf: &Dwarf, members: &[usize], of_types: &[Facts]) -> u64
-    requires { All (λ m. m < length dwarf.now.tree.entries) members.now }
-    ensures { result ≡ the_most (map (the_member_align dwarf.now) (zip members.now of_types.now)) }
-{
-    let mut greatest: u64 = 0;
-    let mut k = members.len().min(of_types.len());
-    'down: while k > 0 {
-        k -= 1;
-        let m = members[k];
-        let of_type = of_types[k];
-        greatest = member_align(dwarf, m, &of_type).max(greatest);
-    }
-    greatest
 }
 
 // A bit so much later.
@@ -107,18 +80,19 @@ fn joined(a: Option<Span>, b: Option<Span>) -> Option<Span>
     }
 }
 
-// Where a member begins, or the members that replace it.
+// Where a member begins that stands at a bit, or the members that replace it.
 #[tactic(auto, unfolding(crate::specs::Facts::member_span))]
-fn member_span(dwarf: &Dwarf, m: usize, of_type: &Facts) -> Option<Span>
-    requires inside { m < length dwarf.now.tree.entries }
+fn member_span(dwarf: &Dwarf, m: usize, of_type: &Facts, bit: i128, nameless: bool) -> Option<Span>
+    requires bit { bit ≡ the_bit_of dwarf.now m of_type.now.size }
+    requires bit_near { IsNear 1 bit }
+    requires nameless { nameless ≡ the_member_is_nameless dwarf.now m }
     requires near { IsSpanNear of_type.now }
     requires rank { of_type.now.rank < 1000 }
     ensures is { result ≡ the_member_span dwarf.now (m, of_type.now) }
     ensures low { IfSome result (λ s. IsNear (of_type.now.rank + 2) s.low) }
     ensures high { IfSome result (λ s. IsNear (of_type.now.rank + 2) s.high) }
 {
-    let bit = bit_of(dwarf, m, of_type.size);
-    if !is_nameless(dwarf, m) {
+    if !nameless {
         return Some(Span {
             low: bit,
             high: bit,
@@ -131,32 +105,6 @@ fn member_span(dwarf: &Dwarf, m: usize, of_type: &Facts) -> Option<Span>
     }
 }
 
-// Where members begin, or those that replace them.
-pub(crate) fn spread(
-    dwarf: &Dwarf,
-    members: &[usize],
-    of_types: &[Facts],
-    rank: u32,
-) -> Option<Span>
-    requires inside { All (λ m. m < length dwarf.now.tree.entries) members.now }
-    requires near { All IsSpanNear of_types.now }
-    requires ranks { All (λ x. x.rank < rank) of_types.now }
-    requires rank { rank ≤ 1000 }
-    ensures is { result ≡ the_spread (map (the_member_span dwarf.now) (zip members.now of_types.now)) }
-    ensures low { IfSome result (λ s. IsNear (rank + 1) s.low) }
-    ensures high { IfSome result (λ s. IsNear (rank + 1) s.high) }
-{
-    let mut all = None;
-    let mut k = members.len().min(of_types.len());
-    'down: while k > 0 {
-        k -= 1;
-        let m = members[k];
-        let of_type = of_types[k];
-        all = joined(member_span(dwarf, m, &of_type), all);
-    }
-    all
-}
-
 // Whether bits are out of range.
 pub(crate) fn span_beyond(span: Option<Span>) -> bool
     ensures { result ≡ the_span_is_beyond span }
@@ -167,27 +115,55 @@ pub(crate) fn span_beyond(span: Option<Span>) -> bool
     }
 }
 
-// Whether a member begins out of range, as it stands.
+// Whether a member begins out of range that stands at a bit, or another one does.
 #[tactic(auto, unfolding(crate::specs::Facts::member_beyond))]
-fn member_beyond(dwarf: &Dwarf, m: usize, of_type: &Facts) -> bool
-    requires { m < length dwarf.now.tree.entries }
-    ensures { result ≡ the_member_is_beyond dwarf.now (m, of_type.now) }
+fn either_beyond(dwarf: &Dwarf, m: usize, of_type: &Facts, bit: i128, other: bool) -> bool
+    requires { bit ≡ the_bit_of dwarf.now m of_type.now.size }
+    ensures { result ≡ (the_member_is_beyond dwarf.now (m, of_type.now) || other) }
 {
-    is_beyond(bit_of(dwarf, m, of_type.size))
+    is_beyond(bit) || other
 }
 
-// Whether a member begins out of range.
-pub(crate) fn any_beyond(dwarf: &Dwarf, members: &[usize], of_types: &[Facts]) -> bool
-    requires { All (λ m. m < length dwarf.now.tree.entries) members.now }
-    ensures { result ≡ list_any (the_member_is_beyond dwarf.now) (zip members.now of_types.now) }
+/// What members come to.
+#[derive(Drop)]
+pub(crate) struct Held {
+    /// The greatest explicit alignment that they bring.
+    pub(crate) align: u64,
+    /// Where they begin, or those that replace them.
+    pub(crate) span: Option<Span>,
+    /// One begins out of range, as it stands.
+    pub(crate) beyond: bool,
+}
+
+/// What members come to, each beside the facts of its type.
+pub(crate) fn held_of(dwarf: &Dwarf, members: &[u32], of_types: &[Facts], rank: u32) -> Held
+    requires inside { All (λ m. m < length dwarf.now.tree.entries) members.now }
+    requires near { All IsSpanNear of_types.now }
+    requires ranks { All (λ x. x.rank < rank) of_types.now }
+    requires rank { rank ≤ 1000 }
+    ensures align { result.align ≡ the_most (map (the_member_align dwarf.now) (zip members.now of_types.now)) }
+    ensures span { result.span ≡ the_spread (map (the_member_span dwarf.now) (zip members.now of_types.now)) }
+    ensures low { IfSome result.span (λ s. IsNear (rank + 1) s.low) }
+    ensures high { IfSome result.span (λ s. IsNear (rank + 1) s.high) }
+    ensures beyond { result.beyond ≡ list_any (the_member_is_beyond dwarf.now) (zip members.now of_types.now) }
 {
-    let mut any = false;
+    let mut align: u64 = 0;
+    let mut span = None;
+    let mut beyond = false;
     let mut k = members.len().min(of_types.len());
     'down: while k > 0 {
         k -= 1;
-        let m = members[k];
+        let m = members[k] as usize;
         let of_type = of_types[k];
-        any = member_beyond(dwarf, m, &of_type) || any;
+        let bit = bit_of(dwarf, m, of_type.size);
+        let nameless = is_nameless(dwarf, m);
+        align = member_align(dwarf, m, &of_type, nameless).max(align);
+        span = joined(member_span(dwarf, m, &of_type, bit, nameless), span);
+        beyond = either_beyond(dwarf, m, &of_type, bit, beyond);
     }
-    any
+    Held {
+        align,
+        span,
+        beyond,
+    }
 }

@@ -1,17 +1,19 @@
 // The facts of all entries that were found, each learned once, after those of the types that it holds by value.
-ghost use Rattle.std.specs.Prelude.{◌≡◌, ◌<◌, ◌≤◌, ◌+◌, ℕ, List, Some, length, All, Contains, IfOk, IfSome, IfNone, OnOk, IsPermutation};
+ghost use Rattle.std.specs.Prelude.{◌≡◌, ◌<◌, ◌≤◌, ◌+◌, ℕ, List, Some, length, slice_get, All, Contains, IfOk, IfSome, IfNone, OnOk, IsPermutation};
 ghost use Rattle.std.specs.List.Sorted.{IsNonDecreasing};
 ghost use Rattle.abi_base.specs.Limits.{depth_limit};
 ghost use Rattle.abi_base.specs.Outcome.{Judges};
 ghost use Rattle.type_entries.specs.Reached.{IsWalk};
 ghost use Rattle.type_entries.specs.ByValue.{StepsOn, IsNoDeeper, IsClosed, IsTooDeep};
+ghost use Rattle.type_entries.specs.Leads.{AreLeads};
 ghost use Rattle.type_entries.specs.Facts.{facts_of, IsSpanNear, AreFacts, AreAllFacts, IsFirstTooDeep};
 ghost use Rattle.type_entries.specs.Faults.{depth_fault};
 
 use crate::constants::DEPTH_LIMIT;
 use crate::facts::{Facts, VOID, combine};
 use crate::found::Found;
-use crate::references::{parts_of, steps_of};
+use crate::leads::{Leads, parts_at, steps_at, widened};
+use crate::role::role_of;
 use abi_base::{Fault, FaultKind, NoMemory, Refusal};
 use dw_entries::Dwarf;
 use std::alloc::Global;
@@ -21,11 +23,13 @@ fn learn(
     alloc: Global,
     dwarf: &Dwarf,
     found: &Found,
+    leads: &Leads,
     known: &mut Vec<Option<Facts>>,
     ty: Option<usize>,
     budget: u32,
 ) -> Result<Option<Facts>, NoMemory>
     requires closed { IsClosed dwarf.now.tree found.now }
+    requires leads { AreLeads dwarf.now.tree found.now leads.now }
     requires known { AreFacts dwarf.now found.now known.old.items }
     requires len { length known.old.items ≡ length found.now }
     requires there { IfSome ty (λ e. Contains found.now e) }
@@ -55,19 +59,28 @@ fn learn(
         }
         None => {}
     }
-    let parts = parts_of(alloc, dwarf, e)?;
-    let steps = steps_of(alloc, dwarf, e, parts.as_slice())?;
+    let role = role_of(dwarf, e);
+    let parts = parts_at(dwarf, found, leads, number, e);
+    let steps = steps_at(dwarf, found, leads, number, e, role);
     let mut of_steps = Vec::with_capacity(alloc, steps.len())?;
     'steps: for k in 0..steps.len() {
         if budget == 0 {
             return Ok(None);
         }
-        match learn(alloc, dwarf, found, known, steps[k], budget - 1)? {
+        match learn(
+            alloc,
+            dwarf,
+            found,
+            leads,
+            known,
+            widened(steps[k]),
+            budget - 1,
+        )? {
             Some(one) => of_steps.push(one)?,
             None => return Ok(None),
         }
     }
-    let made = combine(alloc, dwarf, e, parts.as_slice(), of_steps.as_slice())?;
+    let made = combine(alloc, dwarf, e, role, parts, of_steps.as_slice())?;
     known[number] = Some(made);
     Ok(Some(made))
 }
@@ -90,9 +103,11 @@ fn find_deep(
     alloc: Global,
     dwarf: &Dwarf,
     found: &Found,
+    leads: &Leads,
     known: &mut Vec<Option<Facts>>,
 ) -> Result<Option<usize>, NoMemory>
     requires closed { IsClosed dwarf.now.tree found.now }
+    requires leads { AreLeads dwarf.now.tree found.now leads.now }
     requires known { AreFacts dwarf.now found.now known.old.items }
     requires len { length known.old.items ≡ length found.now }
     ensures known { OnOk result (AreFacts dwarf.now found.now known.new.items) }
@@ -102,7 +117,15 @@ fn find_deep(
 {
     let order = in_order(alloc, found)?;
     'order: for k in 0..order.len() {
-        match learn(alloc, dwarf, found, known, Some(order[k]), DEPTH_LIMIT)? {
+        match learn(
+            alloc,
+            dwarf,
+            found,
+            leads,
+            known,
+            Some(order[k]),
+            DEPTH_LIMIT,
+        )? {
             Some(_) => {}
             None => return Ok(Some(order[k])),
         }
@@ -115,9 +138,11 @@ fn collect(
     alloc: Global,
     dwarf: &Dwarf,
     found: &Found,
+    leads: &Leads,
     known: &mut Vec<Option<Facts>>,
 ) -> Result<Vec<Facts>, NoMemory>
     requires closed { IsClosed dwarf.now.tree found.now }
+    requires leads { AreLeads dwarf.now.tree found.now leads.now }
     requires known { AreFacts dwarf.now found.now known.old.items }
     requires len { length known.old.items ≡ length found.now }
     requires shallow { (e : ℕ) → Contains found.now e → IsTooDeep dwarf.now.tree (Some e) → ⊥ }
@@ -126,7 +151,7 @@ fn collect(
     let mut facts = Vec::with_capacity(alloc, found.len())?;
     'found: for number in 0..found.len() {
         let e = found.at(number);
-        match learn(alloc, dwarf, found, known, Some(e), DEPTH_LIMIT)? {
+        match learn(alloc, dwarf, found, leads, known, Some(e), DEPTH_LIMIT)? {
             Some(one) => facts.push(one)?,
             None => unreachable!(),
         }
@@ -136,13 +161,19 @@ fn collect(
 
 /// The facts of all that a walk found, by number. The fault is that more steps by value than the limit lead on from an entry,
 /// and stands at the first such entry in order of offset.
-pub fn learn_all(alloc: Global, dwarf: &Dwarf, found: &Found) -> Result<Vec<Facts>, Refusal>
-    requires { IsClosed dwarf.now.tree found.now }
+pub fn learn_all(
+    alloc: Global,
+    dwarf: &Dwarf,
+    found: &Found,
+    leads: &Leads,
+) -> Result<Vec<Facts>, Refusal>
+    requires closed { IsClosed dwarf.now.tree found.now }
+    requires leads { AreLeads dwarf.now.tree found.now leads.now }
     ensures facts { IfOk result (λ facts. AreAllFacts dwarf.now found.now facts.items) }
     ensures judged { (roots : List ℕ) → ((r : ℕ) → Contains roots r → r < length dwarf.now.tree.entries) → IsWalk dwarf.now.tree roots found.now → Judges result (depth_fault dwarf.now.tree roots) }
 {
     let mut known = Vec::from_elem(alloc, None, found.len())?;
-    match find_deep(alloc, dwarf, found, &mut known)? {
+    match find_deep(alloc, dwarf, found, leads, &mut known)? {
         Some(e) => {
             return Err(Refusal::Fault(Fault {
                 kind: FaultKind::TooDeep,
@@ -151,7 +182,7 @@ pub fn learn_all(alloc: Global, dwarf: &Dwarf, found: &Found) -> Result<Vec<Fact
         }
         None => {}
     }
-    Ok(collect(alloc, dwarf, found, &mut known)?)
+    Ok(collect(alloc, dwarf, found, leads, &mut known)?)
 }
 
 /// The facts of a type that was found, of those of all that was.
@@ -168,4 +199,19 @@ pub fn facts_at(dwarf: &Dwarf, found: &Found, facts: &[Facts], ty: Option<usize>
         Some(number) => facts[number],
         None => unreachable!(),
     }
+}
+
+/// The facts of an entry that was found, by its number.
+pub fn facts_by_number(
+    dwarf: &Dwarf,
+    found: &Found,
+    facts: &[Facts],
+    number: usize,
+    e: usize,
+) -> Facts
+    requires facts { AreAllFacts dwarf.now found.now facts.now }
+    requires at { slice_get found.now number ≡ Some e }
+    ensures { result ≡ facts_of dwarf.now (Some e) }
+{
+    facts[number]
 }

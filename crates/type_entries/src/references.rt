@@ -1,6 +1,6 @@
 // The types to which entries lead, and their parts.
-ghost use Rattle.std.specs.Prelude.{◌≡◌, ◌<◌, ◌++◌, length, map, All, IfOk, OnOk, IfSome};
-ghost use Rattle.type_entries.specs.References.{type_of as the_type_of, body_of as the_body_of, parts_of as the_parts_of, members_of as the_members_of, has_type as the_role_has_a_type, holds_none as the_role_holds_none, own_types, types_of as the_types_of, steps_of as the_steps_of};
+ghost use Rattle.std.specs.Prelude.{◌≡◌, ◌<◌, length, All, IfOk, IfSome};
+ghost use Rattle.type_entries.specs.References.{role_of as the_role_of, type_of as the_type_of, body_of as the_body_of, parts_of as the_parts_of, members_of as the_members_of, has_type as the_role_has_a_type, holds_none as the_role_holds_none};
 
 use crate::role::{Role, is_signed, role_of};
 use abi_base::NoMemory;
@@ -22,10 +22,7 @@ pub fn type_of(dwarf: &Dwarf, e: usize) -> Option<usize>
     } else {
         DW_AT_type
     };
-    match dwarf.attr(e, name) {
-        Some(value) => dwarf.target(&value),
-        None => None,
-    }
+    dwarf.attr_target(e, name)
 }
 
 /// The entry whose children are the parameters of a function: of a subprogram the last of its chain.
@@ -44,7 +41,7 @@ pub fn body_of(dwarf: &Dwarf, e: usize) -> usize
 
 /// The members of a structure or a union, those of a declaration too, or the parameters of a function, in their order.
 #[tactic(auto, unfolding(crate::specs::References::parts_of, crate::specs::References::tagged_children))]
-pub fn parts_of(alloc: Global, dwarf: &Dwarf, e: usize) -> Result<Vec<usize>, NoMemory>
+pub(crate) fn parts_of(alloc: Global, dwarf: &Dwarf, e: usize) -> Result<Vec<usize>, NoMemory>
     requires { e < length dwarf.now.tree.entries }
     ensures parts { IfOk result (λ list. list.items ≡ the_parts_of dwarf.now.tree e) }
     ensures inside { IfOk result (λ list. All (λ c. c < length dwarf.now.tree.entries) list.items) }
@@ -58,21 +55,22 @@ pub fn parts_of(alloc: Global, dwarf: &Dwarf, e: usize) -> Result<Vec<usize>, No
 
 /// Those of an entry's parts that are its members, of which a declaration has none.
 #[tactic(auto, unfolding(crate::specs::References::members_of))]
-pub fn members_among<'p>(dwarf: &Dwarf, e: usize, parts: &'p [usize]) -> &'p [usize]
+pub fn members_among<'p>(dwarf: &Dwarf, e: usize, role: Role, parts: &'p [u32]) -> &'p [u32]
     requires inside { e < length dwarf.now.tree.entries }
+    requires role { role ≡ the_role_of dwarf.now.tree e }
     requires parts { parts.now ≡ the_parts_of dwarf.now.tree e }
     requires parts_inside { All (λ c. c < length dwarf.now.tree.entries) parts.now }
     ensures members { result.now ≡ the_members_of dwarf.now.tree e }
     ensures inside { All (λ c. c < length dwarf.now.tree.entries) result.now }
 {
-    match role_of(dwarf, e) {
+    match role {
         Role::Aggregate => { if dwarf.is_declaration(e) { &[] } else { parts } }
         _ => &[],
     }
 }
 
-// Whether an entry of a role has a type itself.
-fn has_type(role: Role) -> bool
+/// Whether an entry of a role has a type itself.
+pub(crate) fn has_type(role: Role) -> bool
     ensures { result ≡ the_role_has_a_type role }
 {
     matches!(
@@ -81,78 +79,9 @@ fn has_type(role: Role) -> bool
     )
 }
 
-// Whether an entry of a role holds none of its types by value.
-fn holds_none(role: Role) -> bool
+/// Whether an entry of a role holds none of its types by value.
+pub(crate) fn holds_none(role: Role) -> bool
     ensures { result ≡ the_role_holds_none role }
 {
     matches!(role, Role::Pointer | Role::Part)
-}
-
-// Puts the type last that an entry has itself.
-#[tactic(auto, unfolding(crate::specs::References::own_types))]
-fn push_own(dwarf: &Dwarf, types: &mut Vec<Option<usize>>, e: usize) -> Result<(), NoMemory>
-    requires { e < length dwarf.now.tree.entries }
-    ensures { OnOk result (types.new.items ≡ types.old.items ++ own_types dwarf.now.tree e) }
-{
-    if has_type(role_of(dwarf, e)) {
-        types.push(type_of(dwarf, e))?;
-    }
-    Ok(())
-}
-
-// The types to which an entry leads, one after the other.
-#[tactic(auto, unfolding(crate::specs::References::types_of))]
-fn all_types(
-    alloc: Global,
-    dwarf: &Dwarf,
-    e: usize,
-    parts: &[usize],
-) -> Result<Vec<Option<usize>>, NoMemory>
-    requires inside { e < length dwarf.now.tree.entries }
-    requires parts { parts.now ≡ the_parts_of dwarf.now.tree e }
-    requires parts_inside { All (λ c. c < length dwarf.now.tree.entries) parts.now }
-    ensures { IfOk result (λ types. types.items ≡ the_types_of dwarf.now.tree e) }
-{
-    let mut types = Vec::with_capacity(alloc, parts.len() + 1)?;
-    push_own(dwarf, &mut types, e)?;
-    'parts: for k in 0..parts.len() {
-        types.push(type_of(dwarf, parts[k]))?;
-    }
-    Ok(types)
-}
-
-/// The types to which an entry leads: its own, and those of its parts.
-pub fn types_of(
-    alloc: Global,
-    dwarf: &Dwarf,
-    e: usize,
-    parts: &[usize],
-) -> Result<Vec<Option<usize>>, NoMemory>
-    requires inside { e < length dwarf.now.tree.entries }
-    requires parts { parts.now ≡ the_parts_of dwarf.now.tree e }
-    requires parts_inside { All (λ c. c < length dwarf.now.tree.entries) parts.now }
-    ensures types { IfOk result (λ types. types.items ≡ the_types_of dwarf.now.tree e) }
-    ensures inside { IfOk result (λ types. All (λ ty. IfSome ty (λ f. f < length dwarf.now.tree.entries)) types.items) }
-{
-    let types = all_types(alloc, dwarf, e, parts)?;
-    Ok(types)
-}
-
-/// The types that an entry holds by value.
-#[tactic(auto, unfolding(crate::specs::References::steps_of))]
-pub fn steps_of(
-    alloc: Global,
-    dwarf: &Dwarf,
-    e: usize,
-    parts: &[usize],
-) -> Result<Vec<Option<usize>>, NoMemory>
-    requires inside { e < length dwarf.now.tree.entries }
-    requires parts { parts.now ≡ the_parts_of dwarf.now.tree e }
-    requires parts_inside { All (λ c. c < length dwarf.now.tree.entries) parts.now }
-    ensures { IfOk result (λ steps. steps.items ≡ the_steps_of dwarf.now.tree e) }
-{
-    if holds_none(role_of(dwarf, e)) {
-        return Ok(Vec::new(alloc));
-    }
-    types_of(alloc, dwarf, e, parts)
 }

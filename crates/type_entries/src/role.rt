@@ -1,6 +1,6 @@
 // What entries are among types.
 ghost use Rattle.std.specs.Prelude.{◌≡◌, ◌<◌, length};
-ghost use Rattle.type_entries.specs.References.{may_be_signed as the_type_may_be_signed, is_signature as the_value_is_a_signature, is_signed as the_entry_is_signed, is_passed_tag as the_tag_is_passed, is_aggregate_tag as the_tag_is_of_an_aggregate, is_function_tag as the_tag_is_of_a_function, is_part_tag as the_tag_is_of_a_part, tag_role as the_tag_role, role_of as the_role_of};
+ghost use Rattle.type_entries.specs.References.{may_be_signed as the_type_may_be_signed, is_signature as the_value_is_a_signature, is_signed as the_entry_is_signed, tag_role as the_tag_role, role_of as the_role_of};
 
 use abi_base::dwarf::{
     DW_AT_signature, DW_TAG_array_type, DW_TAG_atomic_type, DW_TAG_base_type, DW_TAG_const_type,
@@ -44,64 +44,27 @@ fn may_be_signed(tag: u64) -> bool
     )
 }
 
-#[tactic(auto, unfolding(crate::specs::References::is_passed_tag))]
-fn is_passed_tag(tag: u64) -> bool
-    ensures { result ≡ the_tag_is_passed tag }
-{
-    matches!(
-        tag,
-        DW_TAG_typedef
-            | DW_TAG_const_type
-            | DW_TAG_volatile_type
-            | DW_TAG_restrict_type
-            | DW_TAG_atomic_type
-            | DW_TAG_variable
-    )
-}
-
-#[tactic(auto, unfolding(crate::specs::References::is_aggregate_tag))]
-fn is_aggregate_tag(tag: u64) -> bool
-    ensures { result ≡ the_tag_is_of_an_aggregate tag }
-{
-    matches!(tag, DW_TAG_structure_type | DW_TAG_union_type)
-}
-
-#[tactic(auto, unfolding(crate::specs::References::is_function_tag))]
-fn is_function_tag(tag: u64) -> bool
-    ensures { result ≡ the_tag_is_of_a_function tag }
-{
-    matches!(tag, DW_TAG_subprogram | DW_TAG_subroutine_type)
-}
-
-#[tactic(auto, unfolding(crate::specs::References::is_part_tag))]
-fn is_part_tag(tag: u64) -> bool
-    ensures { result ≡ the_tag_is_of_a_part tag }
-{
-    matches!(tag, DW_TAG_member | DW_TAG_formal_parameter)
-}
-
-#[tactic(auto, unfolding(crate::specs::References::tag_role))]
+// What an entry of a tag is, which does not say by a signature that its type stands in a type unit.
+#[inline]
+#[tactic(auto, unfolding(crate::specs::References::tag_role, crate::specs::References::is_passed_tag, crate::specs::References::is_aggregate_tag, crate::specs::References::is_function_tag, crate::specs::References::is_part_tag))]
 fn tag_role(tag: u64) -> Role
     ensures { result ≡ the_tag_role tag }
 {
-    if is_passed_tag(tag) {
-        Role::Passed
-    } else if is_aggregate_tag(tag) {
-        Role::Aggregate
-    } else if is_function_tag(tag) {
-        Role::Function
-    } else if is_part_tag(tag) {
-        Role::Part
-    } else if tag == DW_TAG_pointer_type {
-        Role::Pointer
-    } else if tag == DW_TAG_array_type {
-        Role::Array
-    } else if tag == DW_TAG_enumeration_type {
-        Role::Enumeration
-    } else if tag == DW_TAG_base_type {
-        Role::Base
-    } else {
-        Role::Unknown
+    match tag {
+        DW_TAG_typedef
+        | DW_TAG_const_type
+        | DW_TAG_volatile_type
+        | DW_TAG_restrict_type
+        | DW_TAG_atomic_type
+        | DW_TAG_variable => Role::Passed,
+        DW_TAG_structure_type | DW_TAG_union_type => Role::Aggregate,
+        DW_TAG_subprogram | DW_TAG_subroutine_type => Role::Function,
+        DW_TAG_member | DW_TAG_formal_parameter => Role::Part,
+        DW_TAG_pointer_type => Role::Pointer,
+        DW_TAG_array_type => Role::Array,
+        DW_TAG_enumeration_type => Role::Enumeration,
+        DW_TAG_base_type => Role::Base,
+        _ => Role::Unknown,
     }
 }
 

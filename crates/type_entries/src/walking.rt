@@ -1,26 +1,39 @@
 // The walk over all that is reached.
 ghost use Rattle.std.specs.Prelude.{◌≡◌, ◌<◌, length, map, All, Some, IfOk, OnOk};
-ghost use Rattle.type_entries.specs.References.{types_of as the_types_of};
+ghost use Rattle.type_entries.specs.References.{own_types, types_of as the_types_of};
 ghost use Rattle.type_entries.specs.Reached.{with_types, IsWalk};
 ghost use Rattle.type_entries.specs.ReachedList.{reached_of};
 ghost use Rattle.type_entries.specs.ByValue.{IsClosed};
 
 use crate::found::Found;
 use crate::laws::{the_list_holds_the_reached, walks_find_the_list};
-use crate::references::{parts_of, types_of};
+use crate::references::{has_type, parts_of, type_of};
+use crate::role::role_of;
 use abi_base::NoMemory;
 use dw_entries::Dwarf;
 use std::alloc::Global;
+
+// Adds the type that an entry has itself.
+#[tactic(auto, unfolding(crate::specs::References::own_types, crate::specs::Reached::with_types))]
+fn add_own(dwarf: &Dwarf, found: &mut Found, e: usize) -> Result<(), NoMemory>
+    requires { e < length dwarf.now.tree.entries }
+    ensures { OnOk result (found.new ≡ with_types found.old (own_types dwarf.now.tree e)) }
+{
+    if has_type(role_of(dwarf, e)) {
+        found.add_type(type_of(dwarf, e))?;
+    }
+    Ok(())
+}
 
 // Adds all to which an entry leads.
 fn expand(alloc: Global, dwarf: &Dwarf, found: &mut Found, e: usize) -> Result<(), NoMemory>
     requires { e < length dwarf.now.tree.entries }
     ensures { OnOk result (found.new ≡ with_types found.old (the_types_of dwarf.now.tree e)) }
 {
+    add_own(dwarf, found, e)?;
     let parts = parts_of(alloc, dwarf, e)?;
-    let types = types_of(alloc, dwarf, e, parts.as_slice())?;
-    'types: for k in 0..types.len() {
-        found.add_type(types[k])?;
+    'parts: for k in 0..parts.len() {
+        found.add_type(type_of(dwarf, parts[k]))?;
     }
     Ok(())
 }

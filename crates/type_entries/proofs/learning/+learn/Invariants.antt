@@ -9,10 +9,10 @@ use Rattle.type_entries.proofs.learning.+learn.Given as goal
 
 abbrev pub invariant-steps : goal.invariant-steps
 invariant-steps l = record {
-  facts : l.of_steps.items ≡ map (facts_of l.dwarf) (take l.k l.steps.items);
+  facts : l.of_steps.items ≡ map (facts_of l.dwarf) (take l.k l.steps);
   ranks : All (λ (x : Facts). x.rank < depth_limit) l.of_steps.items;
   near : All IsSpanNear l.of_steps.items;
-  few : All (λ (s : Type_). StepsOn l.dwarf.tree l.budget s → ⊥) (take l.k l.steps.items);
+  few : All (λ (s : Type_). StepsOn l.dwarf.tree l.budget s → ⊥) (take l.k l.steps);
   known : AreFacts l.dwarf l.found l.known.items;
   len : length l.known.items ≡ length l.found;
 }

@@ -8,14 +8,14 @@ use Rattle.type_entries.proofs.learning.learn_all.Goals as goal
 pub offset-requires : goal.offset-requires
 offset-requires c =
     let first = subst (λ o. IfSome o (λ e. IsFirstTooDeep c.args.dwarf.now.tree c.args.found.now e)) c.in-Some.is c.in_ok-e.ensures.first in
-    c.requires.inside c.in-Some.e first.there
+    c.requires.closed.inside c.in-Some.e first.there
 
 pub returns-in-Some-clause-judged : goal.returns-in-Some-clause-judged
 returns-in-Some-clause-judged c = λ roots inside walk.
     let t = c.args.dwarf.now.tree in
     let found = c.args.found.now in
     let first = subst (λ o. IfSome o (λ e. IsFirstTooDeep t found e)) c.in-Some.is c.in_ok-e.ensures.first in
-    depth-some t roots found c.in-Some.e c.offset.result inside walk (c.requires.inside c.in-Some.e first.there) first c.offset.ensures
+    depth-some t roots found c.in-Some.e c.offset.result inside walk (c.requires.closed.inside c.in-Some.e first.there) first c.offset.ensures
 
 pub returns-clause-judged : goal.returns-clause-judged
 returns-clause-judged c = λ roots inside walk.

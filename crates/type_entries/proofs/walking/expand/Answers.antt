@@ -1,16 +1,20 @@
-use Rattle.std.proofs.Common.{ap, arith}
-use Rattle.std.proofs.lemmas.List.{get_or_read}
-use Rattle.type_entries.specs.References.{types_of}
-use Rattle.type_entries.specs.Reached.{with_types}
-use Rattle.type_entries.proofs.GrowLemmas.{with_types-next, with_types-past}
+use Rattle.std.proofs.Common.{ap, ◌∙◌, arith, map, List, ℕ}
+use Rattle.type_entries.specs.References.{type_of, own_types, types_of}
+use Rattle.type_entries.specs.Reached.{with_type, with_types}
+use Rattle.type_entries.proofs.GrowLemmas.{with_types-step, with_types-end, with_types-both}
 use Rattle.type_entries.proofs.walking.expand.Goals as goal
 
-pub types-init : goal.types-init
-types-init c = ap (with_types c.args.found.now) c.in_ok-types.ensures.types
+pub parts-init : goal.parts-init
+parts-init c =
+    let t = c.args.dwarf.now.tree in
+    ap (λ xs. with_types xs (map (type_of t) c.in_ok-parts.parts.items)) c.in_ok-add_own.ensures
+    ∙ ap (λ xs. with_types (with_types c.args.found.now (own_types t c.args.e)) (map (type_of t) xs)) c.in_ok-parts.ensures.parts
+    ∙ with_types-both t c.args.e c.args.found.now
 
-pub types-preserved : goal.types-preserved
-types-preserved c =
-    with_types-next c.types.found c.add_type.new.self c.in_ok-types.types.items c.types.k c.index.result.now (with_types c.args.found.now (types_of c.args.dwarf.now.tree c.args.e)) (omega (arith, c.types-test.true, c.len-k-end.ensures)) (get_or_read c.in_ok-types.types.items c.types.k c.index.result.now (omega (arith, c.types-test.true, c.len-k-end.ensures)) c.index.ensures c.index.result.now) c.in_ok-add_type.ensures c.types.invariant
+pub parts-preserved : goal.parts-preserved
+parts-preserved c =
+    let t = c.args.dwarf.now.tree in
+    with_types-step (type_of t) c.parts.found c.add_type.new.self c.in_ok-parts.parts.items c.parts.k c.index.result.now (with_types c.args.found.now (types_of t c.args.e)) (omega (arith, c.parts-test.true, c.len-k-end.ensures)) c.index.ensures (c.in_ok-add_type.ensures ∙ ap (with_type c.parts.found) c.type_of.ensures.found) c.parts.invariant
 
 pub returns : goal.returns
-returns c = with_types-past c.types.found c.in_ok-types.types.items c.types.k (with_types c.args.found.now (types_of c.args.dwarf.now.tree c.args.e)) (omega (arith, c.types-test.false, c.len-k-end.ensures)) c.types.invariant
+returns c = with_types-end (type_of c.args.dwarf.now.tree) c.parts.found c.in_ok-parts.parts.items c.parts.k (with_types c.args.found.now (types_of c.args.dwarf.now.tree c.args.e)) (omega (arith, c.parts-test.false, c.len-k-end.ensures)) c.parts.invariant
