@@ -1,5 +1,6 @@
 -- Flat members one after the other.
-use Rattle.std.proofs.Common.{◌≡◌, ◌<◌, ◌≤◌, ◌+◌, ℕ, true, List, [], ◌∷◌, ◌++◌, length, map, take, get_or, Some, None, refl, sym, ◌∙◌, ap, subst, arith}
+use Rattle.std.proofs.Common.{◌≡◌, ◌<◌, ◌≤◌, ◌+◌, ℕ, true, List, [], ◌∷◌, ◌++◌, length, map, take, get_or, Some, None, refl, sym, ◌∙◌, ap, subst, arith, inl, inr}
+use Rattle.std.proofs.lemmas.Bool.{cases_Bool}
 use Rattle.std.specs.Prelude.{Contains, flat_map, ℤ, ◌+ℤ◌}
 use Rattle.std.proofs.Math.IntN.{+ℤ_assoc}
 use Rattle.std.proofs.lemmas.List.{take_more, take_all, map-append, append_assoc, append-nil}
@@ -9,10 +10,10 @@ use Rattle.type_entries.specs.References.{Type_, type_of, members_of}
 use Rattle.type_entries.specs.ByValue.{IsTooDeep, IsClosed}
 use Rattle.type_entries.specs.Placement.{width_of}
 use Rattle.type_entries.specs.Facts.{facts_of}
+use Rattle.type_entries.specs.Summaries.{summary_of}
 use Rattle.type_entries.specs.Flat.{Flat, core_of, moved, declared_bit, given_by, flat_of, member_gives}
 use Rattle.type_entries.specs.Cores.{StandsForNone, IsFound, IsCore}
 use Rattle.type_entries.specs.TypeLaws.{IsShallow, TypeLaws}
-use Rattle.abi_base.proofs.lemmas.Cases.{bool_cases}
 use Rattle.std.proofs.lemmas.Option.{none-some}
 use Rattle.type_views.specs.Placed.{replacing}
 use Rattle.type_views.proofs.ListLemmas.{map-map, map-same}
@@ -65,20 +66,16 @@ gives-of d laws m base shallow is yes' =
     ∙ map-same (λ x. moved base (moved (declared_bit d m) x)) (moved (base +ℤ declared_bit d m)) (flat_of d ty) (λ x h. moved-twice base (declared_bit d m) x)
     ∙ ap (map (moved (base +ℤ declared_bit d m))) (laws.cores ty shallow).flat
 
-pub gives-nested : (d : PlainDwarf) → TypeLaws d → (m inner : ℕ) (base : ℤ) → IsShallow d (type_of d.tree m) → name_of d m ≡ None → replacing (facts_of d (type_of d.tree m)) ≡ Some inner
+pub gives-nested : (d : PlainDwarf) → TypeLaws d → (m inner : ℕ) (base : ℤ) → IsShallow d (type_of d.tree m) → name_of d m ≡ None → replacing (summary_of (facts_of d (type_of d.tree m))) ≡ Some inner
     → map (moved base) (member_gives d m) ≡ map (moved (base +ℤ declared_bit d m)) (flat_of d (Some inner))
 gives-nested d laws m inner base shallow none is =
     let ty : Type_ = type_of d.tree m in
-    bool_cases (facts_of d ty).aggregate
-    (λ yes'. gives-of d laws m base shallow none yes' ∙ ap (λ c. map (moved (base +ℤ declared_bit d m)) (flat_of d c)) (rw yes' at is))
-    (λ no'. absurd (none-some inner (rw no' at is)))
+    elim (cases_Bool (facts_of d ty).aggregate) [ inl yes' ↦ gives-of d laws m base shallow none yes' ∙ ap (λ c. map (moved (base +ℤ declared_bit d m)) (flat_of d c)) (rw yes' at is) | inr no' ↦ absurd (none-some inner (rw no' at is)) ]
 
-pub gives-nothing : (d : PlainDwarf) → TypeLaws d → (m : ℕ) (base : ℤ) → IsShallow d (type_of d.tree m) → name_of d m ≡ None → replacing (facts_of d (type_of d.tree m)) ≡ None → map (moved base) (member_gives d m) ≡ []
+pub gives-nothing : (d : PlainDwarf) → TypeLaws d → (m : ℕ) (base : ℤ) → IsShallow d (type_of d.tree m) → name_of d m ≡ None → replacing (summary_of (facts_of d (type_of d.tree m))) ≡ None → map (moved base) (member_gives d m) ≡ []
 gives-nothing d laws m base shallow none is =
     let ty : Type_ = type_of d.tree m in
-    bool_cases (facts_of d ty).aggregate
-    (λ yes'. gives-of d laws m base shallow none yes' ∙ ap (λ c. map (moved (base +ℤ declared_bit d m)) (flat_of d c)) (rw yes' at is) ∙ ap (map (moved (base +ℤ declared_bit d m))) laws.flats_void)
-    (λ no'. ap (λ o. map (moved base) (given_by d m o (flat_of d ty))) none ∙ (rw no' refl))
+    elim (cases_Bool (facts_of d ty).aggregate) [ inl yes' ↦ gives-of d laws m base shallow none yes' ∙ ap (λ c. map (moved (base +ℤ declared_bit d m)) (flat_of d c)) (rw yes' at is) ∙ ap (map (moved (base +ℤ declared_bit d m))) laws.flats_void | inr no' ↦ ap (λ o. map (moved base) (given_by d m o (flat_of d ty))) none ∙ (rw no' refl) ]
 
 -- what holds of the core of a member's type
 pub record IsNested (d : PlainDwarf) (found : List ℕ) (c m inner : ℕ) : Type 0 where
@@ -93,12 +90,12 @@ module _ (d : PlainDwarf) (laws : TypeLaws d) (found : List ℕ) (closed : IsClo
   pub member_shallow : (c m : ℕ) → Contains found c → Contains (members_of d.tree c) m → IsShallow d (type_of d.tree m)
   member_shallow c m there has = found-shallow d laws found closed shallow (type_of d.tree m) (member_found c m there has)
 
-  pub nested-is : (c m inner : ℕ) → Contains found c → Contains (members_of d.tree c) m → replacing (facts_of d (type_of d.tree m)) ≡ Some inner → IsNested d found c m inner
+  pub nested-is : (c m inner : ℕ) → Contains found c → Contains (members_of d.tree c) m → replacing (summary_of (facts_of d (type_of d.tree m))) ≡ Some inner → IsNested d found c m inner
   nested-is c m inner there has replaced =
       let ty : Type_ = type_of d.tree m in
       let ty_there = member_found c m there has in
       let ty_shallow = member_shallow c m there has in
-      let is : core_of d ty ≡ Some inner = bool_cases (facts_of d ty).aggregate (λ yes'. rw yes' at replaced) (λ no'. absurd (none-some inner (rw no' at replaced))) in
+      let is : core_of d ty ≡ Some inner = elim (cases_Bool (facts_of d ty).aggregate) [ inl yes' ↦ rw yes' at replaced | inr no' ↦ absurd (none-some inner (rw no' at replaced)) ] in
       let core = subst (IsCore d ty) is (laws.cores ty ty_shallow) in
       let falls = laws.falls (Some c) ty (shallow c there) (laws.member_step c m has) in
       record {

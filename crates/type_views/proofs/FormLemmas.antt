@@ -1,13 +1,12 @@
 -- Views have the form of their kinds.
-use Rattle.std.proofs.Common.{◌≡◌, ◌==◌, ℕ, Bool, true, false, cond, List, [], ◌∷◌, map, Option, Some, None, refl, ◌∙◌, ap, sym, subst}
+use Rattle.std.proofs.Common.{◌≡◌, ◌==◌, ℕ, Bool, true, false, cond, List, [], ◌∷◌, map, Option, Some, None, refl, ◌∙◌, ap, sym, subst, inl, inr}
 use Rattle.std.specs.Prelude.{flat_map, IfSome, ◌&&◌}
 use Rattle.std.specs.List.{list_all}
-use Rattle.std.proofs.lemmas.Bool.{false≢true}
+use Rattle.std.proofs.lemmas.Bool.{cases_Bool, false≢true}
 use Rattle.dw_tree.specs.Trees.{PlainTree}
 use Rattle.dw_entries.specs.Addresses.{tag_at, is_declared_only}
 use Rattle.dw_entries.specs.Debug.{PlainDwarf}
 use Rattle.abi_base.specs.Dwarf.{dw_tag_structure_type}
-use Rattle.abi_base.proofs.lemmas.Cases.{bool_cases}
 use Rattle.abi_types.specs.declared.kind.Kind.{Kind}
 use Rattle.abi_types.specs.declared.kind.Kind.TheVariants as kind
 use Rattle.abi_types.specs.declared.kind.Group.TheVariants as group
@@ -47,15 +46,11 @@ record HasRole (d : PlainDwarf) (name : Type_ → ℕ) (c : ℕ) (k : Role) : Ty
 
 aggregate-kind : (d : PlainDwarf) (c : ℕ) (P : Kind → Type 0) → P kind.Structure → P kind.Union → P (kind_for role.Aggregate d.tree c)
 aggregate-kind d c P structure union =
-    bool_cases (tag_at d.tree c == dw_tag_structure_type)
-    (λ is. subst (λ b. P (cond b kind.Structure kind.Union)) (sym is) structure)
-    (λ is. subst (λ b. P (cond b kind.Structure kind.Union)) (sym is) union)
+    elim (cases_Bool (tag_at d.tree c == dw_tag_structure_type)) [ inl is ↦ subst (λ b. P (cond b kind.Structure kind.Union)) (sym is) structure | inr is ↦ subst (λ b. P (cond b kind.Structure kind.Union)) (sym is) union ]
 
 array-kind : (d : PlainDwarf) (c : ℕ) (P : Kind → Type 0) → P kind.Vector → P kind.Array → P (kind_for role.Array d.tree c)
 array-kind d c P vector array =
-    bool_cases (is_vector d.tree c)
-    (λ is. subst (λ b. P (cond b kind.Vector kind.Array)) (sym is) vector)
-    (λ is. subst (λ b. P (cond b kind.Vector kind.Array)) (sym is) array)
+    elim (cases_Bool (is_vector d.tree c)) [ inl is ↦ subst (λ b. P (cond b kind.Vector kind.Array)) (sym is) vector | inr is ↦ subst (λ b. P (cond b kind.Vector kind.Array)) (sym is) array ]
 
 aggregate-role : (d : PlainDwarf) (name : Type_ → ℕ) (c : ℕ) → HasRole d name c role.Aggregate
 aggregate-role d name c = record {

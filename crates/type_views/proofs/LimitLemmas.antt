@@ -2,13 +2,12 @@
 use Rattle.std.proofs.Common.{◌≡◌, ◌<◌, ◌≤◌, ◌^◌, ◌*◌, ◌∙◌, ℕ, zero, suc, Bool, true, false, List, [], ◌∷◌, length, map, get_or, Option, Some, None, refl, sym, ap, subst, arith, inl, inr}
 use Rattle.std.specs.Prelude.{flat_map, Contains, IfSome, nat_lt, nat_le, nat_eq, sum_by, ℤ, pos, negsuc}
 use Rattle.std.specs.List.{list_any, list_all, IsDistinct}
-use Rattle.std.proofs.lemmas.Bool.{cases_lt, lt-ltb, ltb-true, le-leb, or_parts, and_parts, false≢true}
+use Rattle.std.proofs.lemmas.Bool.{cases_Bool, cases_lt, lt-ltb, ltb-true, le-leb, or_parts, and_parts, false≢true}
 use Rattle.std.proofs.lemmas.List.{get_or_past}
 use Rattle.std.proofs.lemmas.List.Sums.{sum_by-cons}
 use Rattle.std.specs.Option.{unwrap_or}
 use Rattle.std.proofs.lemmas.List.Elements.{Contains-append_cases}
 use Rattle.std.proofs.lemmas.Option.{same_Some}
-use Rattle.abi_base.proofs.lemmas.Cases.{bool_cases}
 use Rattle.abi_base.specs.Limits.{depth_limit, weight_limit}
 use Rattle.abi_types.specs.Limits.{size_limit, bit_limit, align_limit, room_limit}
 use Rattle.dw_tree.specs.Trees.{entry_at, IsOrdered}
@@ -82,9 +81,7 @@ IsNarrow x = x.width < bit_limit
 given-narrow : (d : PlainDwarf) (m : ℕ) (name : Option (List ℕ)) → width_of d m < bit_limit → ((x : Flat) → Contains (flat_of d (type_of d.tree m)) x → IsNarrow x) → (x : Flat) → Contains (given_by d m name (flat_of d (type_of d.tree m))) x → IsNarrow x
 given-narrow d m (Some name) own below x h = elim (in_front _ [] x h) [ inl same ↦ subst IsNarrow same own | inr none ↦ absurd (not_in_none x none) ]
 given-narrow d m None own below x h =
-    bool_cases (facts_of d (type_of d.tree m)).aggregate
-    (λ yes'. let from = from_map (moved (declared_bit d m)) (flat_of d (type_of d.tree m)) x (rw yes' at h) in subst IsNarrow from.2 (below from.0 from.1))
-    (λ no'. absurd (not_in_none x (rw no' at h)))
+    elim (cases_Bool (facts_of d (type_of d.tree m)).aggregate) [ inl yes' ↦ let from = from_map (moved (declared_bit d m)) (flat_of d (type_of d.tree m)) x (rw yes' at h) in subst IsNarrow from.2 (below from.0 from.1) | inr no' ↦ absurd (not_in_none x (rw no' at h)) ]
 
 from_flat_map : {X Y : Type 0} (f : X → List Y) (xs : List X) (y : Y) → Contains (flat_map f xs) y → (x : X) × Contains xs x × Contains (f x) y
 from_flat_map f [] y h = absurd (not_in_none y h)
@@ -121,8 +118,7 @@ unfolding has_shape members_of
 shaped-members d e m shape has = go (role_of d.tree e) (and_parts (has_shape_for (role_of d.tree e) d e) _ (and_parts (list_all (is_type d.tree) (types_of d.tree e)) _ shape).1).0 has where
   go : (k : Role) → has_shape_for k d e ≡ true → Contains (members_for k d.tree e) m → is_good_member d m ≡ true
   go role.Aggregate is h =
-      bool_cases (is_declared_only d.tree e) (λ only. absurd (not_in_none m (rw only at h)))
-      (λ defined. all-hold (is_good_member d) (parts_of d.tree e) m (and_parts (has_size_unless_declared d.tree e) (list_all (is_good_member d) (parts_of d.tree e)) is).1 (rw defined at h))
+      elim (cases_Bool (is_declared_only d.tree e)) [ inl only ↦ absurd (not_in_none m (rw only at h)) | inr defined ↦ all-hold (is_good_member d) (parts_of d.tree e) m (and_parts (has_size_unless_declared d.tree e) (list_all (is_good_member d) (parts_of d.tree e)) is).1 (rw defined at h) ]
   go role.Passed is h = absurd (not_in_none m h)
   go role.Function is h = absurd (not_in_none m h)
   go role.Part is h = absurd (not_in_none m h)

@@ -2,13 +2,12 @@
 use Rattle.std.proofs.Common.{◌≡◌, ◌<◌, ◌+◌, ℕ, zero, suc, List, [], ◌∷◌, length, map, slice_get, Some, None, refl, sym, ◌∙◌, ap, arith, inl, inr}
 use Rattle.std.specs.Prelude.{true, Contains, IfSome, nat_eq, slice_index_or}
 use Rattle.std.specs.List.{position_or_len}
-use Rattle.std.proofs.lemmas.Bool.{eqb-true, eq-eqb}
+use Rattle.std.proofs.lemmas.Bool.{cases_Bool, eqb-true, eq-eqb}
 use Rattle.std.proofs.lemmas.List.{length-map}
 use Rattle.std.proofs.lemmas.List.Elements.{Contains-append_right}
 use Rattle.std.proofs.lemmas.Option.{same_Some, none-some}
 use Rattle.dw_tree.specs.Trees.{PlainTree}
 use Rattle.dw_entries.specs.Debug.{PlainDwarf}
-use Rattle.abi_base.proofs.lemmas.Cases.{bool_cases}
 use Rattle.abi_types.specs.Types.{Target, Element, Outcome, Param, PlainNode}
 use Rattle.abi_types.specs.Graphs.{void_node, node_at}
 use Rattle.type_entries.specs.declared.role.Role.{Role}
@@ -96,9 +95,7 @@ stands_at found None there = refl
 stands_at found (Some e) there = go found there where
   go : (xs : List ℕ) → Contains xs e → slice_get (map (λ x. Some x) xs) (position_or_len (nat_eq e) xs) ≡ Some (Some e)
   go [] h = absurd (not_in_none e h)
-  go (x ∷ xs) h = bool_cases (nat_eq e x)
-      (λ here. rw here (ap (λ y. Some (Some y)) (sym (eqb-true e x here))))
-      (λ other. elim (in_front x xs e h) [ inl same ↦ absurd (let is = eq-eqb e x (sym same) in cc) | inr later ↦ let k : 1 + position_or_len (nat_eq e) xs ≡ suc (position_or_len (nat_eq e) xs) = omega arith in rw (other, k) (go xs later) ])
+  go (x ∷ xs) h = elim (cases_Bool (nat_eq e x)) [ inl here ↦ rw here (ap (λ y. Some (Some y)) (sym (eqb-true e x here))) | inr other ↦ elim (in_front x xs e h) [ inl same ↦ absurd (let is = eq-eqb e x (sym same) in cc) | inr later ↦ let k : 1 + position_or_len (nat_eq e) xs ≡ suc (position_or_len (nat_eq e) xs) = omega arith in rw (other, k) (go xs later) ] ]
 
 -- read as entries, numbers of nodes are offsets
 named : (d : PlainDwarf) (found : List ℕ) (r : Type_) → IsFound found r → entry_named (made_nodes d found) (number_in found r) ≡ offset_of d.tree r

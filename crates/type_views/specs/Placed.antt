@@ -1,6 +1,6 @@
 -- Members of the code, without where their names lie in memory.
 use Rattle.std.specs.Prelude.{if◌then◌else◌, List, map, None}
-use Rattle.type_entries.specs.declared.facts.Facts.{Facts}
+use Rattle.type_entries.specs.declared.summaries.Summary.{Summary}
 use Rattle.type_entries.specs.References.{Type_}
 use Rattle.type_entries.specs.Flat.{Flat}
 use Rattle.type_views.specs.declared.flatten.Placed.{Placed}
@@ -11,6 +11,6 @@ plain_member p = record { name = p.name.now; bit = p.bit; width = p.width; to = 
 abbrev pub plain_members : List Placed → List Flat
 plain_members = map plain_member
 
--- the structure or union whose members replace a nameless member, by the facts of its type
-abbrev pub replacing : Facts → Type_
+-- the structure or union whose members replace a nameless member, by what is kept of its type
+abbrev pub replacing : Summary → Type_
 replacing x = if x.aggregate then x.core else None

@@ -2,18 +2,22 @@
 ghost use Rattle.std.specs.Prelude.{◌≡◌, ◌<◌, ◌≤◌, ◌+◌, ◌-◌, ◌+ℤ◌, ◌++◌, length, map, Contains, Some, OnOk};
 ghost use Rattle.abi_base.specs.Limits.{depth_limit};
 ghost use Rattle.type_entries.specs.ByValue.{IsClosed};
+ghost use Rattle.type_entries.specs.Leads.{AreLeads};
 ghost use Rattle.type_entries.specs.Placement.{bit_of as the_bit_of, IsNear};
-ghost use Rattle.type_entries.specs.Facts.{AreAllFacts, facts_of};
+ghost use Rattle.type_entries.specs.Facts.{facts_of};
+ghost use Rattle.type_entries.specs.Summaries.{AreSummaries};
 ghost use Rattle.type_entries.specs.Cores.{StandsForNone};
 ghost use Rattle.type_entries.specs.Flat.{moved, flat_of};
 ghost use Rattle.type_views.specs.Placed.{replacing as the_replacing, plain_members};
 
 use abi_base::NoMemory;
 use dw_entries::Dwarf;
-use std::alloc::Global;
 use type_entries::constants::DEPTH_LIMIT;
 use type_entries::laws::laws_of_types;
-use type_entries::{Facts, Found, bit_of, facts_at, members_among, parts_of, type_of, width_of};
+use type_entries::{
+    Found, Leads, Summary, bit_of, member_type, members_among, parts_at, role_of, summary_at,
+    types_at, width_of,
+};
 
 /// A flat member: the bit at which it begins, how wide it is as a bit field, and its type.
 #[derive(Clone, Copy)]
@@ -30,8 +34,8 @@ pub(crate) struct Start {
     pub(crate) bit: i128,
 }
 
-// Where a member begins, whose type has these facts.
-fn start_of(dwarf: &Dwarf, m: usize, of_type: &Facts, base: Start, depth: u32) -> Start
+// Where a member begins, by what is kept of its type.
+fn start_of(dwarf: &Dwarf, m: usize, of_type: &Summary, base: Start, depth: u32) -> Start
     requires inside { m < length dwarf.now.tree.entries }
     requires base { IsNear depth base.bit }
     requires depth { depth < 1000 }
@@ -43,8 +47,8 @@ fn start_of(dwarf: &Dwarf, m: usize, of_type: &Facts, base: Start, depth: u32) -
     }
 }
 
-// The structure or union whose members replace a nameless member, by the facts of its type.
-fn replacing(of_type: &Facts) -> Option<usize>
+// The structure or union whose members replace a nameless member, by what is kept of its type.
+fn replacing(of_type: &Summary) -> Option<usize>
     ensures { result ≡ the_replacing of_type.now }
 {
     if of_type.aggregate {
@@ -56,17 +60,18 @@ fn replacing(of_type: &Facts) -> Option<usize>
 
 // Puts the flat members of a structure or a union last, each so much later.
 pub(crate) fn push_flat<'a>(
-    alloc: Global,
     dwarf: &Dwarf<'a>,
     found: &Found,
-    facts: &[Facts],
+    leads: &Leads,
+    summaries: &[Summary],
     out: &mut Vec<Placed<'a>>,
     c: usize,
     base: Start,
     budget: u32,
 ) -> Result<(), NoMemory>
     requires closed { IsClosed dwarf.now.tree found.now }
-    requires facts { AreAllFacts dwarf.now found.now facts.now }
+    requires leads { AreLeads dwarf.now.tree found.now leads.now }
+    requires summaries { AreSummaries dwarf.now found.now summaries.now }
     requires there { Contains found.now c }
     requires last { StandsForNone dwarf.now c }
     requires low { (facts_of dwarf.now (Some c)).rank ≤ budget }
@@ -76,12 +81,14 @@ pub(crate) fn push_flat<'a>(
 {
     laws_of_types();
     let depth = DEPTH_LIMIT - budget;
-    let parts = parts_of(alloc, dwarf, c)?;
-    let members = members_among(dwarf, c, parts.as_slice());
+    let number = found.number_of(c);
+    let parts = parts_at(dwarf, found, leads, number, c);
+    let types = types_at(dwarf, found, leads, number, c);
+    let members = members_among(dwarf, c, role_of(dwarf, c), parts);
     'members: for k in 0..members.len() {
-        let m = members[k];
-        let to = type_of(dwarf, m);
-        let of_type = facts_at(dwarf, found, facts, to);
+        let m = members[k] as usize;
+        let to = member_type(dwarf, c, members, types, k);
+        let of_type = summary_at(dwarf, found, summaries, to);
         let start = start_of(dwarf, m, &of_type, base, depth);
         if let Some(name) = dwarf.name_of(m) {
             let width = width_of(dwarf, m);
@@ -94,7 +101,16 @@ pub(crate) fn push_flat<'a>(
             continue;
         }
         match replacing(&of_type) {
-            Some(inner) => push_flat(alloc, dwarf, found, facts, out, inner, start, budget - 1)?,
+            Some(inner) => push_flat(
+                dwarf,
+                found,
+                leads,
+                summaries,
+                out,
+                inner,
+                start,
+                budget - 1,
+            )?,
             None => {}
         }
     }

@@ -11,7 +11,7 @@ use abi_base::{List, Refusal};
 use abi_types::{Graph, Index, Node};
 use dw_entries::Dwarf;
 use std::alloc::Global;
-use type_entries::{learn_all, reached};
+use type_entries::{leads_of, learn_all, reached, summaries_of};
 
 // The nodes of what is reached from the roots. What was learnt of the types is let go with the call.
 fn reached_nodes<'a, Ix: Index>(
@@ -24,11 +24,12 @@ fn reached_nodes<'a, Ix: Index>(
     ensures nodes { IfOk result (λ nodes. nodes ≡ nodes_of dwarf.now roots.now) }
 {
     let found = reached(alloc, dwarf, roots)?;
-    match ask_shapes(alloc, dwarf, &found) {
+    let leads = leads_of(alloc, dwarf, &found)?;
+    match ask_shapes(alloc, dwarf, &found, &leads) {
         Ok(()) => {}
         Err(refused) => return Err(refused),
     }
-    let facts = match learn_all(alloc, dwarf, &found) {
+    let facts = match learn_all(alloc, dwarf, &found, &leads) {
         Ok(facts) => facts,
         Err(refused) => return Err(refused),
     };
@@ -36,7 +37,9 @@ fn reached_nodes<'a, Ix: Index>(
         Ok(()) => {}
         Err(fault) => return Err(Refusal::Fault(fault)),
     }
-    let nodes = nodes(alloc, dwarf, &found, facts.as_slice())?;
+    let summaries = summaries_of(alloc, dwarf, &found, facts.as_slice())?;
+    drop(facts);
+    let nodes = nodes(alloc, dwarf, &found, &leads, summaries.as_slice())?;
     Ok(nodes)
 }
 

@@ -1,7 +1,9 @@
 // The faults of reached types, each row in order of offset.
-ghost use Rattle.std.specs.Prelude.{◌≡◌, ◌<◌, length, map, Some, IfOk};
+ghost use Rattle.std.specs.Prelude.{◌≡◌, ◌<◌, length, map, All, Some, IfOk, IfSome};
 ghost use Rattle.abi_base.specs.Outcome.{first, Judges, Settles};
+ghost use Rattle.type_entries.specs.References.{parts_of, types_of};
 ghost use Rattle.type_entries.specs.ByValue.{IsClosed};
+ghost use Rattle.type_entries.specs.Leads.{AreLeads};
 ghost use Rattle.type_entries.specs.Facts.{AreAllFacts, facts_of};
 ghost use Rattle.type_entries.specs.TypeLaws.{IsShallow};
 ghost use Rattle.type_entries.specs.Shapes.{has_shape as the_entry_has_a_shape};
@@ -15,15 +17,25 @@ use abi_base::{Fault, FaultKind, NoMemory, Refusal};
 use dw_entries::Dwarf;
 use std::alloc::Global;
 use type_entries::laws::laws_of_types;
-use type_entries::{Facts, Found, facts_at};
+use type_entries::{Facts, Found, Leads, facts_by_number, parts_at, types_at};
 
 // The fault of an entry's shape.
 #[tactic(auto, unfolding(type_entries::specs::Faults::shape_fault))]
-fn shape_fault_of(alloc: Global, dwarf: &Dwarf, e: usize) -> Result<Option<Fault>, NoMemory>
-    requires { e < length dwarf.now.tree.entries }
+fn shape_fault_of(
+    alloc: Global,
+    dwarf: &Dwarf,
+    e: usize,
+    parts: &[u32],
+    types: &[Option<u32>],
+) -> Result<Option<Fault>, NoMemory>
+    requires inside { e < length dwarf.now.tree.entries }
+    requires parts { parts.now ≡ parts_of dwarf.now.tree e }
+    requires parts_inside { All (λ p. p < length dwarf.now.tree.entries) parts.now }
+    requires types { types.now ≡ types_of dwarf.now.tree e }
+    requires types_inside { All (λ ty. IfSome ty (λ f. f < length dwarf.now.tree.entries)) types.now }
     ensures { IfOk result (λ fault. fault ≡ shape_fault dwarf.now e) }
 {
-    if has_shape(alloc, dwarf, e)? {
+    if has_shape(alloc, dwarf, e, parts, types)? {
         return Ok(None);
     }
     Ok(Some(Fault {
@@ -33,13 +45,21 @@ fn shape_fault_of(alloc: Global, dwarf: &Dwarf, e: usize) -> Result<Option<Fault
 }
 
 /// Asks the shapes of entries that were found, in their order.
-pub(crate) fn ask_shapes(alloc: Global, dwarf: &Dwarf, found: &Found) -> Result<(), Refusal>
-    requires { IsClosed dwarf.now.tree found.now }
+pub(crate) fn ask_shapes(
+    alloc: Global,
+    dwarf: &Dwarf,
+    found: &Found,
+    leads: &Leads,
+) -> Result<(), Refusal>
+    requires closed { IsClosed dwarf.now.tree found.now }
+    requires leads { AreLeads dwarf.now.tree found.now leads.now }
     ensures { Judges result (first (map (shape_fault dwarf.now) found.now)) }
 {
     'found: for number in 0..found.len() {
         let e = found.at(number);
-        match shape_fault_of(alloc, dwarf, e)? {
+        let parts = parts_at(dwarf, found, leads, number, e);
+        let types = types_at(dwarf, found, leads, number, e);
+        match shape_fault_of(alloc, dwarf, e, parts, types)? {
             Some(fault) => return Err(Refusal::Fault(fault)),
             None => {}
         }
@@ -94,7 +114,7 @@ pub(crate) fn ask_sizes(dwarf: &Dwarf, found: &Found, facts: &[Facts]) -> Result
 {
     'found: for number in 0..found.len() {
         let e = found.at(number);
-        let of_entry = facts_at(dwarf, found, facts, Some(e));
+        let of_entry = facts_by_number(dwarf, found, facts, number, e);
         match large_fault_of(dwarf, e, &of_entry) {
             Some(fault) => return Err(fault),
             None => {}

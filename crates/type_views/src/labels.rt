@@ -57,6 +57,8 @@ fn push_label<'a>(dwarf: &Dwarf<'a>, labels: &mut Vec<Label<'a>>, e: usize) -> R
     match label_kind(dwarf.tag(e)) {
         Some(kind) => {
             let name = name_or_empty(dwarf, e);
+            // Most types have one name or none.
+            labels.reserve_exact(1)?;
             labels.push(Label { kind, name })?;
         }
         None => {}
@@ -94,6 +96,5 @@ pub(crate) fn labels_of<'a>(
         push_label(dwarf, &mut labels, e)?;
         next = passed_to(dwarf, e);
     }
-    labels.shrink_to_fit();
     Ok(List::of(labels))
 }

@@ -1,16 +1,18 @@
 // What nodes look like.
-ghost use Rattle.std.specs.Prelude.{◌≡◌, ◌<◌, ◌≤◌, [], ◌∷◌, ◌++◌, ℕ, if◌then◌else◌, false, length, map, All, Contains, Some, IfOk, OnOk, IfSome};
+ghost use Rattle.std.specs.Prelude.{◌≡◌, ◌<◌, ◌≤◌, [], ◌∷◌, ◌++◌, ℕ, if◌then◌else◌, true, false, length, map, slice_get, All, Contains, Some, IfOk, OnOk, IfSome};
 ghost use Rattle.std.specs.List.{list_any};
 ghost use Rattle.abi_base.specs.Limits.{depth_limit};
 ghost use Rattle.abi_types.specs.Graphs.{void_view};
-ghost use Rattle.abi_types.specs.Forms.{has_tag as the_kind_has_a_tag, no_call as the_empty_call};
+ghost use Rattle.abi_types.specs.Forms.{has_tag as the_kind_has_a_tag};
 ghost use Rattle.abi_types.specs.Parts.{plain_part};
 ghost use Rattle.abi_types.specs.Types.{Target, Element, Outcome};
 ghost use Rattle.type_entries.specs.declared.role.Role.TheVariants as role;
-ghost use Rattle.type_entries.specs.References.{role_of as the_role_of, parts_of as the_parts_of, type_of as the_type_of};
+ghost use Rattle.type_entries.specs.References.{has_type, role_of as the_role_of, parts_of as the_parts_of, type_of as the_type_of};
 ghost use Rattle.type_entries.specs.ByValue.{IsClosed};
+ghost use Rattle.type_entries.specs.Leads.{AreLeads};
 ghost use Rattle.type_entries.specs.Placement.{is_beyond};
-ghost use Rattle.type_entries.specs.Facts.{AreAllFacts, facts_of};
+ghost use Rattle.type_entries.specs.Facts.{facts_of};
+ghost use Rattle.type_entries.specs.Summaries.{summary_of, AreSummaries};
 ghost use Rattle.type_entries.specs.Cores.{StandsForNone};
 ghost use Rattle.dw_entries.specs.Chains.{name_of};
 ghost use Rattle.type_entries.specs.Flat.{text_or_empty, flat_of};
@@ -27,12 +29,15 @@ use abi_base::dwarf::{
     DW_TAG_unspecified_parameters,
 };
 use abi_base::{List, NoMemory};
-use abi_types::{CallShape, Group, Index, Kind, Node, Part, Parts, Place, View};
+use abi_types::{Call, Group, Index, Kind, Node, Part, Parts, View};
 use dw_entries::Dwarf;
 use std::alloc::Global;
 use type_entries::constants::DEPTH_LIMIT;
 use type_entries::laws::laws_of_types;
-use type_entries::{Facts, Found, Role, body_of, facts_at, parts_of, role_of, type_of, wrapped_of};
+use type_entries::{
+    Found, Leads, Role, Summary, body_of, own_type, part_type, parts_at, role_of, summary_at,
+    summary_by_number, types_at, wrapped_of,
+};
 
 // The node of a type: void is the first one, and the entries stand in the order of their numbers.
 fn node_of<Ix: Index>(found: &Found, ty: Option<usize>) -> Ix
@@ -87,11 +92,13 @@ fn aggregate_parts<'a, Ix: Index>(
     alloc: Global,
     dwarf: &Dwarf<'a>,
     found: &Found,
-    facts: &[Facts],
+    leads: &Leads,
+    summaries: &[Summary],
     c: usize,
 ) -> Result<Vec<Part<'a, Ix>>, NoMemory>
     requires closed { IsClosed dwarf.now.tree found.now }
-    requires facts { AreAllFacts dwarf.now found.now facts.now }
+    requires leads { AreLeads dwarf.now.tree found.now leads.now }
+    requires summaries { AreSummaries dwarf.now found.now summaries.now }
     requires there { Contains found.now c }
     requires last { StandsForNone dwarf.now c }
     requires near { list_any begins_beyond (flat_of dwarf.now (Some c)) ≡ false }
@@ -100,10 +107,10 @@ fn aggregate_parts<'a, Ix: Index>(
     laws_of_types();
     let mut members = Vec::new(alloc);
     push_flat(
-        alloc,
         dwarf,
         found,
-        facts,
+        leads,
+        summaries,
         &mut members,
         c,
         Start { bit: 0 },
@@ -118,21 +125,25 @@ fn function_parts<'a, Ix: Index>(
     alloc: Global,
     dwarf: &Dwarf<'a>,
     found: &Found,
+    leads: &Leads,
+    number: usize,
     c: usize,
 ) -> Result<Vec<Part<'a, Ix>>, NoMemory>
     requires closed { IsClosed dwarf.now.tree found.now }
-    requires there { Contains found.now c }
+    requires leads { AreLeads dwarf.now.tree found.now leads.now }
+    requires at { slice_get found.now number ≡ Some c }
     requires role { the_role_of dwarf.now.tree c ≡ role.Function }
     ensures { IfOk result (λ parts. map (plain_part Ix.number_of) parts.items ≡ Outcome (number_in found.now (the_type_of dwarf.now.tree c)) ∷ map (param_part (number_in found.now) dwarf.now.tree) (the_parts_of dwarf.now.tree c)) }
 {
-    let params = parts_of(alloc, dwarf, c)?;
+    let params = parts_at(dwarf, found, leads, number, c);
+    let types = types_at(dwarf, found, leads, number, c);
     let mut parts = Vec::with_capacity(alloc, params.len() + 1)?;
     parts.push(Part::Outcome {
-        to: node_of(found, type_of(dwarf, c)),
+        to: node_of(found, own_type(dwarf, c, types)),
     })?;
     'params: for k in 0..params.len() {
         parts.push(Part::Param {
-            to: node_of(found, type_of(dwarf, params[k])),
+            to: node_of(found, part_type(dwarf, c, params, types, k)),
         })?;
     }
     Ok(parts)
@@ -180,35 +191,52 @@ fn one_part<'a, Ix: Index>(alloc: Global, part: Part<'a, Ix>) -> Result<Vec<Part
     Ok(parts)
 }
 
+// The type that an entry has itself which was found.
+fn type_alone(dwarf: &Dwarf, found: &Found, leads: &Leads, number: usize, c: usize) -> Option<usize>
+    requires closed { IsClosed dwarf.now.tree found.now }
+    requires leads { AreLeads dwarf.now.tree found.now leads.now }
+    requires at { slice_get found.now number ≡ Some c }
+    requires own { has_type (the_role_of dwarf.now.tree c) ≡ true }
+    ensures is { result ≡ the_type_of dwarf.now.tree c }
+    ensures there { IfSome result (λ e. Contains found.now e) }
+{
+    own_type(dwarf, c, types_at(dwarf, found, leads, number, c))
+}
+
 // The parts of a core.
 fn parts_of_core<'a, Ix: Index>(
     alloc: Global,
     dwarf: &Dwarf<'a>,
     found: &Found,
-    facts: &[Facts],
+    leads: &Leads,
+    summaries: &[Summary],
+    number: usize,
     c: usize,
+    role: Role,
 ) -> Result<Vec<Part<'a, Ix>>, NoMemory>
     requires closed { IsClosed dwarf.now.tree found.now }
-    requires facts { AreAllFacts dwarf.now found.now facts.now }
-    requires there { Contains found.now c }
+    requires leads { AreLeads dwarf.now.tree found.now leads.now }
+    requires summaries { AreSummaries dwarf.now found.now summaries.now }
+    requires at { slice_get found.now number ≡ Some c }
+    requires role { role ≡ the_role_of dwarf.now.tree c }
     requires last { StandsForNone dwarf.now c }
     requires near { list_any begins_beyond (flat_of dwarf.now (Some c)) ≡ false }
     ensures { IfOk result (λ parts. map (plain_part Ix.number_of) parts.items ≡ parts_under (the_role_of dwarf.now.tree c) (number_in found.now) dwarf.now c) }
 {
-    match role_of(dwarf, c) {
-        Role::Aggregate => aggregate_parts(alloc, dwarf, found, facts, c),
-        Role::Function => function_parts(alloc, dwarf, found, c),
+    match role {
+        Role::Aggregate => aggregate_parts(alloc, dwarf, found, leads, summaries, c),
+        Role::Function => function_parts(alloc, dwarf, found, leads, number, c),
         Role::Enumeration => enumerator_parts(alloc, dwarf, c),
         Role::Pointer => one_part(
             alloc,
             Part::Target {
-                to: node_of(found, type_of(dwarf, c)),
+                to: node_of(found, type_alone(dwarf, found, leads, number, c)),
             },
         ),
         Role::Array => one_part(
             alloc,
             Part::Element {
-                to: node_of(found, type_of(dwarf, c)),
+                to: node_of(found, type_alone(dwarf, found, leads, number, c)),
             },
         ),
         _ => Ok(Vec::new(alloc)),
@@ -226,11 +254,12 @@ fn is_vector(dwarf: &Dwarf, c: usize) -> bool
 
 // What sort of type a core is.
 #[tactic(auto, unfolding(type_entries::specs::Views::kind_of))]
-fn kind_of(dwarf: &Dwarf, c: usize) -> Kind
-    requires { c < length dwarf.now.tree.entries }
+fn kind_of(dwarf: &Dwarf, c: usize, role: Role) -> Kind
+    requires inside { c < length dwarf.now.tree.entries }
+    requires role { role ≡ the_role_of dwarf.now.tree c }
     ensures { result ≡ the_kind_of dwarf.now.tree c }
 {
-    match role_of(dwarf, c) {
+    match role {
         Role::Aggregate => {
             if dwarf.tag(c) == DW_TAG_structure_type {
                 Kind::Structure
@@ -292,22 +321,25 @@ fn view_of_core<'a, Ix: Index>(
     alloc: Global,
     dwarf: &Dwarf<'a>,
     found: &Found,
-    facts: &[Facts],
+    leads: &Leads,
+    summaries: &[Summary],
+    number: usize,
     c: usize,
     align: u64,
 ) -> Result<View<'a, Ix>, NoMemory>
     requires closed { IsClosed dwarf.now.tree found.now }
-    requires facts { AreAllFacts dwarf.now found.now facts.now }
-    requires there { Contains found.now c }
+    requires leads { AreLeads dwarf.now.tree found.now leads.now }
+    requires summaries { AreSummaries dwarf.now found.now summaries.now }
+    requires at { slice_get found.now number ≡ Some c }
     requires last { StandsForNone dwarf.now c }
     requires near { list_any begins_beyond (flat_of dwarf.now (Some c)) ≡ false }
     ensures { IfOk result (λ view. view ≡ core_view (number_in found.now) dwarf.now align (Some c)) }
 {
-    let own = facts_at(dwarf, found, facts, Some(c));
+    let own = summary_by_number(dwarf, found, summaries, number, c);
     let role = role_of(dwarf, c);
-    let kind = kind_of(dwarf, c);
+    let kind = kind_of(dwarf, c, role);
     let variadic = variadic(alloc, dwarf, c, role)?;
-    let parts = parts_of_core(alloc, dwarf, found, facts, c)?;
+    let parts = parts_of_core(alloc, dwarf, found, leads, summaries, number, c, role)?;
     Ok(View {
         kind,
         declared_only: has_tag(kind) && dwarf.is_declaration(c),
@@ -318,7 +350,7 @@ fn view_of_core<'a, Ix: Index>(
         count: own.count,
         variadic,
         parts: Parts::of(alloc, parts)?,
-        call: no_call(alloc),
+        call: Call::none(),
     })
 }
 
@@ -331,16 +363,6 @@ fn tag<'a>(dwarf: &Dwarf<'a>, c: usize, kind: Kind) -> &'a [u8]
         name_or_empty(dwarf, c)
     } else {
         &[]
-    }
-}
-
-// A call without places.
-fn no_call(alloc: Global) -> CallShape
-    ensures { result ≡ the_empty_call }
-{
-    CallShape {
-        outcome: Place::Nothing,
-        params: List::new(alloc),
     }
 }
 
@@ -358,7 +380,7 @@ fn view_of_void<'a, Ix: Index>(alloc: Global, align: u64) -> View<'a, Ix>
         count: 0,
         variadic: false,
         parts: Parts::new(alloc),
-        call: no_call(alloc),
+        call: Call::none(),
     }
 }
 
@@ -368,20 +390,26 @@ fn view<'a, Ix: Index>(
     alloc: Global,
     dwarf: &Dwarf<'a>,
     found: &Found,
-    facts: &[Facts],
+    leads: &Leads,
+    summaries: &[Summary],
     ty: Option<usize>,
+    own: &Summary,
 ) -> Result<View<'a, Ix>, NoMemory>
     requires closed { IsClosed dwarf.now.tree found.now }
-    requires facts { AreAllFacts dwarf.now found.now facts.now }
+    requires leads { AreLeads dwarf.now.tree found.now leads.now }
+    requires summaries { AreSummaries dwarf.now found.now summaries.now }
+    requires own { own.now ≡ summary_of (facts_of dwarf.now ty) }
     requires there { IfSome ty (λ e. Contains found.now e) }
     requires fits { (e : ℕ) → Contains found.now e → is_too_large dwarf.now e ≡ false }
     ensures { IfOk result (λ view. view ≡ view_by (number_in found.now) dwarf.now ty) }
 {
     laws_of_types();
-    let own = facts_at(dwarf, found, facts, ty);
     match own.core {
         None => Ok(view_of_void(alloc, own.align)),
-        Some(c) => view_of_core(alloc, dwarf, found, facts, c, own.align),
+        Some(c) => {
+            let number = found.number_of(c);
+            view_of_core(alloc, dwarf, found, leads, summaries, number, c, own.align)
+        }
     }
 }
 
@@ -401,19 +429,21 @@ fn node<'a, Ix: Index>(
     alloc: Global,
     dwarf: &Dwarf<'a>,
     found: &Found,
-    facts: &[Facts],
+    leads: &Leads,
+    summaries: &[Summary],
     ty: Option<usize>,
 ) -> Result<Node<'a, Ix>, NoMemory>
     requires closed { IsClosed dwarf.now.tree found.now }
-    requires facts { AreAllFacts dwarf.now found.now facts.now }
+    requires leads { AreLeads dwarf.now.tree found.now leads.now }
+    requires summaries { AreSummaries dwarf.now found.now summaries.now }
     requires there { IfSome ty (λ e. Contains found.now e) }
     requires fits { (e : ℕ) → Contains found.now e → is_too_large dwarf.now e ≡ false }
     ensures { IfOk result (λ node. node ≡ made_node dwarf.now found.now ty) }
 {
     laws_of_types();
-    let own = facts_at(dwarf, found, facts, ty);
+    let own = summary_at(dwarf, found, summaries, ty);
     let entry = offset_of(dwarf, ty);
-    let view = view(alloc, dwarf, found, facts, ty)?;
+    let view = view(alloc, dwarf, found, leads, summaries, ty, &own)?;
     let labels = labels_of(alloc, dwarf, ty)?;
     Ok(Node {
         entry,
@@ -428,18 +458,20 @@ pub(crate) fn nodes<'a, Ix: Index>(
     alloc: Global,
     dwarf: &Dwarf<'a>,
     found: &Found,
-    facts: &[Facts],
+    leads: &Leads,
+    summaries: &[Summary],
 ) -> Result<List<Node<'a, Ix>>, NoMemory>
     requires closed { IsClosed dwarf.now.tree found.now }
-    requires facts { AreAllFacts dwarf.now found.now facts.now }
+    requires leads { AreLeads dwarf.now.tree found.now leads.now }
+    requires summaries { AreSummaries dwarf.now found.now summaries.now }
     requires fits { (e : ℕ) → Contains found.now e → is_too_large dwarf.now e ≡ false }
     ensures { IfOk result (λ nodes. nodes ≡ made_nodes dwarf.now found.now) }
 {
     let mut nodes = List::of(Vec::with_capacity(alloc, found.len() + 1)?);
-    nodes.push(node(alloc, dwarf, found, facts, None)?)?;
+    nodes.push(node(alloc, dwarf, found, leads, summaries, None)?)?;
     'found: for number in 0..found.len() {
         let e = found.at(number);
-        nodes.push(node(alloc, dwarf, found, facts, Some(e))?)?;
+        nodes.push(node(alloc, dwarf, found, leads, summaries, Some(e))?)?;
     }
     Ok(nodes)
 }

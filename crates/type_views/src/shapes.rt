@@ -18,7 +18,7 @@ use abi_base::dwarf::{
 use dw_entries::Dwarf;
 use std::alloc::Global;
 use type_entries::constants::POINTER_SIZE;
-use type_entries::{Role, is_there, natural_of, parts_of, place_of, role_of, types_of};
+use type_entries::{Role, is_there, natural_of, place_of, role_of};
 
 #[tactic(auto, unfolding(type_entries::specs::Shapes::is_type_tag))]
 fn is_type_tag(tag: u64) -> bool
@@ -41,18 +41,18 @@ fn is_type_tag(tag: u64) -> bool
     )
 }
 
-fn is_type(dwarf: &Dwarf, ty: Option<usize>) -> bool
+fn is_type(dwarf: &Dwarf, ty: Option<u32>) -> bool
     requires { IfSome ty (λ e. e < length dwarf.now.tree.entries) }
     ensures { result ≡ the_type_is_one dwarf.now.tree ty }
 {
     match ty {
-        Some(e) => is_type_tag(dwarf.tag(e)),
+        Some(e) => is_type_tag(dwarf.tag(e as usize)),
         None => true,
     }
 }
 
 // Whether all of these are types.
-fn are_types(dwarf: &Dwarf, types: &[Option<usize>]) -> bool
+fn are_types(dwarf: &Dwarf, types: &[Option<u32>]) -> bool
     requires { All (λ ty. IfSome ty (λ e. e < length dwarf.now.tree.entries)) types.now }
     ensures { result ≡ list_all (the_type_is_one dwarf.now.tree) types.now }
 {
@@ -156,11 +156,11 @@ fn is_good_member(dwarf: &Dwarf, m: usize) -> bool
 }
 
 // Whether all of these are members that can be read.
-fn are_good_members(dwarf: &Dwarf, members: &[usize]) -> bool
+fn are_good_members(dwarf: &Dwarf, members: &[u32]) -> bool
     requires { All (λ m. m < length dwarf.now.tree.entries) members.now }
     ensures { result ≡ list_all (the_member_is_good dwarf.now) members.now }
 {
-    members.iter().all(|m| is_good_member(dwarf, *m))
+    members.iter().all(|m| is_good_member(dwarf, *m as usize))
 }
 
 // Whether an entry that is no declaration has a size.
@@ -177,7 +177,7 @@ fn has_shape_of_role(
     dwarf: &Dwarf,
     e: usize,
     role: Role,
-    parts: &[usize],
+    parts: &[u32],
 ) -> Result<bool, NoMemory>
     requires inside { e < length dwarf.now.tree.entries }
     requires parts { parts.now ≡ the_parts_of dwarf.now.tree e }
@@ -198,12 +198,20 @@ fn has_shape_of_role(
 
 /// Whether an entry has the shape of a type: all types that it leads to are types, and what it says can be read.
 #[tactic(auto, unfolding(type_entries::specs::Shapes::has_shape))]
-pub(crate) fn has_shape(alloc: Global, dwarf: &Dwarf, e: usize) -> Result<bool, NoMemory>
-    requires { e < length dwarf.now.tree.entries }
+pub(crate) fn has_shape(
+    alloc: Global,
+    dwarf: &Dwarf,
+    e: usize,
+    parts: &[u32],
+    types: &[Option<u32>],
+) -> Result<bool, NoMemory>
+    requires inside { e < length dwarf.now.tree.entries }
+    requires parts { parts.now ≡ the_parts_of dwarf.now.tree e }
+    requires parts_inside { All (λ p. p < length dwarf.now.tree.entries) parts.now }
+    requires types { types.now ≡ the_types_of dwarf.now.tree e }
+    requires types_inside { All (λ ty. IfSome ty (λ f. f < length dwarf.now.tree.entries)) types.now }
     ensures { IfOk result (λ good. good ≡ the_entry_has_a_shape dwarf.now e) }
 {
-    let parts = parts_of(alloc, dwarf, e)?;
-    let types = types_of(alloc, dwarf, e, parts.as_slice())?;
-    let good = has_shape_of_role(alloc, dwarf, e, role_of(dwarf, e), parts.as_slice())?;
-    Ok(are_types(dwarf, types.as_slice()) && good && is_natural_small(dwarf, e, DW_AT_alignment))
+    let good = has_shape_of_role(alloc, dwarf, e, role_of(dwarf, e), parts)?;
+    Ok(are_types(dwarf, types) && good && is_natural_small(dwarf, e, DW_AT_alignment))
 }

@@ -6,8 +6,8 @@ use Rattle.type_views.proofs.JudgeLemmas.{first-on, first-here, first-end}
 use Rattle.type_views.proofs.ListLemmas.{slice_get_contains}
 use Rattle.type_views.proofs.judging.ask_shapes.Goals as goal
 
-pub shape_fault_of-requires : goal.shape_fault_of-requires
-shape_fault_of-requires c = c.requires.inside c.at-e.result (slice_get_contains c.args.found.now c.found.number c.at-e.result c.at-e.ensures)
+pub shape_fault_of-requires-clause-inside : goal.shape_fault_of-requires-clause-inside
+shape_fault_of-requires-clause-inside c = c.requires.closed.inside c.at-e.result (slice_get_contains c.args.found.now c.found.number c.at-e.result c.at-e.ensures)
 
 pub returns-in-Some : goal.returns-in-Some
 returns-in-Some c =

@@ -6,9 +6,6 @@ use Rattle.type_views.proofs.JudgeLemmas.{first-on, first-here, first-end}
 use Rattle.type_views.proofs.ListLemmas.{slice_get_contains}
 use Rattle.type_views.proofs.judging.ask_sizes.Goals as goal
 
-pub facts_at-of_entry-requires-clause-there : goal.facts_at-of_entry-requires-clause-there
-facts_at-of_entry-requires-clause-there c = slice_get_contains c.args.found.now c.found.number c.at-e.result c.at-e.ensures
-
 pub large_fault_of-requires-clause-inside : goal.large_fault_of-requires-clause-inside
 large_fault_of-requires-clause-inside c = c.requires.closed.inside c.at-e.result (slice_get_contains c.args.found.now c.found.number c.at-e.result c.at-e.ensures)
 

@@ -11,7 +11,7 @@ use Rattle.type_views.proofs.NodeLemmas.{put-whole, near-each, there-each}
 use Rattle.type_views.proofs.nodes.aggregate_parts.Goals as goal
 
 pub push_flat-requires-clause-low : goal.push_flat-requires-clause-low
-push_flat-requires-clause-low g c = (c.laws_of_types.ensures c.args.dwarf.now).ranks (Some c.args.c) (c.requires.facts.shallow c.args.c c.requires.there)
+push_flat-requires-clause-low g c = (c.laws_of_types.ensures c.args.dwarf.now).ranks (Some c.args.c) (c.requires.summaries.shallow c.args.c c.requires.there)
 
 pub member_parts-requires-clause-near : goal.member_parts-requires-clause-near
 member_parts-requires-clause-near g c =
@@ -26,7 +26,7 @@ member_parts-requires-clause-there g c =
     let flats = flat_of d (Some c.args.c) in
     let is = put-whole c.push_flat.new.out.items c.new-members.result.items flats c.new-members.ensures.items c.in_ok-push_flat.ensures in
     subst (All (λ (m : Placed). IsFound found m.to)) (sym c.as_slice.ensures.value)
-    (there-each found c.push_flat.new.out.items flats is (λ x h. ((c.laws_of_types.ensures d).lower found c.requires.closed (Some c.args.c) (c.requires.facts.shallow c.args.c c.requires.there) c.requires.there x h).there))
+    (there-each found c.push_flat.new.out.items flats is (λ x h. ((c.laws_of_types.ensures d).lower found c.requires.closed (Some c.args.c) (c.requires.summaries.shallow c.args.c c.requires.there) c.requires.there x h).there))
 
 pub returns : goal.returns
 returns g c =

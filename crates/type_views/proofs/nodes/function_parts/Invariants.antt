@@ -7,4 +7,4 @@ use Rattle.type_views.specs.Nodes.{number_in}
 use Rattle.type_views.proofs.nodes.function_parts.Given as goal
 
 abbrev pub invariant-params : goal.invariant-params
-invariant-params g l = map (plain_part g.Ix.Index.number_of) l.parts.items ≡ Outcome (number_in l.found (type_of l.dwarf.tree l.c)) ∷ map (param_part (number_in l.found) l.dwarf.tree) (take l.k l.params.items)
+invariant-params g l = map (plain_part g.Ix.Index.number_of) l.parts.items ≡ Outcome (number_in l.found (type_of l.dwarf.tree l.c)) ∷ map (param_part (number_in l.found) l.dwarf.tree) (take l.k l.params)

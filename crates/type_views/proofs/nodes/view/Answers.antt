@@ -1,33 +1,33 @@
 use Rattle.std.proofs.Common.{◌≡◌, ap, sym, subst, ◌∙◌, Some}
 use Rattle.std.specs.Prelude.{IfSome}
-use Rattle.type_entries.specs.declared.facts.Facts.{Facts}
+use Rattle.type_entries.specs.declared.summaries.Summary.{Summary}
 use Rattle.type_entries.specs.Flat.{core_of}
 use Rattle.type_entries.specs.Cores.{StandsForNone, IsFound}
 use Rattle.type_views.proofs.ViewLemmas.{found-shallow}
 use Rattle.type_views.proofs.LimitLemmas.{fits_from}
 use Rattle.type_views.proofs.nodes.view.Goals as goal
 
-pub view_of_core-requires-clause-there : goal.view_of_core-requires-clause-there
-view_of_core-requires-clause-there g c =
+pub number_of-number-requires : goal.number_of-number-requires
+number_of-number-requires g c =
     let d = c.args.dwarf.now in
     let found = c.args.found.now in
     let laws = c.laws_of_types.ensures d in
-    let is : core_of d c.args.ty ≡ Some c.in-Some.c = ap (λ (x : Facts). x.core) (sym c.facts_at-own.ensures) ∙ c.in-Some.is in
-    subst (IsFound found) is (laws.found found c.args.ty c.requires.closed (found-shallow d laws found c.requires.closed c.requires.facts.shallow c.args.ty c.requires.there) c.requires.there)
+    let is : core_of d c.args.ty ≡ Some c.in-Some.c = ap (λ (x : Summary). x.core) (sym c.requires.own) ∙ c.in-Some.is in
+    subst (IsFound found) is (laws.found found c.args.ty c.requires.closed (found-shallow d laws found c.requires.closed c.requires.summaries.shallow c.args.ty c.requires.there) c.requires.there)
 
 pub view_of_core-requires-clause-last : goal.view_of_core-requires-clause-last
 view_of_core-requires-clause-last g c =
     let d = c.args.dwarf.now in
     let found = c.args.found.now in
     let laws = c.laws_of_types.ensures d in
-    let is : core_of d c.args.ty ≡ Some c.in-Some.c = ap (λ (x : Facts). x.core) (sym c.facts_at-own.ensures) ∙ c.in-Some.is in
-    subst (λ o. IfSome o (StandsForNone d)) is (laws.cores c.args.ty (found-shallow d laws found c.requires.closed c.requires.facts.shallow c.args.ty c.requires.there)).last
+    let is : core_of d c.args.ty ≡ Some c.in-Some.c = ap (λ (x : Summary). x.core) (sym c.requires.own) ∙ c.in-Some.is in
+    subst (λ o. IfSome o (StandsForNone d)) is (laws.cores c.args.ty (found-shallow d laws found c.requires.closed c.requires.summaries.shallow c.args.ty c.requires.there)).last
 
 pub view_of_core-requires-clause-near : goal.view_of_core-requires-clause-near
 view_of_core-requires-clause-near g c =
     let d = c.args.dwarf.now in
     let found = c.args.found.now in
     let laws = c.laws_of_types.ensures d in
-    let is : core_of d c.args.ty ≡ Some c.in-Some.c = ap (λ (x : Facts). x.core) (sym c.facts_at-own.ensures) ∙ c.in-Some.is in
-    let there = subst (IsFound found) is (laws.found found c.args.ty c.requires.closed (found-shallow d laws found c.requires.closed c.requires.facts.shallow c.args.ty c.requires.there) c.requires.there) in
+    let is : core_of d c.args.ty ≡ Some c.in-Some.c = ap (λ (x : Summary). x.core) (sym c.requires.own) ∙ c.in-Some.is in
+    let there = subst (IsFound found) is (laws.found found c.args.ty c.requires.closed (found-shallow d laws found c.requires.closed c.requires.summaries.shallow c.args.ty c.requires.there) c.requires.there) in
     (fits_from d c.in-Some.c (c.requires.fits c.in-Some.c there)).near

@@ -1,19 +1,20 @@
+use Rattle.type_views.proofs.ListLemmas.{slice_get_contains}
 use Rattle.type_views.proofs.nodes.view_of_core.Goals as goal
 
 pub role_of-role-requires : goal.role_of-role-requires
-role_of-role-requires g c = c.requires.closed.inside c.args.c c.requires.there
+role_of-role-requires g c = c.requires.closed.inside c.args.c (slice_get_contains c.args.found.now c.args.number c.args.c c.requires.at)
 
-pub kind_of-kind-requires : goal.kind_of-kind-requires
-kind_of-kind-requires g c = c.requires.closed.inside c.args.c c.requires.there
+pub kind_of-kind-requires-clause-inside : goal.kind_of-kind-requires-clause-inside
+kind_of-kind-requires-clause-inside g c = c.requires.closed.inside c.args.c (slice_get_contains c.args.found.now c.args.number c.args.c c.requires.at)
 
 pub variadic-requires : goal.variadic-requires
-variadic-requires g c = c.requires.closed.inside c.args.c c.requires.there
+variadic-requires g c = c.requires.closed.inside c.args.c (slice_get_contains c.args.found.now c.args.number c.args.c c.requires.at)
 
 pub is_declaration-requires : goal.is_declaration-requires
-is_declaration-requires g c = c.requires.closed.inside c.args.c c.requires.there
+is_declaration-requires g c = c.requires.closed.inside c.args.c (slice_get_contains c.args.found.now c.args.number c.args.c c.requires.at)
 
 pub tag-requires : goal.tag-requires
-tag-requires g c = c.requires.closed.inside c.args.c c.requires.there
+tag-requires g c = c.requires.closed.inside c.args.c (slice_get_contains c.args.found.now c.args.number c.args.c c.requires.at)
 
 pub group-requires-clause-inside : goal.group-requires-clause-inside
-group-requires-clause-inside g c = c.requires.closed.inside c.args.c c.requires.there
+group-requires-clause-inside g c = c.requires.closed.inside c.args.c (slice_get_contains c.args.found.now c.args.number c.args.c c.requires.at)
