@@ -1,7 +1,7 @@
 // What no clause says: that calls find memory. And two comparisons by hand.
 use abi_base::{List, NoMemory};
 use abi_types::{
-    CallShape, Export, Graph, Index, Library, NewIx, Node, OldIx, Place, RuleName, SymbolKind,
+    Call, CallShape, Export, Graph, Index, Library, NewIx, Node, OldIx, Place, RuleName, SymbolKind,
 };
 use hand_graphs::{function, graph, is_library, member, pointer, scalar, structure, void};
 use lib_compare::laws::no_marks_are_even;
@@ -34,16 +34,17 @@ fn nodes<'a, Ix: Index>(alloc: Global, size: u64) -> Result<List<Node<'a, Ix>>, 
     Ok(nodes)
 }
 
-// So many call shapes with one place.
-fn shapes(alloc: Global, count: usize) -> Result<List<CallShape>, NoMemory> {
-    let mut shapes = List::new(alloc);
+// So many calls with a place for one parameter.
+fn calls(alloc: Global, count: usize) -> Result<List<Call>, NoMemory> {
+    let mut calls = List::new(alloc);
     for _ in 0..count {
-        shapes.push(CallShape {
+        let shape = CallShape {
             outcome: Place::Nothing,
             params: List::copy_of(alloc, [Place::Hidden].as_slice())?,
-        })?;
+        };
+        calls.push(Call::of(alloc, shape)?)?;
     }
-    Ok(shapes)
+    Ok(calls)
 }
 
 fn typed_graph<'a, Ix: Index>(
@@ -55,7 +56,7 @@ fn typed_graph<'a, Ix: Index>(
         Some(graph) => graph,
         None => panic!(rt; "no graph"),
     };
-    let calls = shapes(alloc, graph.len())?;
+    let calls = calls(alloc, graph.len())?;
     assert_eq!(rt; calls.as_slice().len(), graph.len());
     Ok(graph.with_calls(calls))
 }

@@ -2,7 +2,9 @@
 ghost use Rattle.std.specs.Prelude.{◌≡◌, ◌<◌, ◌+◌, OnOk};
 
 use abi_base::{List, NoMemory};
-use abi_types::{CallShape, Group, Index, Kind, NewIx, OldIx, Part, Parts, Place, Slot, View, Way};
+use abi_types::{
+    Call, CallShape, Group, Index, Kind, NewIx, OldIx, Part, Parts, Place, Slot, View, Way,
+};
 use pair_rules::{Broken, Comparison, Steps, after, breaks, holds, partner, partner_at};
 use std::alloc::Global;
 use std::fmt::Write;
@@ -188,7 +190,7 @@ fn parts<'a, Ix: Index>(alloc: Global, cell: &'a str) -> Result<Parts<'a, Ix>, N
     Parts::of(alloc, parts)
 }
 
-fn call(alloc: Global, cell: &str) -> Result<CallShape, NoMemory> {
+fn call(alloc: Global, cell: &str) -> Result<Call, NoMemory> {
     let mut outcome = Place::Nothing;
     let mut params = List::new(alloc);
     for word in cell.split_whitespace() {
@@ -201,7 +203,7 @@ fn call(alloc: Global, cell: &str) -> Result<CallShape, NoMemory> {
             }
         }
     }
-    Ok(CallShape { outcome, params })
+    Call::of(alloc, CallShape { outcome, params })
 }
 
 fn view<'a, Ix: Index>(alloc: Global, cell: &'a str) -> Result<View<'a, Ix>, NoMemory> {

@@ -1,7 +1,7 @@
 // Classes of small graphs, by hand.
 use abi_base::{List, NoMemory};
 use abi_types::{
-    CallShape, Graph, Group, Index, Kind, Label, LabelKind, Node, OldIx, Part, Parts, Place, View,
+    Call, Graph, Group, Index, Kind, Label, LabelKind, Node, OldIx, Part, Parts, View,
 };
 use graph_alike::{alike, plain};
 use hand_graphs::is_graph;
@@ -32,10 +32,7 @@ fn node_of<'a, Ix: Index>(
             count: 0,
             variadic: false,
             parts: Parts::of(alloc, parts)?,
-            call: CallShape {
-                outcome: Place::Nothing,
-                params: List::new(alloc),
-            },
+            call: Call::none(),
         },
         labels: List::new(alloc),
     })

@@ -4,7 +4,7 @@ ghost use Rattle.pair_rules.specs.TypeRules.{speaks_of_parts};
 
 use abi_base::{List, NoMemory};
 use abi_types::{
-    CallShape, Export, Group, Index, Kind, NewIx, OldIx, Part, Parts, Place, RuleName, Slot,
+    Call, CallShape, Export, Group, Index, Kind, NewIx, OldIx, Part, Parts, Place, RuleName, Slot,
     SymbolKind, View,
 };
 use break_report::{Row, export_row, soname_row, type_row};
@@ -30,10 +30,7 @@ fn made<'a, Ix: Index>(
         count: 2,
         variadic: false,
         parts: Parts::of(alloc, parts)?,
-        call: CallShape {
-            outcome: Place::Nothing,
-            params: List::new(alloc),
-        },
+        call: Call::none(),
     })
 }
 
@@ -231,7 +228,7 @@ fn function<'a, Ix: Index>(
     let mut view = made(alloc, Kind::Function, tag, parts)?;
     let mut params = List::new(alloc);
     params.push(param)?;
-    view.call = CallShape { outcome, params };
+    view.call = Call::of(alloc, CallShape { outcome, params })?;
     Ok(view)
 }
 

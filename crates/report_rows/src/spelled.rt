@@ -1,6 +1,6 @@
 // Graphs that are spelled in words, for rows of tests.
 use abi_base::{List, NoMemory};
-use abi_types::{CallShape, Graph, Group, Index, Kind, Node, Part, Parts, Place, Slot, View};
+use abi_types::{Call, CallShape, Graph, Group, Index, Kind, Node, Part, Parts, Place, Slot, View};
 use hand_graphs::graph;
 use std::alloc::Global;
 
@@ -128,7 +128,7 @@ fn node<'a, Ix: Index>(alloc: Global, entry: u64, text: &'a str) -> Result<Node<
             count: 0,
             variadic: false,
             parts: Parts::of(alloc, parts)?,
-            call: CallShape { outcome, params },
+            call: Call::of(alloc, CallShape { outcome, params })?,
         },
         labels: List::new(alloc),
     })

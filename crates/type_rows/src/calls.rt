@@ -1,8 +1,6 @@
 // What no clause says: that calls find memory, and where calls of small functions put their results and arguments.
 use abi_base::{List, NoMemory};
-use abi_types::{
-    CallShape, Graph, Group, Index, Kind, Node, OldIx, Part, Parts, Place, Slot, View,
-};
+use abi_types::{Call, Graph, Group, Index, Kind, Node, OldIx, Part, Parts, Place, Slot, View};
 use hand_graphs::{function, graph, node, void};
 use psabi::{Class, align, call_shape, call_shapes, classes, size};
 use std::alloc::Global;
@@ -106,10 +104,7 @@ fn scalar_of<'a, Ix: Index>(
             count: 0,
             variadic: false,
             parts: Parts::new(alloc),
-            call: CallShape {
-                outcome: Place::Nothing,
-                params: List::new(alloc),
-            },
+            call: Call::none(),
         },
         labels: List::new(alloc),
     })
@@ -245,8 +240,8 @@ fn assert_call(
     let graph = graph_with::<OldIx>(alloc, b"m", outcome, params)?;
     assert!(rt; FUNCTION < graph.len());
     let call = call_shape(alloc, &graph, OldIx::of(FUNCTION))?;
-    assert_eq!(rt; call.outcome, expected);
-    assert_eq!(rt; call.params.as_slice(), places);
+    assert_eq!(rt; call.outcome(), expected);
+    assert_eq!(rt; call.params(), places);
     Ok(())
 }
 
@@ -336,10 +331,7 @@ fn all_calls_of_a_graph(rt: HostRuntime) -> Result<(), Fail> {
         stack(0, 16),
         stack(16, 8),
     ];
-    assert_eq!(rt;
-        calls.as_slice()[FUNCTION].params.as_slice(),
-        places.as_slice()
-    );
-    assert_eq!(rt; calls.as_slice()[INT].outcome, Place::Nothing);
+    assert_eq!(rt; calls.as_slice()[FUNCTION].params(), places.as_slice());
+    assert_eq!(rt; calls.as_slice()[INT].outcome(), Place::Nothing);
     Ok(())
 }

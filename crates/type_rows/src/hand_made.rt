@@ -1,6 +1,8 @@
 // What no clause says: that calls find memory, and that the run-time tests know well-formed nodes and libraries.
 use abi_base::{List, NoMemory};
-use abi_types::{CallShape, Export, Index, Kind, Library, NewIx, Node, OldIx, Place, SymbolKind};
+use abi_types::{
+    Call, CallShape, Export, Index, Kind, Library, NewIx, Node, OldIx, Place, SymbolKind,
+};
 use hand_graphs::{function, graph, is_library, member, node, pointer, structure, void};
 use library_copy::copied;
 use std::alloc::Global;
@@ -25,16 +27,17 @@ fn small_nodes<'a, Ix: Index>(
     Ok(nodes)
 }
 
-// So many call shapes with one place.
-fn shapes(alloc: Global, count: usize) -> Result<List<CallShape>, NoMemory> {
-    let mut shapes = List::new(alloc);
+// So many calls with a place for one parameter.
+fn calls(alloc: Global, count: usize) -> Result<List<Call>, NoMemory> {
+    let mut calls = List::new(alloc);
     for _ in 0..count {
-        shapes.push(CallShape {
+        let shape = CallShape {
             outcome: Place::Hidden,
             params: List::copy_of(alloc, [Place::Hidden].as_slice())?,
-        })?;
+        };
+        calls.push(Call::of(alloc, shape)?)?;
     }
-    Ok(shapes)
+    Ok(calls)
 }
 
 fn export_of<'a>(symbol: u32, name: &'a [u8], entry: u64) -> Export<'a> {
@@ -75,7 +78,7 @@ fn a_small_library_is_made(rt: HostRuntime) -> Result<(), Fail> {
     ];
     let exports = List::copy_of(alloc, exports.as_slice())?;
     assert!(rt; !is_library(exports.as_slice(), &graph));
-    let calls = shapes(alloc, graph.len())?;
+    let calls = calls(alloc, graph.len())?;
     assert_eq!(rt; calls.as_slice().len(), graph.len());
     let graph = graph.with_calls(calls);
     assert!(rt; is_library(exports.as_slice(), &graph));

@@ -68,7 +68,8 @@ fn facts(alloc: Global, dwarf: &Dwarf, offset: u64) -> Result<Option<Facts>, Ref
         Some(root) => walk(alloc, dwarf, &[root])?,
         None => walk(alloc, dwarf, &[])?,
     };
-    let all = learn_all(alloc, dwarf, &found)?;
+    let leads = leads_of(alloc, dwarf, &found)?;
+    let all = learn_all(alloc, dwarf, &found, &leads)?;
     Ok(all.first().copied())
 }
 
