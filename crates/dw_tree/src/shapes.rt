@@ -1,6 +1,6 @@
 // The shapes of the entries that were read.
-ghost use Rattle.std.specs.Prelude.{◌≡◌, ◌<◌, ◌+◌, ◌^◌, [], length, IfOk, IfSome, OnErr, OnOk};
-ghost use Rattle.dw_tree.specs.Keeping.{Extends, IsNewShape, shape_at};
+ghost use Rattle.std.specs.Prelude.{◌≡◌, ◌<◌, ◌+◌, ◌≤◌, ◌^◌, [], All, length, IfOk, IfSome, OnErr, OnOk};
+ghost use Rattle.dw_tree.specs.Keeping.{AreSlots, Extends, IsNewShape, IsShape, shape_at};
 
 use crate::asking::names_of;
 use crate::kept::{Shape, Slot};
@@ -15,8 +15,8 @@ use std::marker::Model;
 pub(crate) struct Shapes {
     list: Vec<Shape>,
     slots: Vec<Slot>,
-    // For each place of `.debug_abbrev` the number of a shape whose pairs begin there, and one more; 0 where none was met. It is
-    // a hint: what stands there is looked at before it is taken.
+    // For each place of `.debug_abbrev` the number of the last shape whose pairs begin there, and one more; 0 where none was met.
+    // It is a hint: what stands there is looked at before it is taken.
     at: Vec<u32>,
 }
 
@@ -43,46 +43,92 @@ impl Shapes {
         })
     }
 
-    /// The number of a shape of a tag whose pairs begin at a place, where one was noted.
-    pub fn find(&self, tag: u64, specs_from: u64) -> Option<u32>
+    // The number of the shape that was noted last where pairs begin at a place.
+    fn noted(&self, specs_from: u64) -> Option<u32>
         ensures inside { IfSome result (λ number. number < length self.now.shapes) }
-        ensures tag { IfSome result (λ number. (shape_at self.now.shapes number).tag ≡ tag) }
         ensures place { IfSome result (λ number. (shape_at self.now.shapes number).specs_from ≡ specs_from) }
     {
         let noted = self.at.get(specs_from as usize)?;
         let number = noted.checked_sub(1)?;
         let shape = self.list.get(number as usize)?;
-        if shape.tag == tag && u64::from(shape.specs_from) == specs_from {
+        if u64::from(shape.specs_from) == specs_from {
             Some(number)
         } else {
             None
         }
     }
 
-    /// Appends the shape of an entry, and notes where its pairs begin. It gives the number of the shape.
-    pub fn push(&mut self, abbrevs: &[u8], entry: &Outline<'_, '_>) -> Result<u32, NoMemory>
+    /// The number of a shape of a unit and a tag whose pairs begin at a place, where it was the last one that was noted there.
+    pub fn find(&self, unit: u32, tag: u64, specs_from: u64) -> Option<u32>
+        ensures inside { IfSome result (λ number. number < length self.now.shapes) }
+        ensures unit { IfSome result (λ number. (shape_at self.now.shapes number).unit ≡ unit) }
+        ensures tag { IfSome result (λ number. (shape_at self.now.shapes number).tag ≡ tag) }
+        ensures place { IfSome result (λ number. (shape_at self.now.shapes number).specs_from ≡ specs_from) }
+    {
+        let number = self.noted(specs_from)?;
+        let shape = self.list[number as usize];
+        if shape.unit == unit && shape.tag == tag {
+            Some(number)
+        } else {
+            None
+        }
+    }
+
+    // Where the slots of pairs stand: from the first one on and before another. They are those of a shape that was noted for the same
+    // pairs, if there is one, so that units that share their abbreviations share slots too; and new ones otherwise.
+    fn slots_of(&mut self, abbrevs: &[u8], specs_from: u64) -> Result<(u32, u32), NoMemory>
+        requires say { All (IsShape abbrevs.now self.old.slots) self.old.shapes }
+        ensures there { IfOk result (λ place. place.1 ≤ length self.new.slots) }
+        ensures lead { IfOk result (λ place. AreSlots abbrevs.now specs_from self.new.slots place.0 place.1) }
+        ensures extended { Extends self.old.slots self.new.slots }
+        ensures same { self.new.shapes ≡ self.old.shapes }
+    {
+        if let Some(number) = self.noted(specs_from) {
+            let shape = self.list[number as usize];
+            return Ok((shape.slots_from, shape.slots_to));
+        }
+        let slots_from = self.slots.len() as u32;
+        push_slots(abbrevs, specs_from as usize, &mut self.slots)?;
+        Ok((slots_from, self.slots.len() as u32))
+    }
+
+    /// Appends the shape of an entry of a unit, and notes where its pairs begin. It gives the number of the shape.
+    pub fn push(
+        &mut self,
+        abbrevs: &[u8],
+        unit: u32,
+        entry: &Outline<'_, '_>,
+    ) -> Result<u32, NoMemory>
         requires few { length self.old.shapes + 1 < 2 ^ 32 }
+        requires say { All (IsShape abbrevs.now self.old.slots) self.old.shapes }
         requires specs { entry.now.specs_from < 2 ^ 32 }
         ensures number { IfOk result (λ number. number ≡ length self.old.shapes) }
-        ensures pushed { OnOk result (IsNewShape abbrevs.now self.old.shapes entry.now self.new) }
+        ensures pushed { OnOk result (IsNewShape abbrevs.now self.old.shapes unit entry.now self.new) }
         ensures same { OnErr result (self.new.shapes ≡ self.old.shapes) }
         ensures extended { Extends self.old.slots self.new.slots }
     {
         let number = self.list.len() as u32;
-        let specs_from = entry.specs_from() as usize;
-        let slots_from = self.slots.len() as u32;
-        push_slots(abbrevs, specs_from, &mut self.slots)?;
+        let specs_from = entry.specs_from();
+        let (slots_from, slots_to) = self.slots_of(abbrevs, specs_from)?;
         self.list.push(Shape {
             tag: entry.tag(),
             names: names_of(entry.specs()),
             specs_from: specs_from as u32,
             slots_from,
-            slots_to: self.slots.len() as u32,
+            slots_to,
+            unit,
         })?;
-        if let Some(noted) = self.at.get_mut(specs_from) {
+        if let Some(noted) = self.at.get_mut(specs_from as usize) {
             *noted = number + 1;
         }
         Ok(number)
+    }
+
+    /// The shapes alone.
+    pub fn as_slice(&self) -> &[Shape]
+        ensures { result.now ≡ self.now.shapes }
+    {
+        self.list.as_slice()
     }
 
     /// Gives back the room that is not used.

@@ -1,5 +1,5 @@
 // Where the values of the entries of an abbreviation stand.
-ghost use Rattle.std.specs.Prelude.{◌≡◌, ◌<◌, ◌≤◌, ◌^◌, length, IfNone, IfSome, OnOk};
+ghost use Rattle.std.specs.Prelude.{◌<◌, ◌≤◌, ◌^◌, length, IfNone, IfSome, OnOk};
 ghost use Rattle.dw_tree.specs.Keeping.{AreSlots, Extends, IsSlotFor, IsSlotOf, NoneBefore};
 
 use crate::kept::{Shape, Slot, UNTOLD};
