@@ -1,7 +1,6 @@
 -- How the list of found entries grows.
 use Rattle.std.proofs.Common.{◌≡◌, ◌<◌, ◌≤◌, ◌+◌, ℕ, zero, suc, List, [], ◌∷◌, ◌++◌, length, map, drop, get_or, Some, None, refl, sym, ◌∙◌, ap, subst, arith, inl, inr, ◌⊎◌}
-use Rattle.std.specs.Prelude.{Contains, nat_eq}
-use Rattle.std.specs.List.{list_any}
+use Rattle.std.specs.Prelude.{Contains}
 use Rattle.std.proofs.lemmas.Bool.{cases_Bool, eqb-true}
 use Rattle.std.proofs.lemmas.List.{append-nil, append_assoc, at_drop_more, drop_all}
 use Rattle.std.proofs.lemmas.List.Elements.{Contains-append_left, Contains-push, Contains-push_cases}
@@ -9,7 +8,7 @@ use Rattle.std.proofs.lemmas.Map.Views.{Contains-from_any}
 use Rattle.std.proofs.lemmas.Option.{same_Some, none-some}
 use Rattle.dw_tree.specs.Trees.{PlainTree}
 use Rattle.type_entries.specs.References.{Type_, type_of, own_types, types_of, parts_of}
-use Rattle.type_entries.specs.Reached.{with_entry, with_type, with_types}
+use Rattle.type_entries.specs.Reached.{was_found, with_entry, with_type, with_types}
 
 -- the list grew at its end, by these types
 pub record Grew (found : List ℕ) (types : List Type_) (new : List ℕ) : Type 0 where
@@ -34,7 +33,7 @@ not_in_none y h = omega (arith, h.1)
 
 Grew-one : (found : List ℕ) (e : ℕ) → Grew found (Some e ∷ []) (with_entry found e)
 Grew-one found e =
-    elim (cases_Bool (list_any (nat_eq e) found)) [
+    elim (cases_Bool (was_found found e)) [
       | inl there ↦ rw there (record {
         more = [];
         is = sym (append-nil found);

@@ -7,6 +7,7 @@ mod HullLemmas
 mod LeadLemmas
 mod LearnLemmas
 mod LoopLemmas
+mod MetLemmas
 mod NearLemmas
 mod OrderLemmas
 mod RankLemmas
@@ -15,6 +16,7 @@ mod ReachedLemmas
 mod ListedLemmas
 mod CoreLemmas
 mod ReferLemmas
+mod SearchLemmas
 mod StepLemmas
 mod WalkLemmas
 mod ZipLemmas

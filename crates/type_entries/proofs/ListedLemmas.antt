@@ -1,28 +1,18 @@
 -- The list of the reached entries holds exactly those, each once, and all to which they lead.
-use Rattle.std.proofs.Common.{◌<◌, ◌+◌, ℕ, zero, suc, List, [], ◌∷◌, length, get_or, arith}
-use Rattle.std.specs.Prelude.{Contains, nat_eq, filter}
+use Rattle.std.proofs.Common.{◌<◌, ℕ, zero, suc, List, length, get_or, arith}
+use Rattle.std.specs.Prelude.{Contains, nat_eq}
 use Rattle.std.specs.List.{range_with_len, IsDistinct}
-use Rattle.std.proofs.lemmas.Bool.{ne_eqb}
 use Rattle.std.proofs.lemmas.List.Elements.{Contains-get_or}
-use Rattle.std.proofs.lemmas.Map.Keys.{IsDistinct-from_apart}
+use Rattle.std.proofs.lemmas.List.Kept.{IsStrictlyIncreasing-filter}
 use Rattle.dw_tree.specs.Trees.{PlainTree}
 use Rattle.type_entries.specs.Reached.{Leads, IsReached, IsWalk}
 use Rattle.type_entries.specs.ReachedList.{is_reached, reached_of}
 use Rattle.type_entries.specs.ByValue.{IsClosed}
-use Rattle.type_entries.proofs.WalkLemmas.{lead_inside}
+use Rattle.type_entries.proofs.MetLemmas.{range-rises}
+use Rattle.type_entries.proofs.OrderLemmas.{filter-there, filter-from}
 use Rattle.type_entries.proofs.ReachedLemmas.{is_reached-is, in_range}
-use Rattle.type_entries.proofs.OrderLemmas.{Rising, rising-above, rising-filter, filter-there, filter-from}
-
-rising-apart : (low : ℕ) (xs : List ℕ) → Rising low xs → (i j d : ℕ) → i < j → j < length xs → get_or xs i d < get_or xs j d
-unfolding Rising
-rising-apart low [] r i j d lt inside = absurd (omega arith)
-rising-apart low (x ∷ xs) r zero zero d lt inside = absurd (omega arith)
-rising-apart low (x ∷ xs) r zero (suc j) d lt inside = omega (arith, rising-above (x + 1) xs (get_or xs j d) r.1 (Contains-get_or xs j d (omega arith)))
-rising-apart low (x ∷ xs) r (suc i) zero d lt inside = absurd (omega arith)
-rising-apart low (x ∷ xs) r (suc i) (suc j) d lt inside = rising-apart (x + 1) xs r.1 i j d (omega arith) (omega arith)
-
-rising-once : (low : ℕ) (xs : List ℕ) → Rising low xs → IsDistinct nat_eq xs
-rising-once low xs r = IsDistinct-from_apart nat_eq xs (λ i j d lt inside. let below = rising-apart low xs r i j d lt inside in ne_eqb (get_or xs i d) (get_or xs j d) (λ e. absurd (omega (arith, below, e))))
+use Rattle.type_entries.proofs.SearchLemmas.{once}
+use Rattle.type_entries.proofs.WalkLemmas.{lead_inside}
 
 module _ (t : PlainTree) (roots : List ℕ) (inside : (e : ℕ) → Contains roots e → e < length t.entries) where
   led-inside : (n e : ℕ) → Leads t roots n e → e < length t.entries
@@ -42,7 +32,7 @@ module _ (t : PlainTree) (roots : List ℕ) (inside : (e : ℕ) → Contains roo
 
   listed-once : IsDistinct nat_eq (reached_of t roots)
   unfolding reached_of
-  listed-once = rising-once 0 (filter (is_reached t roots) (range_with_len 0 (length t.entries))) (rising-filter (is_reached t roots) 0 (length t.entries))
+  listed-once = once (reached_of t roots) (IsStrictlyIncreasing-filter (is_reached t roots) (range_with_len 0 (length t.entries)) (range-rises 0 (length t.entries)))
 
   -- THE LAW of the list
   pub listed-walk : IsWalk t roots (reached_of t roots)

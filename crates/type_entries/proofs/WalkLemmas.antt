@@ -11,7 +11,6 @@ use Rattle.std.proofs.lemmas.Option.{same_Some, slice_get_within, get_or_from_sl
 use Rattle.dw_tree.specs.Trees.{PlainTree}
 use Rattle.type_entries.specs.References.{Type_, types_of, own_types, type_of, parts_of, has_type, role_of}
 use Rattle.type_entries.specs.Reached.{Leads, IsWalk}
-use Rattle.type_entries.specs.ByValue.{IsClosed}
 use Rattle.type_entries.proofs.GrowLemmas.{Grew, in_front, first_of_all, behind_first, not_in_none}
 use Rattle.type_entries.proofs.ReferLemmas.{Inside, type_inside}
 
@@ -133,13 +132,6 @@ module _ (t : PlainTree) (roots : List ℕ) (inside : LeadInside t) where
     exact = λ f. (λ h. let p = contains_slice_get found f h in let r = was.led p.0 f p.2 in (r.0, r.2), λ r. all_found found number was past r.0 f r.1);
     once = once;
     inside = λ k d lt. was.inside (get_or found k d) (Contains-get_or found k d lt);
-  }
-
-  -- all that they lead to was found, too
-  pub IsClosed-end : (found : List ℕ) (number : ℕ) → IsWalking t roots found number → length found ≤ number → IsClosed t found
-  IsClosed-end found number was past = record {
-    leads_on = λ e f there has. let p = contains_slice_get found e there in was.closed p.0 e f (omega (arith, p.1)) p.2 has;
-    inside = was.inside;
   }
 
 -- no more entries are found than there are

@@ -4,6 +4,7 @@ pub mod Facts
 pub mod Faults
 pub mod Flat
 pub mod Leads
+pub mod Met
 pub mod Placement
 pub mod Reached
 pub mod ReachedList

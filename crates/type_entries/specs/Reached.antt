@@ -1,7 +1,6 @@
 -- The entries that are reached from roots: those to which some chain of references leads.
-use Rattle.std.specs.Prelude.{◌<◌, ◌↔◌, ℕ, zero, suc, List, length, fold, nat_eq, All, Contains, Some, None}
-use Rattle.std.specs.List.{IsDistinct}
-use Rattle.indexmap.specs.IndexSet.{insert_key}
+use Rattle.std.specs.Prelude.{◌<◌, ◌↔◌, ◌++◌, ◌∷◌, [], ℕ, zero, suc, Bool, cond, List, length, fold, nat_eq, All, Contains, Some, None}
+use Rattle.std.specs.List.{IsDistinct, list_any}
 use Rattle.dw_tree.specs.Trees.{PlainTree}
 use Rattle.type_entries.specs.References.{Type_, types_of}
 
@@ -16,9 +15,12 @@ IsReached t roots f = (n : ℕ) × Leads t roots n f
 
 -- ---- entries that were found
 
--- the entries with one more, where it is new
+abbrev pub was_found : List ℕ → ℕ → Bool
+was_found found e = list_any (nat_eq e) found
+
+-- the entries with one more, at the end, where it is new
 abbrev pub with_entry : List ℕ → ℕ → List ℕ
-with_entry = insert_key nat_eq
+with_entry found e = cond (was_found found e) found (found ++ e ∷ [])
 
 -- the entries with that of a type
 abbrev pub with_type : List ℕ → Type_ → List ℕ

@@ -1,5 +1,5 @@
 -- What is kept of the facts of types once they were judged.
-use Rattle.std.specs.Prelude.{◌≡◌, ℕ, List, length, map, slice_get, Contains, Some}
+use Rattle.std.specs.Prelude.{◌≡◌, ℕ, List, length, slice_get, Contains, Some}
 use Rattle.dw_entries.specs.Debug.{PlainDwarf}
 use Rattle.type_entries.specs.declared.facts.Facts.{Facts}
 use Rattle.type_entries.specs.declared.summaries.Summary.{Summary}

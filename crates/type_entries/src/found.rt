@@ -1,39 +1,50 @@
-// Entries that were found, numbered in the order in which they were, or in order of offset.
-ghost use Rattle.std.specs.Prelude.{◌≡◌, ◌<◌, [], length, nat_eq, slice_get, Contains, Some, OnOk, IfSome, IfNone, IsPermutation};
+// Entries that were found, numbered in order of offset.
+ghost use Rattle.std.specs.Prelude.{◌≡◌, ◌<◌, ◌^◌, length, nat_eq, position, slice_get, Contains, Some, IfOk, IfSome, IfNone};
 ghost use Rattle.std.specs.List.{IsDistinct};
-ghost use Rattle.std.specs.List.Sorted.{IsNonDecreasing};
-ghost use Rattle.std.specs.Prelude.{position};
-ghost use Rattle.type_entries.specs.Reached.{with_entry, with_type};
+ghost use Rattle.type_entries.specs.Met.{marked_places};
 
+use crate::searches::{BETWEEN_HINTS, hint_for, place_near};
 use abi_base::NoMemory;
-use indexmap::IndexSet;
 use std::alloc::Global;
 use std::marker::Model;
 
-/// Entries, each once: in the order in which they were found, or in order of offset. Contracts see the list of their positions.
+/// Entries, each once, in order of offset. Contracts see the list of their positions.
 #[derive(Drop)]
 pub struct Found {
-    entries: IndexSet<usize>,
+    // Positions take 32 bits, since there are fewer than 2^32 entries.
+    entries: Vec<u32>,
+    // For each so many entries of the tree, how many that were found stand before them.
+    hints: Vec<u32>,
 }
 
 impl Model for Found {
-    ghost use Rattle.std.specs.Prelude.{List, ℕ, nat_eq};
-    ghost use Rattle.std.specs.List.{IsDistinct};
+    ghost use Rattle.std.specs.Prelude.{List, ℕ};
+    ghost use Rattle.std.specs.List.Sorted.{IsStrictlyIncreasing};
 
     ghost Value = { List ℕ };
 
-    ghost view = { λ found. found.entries.keys };
+    ghost view = { λ found. found.entries.items };
 
-    ghost invariant = { λ found. IsDistinct nat_eq found.entries.keys };
+    ghost invariant = { λ found. IsStrictlyIncreasing found.entries.items };
 }
 
 impl Found {
-    pub(crate) fn new(alloc: Global) -> Found
-        ensures { result ≡ [] }
+    // The entries that are marked, with room for so many.
+    pub(crate) fn marked(alloc: Global, marks: &[bool], room: usize) -> Result<Found, NoMemory>
+        requires { length marks.now < 2 ^ 32 }
+        ensures { IfOk result (λ found. found ≡ marked_places marks.now) }
     {
-        Found {
-            entries: IndexSet::new(alloc),
+        let mut entries = Vec::with_capacity(alloc, room)?;
+        let mut hints = Vec::with_capacity(alloc, marks.len() / BETWEEN_HINTS + 1)?;
+        'marks: for e in 0..marks.len() {
+            if e % BETWEEN_HINTS == 0 {
+                hints.push(entries.len() as u32)?;
+            }
+            if marks[e] {
+                entries.push(e as u32)?;
+            }
         }
+        Ok(Found { entries, hints })
     }
 
     /// How many there are.
@@ -48,10 +59,7 @@ impl Found {
         requires { number < length self.now }
         ensures { slice_get self.now number ≡ Some result }
     {
-        match self.entries.get_index(number) {
-            Some(e) => *e,
-            None => unreachable!(),
-        }
+        self.entries[number] as usize
     }
 
     // Where an entry stands.
@@ -59,7 +67,8 @@ impl Found {
         ensures place { result ≡ position (nat_eq e) self.now }
         ensures inside { IfSome result (λ i. i < length self.now) }
     {
-        self.entries.get_index_of(&e)
+        let hint = hint_for(self.hints.as_slice(), e);
+        place_near(self.entries.as_slice(), e, hint)
     }
 
     /// The number of an entry. None exactly where it was not found.
@@ -88,30 +97,5 @@ impl Found {
         ensures { IsDistinct nat_eq self.now }
     {
         let _ = &self.entries;
-    }
-
-    pub(crate) fn add(&mut self, e: usize) -> Result<(), NoMemory>
-        ensures { OnOk result (self.new ≡ with_entry self.old e) }
-    {
-        self.entries.insert(e)?;
-        Ok(())
-    }
-
-    pub(crate) fn add_type(&mut self, ty: Option<usize>) -> Result<(), NoMemory>
-        ensures { OnOk result (self.new ≡ with_type self.old ty) }
-    {
-        match ty {
-            Some(e) => self.add(e),
-            None => Ok(()),
-        }
-    }
-
-    /// Puts the entries in order of offset.
-    pub(crate) fn sort(&mut self) -> Result<(), NoMemory>
-        ensures same { OnOk result (IsPermutation self.old self.new) }
-        ensures order { OnOk result (IsNonDecreasing self.new) }
-    {
-        self.entries.sort()?;
-        Ok(())
     }
 }

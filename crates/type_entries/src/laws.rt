@@ -1,12 +1,12 @@
 //! What the definitions come to. Each law is the contract of a function that does nothing.
-ghost use Rattle.std.specs.Prelude.{◌≡◌, ◌↔◌, ◌<◌, ◌≤◌, ◌*◌, ◌||◌, ℕ, List, true, Some, map, length, Contains, IsPermutation};
+ghost use Rattle.std.specs.Prelude.{◌≡◌, ◌↔◌, ◌<◌, ◌≤◌, ◌*◌, ◌||◌, ℕ, List, true, Some, map, length, Contains};
 ghost use Rattle.std.specs.List.{list_any};
-ghost use Rattle.std.specs.List.Sorted.{IsNonDecreasing};
 ghost use Rattle.dw_tree.specs.Trees.{PlainTree};
 ghost use Rattle.dw_entries.specs.Debug.{PlainDwarf};
 ghost use Rattle.type_entries.specs.References.{Type_, types_of, type_of, role_of};
 ghost use Rattle.type_entries.specs.Reached.{IsReached, IsWalk};
 ghost use Rattle.type_entries.specs.ReachedList.{is_reached, reached_of};
+ghost use Rattle.type_entries.specs.Met.{by_offset};
 ghost use Rattle.type_entries.specs.ByValue.{steps_from, StepsOn, IsTooDeep, IsClosed};
 ghost use Rattle.type_entries.specs.Facts.{facts_from, facts_of};
 ghost use Rattle.type_entries.specs.Flat.{Flat, core_of, labels_made, labels_of, flat_made, flat_of};
@@ -30,7 +30,7 @@ pub fn reached_by_a_chain()
 
 /// What a walk found, in order of offset, is the list of the definition.
 pub fn walks_find_the_list()
-    ensures { (t : PlainTree) (roots found order : List ℕ) → ((e : ℕ) → Contains roots e → e < length t.entries) → IsWalk t roots found → IsPermutation found order → IsNonDecreasing order → order ≡ reached_of t roots }
+    ensures { (t : PlainTree) (roots found : List ℕ) → ((e : ℕ) → Contains roots e → e < length t.entries) → IsWalk t roots found → by_offset found (length t.entries) ≡ reached_of t roots }
 {}
 
 /// The list of the definition holds exactly the reached entries, each once, and with an entry all to which it leads.

@@ -7,6 +7,7 @@ ghost use Rattle.type_entries.specs.ByValue.{IsClosed};
 
 use crate::found::Found;
 use crate::laws::{the_list_holds_the_reached, walks_find_the_list};
+use crate::met::Met;
 use crate::references::{has_type, parts_of, type_of};
 use crate::role::role_of;
 use abi_base::NoMemory;
@@ -15,56 +16,63 @@ use std::alloc::Global;
 
 // Adds the type that an entry has itself.
 #[tactic(auto, unfolding(crate::specs::References::own_types, crate::specs::Reached::with_types))]
-fn add_own(dwarf: &Dwarf, found: &mut Found, e: usize) -> Result<(), NoMemory>
-    requires { e < length dwarf.now.tree.entries }
-    ensures { OnOk result (found.new ≡ with_types found.old (own_types dwarf.now.tree e)) }
+fn add_own(dwarf: &Dwarf, met: &mut Met, e: usize) -> Result<(), NoMemory>
+    requires inside { e < length dwarf.now.tree.entries }
+    requires room { met.old.room ≡ length dwarf.now.tree.entries }
+    ensures entries { OnOk result (met.new.entries ≡ with_types met.old.entries (own_types dwarf.now.tree e)) }
+    ensures room { OnOk result (met.new.room ≡ met.old.room) }
 {
     if has_type(role_of(dwarf, e)) {
-        found.add_type(type_of(dwarf, e))?;
+        met.add_type(type_of(dwarf, e))?;
     }
     Ok(())
 }
 
 // Adds all to which an entry leads.
-fn expand(alloc: Global, dwarf: &Dwarf, found: &mut Found, e: usize) -> Result<(), NoMemory>
-    requires { e < length dwarf.now.tree.entries }
-    ensures { OnOk result (found.new ≡ with_types found.old (the_types_of dwarf.now.tree e)) }
+fn expand(alloc: Global, dwarf: &Dwarf, met: &mut Met, e: usize) -> Result<(), NoMemory>
+    requires inside { e < length dwarf.now.tree.entries }
+    requires room { met.old.room ≡ length dwarf.now.tree.entries }
+    ensures entries { OnOk result (met.new.entries ≡ with_types met.old.entries (the_types_of dwarf.now.tree e)) }
+    ensures room { OnOk result (met.new.room ≡ met.old.room) }
 {
-    add_own(dwarf, found, e)?;
+    add_own(dwarf, met, e)?;
     let parts = parts_of(alloc, dwarf, e)?;
     'parts: for k in 0..parts.len() {
-        found.add_type(type_of(dwarf, parts[k]))?;
+        met.add_type(type_of(dwarf, parts[k]))?;
     }
     Ok(())
 }
 
 // Adds the roots.
-fn add_roots(found: &mut Found, roots: &[usize]) -> Result<(), NoMemory>
-    ensures { OnOk result (found.new ≡ with_types found.old (map (λ e. Some e) roots.now)) }
+fn add_roots(met: &mut Met, roots: &[usize]) -> Result<(), NoMemory>
+    requires { All (λ root. root < met.old.room) roots.now }
+    ensures entries { OnOk result (met.new.entries ≡ with_types met.old.entries (map (λ e. Some e) roots.now)) }
+    ensures room { OnOk result (met.new.room ≡ met.old.room) }
 {
     'roots: for k in 0..roots.len() {
-        found.add(roots[k])?;
+        met.add(roots[k])?;
     }
     Ok(())
 }
 
-/// Exactly the entries that are reached from the roots, in the order of their discovery.
-pub fn walk(alloc: Global, dwarf: &Dwarf, roots: &[usize]) -> Result<Found, NoMemory>
+// Exactly the entries that are reached from the roots, in order of discovery.
+fn walk(alloc: Global, dwarf: &Dwarf, roots: &[usize]) -> Result<Met, NoMemory>
     requires { All (λ root. root < length dwarf.now.tree.entries) roots.now }
-    ensures walk { IfOk result (λ found. IsWalk dwarf.now.tree roots.now found) }
-    ensures closed { IfOk result (λ found. IsClosed dwarf.now.tree found) }
+    ensures walk { IfOk result (λ met. IsWalk dwarf.now.tree roots.now met.entries) }
+    ensures room { IfOk result (λ met. met.room ≡ length dwarf.now.tree.entries) }
 {
-    let mut found = Found::new(alloc);
-    add_roots(&mut found, roots)?;
+    dwarf.known();
+    let mut met = Met::new(alloc, dwarf.len())?;
+    add_roots(&mut met, roots)?;
     let mut number = 0;
-    'walk: while number < found.len() {
-        found.known();
-        let e = found.at(number);
-        expand(alloc, dwarf, &mut found, e)?;
+    'walk: while number < met.len() {
+        met.known();
+        let e = met.at(number);
+        expand(alloc, dwarf, &mut met, e)?;
         number += 1;
     }
-    found.known();
-    Ok(found)
+    met.known();
+    Ok(met)
 }
 
 /// Exactly the entries that are reached from the roots, in order of offset.
@@ -76,7 +84,6 @@ pub fn reached(alloc: Global, dwarf: &Dwarf, roots: &[usize]) -> Result<Found, N
 {
     walks_find_the_list();
     the_list_holds_the_reached();
-    let mut found = walk(alloc, dwarf, roots)?;
-    found.sort()?;
-    Ok(found)
+    let met = walk(alloc, dwarf, roots)?;
+    met.by_offset(alloc)
 }

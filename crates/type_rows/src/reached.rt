@@ -34,15 +34,7 @@ const TYPES: &[u8] =
 \x05\x06\x2d\x00\x00\x00\x07\x00\x00\x00\x00\x01\x00\x00\x00\x07\x00\x00\x00\x00\x01\x00\x00\x00\x00\
 \x06\x0f\x00\x00\x00\x08\x03\x00\x09t\x00\x46\x00\x00\x00\x00";
 
-// What is reached from the entry at an offset, in order of discovery.
-fn walked(alloc: Global, dwarf: &Dwarf, offset: u64) -> Result<Found, NoMemory> {
-    match dwarf.find(offset) {
-        Some(root) => walk(alloc, dwarf, &[root]),
-        None => walk(alloc, dwarf, &[]),
-    }
-}
-
-// The same in order of offset.
+// What is reached from the entry at an offset, in order of offset.
 fn listed(alloc: Global, dwarf: &Dwarf, offset: u64) -> Result<Found, NoMemory> {
     match dwarf.find(offset) {
         Some(root) => reached(alloc, dwarf, &[root]),
@@ -64,24 +56,22 @@ fn offsets(alloc: Global, dwarf: &Dwarf, found: &Found) -> Result<Vec<u64>, NoMe
 
 // The facts of the entry at an offset.
 fn facts(alloc: Global, dwarf: &Dwarf, offset: u64) -> Result<Option<Facts>, Refusal> {
-    let found = match dwarf.find(offset) {
-        Some(root) => walk(alloc, dwarf, &[root])?,
-        None => walk(alloc, dwarf, &[])?,
+    let Some(root) = dwarf.find(offset) else {
+        return Ok(None);
     };
+    let found = reached(alloc, dwarf, &[root])?;
     let leads = leads_of(alloc, dwarf, &found)?;
     let all = learn_all(alloc, dwarf, &found, &leads)?;
-    Ok(all.first().copied())
+    match found.number(root) {
+        Some(number) => Ok(all.get(number).copied()),
+        None => Ok(None),
+    }
 }
 
 #[test]
 fn a_function_leads_to_its_type(rt: HostRuntime) -> Result<(), Fail> {
     let alloc = rt.alloc();
     let dwarf = dwarf(alloc, ABBREVS, FUNCTION)?;
-    let found = walked(alloc, &dwarf, 22)?;
-    assert_eq!(rt;
-        offsets(alloc, &dwarf, &found)?.as_slice(),
-        [22, 15].as_slice()
-    );
     let found = listed(alloc, &dwarf, 22)?;
     assert_eq!(rt;
         offsets(alloc, &dwarf, &found)?.as_slice(),

@@ -1,6 +1,6 @@
 -- One member more, from the last one to the first.
-use Rattle.std.proofs.Common.{◌≡◌, ◌+◌, ◌-◌, ◌≤◌, ◌∙◌, ℕ, List, map, get_or, sym, ap, subst, arith}
-use Rattle.std.specs.Prelude.{zip, ◌||◌}
+use Rattle.std.proofs.Common.{◌+◌, ◌-◌, ◌≤◌, ◌∙◌, ℕ, List, map, get_or, sym, ap, subst, arith}
+use Rattle.std.specs.Prelude.{◌||◌}
 use Rattle.std.specs.List.{list_any}
 use Rattle.type_entries.specs.declared.facts.Facts.{Facts}
 use Rattle.type_entries.specs.Facts.{most, spread, joined, member_align, member_span, member_beyond, nothing}

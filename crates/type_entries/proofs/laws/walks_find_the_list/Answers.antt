@@ -1,5 +1,5 @@
-use Rattle.type_entries.proofs.OrderLemmas.{in-order-is}
+use Rattle.type_entries.proofs.OrderLemmas.{by_offset-is}
 use Rattle.type_entries.proofs.laws.walks_find_the_list.Goals as goal
 
 pub returns : goal.returns
-returns c = in-order-is
+returns c = by_offset-is

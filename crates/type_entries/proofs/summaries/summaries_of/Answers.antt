@@ -1,4 +1,4 @@
-use Rattle.std.proofs.Common.{◌≡◌, ◌∙◌, Some, slice_get, length, map, ap, arith}
+use Rattle.std.proofs.Common.{◌≡◌, ◌∙◌, Some, slice_get, length, map, ap}
 use Rattle.std.proofs.lemmas.List.{take_all, length-map}
 use Rattle.type_entries.specs.Facts.{facts_of}
 use Rattle.type_entries.specs.Summaries.{summary_of}

@@ -4,4 +4,7 @@ use Rattle.type_entries.specs.References.{type_of, types_of}
 use Rattle.type_entries.proofs.walking.expand.Given as goal
 
 abbrev pub invariant-parts : goal.invariant-parts
-invariant-parts l = with_types l.found (map (type_of l.dwarf.tree) (drop l.k l.parts.items)) ≡ with_types l.fn.found (types_of l.dwarf.tree l.e)
+invariant-parts l = record {
+  entries : with_types l.met.entries (map (type_of l.dwarf.tree) (drop l.k l.parts.items)) ≡ with_types l.fn.met.entries (types_of l.dwarf.tree l.e);
+  room : l.met.room ≡ l.fn.met.room;
+}

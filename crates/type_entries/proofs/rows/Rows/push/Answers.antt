@@ -1,5 +1,4 @@
-use Rattle.std.proofs.Common.{◌≡◌, ◌+◌, [], ◌∷◌, ◌++◌, length, sym, ap, subst, ◌∙◌, arith}
-use Rattle.std.proofs.lemmas.List.{length-append}
+use Rattle.std.proofs.Common.{[], ◌∷◌, ◌++◌, length, sym, ap, subst, ◌∙◌, arith}
 use Rattle.type_entries.specs.Rows.{rows_from, EndInOrder}
 use Rattle.type_entries.proofs.RowLemmas.{order-push, rows-push}
 use Rattle.type_entries.proofs.rows.Rows.push.Goals as goal

@@ -1,4 +1,4 @@
-use Rattle.std.proofs.Common.{◌≡◌, ◌<◌, ◌≤◌, ◌-◌, ◌∷◌, get_or, length, take, drop, sym, ap, ◌∙◌, arith, inl, inr, Some, slice_get}
+use Rattle.std.proofs.Common.{◌<◌, ◌-◌, ◌∷◌, get_or, length, take, drop, sym, ap, ◌∙◌, arith, inl, inr, Some, slice_get}
 use Rattle.std.proofs.lemmas.List.{get_or_read}
 use Rattle.type_entries.proofs.RowLemmas.{rows-count, row-at, begins-before, ends-inside}
 use Rattle.type_entries.proofs.rows.Rows.row.Goals as goal

@@ -1,5 +1,5 @@
-use Rattle.std.proofs.Common.{◌∙◌, ap, length}
-use Rattle.type_entries.specs.Rows.{rows_from, EndInOrder}
+use Rattle.std.proofs.Common.{ap}
+use Rattle.type_entries.specs.Rows.{rows_from}
 use Rattle.type_entries.proofs.rows.Rows.with_capacity.Goals as goal
 
 pub returns : goal.returns

@@ -1,0 +1,56 @@
+// Where an entry stands among entries in order. A hint only makes a search short: what is found does not depend on it.
+ghost use Rattle.std.specs.Prelude.{◌≡◌, ◌<◌, length, nat_eq, position, Some, IfSome};
+ghost use Rattle.std.specs.List.Sorted.{IsStrictlyIncreasing};
+
+// How many entries of the tree share a hint.
+pub(crate) const BETWEEN_HINTS: usize = 16;
+
+// The hint for an entry: where it stands, or up to so many places before.
+#[inline]
+pub(crate) fn hint_for(hints: &[u32], e: usize) -> usize {
+    match hints.get(e / BETWEEN_HINTS) {
+        Some(hint) => *hint as usize,
+        None => 0,
+    }
+}
+
+// Where an entry stands, by binary search.
+fn searched(entries: &[u32], e: usize) -> Option<usize>
+    requires { IsStrictlyIncreasing entries.now }
+    ensures { result ≡ position (nat_eq e) entries.now }
+{
+    match entries.binary_search_by_key(&e, |entry| *entry as usize) {
+        Ok(place) => Some(place),
+        Err(_) => None,
+    }
+}
+
+// Where an entry stands, if not far behind a hint.
+fn hinted(entries: &[u32], e: usize, hint: usize) -> Option<usize>
+    requires { IsStrictlyIncreasing entries.now }
+    ensures { IfSome result (λ place. position (nat_eq e) entries.now ≡ Some place) }
+{
+    let mut place = hint;
+    'near: for passed in 0..BETWEEN_HINTS {
+        let Some(entry) = entries.get(place) else {
+            return None;
+        };
+        if *entry as usize == e {
+            return Some(place);
+        }
+        place += 1;
+    }
+    None
+}
+
+// Where an entry stands.
+pub(crate) fn place_near(entries: &[u32], e: usize, hint: usize) -> Option<usize>
+    requires { IsStrictlyIncreasing entries.now }
+    ensures place { result ≡ position (nat_eq e) entries.now }
+    ensures inside { IfSome result (λ place. place < length entries.now) }
+{
+    match hinted(entries, e, hint) {
+        Some(place) => Some(place),
+        None => searched(entries, e),
+    }
+}
