@@ -3,6 +3,7 @@ mod LeafLemmas
 mod LikeLemmas
 mod LookupLemmas
 mod NameLemmas
+mod RangeLemmas
 mod Recursion
 mod ShapedLemmas
 mod WalkLemmas

@@ -1,6 +1,6 @@
 -- Exports in order of their names, and searches by name.
 use Rattle.std.proofs.Common.{◌≡◌, ◌≢◌, ◌<◌, ◌≤◌, ◌+◌, ◌-◌, ℕ, Bool, true, false, List, length, take, drop, get_or, Some, refl, sym, ap, ◌∙◌, inl, inr, arith}
-use Rattle.std.specs.Prelude.{◌==◌, slice_get, Contains, All, IsPermutation}
+use Rattle.std.specs.Prelude.{◌==◌, slice_get, Contains, IsPermutation}
 use Rattle.std.specs.List.{range_with_len, IsDistinct}
 use Rattle.std.specs.List.Sorted.{IsPartitionedBy, IsPartitionPoint}
 use Rattle.std.specs.Cmp.{IsTotalOrder, IsStrictWeakOrder}
@@ -12,15 +12,16 @@ use Rattle.std.proofs.lemmas.Bool.{cases_lt}
 use Rattle.std.proofs.lemmas.Bool.Decides.{nat_tests}
 use Rattle.std.proofs.lemmas.Cmp.{nat_cmp_total, nat_list_cmp_total, then_total, on_total, tied_itself, upto}
 use Rattle.std.proofs.lemmas.List.{length-drop, length-take-le, get_or-drop, get_or-take}
-use Rattle.std.proofs.lemmas.List.Elements.{All-from_get_or, All-get_or}
+use Rattle.std.proofs.lemmas.List.Elements.{All-get_or}
 use Rattle.std.proofs.lemmas.List.FromFn.{length-range_with_len, get_or-range_with_len}
-use Rattle.std.proofs.lemmas.List.Sorted.{ranks_by, sorted_far, All-permutation, Contains-permutation}
+use Rattle.std.proofs.lemmas.List.Sorted.{ranks_by, sorted_far}
 use Rattle.std.proofs.lemmas.Map.Keys.{IsDistinct-from_apart, IsDistinct-IsPermutation, apart_from_distinct}
 use Rattle.std.proofs.lemmas.Map.Text.{is_eq-slice_cmp}
 use Rattle.std.proofs.lemmas.Option.{slice_get_cases, slice_get_within, get_or_from_slice_get}
 use Rattle.std.proofs.lemmas.Slice.Eq.{bytes_eq-Decides}
 use Rattle.abi_types.specs.Exports.{PlainExport}
 use Rattle.abi_types.specs.Names.{name_at, named_cmp, place_cmp, IsNamed, AreNamed, IsNameOrder}
+use Rattle.abi_types.proofs.RangeLemmas.{below_all, all_there}
 
 -- ---- the order
 
@@ -95,19 +96,6 @@ name_at-IsNamed : (exports : List PlainExport) (name : List ℕ) (k : ℕ) → I
 name_at-IsNamed exports name k is = let at = is.at in let here : name_at exports k ≡ is.exported.name = rw at refl in here ∙ is.named
 
 -- ---- all positions
-
-below_all : (n : ℕ) (places : List ℕ) → IsPermutation (range_with_len 0 n) places → All (λ (k : ℕ). k < n) places
-below_all n places moved =
-    All-permutation (λ (k : ℕ). k < n) (range_with_len 0 n) places moved
-    (All-from_get_or (λ (k : ℕ). k < n) (range_with_len 0 n) 0 (λ k lt.
-    let inside : k < n = rw (length-range_with_len 0 n) at lt in
-    let here : get_or (range_with_len 0 n) k 0 ≡ 0 + k = get_or-range_with_len 0 n k 0 inside in
-    omega (arith, here)))
-
-all_there : (n : ℕ) (places : List ℕ) (k : ℕ) → IsPermutation (range_with_len 0 n) places → k < n → Contains places k
-all_there n places k moved inside =
-    let here : get_or (range_with_len 0 n) k k ≡ 0 + k = get_or-range_with_len 0 n k k inside in
-    Contains-permutation (range_with_len 0 n) places k moved (k, rw (length-range_with_len 0 n) inside, omega (arith, here))
 
 apart : (n : ℕ) (places : List ℕ) (i j d : ℕ) → IsPermutation (range_with_len 0 n) places → i < j → j < length places → get_or places i d ≢ get_or places j d
 apart n places i j d moved lt inside same =

@@ -1,19 +1,18 @@
 -- Graphs with call places are graphs.
-use Rattle.std.proofs.Common.{◌≡◌, ◌<◌, ◌+◌, ◌*◌, ℕ, Bool, true, false, cond, List, [], ◌∷◌, length, get_or, refl, sym, ap, ◌∙◌, arith, subst, inl, inr, ◌⊎◌}
+use Rattle.std.proofs.Common.{◌≡◌, ◌<◌, ◌≤◌, ◌+◌, ◌*◌, ℕ, Bool, true, false, cond, List, [], ◌∷◌, ◌++◌, length, take, get_or, set, refl, sym, ap, ◌∙◌, arith, subst, inl, inr, ◌⊎◌}
 use Rattle.std.specs.List.{sum_by}
-use Rattle.std.proofs.lemmas.Bool.{cases_lt, false≢true}
-use Rattle.std.proofs.lemmas.List.{get_or_past}
+use Rattle.std.proofs.lemmas.Bool.{cases_lt, cases_order, false≢true}
+use Rattle.std.proofs.lemmas.List.{get_or_past, get_or_read, get_or-set_same, get_or-set_other, get_or-take, take-take, length-append}
+use Rattle.std.proofs.Math.Seq.{take-append_seam, get_or-append_seam}
 use Rattle.std.proofs.lemmas.List.Sums.{sum_by-cons}
 use Rattle.std.proofs.lemmas.List.FromFn.{length-map-range_with_len, get_or-map-range_with_len, fill_by_all}
 use Rattle.abi_types.specs.declared.place.CallShape.{CallShape}
 use Rattle.abi_types.specs.Types.{PlainPart, Param, PlainView, PlainNode}
-use Rattle.abi_types.specs.Forms.{has_elements, is_function, HasForm}
+use Rattle.abi_types.specs.Forms.{has_elements, is_function, no_call, HasForm}
 use Rattle.abi_types.specs.Limits.{align_room}
 use Rattle.abi_types.specs.Graphs.{IsGraph, KeepsLimits, KeepsBits, node_at, view_at, part_at, no_part, void_node, call_at, shaped_node, shaped, to_of, inner_of, room_of, rooms}
 use Rattle.abi_types.specs.Calls.{IsSameButCall}
-use Rattle.abi_types.specs.Entries.{IsOfNode, IsEntryOrder}
-use Rattle.std.proofs.lemmas.List.Elements.{All-weaker}
-use Rattle.std.specs.Prelude.{Contains}
+use Rattle.abi_types.specs.Entries.{entry_at, IsEntryOrder}
 
 -- ---- one node
 
@@ -140,15 +139,13 @@ module _ (nodes : List PlainNode) (calls : List CallShape) where
         ∙ ap (λ (n : ℕ). n * (view_at nodes to).size) (sym (same_count (node_at nodes i) (node_at (shaped nodes calls) i) (at i))) ∙ ap (λ (n : ℕ). (view_at (shaped nodes calls) i).count * n) (sym (size-same to));
   }
 
-  of_node-shaped : (pair : ℕ × ℕ) → IsOfNode nodes pair → IsOfNode (shaped nodes calls) pair
-  of_node-shaped pair is = (rw (length-shaped nodes calls) is.0, same_entry (node_at nodes pair.1) (node_at (shaped nodes calls) pair.1) (at pair.1) ∙ is.1)
+  entry-same : (i : ℕ) → entry_at (shaped nodes calls) i ≡ entry_at nodes i
+  entry-same i = same_entry (node_at nodes i) (node_at (shaped nodes calls) i) (at i)
 
-  pub IsEntryOrder-shaped : (pairs : List (ℕ × ℕ)) → IsEntryOrder pairs nodes → IsEntryOrder pairs (shaped nodes calls)
-  IsEntryOrder-shaped pairs order = record {
-    rises = order.rises;
-    of_nodes = All-weaker (IsOfNode nodes) (IsOfNode (shaped nodes calls)) of_node-shaped pairs order.of_nodes;
-    all_nodes = λ i inside.
-        subst (λ (e : ℕ). Contains pairs (e, i)) (sym (same_entry (node_at nodes i) (node_at (shaped nodes calls) i) (at i))) (order.all_nodes i (rw (length-shaped nodes calls) at inside));
+  pub IsEntryOrder-shaped : (order : List ℕ) → IsEntryOrder order nodes → IsEntryOrder order (shaped nodes calls)
+  IsEntryOrder-shaped order is = record {
+    all = rw (length-shaped nodes calls) is.all;
+    rises = λ i j d le below. omega (arith, is.rises i j d le below, entry-same (get_or order i d), entry-same (get_or order j d));
   }
 
 -- ---- a loop over the nodes
@@ -157,9 +154,48 @@ pub shaped-all : (nodes after : List PlainNode) (calls : List CallShape) → len
 unfolding shaped
 shaped-all nodes after calls many done = fill_by_all (λ i. shaped_node (node_at nodes i) (call_at calls i)) after (length nodes) void_node many (λ k lt. done k (omega arith))
 
+-- one more node has its call: `call` is the last of the calls that are `left`, and `rest` are those before it
+module _ (nodes now : List PlainNode) (calls left rest : List CallShape) (call : CallShape) (last : ℕ) (here made : PlainNode)
+    (many : length now ≡ length nodes) (few : length left ≤ length nodes) (is_left : left ≡ take (length left) calls)
+    (popped : left ≡ rest ++ call ∷ []) (at_last : last ≡ length rest) (read : here ≡ get_or now last here) (put : made ≡ shaped_node here call)
+    (untouched : (k : ℕ) → k < length left → node_at now k ≡ node_at nodes k) where
+  left-longer : length left ≡ length rest + 1
+  left-longer = ap length popped ∙ length-append rest (call ∷ [])
+
+  last-inside : last < length now
+  last-inside = omega (arith, many, few, at_last, left-longer)
+
+  pub rest-is : rest ≡ take (length rest) calls
+  rest-is =
+      sym (take-append_seam rest (call ∷ [])) ∙ ap (take (length rest)) (sym popped) ∙ ap (take (length rest)) is_left
+      ∙ take-take (length rest) (length left) calls (omega (arith, left-longer))
+
+  call-is : call ≡ call_at calls last
+  call-is =
+      sym (get_or-append_seam rest call [] no_call) ∙ ap (λ (cs : List CallShape). get_or cs (length rest) no_call) (sym popped ∙ is_left)
+      ∙ get_or-take (length left) calls (length rest) no_call (omega (arith, left-longer)) ∙ ap (call_at calls) (sym at_last)
+
+  here-is : here ≡ node_at nodes last
+  here-is = get_or_read now last here last-inside read void_node ∙ untouched last (omega (arith, at_last, left-longer))
+
+  pub last-done : node_at (set now last made) last ≡ shaped_node (node_at nodes last) (call_at calls last)
+  last-done =
+      get_or-set_same now last made void_node last-inside ∙ put ∙ ap (λ (n : PlainNode). shaped_node n call) here-is ∙ ap (shaped_node (node_at nodes last)) call-is
+
+  pub others-done : ((k : ℕ) → length left ≤ k → k < length nodes → node_at now k ≡ shaped_node (node_at nodes k) (call_at calls k))
+      → (k : ℕ) → length rest ≤ k → k < length nodes → node_at (set now last made) k ≡ shaped_node (node_at nodes k) (call_at calls k)
+  others-done done k le lt = elim (cases_order last k) [
+    | inl same ↦ subst (λ (i : ℕ). node_at (set now last made) i ≡ shaped_node (node_at nodes i) (call_at calls i)) same last-done
+    | inr (inl less) ↦ get_or-set_other now last k made void_node (λ e. omega arith) ∙ done k (omega (arith, left-longer, at_last, less)) lt
+    | inr (inr above) ↦ absurd (omega (arith, at_last, le, above))
+  ]
+
+  pub rest-untouched : (k : ℕ) → k < length rest → node_at (set now last made) k ≡ node_at nodes k
+  rest-untouched k lt = get_or-set_other now last k made void_node (λ e. omega (arith, at_last, lt, e)) ∙ untouched k (omega (arith, left-longer, lt))
+
 -- what a graph keeps, of the nodes with call places
-pub KeepsAll-shaped : (nodes slice : List PlainNode) (calls : List CallShape) (copies : List PlainNode) (pairs : List (ℕ × ℕ)) → slice ≡ nodes → copies ≡ shaped slice calls
-    → IsGraph nodes × IsEntryOrder pairs nodes → IsGraph copies × IsEntryOrder pairs copies
-KeepsAll-shaped nodes slice calls copies pairs same is kept =
+pub KeepsAll-shaped : (nodes slice : List PlainNode) (calls : List CallShape) (copies : List PlainNode) (order : List ℕ) → slice ≡ nodes → copies ≡ shaped slice calls
+    → IsGraph nodes × IsEntryOrder order nodes → IsGraph copies × IsEntryOrder order copies
+KeepsAll-shaped nodes slice calls copies order same is kept =
     let e : copies ≡ shaped nodes calls = is ∙ ap (λ (ns : List PlainNode). shaped ns calls) same in
-    (subst IsGraph (sym e) (IsGraph-shaped nodes calls kept.0), subst (IsEntryOrder pairs) (sym e) (IsEntryOrder-shaped nodes calls pairs kept.1))
+    (subst IsGraph (sym e) (IsGraph-shaped nodes calls kept.0), subst (IsEntryOrder order) (sym e) (IsEntryOrder-shaped nodes calls order kept.1))

@@ -5,6 +5,7 @@ pub mod Exports
 pub mod Forms
 pub mod Graphs
 pub mod Inside
+pub mod KeptParts
 pub mod Kinds
 pub mod Leaves
 pub mod Libraries
@@ -13,6 +14,7 @@ pub mod Lookups
 pub mod Names
 pub mod Parts
 pub mod Plain
+pub mod Room
 pub mod Rules
 pub mod Seen
 pub mod Shown

@@ -1,46 +1,44 @@
 // The nodes of a graph by the entries that they stand for.
-ghost use Rattle.std.specs.Prelude.{◌≡◌, ◌≢◌, map, All, Contains, IfOk, IfSome, IfNone, length};
-ghost use Rattle.std.specs.List.{range_with_len};
-ghost use Rattle.std.specs.List.Sorted.{IsNonDecreasingBy};
-ghost use Rattle.abi_types.specs.Entries.{entry_and_number, entry_in, IsEntryOrder};
+ghost use Rattle.std.specs.Prelude.{◌≡◌, ◌≢◌, ◌<◌, All, IfOk, IfSome, IfNone, length};
+ghost use Rattle.abi_types.specs.Entries.{entry_at as the_entry_at, IsEntryOrder};
 
 use crate::index::Index;
+use crate::numbers::numbers_below;
 use crate::view::Node;
 use abi_base::NoMemory;
 use std::alloc::Global;
 
-// The entry and the number of each node, in order of numbers.
-fn numbered<Ix: Index>(alloc: Global, nodes: &[Node<Ix>]) -> Result<Vec<(u64, usize)>, NoMemory>
-    ensures { IfOk result (λ entries. entries.items ≡ map (entry_and_number nodes.now) (range_with_len 0 (length nodes.now))) }
+// The entry that the node of a number stands for, 0 past the last node.
+fn entry_at<Ix: Index>(nodes: &[Node<Ix>], number: usize) -> u64
+    ensures { result ≡ the_entry_at nodes.now number }
 {
-    let mut entries = Vec::new(alloc);
-    for i in 0..nodes.len() {
-        let node = &nodes[i];
-        entries.push((node.entry, i))?;
+    if number < nodes.len() {
+        let node = &nodes[number];
+        node.entry
+    } else {
+        0
     }
-    Ok(entries)
 }
 
-/// The entry and the number of each node, in order of entries.
-pub fn entries_of<Ix: Index>(
-    alloc: Global,
-    nodes: &[Node<Ix>],
-) -> Result<Vec<(u64, usize)>, NoMemory>
-    ensures { IfOk result (λ entries. IsEntryOrder entries.items nodes.now) }
+/// The numbers of all nodes, in order of their entries.
+// Nodes mostly come in that order already, and then they are gone through once.
+pub fn entry_order_of<Ix: Index>(alloc: Global, nodes: &[Node<Ix>]) -> Result<Vec<usize>, NoMemory>
+    ensures { IfOk result (λ order. IsEntryOrder order.items nodes.now) }
 {
-    let mut entries = numbered(alloc, nodes)?;
-    entries.sort_unstable_by_key(|entry| entry.0);
-    Ok(entries)
+    let mut order = numbers_below(alloc, nodes.len())?;
+    order.sort_unstable_by_key(|number| entry_at(nodes, *number));
+    Ok(order)
 }
 
-/// The number that stands beside an entry, by binary search.
-pub fn number_beside(entries: &[(u64, usize)], entry: u64) -> Option<usize>
-    requires { IsNonDecreasingBy entry_in entries.now }
-    ensures some { IfSome result (λ number. Contains entries.now (entry, number)) }
-    ensures none { IfNone result (All (λ e. entry_in e ≢ entry) entries.now) }
+/// The number of a node that stands for an entry, by binary search.
+pub fn number_for<Ix: Index>(nodes: &[Node<Ix>], order: &[usize], entry: u64) -> Option<usize>
+    requires { IsEntryOrder order.now nodes.now }
+    ensures inside { IfSome result (λ number. number < length nodes.now) }
+    ensures some { IfSome result (λ number. the_entry_at nodes.now number ≡ entry) }
+    ensures none { IfNone result (All (λ number. the_entry_at nodes.now number ≢ entry) order.now) }
 {
-    match entries.binary_search_by_key(&entry, |pair| pair.0) {
-        Ok(k) => Some(entries[k].1),
+    match order.binary_search_by_key(&entry, |number| entry_at(nodes, *number)) {
+        Ok(k) => Some(order[k]),
         Err(_) => None,
     }
 }

@@ -4,7 +4,7 @@ ghost use Rattle.std.specs.Option.{option_map};
 ghost use Rattle.abi_types.specs.Plain.{plain_label};
 ghost use Rattle.abi_types.specs.Graphs.{IsGraph, node_at, node_of, shaped, shaped_node as the_shaped_node, view_at};
 
-use crate::entries::{entries_of, number_beside};
+use crate::entries::{entry_order_of, number_for};
 use crate::index::Index;
 use crate::kind::Kind;
 use crate::place::Call;
@@ -17,8 +17,8 @@ use std::marker::Model;
 #[derive(Drop)]
 pub struct Graph<'a, Ix: Index> {
     nodes: List<Node<'a, Ix>>,
-    // The entry and the number of each node, in order of entries.
-    entries: Vec<(u64, usize)>,
+    // The numbers of all nodes, in order of their entries.
+    by_entry: Vec<usize>,
 }
 
 impl<'a, Ix: Index> Model for Graph<'a, Ix> {
@@ -32,7 +32,7 @@ impl<'a, Ix: Index> Model for Graph<'a, Ix> {
 
     ghost view = { λ g. g.nodes };
 
-    ghost invariant = { λ g. IsGraph g.nodes × IsEntryOrder g.entries.items g.nodes };
+    ghost invariant = { λ g. IsGraph g.nodes × IsEntryOrder g.by_entry.items g.nodes };
 }
 
 // Puts a call into a node, where it is that of a function.
@@ -66,8 +66,8 @@ impl<'a, Ix: Index> Graph<'a, Ix> {
         requires { IsGraph nodes }
         ensures { IfOk result (λ g. g ≡ nodes.entry) }
     {
-        let entries = entries_of(alloc, nodes.as_slice())?;
-        Ok(Graph { nodes, entries })
+        let by_entry = entry_order_of(alloc, nodes.as_slice())?;
+        Ok(Graph { nodes, by_entry })
     }
 
     /// The same graph, in which the call of each function is the shape at its number, and all else stays.
@@ -75,11 +75,11 @@ impl<'a, Ix: Index> Graph<'a, Ix> {
         requires { length calls ≡ length self }
         ensures { result ≡ shaped self.entry calls }
     {
-        let Graph { nodes, entries } = self;
+        let Graph { nodes, by_entry } = self;
         let nodes = with_each_call(nodes.into_vec(), calls.into_vec());
         Graph {
             nodes: List::of(nodes),
-            entries,
+            by_entry,
         }
     }
 
@@ -131,7 +131,7 @@ impl<'a, Ix: Index> Graph<'a, Ix> {
         ensures node { option_map Ix.number_of result ≡ node_of self.now entry }
         ensures inside { IfSome result (λ ix. Ix.number_of ix < length self.now) }
     {
-        match number_beside(self.entries.as_slice(), entry) {
+        match number_for(self.nodes.as_slice(), self.by_entry.as_slice(), entry) {
             Some(number) => Some(Ix::of(number)),
             None => None,
         }

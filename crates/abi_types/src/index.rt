@@ -1,5 +1,7 @@
 // Numbers of nodes, of one library or of the other.
 ghost use Rattle.std.specs.Prelude.{◌≡◌, ℕ};
+ghost use Rattle.std.proofs.Common.{rules};
+ghost use Rattle.abi_types.specs.Room.{PartFits};
 
 use std::marker::Model;
 
@@ -17,6 +19,9 @@ pub trait Index: Copy {
 
     /// Two nodes of one number are one.
     ghost same: { (x y : Self) → number_of x ≡ number_of y → x ≡ y };
+
+    /// A part that names such a node fits in memory.
+    ghost part_fits: { PartFits Self.row };
 }
 
 /// A node of the old library.
@@ -45,6 +50,8 @@ impl Index for OldIx {
     }
 
     ghost same = { λ x y e. e };
+
+    ghost part_fits = { Prim.search rules };
 }
 
 /// A node of the new library.
@@ -73,4 +80,6 @@ impl Index for NewIx {
     }
 
     ghost same = { λ x y e. e };
+
+    ghost part_fits = { Prim.search rules };
 }

@@ -13,6 +13,7 @@ mod leaf;
 mod library;
 mod lookup;
 mod names;
+mod numbers;
 mod part;
 mod parts;
 mod place;

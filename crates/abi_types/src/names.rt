@@ -1,12 +1,12 @@
 // The exports of a library in order of their names.
 ghost use Rattle.std.specs.Prelude.{◌≡◌, ◌≤◌, ◌-◌, false, true, length, take, drop, IfOk};
-ghost use Rattle.std.specs.List.{range_with_len};
 ghost use Rattle.std.specs.List.Sorted.{IsPartitionPoint};
 ghost use Rattle.std.specs.Ordering.{is_lt, is_le};
 ghost use Rattle.abi_types.specs.Plain.{plain_exports};
 ghost use Rattle.abi_types.specs.Names.{name_at as the_name_at, named_cmp, place_cmp, IsNameOrder, AreNamed};
 
 use crate::export::Export;
+use crate::numbers::numbers_below;
 use abi_base::NoMemory;
 use std::alloc::Global;
 use std::cmp::Ordering;
@@ -50,22 +50,11 @@ fn place_order(exports: &[Export], a: usize, b: usize) -> Ordering
     name_order(exports, a, name_at(exports, b)).then(a.cmp(&b))
 }
 
-// The numbers below a count.
-fn numbers(alloc: Global, count: usize) -> Result<Vec<usize>, NoMemory>
-    ensures { IfOk result (λ numbers. numbers.items ≡ range_with_len 0 count) }
-{
-    let mut numbers = Vec::new(alloc);
-    for i in 0..count {
-        numbers.push(i)?;
-    }
-    Ok(numbers)
-}
-
 /// The positions of all exports, in order of names.
 pub fn name_order_of(alloc: Global, exports: &[Export]) -> Result<Vec<usize>, NoMemory>
     ensures { IfOk result (λ places. IsNameOrder places.items (plain_exports exports.now)) }
 {
-    let mut places = numbers(alloc, exports.len())?;
+    let mut places = numbers_below(alloc, exports.len())?;
     places.sort_unstable_by(|a, b| place_order(exports, *a, *b));
     Ok(places)
 }

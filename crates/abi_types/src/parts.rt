@@ -1,5 +1,5 @@
 // The parts of a type, in their order.
-ghost use Rattle.std.specs.Prelude.{◌≡◌, ◌==◌, ◌<◌, [], length, map, slice_index_or, IfSome, IfOk};
+ghost use Rattle.std.specs.Prelude.{◌≡◌, ◌==◌, ◌<◌, [], ◌∷◌, length, map, slice_index_or, IfSome, IfOk};
 ghost use Rattle.abi_types.specs.Graphs.{no_part};
 ghost use Rattle.std.specs.Option.{ForSome};
 ghost use Rattle.abi_types.specs.Parts.{plain_part, like, place_of as the_place_of, like_before as the_like_before};
@@ -12,13 +12,30 @@ use crate::part::Part;
 use abi_base::{List, NoMemory};
 use std::alloc::Global;
 use std::marker::Model;
+use std::rc::Rc;
+use std::slice;
+
+// Several parts, with where they stand where there are many.
+#[derive(Drop)]
+struct Several<'a, Ix: Index> {
+    items: List<Part<'a, Ix>>,
+    lookup: Option<Box<Lookup<'a>>>,
+}
+
+// What keeps the parts of a type. Pointers and arrays have one part, which stands in its place and takes no memory of its own.
+// Several parts are shared by the types that have the same ones: a structure, its typedefs, and these with `const`.
+#[derive(Drop)]
+enum Kept<'a, Ix: Index> {
+    Nothing,
+    One(Part<'a, Ix>),
+    Many(Rc<Several<'a, Ix>>),
+}
 
 /// The parts of a type, in their order, which finds the parts of one sort and name without going over them all. Contracts
 /// see it as the list of its parts.
 #[derive(Drop)]
 pub struct Parts<'a, Ix: Index> {
-    items: List<Part<'a, Ix>>,
-    lookup: Option<Box<Lookup<'a>>>,
+    kept: Kept<'a, Ix>,
 }
 
 impl<'a, Ix: Index> Model for Parts<'a, Ix> {
@@ -27,14 +44,11 @@ impl<'a, Ix: Index> Model for Parts<'a, Ix> {
 
     ghost Value = { List PlainPart };
 
-    ghost use Rattle.std.specs.Prelude.{map};
-    ghost use Rattle.abi_types.specs.Parts.{plain_part};
-    ghost use Rattle.std.specs.Option.{ForSome};
-    ghost use Rattle.abi_types.specs.Lookups.{IsLookup};
+    ghost use Rattle.abi_types.specs.KeptParts.{parts_in, HasLookup};
 
-    ghost view = { λ parts. map (plain_part Ix.number_of) parts.items };
+    ghost view = { λ parts. parts_in Ix.number_of parts.kept };
 
-    ghost invariant = { λ parts. ForSome parts.lookup (λ kept. IsLookup kept.value (map (plain_part Ix.number_of) parts.items)) };
+    ghost invariant = { λ parts. HasLookup Ix.number_of parts.kept };
 }
 
 // So many parts are looked through one by one, which takes less time than to keep where each stands: of all types that a library
@@ -60,48 +74,85 @@ impl<'a, Ix: Index> Parts<'a, Ix> {
         ensures { result ≡ [] }
     {
         Parts {
-            items: List::new(alloc),
-            lookup: None,
+            kept: Kept::Nothing,
         }
     }
 
-    /// These parts, in their order.
-    pub fn of(alloc: Global, items: Vec<Part<'a, Ix>>) -> Result<Parts<'a, Ix>, NoMemory>
+    /// One part. It takes no memory of its own: most types are pointers.
+    pub fn one(part: Part<'a, Ix>) -> Parts<'a, Ix>
+        ensures { result ≡ plain_part Ix.number_of part.entry ∷ [] }
+    {
+        Parts {
+            kept: Kept::One(part),
+        }
+    }
+
+    // Several parts.
+    fn many(alloc: Global, items: Vec<Part<'a, Ix>>) -> Result<Parts<'a, Ix>, NoMemory>
         ensures { IfOk result (λ parts. parts ≡ map (plain_part Ix.number_of) items.entry.items) }
     {
         let lookup = kept_lookup(alloc, items.as_slice())?;
+        let items = List::of(items);
+        let several = Rc::new(alloc, Several { items, lookup })?;
         Ok(Parts {
-            items: List::of(items),
-            lookup,
+            kept: Kept::Many(several),
         })
     }
 
-    /// The same parts in memory of their own.
-    pub fn copy(&self, alloc: Global) -> Result<Parts<'a, Ix>, NoMemory>
+    /// These parts, in their order. Of one part alone the vector's room is given back.
+    pub fn of(alloc: Global, mut items: Vec<Part<'a, Ix>>) -> Result<Parts<'a, Ix>, NoMemory>
+        ensures { IfOk result (λ parts. parts ≡ map (plain_part Ix.number_of) items.entry.items) }
+    {
+        if items.len() > 1 {
+            return Parts::many(alloc, items);
+        }
+        match items.pop() {
+            Some(part) => Ok(Parts::one(part)),
+            None => Ok(Parts::new(alloc)),
+        }
+    }
+
+    /// The same parts once more, which take no more memory: several are shared. It fails only where too many share them.
+    pub fn shared(&self) -> Result<Parts<'a, Ix>, NoMemory>
         ensures { IfOk result (λ parts. parts ≡ self.now) }
     {
-        Parts::of(alloc, Vec::from_slice(alloc, self.items.as_slice())?)
+        match &self.kept {
+            Kept::Nothing => Ok(Parts {
+                kept: Kept::Nothing,
+            }),
+            Kept::One(part) => match Some(part).copied() {
+                Some(part) => Ok(Parts::one(part)),
+                None => unreachable!(),
+            },
+            Kept::Many(several) => Ok(Parts {
+                kept: Kept::Many(several.clone()?),
+            }),
+        }
     }
 
     /// How many parts there are.
     pub fn len(&self) -> usize
         ensures { result ≡ length self.now }
     {
-        self.items.as_slice().len()
+        self.as_slice().len()
     }
 
     /// Whether there are none.
     pub fn is_empty(&self) -> bool
         ensures { result ≡ (length self.now == 0) }
     {
-        self.items.as_slice().is_empty()
+        self.as_slice().is_empty()
     }
 
     /// All of them.
     pub fn as_slice(&self) -> &[Part<'a, Ix>]
         ensures { map (plain_part Ix.number_of) result.now ≡ self.now }
     {
-        self.items.as_slice()
+        match &self.kept {
+            Kept::Nothing => &[],
+            Kept::One(part) => slice::from_ref(part),
+            Kept::Many(several) => several.items.as_slice(),
+        }
     }
 
     /// The part at a position.
@@ -109,7 +160,20 @@ impl<'a, Ix: Index> Parts<'a, Ix> {
         requires { k < length self.now }
         ensures { plain_part Ix.number_of result.now ≡ slice_index_or self.now k no_part }
     {
-        &self.items.as_slice()[k]
+        &self.as_slice()[k]
+    }
+
+    // Where the parts stand, where that is kept.
+    fn lookup(&self) -> Option<&Lookup<'a>>
+        ensures { IfSome result (λ lookup. IsLookup lookup.now self.now) }
+    {
+        match &self.kept {
+            Kept::Many(several) => match &several.lookup {
+                Some(lookup) => Some(lookup),
+                None => None,
+            },
+            _ => None,
+        }
     }
 
     /// The position of the part with the number `k`, counted from 0, among those that are like `part`: of its sort, and of its
@@ -118,8 +182,8 @@ impl<'a, Ix: Index> Parts<'a, Ix> {
         ensures place { result ≡ the_place_of (like (plain_part Jx.number_of part.now)) k self.now }
         ensures inside { IfSome result (λ i. i < length self.now) }
     {
-        match &self.lookup {
-            None => place_of(self.items.as_slice(), part, k),
+        match self.lookup() {
+            None => place_of(self.as_slice(), part, k),
             Some(lookup) => place_in(lookup, part, k),
         }
     }
@@ -129,9 +193,9 @@ impl<'a, Ix: Index> Parts<'a, Ix> {
         requires { i < length self.now }
         ensures { result ≡ the_like_before self.now (slice_index_or self.now i no_part) i }
     {
-        match &self.lookup {
+        match self.lookup() {
             None => {
-                let items = self.items.as_slice();
+                let items = self.as_slice();
                 count_like(&items[..i], &items[i])
             }
             Some(lookup) => lookup.numbers[i],

@@ -2,7 +2,7 @@
 use Rattle.std.specs.Prelude.{◌≡◌, ◌<◌, ◌≤◌, ℕ, List, length, Some}
 use Rattle.abi_base.specs.Limits.{depth_limit}
 use Rattle.abi_types.specs.declared.kind.Kind.TheVariants as kind
-use Rattle.abi_types.specs.Types.{PlainNode}
+use Rattle.abi_types.specs.Types.{PlainPart, PlainView, PlainNode}
 use Rattle.abi_types.specs.Forms.{HasForm}
 use Rattle.abi_types.specs.Graphs.{KeepsLimits, IsWhole, node_at, view_at, part_at, to_of, inner_of}
 
@@ -19,15 +19,23 @@ entry_in n = n.entry
 abbrev pub HaveOwnEntries : List PlainNode → Type 0
 HaveOwnEntries nodes = (i j : ℕ) → i < length nodes → j < length nodes → (node_at nodes i).entry ≡ (node_at nodes j).entry → i ≡ j
 
--- its parts name nodes, and lower ones where they name them by value
-pub record NamesNodes (nodes : List PlainNode) (i : ℕ) : Type 0 where
-  pub inside : (k to : ℕ) → to_of (part_at (view_at nodes i) k) ≡ Some to → to < length nodes
-  pub falls : (k to : ℕ) → inner_of (part_at (view_at nodes i) k) ≡ Some to → (node_at nodes to).rank < (node_at nodes i).rank
+-- a part of a node of a rank names a node, and one of a lower rank where it names it by value
+pub record NamesNode (nodes : List PlainNode) (rank : ℕ) (p : PlainPart) : Type 0 where
+  pub inside : (to : ℕ) → to_of p ≡ Some to → to < length nodes
+  pub falls : (to : ℕ) → inner_of p ≡ Some to → (node_at nodes to).rank < rank
+
+-- all parts of a view do so
+abbrev pub NamesNodes : List PlainNode → ℕ → PlainView → Type 0
+NamesNodes nodes rank v = (k : ℕ) → NamesNode nodes rank (part_at v k)
+
+-- what a node of a rank and a view keeps
+pub record Keeps (nodes : List PlainNode) (rank : ℕ) (v : PlainView) : Type 0 where
+  pub shallow : rank ≤ depth_limit
+  pub names : NamesNodes nodes rank v
+  pub form : HasForm v
+  pub limits : KeepsLimits nodes v
+  pub whole : IsWhole nodes v
 
 -- what each node keeps
-pub record KeepsNode (nodes : List PlainNode) (i : ℕ) : Type 0 where
-  pub shallow : (node_at nodes i).rank ≤ depth_limit
-  pub names : NamesNodes nodes i
-  pub form : HasForm (view_at nodes i)
-  pub limits : KeepsLimits nodes (view_at nodes i)
-  pub whole : IsWhole nodes (view_at nodes i)
+abbrev pub KeepsNode : List PlainNode → ℕ → Type 0
+KeepsNode nodes i = Keeps nodes (node_at nodes i).rank (view_at nodes i)

@@ -7,7 +7,7 @@ ghost use Rattle.abi_types.specs.Graphs.{IsGraph, node_at, view_at, node_of};
 ghost use Rattle.abi_types.specs.Libraries.{AreNumbered, HasPlaces, IsLibrary};
 ghost use Rattle.abi_types.specs.Parts.{plain_part};
 ghost use Rattle.abi_types.specs.Plain.{plain_exports};
-ghost use Rattle.hand_graphs.specs.Valid.{IsVoidFirst, NamesNodes, KeepsNode};
+ghost use Rattle.hand_graphs.specs.Valid.{IsVoidFirst, NamesNode, NamesNodes, Keeps, KeepsNode};
 
 use crate::entries::have_own_entries;
 use crate::form::{has_form, is_param};
@@ -43,48 +43,59 @@ fn rank_at<Ix: Index>(nodes: &[Node<Ix>], at: Ix) -> u32
     node.rank
 }
 
-// Whether the parts of the node name nodes, and nodes of a lower rank where they name them by value.
-fn names_nodes<Ix: Index>(nodes: &[Node<Ix>], i: usize) -> bool
-    requires { i < length nodes.now }
-    ensures { IsTrue result ↔ NamesNodes nodes.now i }
+// Whether a part of a node of a rank names a node, and one of a lower rank where it names it by value.
+fn names_node<Ix: Index>(nodes: &[Node<Ix>], rank: u32, part: &Part<Ix>) -> bool
+    ensures { IsTrue result ↔ NamesNode nodes.now rank (plain_part Ix.number_of part.now) }
 {
-    let node = &nodes[i];
-    let view = &node.view;
-    for k in 0..view.parts_len() {
-        let part = view.part(k);
-        if let Some(to) = part.to() {
-            if to.number() >= nodes.len() {
-                return false;
-            }
+    if let Some(to) = part.to() {
+        if to.number() >= nodes.len() {
+            return false;
         }
-        if let Some(inner) = part.inner() {
-            if rank_at(nodes, inner) >= node.rank {
-                return false;
-            }
+    }
+    match part.inner() {
+        Some(inner) => rank_at(nodes, inner) < rank,
+        None => true,
+    }
+}
+
+// Whether all parts of a node of a rank and a view do so.
+fn names_nodes<Ix: Index>(nodes: &[Node<Ix>], rank: u32, view: &View<Ix>) -> bool
+    ensures { IsTrue result ↔ NamesNodes nodes.now rank view.now }
+{
+    for k in 0..view.parts_len() {
+        if !names_node(nodes, rank, view.part(k)) {
+            return false;
         }
     }
     true
 }
 
-// Whether the node keeps what those of a graph keep, each for itself.
+// Whether a node of a rank and a view keeps what those of a graph keep, each for itself.
+fn keeps<Ix: Index>(nodes: &[Node<Ix>], rank: u32, view: &View<Ix>) -> bool
+    ensures { IsTrue result ↔ Keeps nodes.now rank view.now }
+{
+    if rank > RANK_LIMIT {
+        return false;
+    }
+    if !names_nodes(nodes, rank, view) {
+        return false;
+    }
+    if !has_form(view) {
+        return false;
+    }
+    if !keeps_limits(nodes, view) {
+        return false;
+    }
+    is_whole(nodes, view)
+}
+
+// The same of the node of a number.
 fn keeps_node<Ix: Index>(nodes: &[Node<Ix>], i: usize) -> bool
     requires { i < length nodes.now }
     ensures { IsTrue result ↔ KeepsNode nodes.now i }
 {
     let node = &nodes[i];
-    if node.rank > RANK_LIMIT {
-        return false;
-    }
-    if !names_nodes(nodes, i) {
-        return false;
-    }
-    if !has_form(&node.view) {
-        return false;
-    }
-    if !keeps_limits(nodes, &node.view) {
-        return false;
-    }
-    is_whole(nodes, &node.view)
+    keeps(nodes, node.rank, &node.view)
 }
 
 // Whether all nodes keep what those of a graph keep, each for itself.

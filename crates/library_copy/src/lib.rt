@@ -58,6 +58,9 @@ fn copied_parts<'a, From: Index, To: Index>(
 ) -> Result<Parts<'a, To>, NoMemory>
     ensures { IfOk result (λ copy. copy ≡ parts.now) }
 {
+    if parts.len() == 1 {
+        return Ok(Parts::one(copied_part(parts.at(0))));
+    }
     let mut items = Vec::with_capacity(alloc, parts.len())?;
     for part in parts.as_slice() {
         items.push(copied_part(part))?;

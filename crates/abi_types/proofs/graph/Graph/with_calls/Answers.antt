@@ -5,4 +5,4 @@ use Rattle.abi_types.proofs.graph.Graph.with_calls.Goals as goal
 
 pub invariant_of-result : goal.invariant_of-result
 invariant_of-result g c =
-    KeepsAll-shaped c.self.inside.nodes c.into_vec.result.items c.into_vec-2.result.items c.of.result c.self.inside.entries.items c.into_vec.ensures (c.of.ensures ∙ c.with_each_call-nodes.ensures) c.self.invariant
+    KeepsAll-shaped c.self.inside.nodes c.into_vec.result.items c.into_vec-2.result.items c.of.result c.self.inside.by_entry.items c.into_vec.ensures (c.of.ensures ∙ c.with_each_call-nodes.ensures) c.self.invariant
