@@ -6,4 +6,5 @@ mod LabelLemmas
 mod LimitLemmas
 mod ListLemmas
 mod NodeLemmas
+mod SharingLemmas
 mod ViewLemmas

@@ -16,7 +16,7 @@ use Rattle.type_entries.specs.Flat.{Flat, moved}
 use Rattle.type_entries.specs.Cores.{IsFound}
 use Rattle.type_entries.specs.Sizes.{begins_beyond}
 use Rattle.type_views.specs.declared.flatten.Placed.{Placed}
-use Rattle.type_views.specs.Nodes.{made_node, made_nodes}
+use Rattle.type_views.specs.Sharing.{first_node, first_nodes}
 use Rattle.type_views.specs.Placed.{plain_member, plain_members}
 use Rattle.type_views.proofs.ListLemmas.{Contains-map, map-map}
 use Rattle.type_views.proofs.LimitLemmas.{none_beyond}
@@ -49,18 +49,18 @@ found-inside t found (Some e) closed there = closed.inside e there
 
 -- ---- nodes, one after the other
 
-pub node-more : (d : PlainDwarf) (found : List ℕ) (nodes new : List PlainNode) (k e : ℕ) (n : PlainNode) → nodes ≡ made_node d found None ∷ map (λ (f : ℕ). made_node d found (Some f)) (take k found) → slice_get found k ≡ Some e → n ≡ made_node d found (Some e) → new ≡ nodes ++ n ∷ []
-    → new ≡ made_node d found None ∷ map (λ (f : ℕ). made_node d found (Some f)) (take (k + 1) found)
+pub node-more : (d : PlainDwarf) (found : List ℕ) (nodes new : List PlainNode) (k e : ℕ) (n : PlainNode) → nodes ≡ first_node d found None ∷ map (λ (f : ℕ). first_node d found (Some f)) (take k found) → slice_get found k ≡ Some e → n ≡ first_node d found (Some e) → new ≡ nodes ++ n ∷ []
+    → new ≡ first_node d found None ∷ map (λ (f : ℕ). first_node d found (Some f)) (take (k + 1) found)
 node-more d found nodes new k e n was at is grown =
-    let f : ℕ → PlainNode = λ x. made_node d found (Some x) in
+    let f : ℕ → PlainNode = λ x. first_node d found (Some x) in
     let lt = slice_get_within found k e at in
     let more : take (k + 1) found ≡ take k found ++ e ∷ [] = take_more found k e lt ∙ ap (λ x. take k found ++ x ∷ []) (get_or_from_slice_get found k e e at) in
-    grown ∙ ap (λ xs. xs ++ n ∷ []) was ∙ ap (λ x. (made_node d found None ∷ map f (take k found)) ++ x ∷ []) is
-    ∙ ap (λ xs. made_node d found None ∷ xs) (sym (map-append f (take k found) (e ∷ [])) ∙ ap (map f) (sym more))
+    grown ∙ ap (λ xs. xs ++ n ∷ []) was ∙ ap (λ x. (first_node d found None ∷ map f (take k found)) ++ x ∷ []) is
+    ∙ ap (λ xs. first_node d found None ∷ xs) (sym (map-append f (take k found) (e ∷ [])) ∙ ap (map f) (sym more))
 
-pub nodes-end : (d : PlainDwarf) (found : List ℕ) (nodes : List PlainNode) (k : ℕ) → nodes ≡ made_node d found None ∷ map (λ (f : ℕ). made_node d found (Some f)) (take k found) → length found ≤ k → nodes ≡ made_nodes d found
-unfolding made_nodes
+pub nodes-end : (d : PlainDwarf) (found : List ℕ) (nodes : List PlainNode) (k : ℕ) → nodes ≡ first_node d found None ∷ map (λ (f : ℕ). first_node d found (Some f)) (take k found) → length found ≤ k → nodes ≡ first_nodes d found
+unfolding first_nodes
 nodes-end d found nodes k was past =
     was
-    ∙ ap (λ xs. made_node d found None ∷ map (λ (f : ℕ). made_node d found (Some f)) xs) (take_all k found past)
-    ∙ ap (λ xs. made_node d found None ∷ xs) (sym (map-map (made_node d found) (λ (f : ℕ). Some f) found))
+    ∙ ap (λ xs. first_node d found None ∷ map (λ (f : ℕ). first_node d found (Some f)) xs) (take_all k found past)
+    ∙ ap (λ xs. first_node d found None ∷ xs) (sym (map-map (first_node d found) (λ (f : ℕ). Some f) found))

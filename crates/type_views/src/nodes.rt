@@ -1,7 +1,6 @@
 // What nodes look like.
-ghost use Rattle.std.specs.Prelude.{◌≡◌, ◌<◌, ◌≤◌, [], ◌∷◌, ◌++◌, ℕ, if◌then◌else◌, true, false, length, map, slice_get, All, Contains, Some, IfOk, OnOk, IfSome};
+ghost use Rattle.std.specs.Prelude.{◌≡◌, ◌<◌, ◌+◌, [], ◌∷◌, set, ℕ, if◌then◌else◌, true, false, length, map, slice_get, All, Contains, Some, IfOk, OnOk, IfSome};
 ghost use Rattle.std.specs.List.{list_any};
-ghost use Rattle.abi_base.specs.Limits.{depth_limit};
 ghost use Rattle.abi_types.specs.Graphs.{void_view};
 ghost use Rattle.abi_types.specs.Forms.{has_tag as the_kind_has_a_tag};
 ghost use Rattle.abi_types.specs.Parts.{plain_part};
@@ -18,7 +17,10 @@ ghost use Rattle.dw_entries.specs.Chains.{name_of};
 ghost use Rattle.type_entries.specs.Flat.{text_or_empty, flat_of};
 ghost use Rattle.type_entries.specs.Sizes.{begins_beyond, is_too_large};
 ghost use Rattle.type_entries.specs.Views.{offset_of as the_offset_of, bit_number as the_bit_number, kind_of as the_kind_of, group_for, is_vector as the_array_is_a_vector, member_part, param_part, enumerator_part, enumerators_of as the_enumerators_of, parts_under, variadic_for, core_view, view_by};
-ghost use Rattle.type_views.specs.Nodes.{number_in, made_node, made_nodes};
+ghost use Rattle.type_views.specs.Nodes.{number_in, made_nodes};
+ghost use Rattle.type_views.specs.Sharing.{is_other as the_core_is_other, first_view, first_node, first_nodes as the_first_nodes, with_parts, AreShared};
+ghost use Rattle.type_entries.specs.Flat.{core_of};
+ghost use Rattle.abi_types.specs.Graphs.{node_at};
 ghost use Rattle.type_views.specs.Placed.{plain_members};
 
 use crate::enumerations::group_of;
@@ -182,15 +184,6 @@ fn enumerator_parts<'a, Ix: Index>(
     Ok(parts)
 }
 
-// A part alone, in the room of one: most types are pointers.
-fn one_part<'a, Ix: Index>(alloc: Global, part: Part<'a, Ix>) -> Result<Vec<Part<'a, Ix>>, NoMemory>
-    ensures { IfOk result (λ parts. parts.items ≡ part.entry ∷ []) }
-{
-    let mut parts = Vec::with_capacity(alloc, 1)?;
-    parts.push(part)?;
-    Ok(parts)
-}
-
 // The type that an entry has itself which was found.
 fn type_alone(dwarf: &Dwarf, found: &Found, leads: &Leads, number: usize, c: usize) -> Option<usize>
     requires closed { IsClosed dwarf.now.tree found.now }
@@ -213,7 +206,7 @@ fn parts_of_core<'a, Ix: Index>(
     number: usize,
     c: usize,
     role: Role,
-) -> Result<Vec<Part<'a, Ix>>, NoMemory>
+) -> Result<Parts<'a, Ix>, NoMemory>
     requires closed { IsClosed dwarf.now.tree found.now }
     requires leads { AreLeads dwarf.now.tree found.now leads.now }
     requires summaries { AreSummaries dwarf.now found.now summaries.now }
@@ -221,25 +214,25 @@ fn parts_of_core<'a, Ix: Index>(
     requires role { role ≡ the_role_of dwarf.now.tree c }
     requires last { StandsForNone dwarf.now c }
     requires near { list_any begins_beyond (flat_of dwarf.now (Some c)) ≡ false }
-    ensures { IfOk result (λ parts. map (plain_part Ix.number_of) parts.items ≡ parts_under (the_role_of dwarf.now.tree c) (number_in found.now) dwarf.now c) }
+    ensures { IfOk result (λ parts. parts ≡ parts_under (the_role_of dwarf.now.tree c) (number_in found.now) dwarf.now c) }
 {
     match role {
-        Role::Aggregate => aggregate_parts(alloc, dwarf, found, leads, summaries, c),
-        Role::Function => function_parts(alloc, dwarf, found, leads, number, c),
-        Role::Enumeration => enumerator_parts(alloc, dwarf, c),
-        Role::Pointer => one_part(
+        Role::Aggregate => Parts::of(
             alloc,
-            Part::Target {
-                to: node_of(found, type_alone(dwarf, found, leads, number, c)),
-            },
+            aggregate_parts(alloc, dwarf, found, leads, summaries, c)?,
         ),
-        Role::Array => one_part(
+        Role::Function => Parts::of(
             alloc,
-            Part::Element {
-                to: node_of(found, type_alone(dwarf, found, leads, number, c)),
-            },
+            function_parts(alloc, dwarf, found, leads, number, c)?,
         ),
-        _ => Ok(Vec::new(alloc)),
+        Role::Enumeration => Parts::of(alloc, enumerator_parts(alloc, dwarf, c)?),
+        Role::Pointer => Ok(Parts::one(Part::Target {
+            to: node_of(found, type_alone(dwarf, found, leads, number, c)),
+        })),
+        Role::Array => Ok(Parts::one(Part::Element {
+            to: node_of(found, type_alone(dwarf, found, leads, number, c)),
+        })),
+        _ => Ok(Parts::new(alloc)),
     }
 }
 
@@ -316,7 +309,7 @@ fn group(dwarf: &Dwarf, c: usize, role: Role, size: u64) -> Group
     }
 }
 
-// The view of a core, with an explicit alignment.
+// The view of a core, with an explicit alignment, of a type. Another entry than the core is given no parts yet.
 fn view_of_core<'a, Ix: Index>(
     alloc: Global,
     dwarf: &Dwarf<'a>,
@@ -326,6 +319,7 @@ fn view_of_core<'a, Ix: Index>(
     number: usize,
     c: usize,
     align: u64,
+    other: bool,
 ) -> Result<View<'a, Ix>, NoMemory>
     requires closed { IsClosed dwarf.now.tree found.now }
     requires leads { AreLeads dwarf.now.tree found.now leads.now }
@@ -333,13 +327,17 @@ fn view_of_core<'a, Ix: Index>(
     requires at { slice_get found.now number ≡ Some c }
     requires last { StandsForNone dwarf.now c }
     requires near { list_any begins_beyond (flat_of dwarf.now (Some c)) ≡ false }
-    ensures { IfOk result (λ view. view ≡ core_view (number_in found.now) dwarf.now align (Some c)) }
+    ensures { IfOk result (λ view. view ≡ first_view other (core_view (number_in found.now) dwarf.now align (Some c))) }
 {
     let own = summary_by_number(dwarf, found, summaries, number, c);
     let role = role_of(dwarf, c);
     let kind = kind_of(dwarf, c, role);
     let variadic = variadic(alloc, dwarf, c, role)?;
-    let parts = parts_of_core(alloc, dwarf, found, leads, summaries, number, c, role)?;
+    let parts = if other {
+        Parts::new(alloc)
+    } else {
+        parts_of_core(alloc, dwarf, found, leads, summaries, number, c, role)?
+    };
     Ok(View {
         kind,
         declared_only: has_tag(kind) && dwarf.is_declaration(c),
@@ -349,7 +347,7 @@ fn view_of_core<'a, Ix: Index>(
         align,
         count: own.count,
         variadic,
-        parts: Parts::of(alloc, parts)?,
+        parts,
         call: Call::none(),
     })
 }
@@ -384,7 +382,17 @@ fn view_of_void<'a, Ix: Index>(alloc: Global, align: u64) -> View<'a, Ix>
     }
 }
 
-// The view of a type.
+// Whether a core is another entry than the type that comes to it.
+fn is_other(core: Option<usize>, ty: Option<usize>) -> bool
+    ensures { result ≡ the_core_is_other core ty }
+{
+    match (core, ty) {
+        (Some(c), Some(e)) => c != e,
+        _ => false,
+    }
+}
+
+// The view of a type, which is given no parts yet where its core is another entry.
 #[tactic(auto, unfolding(type_entries::specs::Views::view_by))]
 fn view<'a, Ix: Index>(
     alloc: Global,
@@ -401,14 +409,17 @@ fn view<'a, Ix: Index>(
     requires own { own.now ≡ summary_of (facts_of dwarf.now ty) }
     requires there { IfSome ty (λ e. Contains found.now e) }
     requires fits { (e : ℕ) → Contains found.now e → is_too_large dwarf.now e ≡ false }
-    ensures { IfOk result (λ view. view ≡ view_by (number_in found.now) dwarf.now ty) }
+    ensures { IfOk result (λ view. view ≡ first_view (the_core_is_other (core_of dwarf.now ty) ty) (view_by (number_in found.now) dwarf.now ty)) }
 {
     laws_of_types();
     match own.core {
         None => Ok(view_of_void(alloc, own.align)),
         Some(c) => {
             let number = found.number_of(c);
-            view_of_core(alloc, dwarf, found, leads, summaries, number, c, own.align)
+            let other = is_other(own.core, ty);
+            view_of_core(
+                alloc, dwarf, found, leads, summaries, number, c, own.align, other,
+            )
         }
     }
 }
@@ -424,7 +435,7 @@ fn offset_of(dwarf: &Dwarf, ty: Option<usize>) -> u64
     }
 }
 
-// The node of a type.
+// The node of a type, which is given no parts yet where its core is another entry.
 fn node<'a, Ix: Index>(
     alloc: Global,
     dwarf: &Dwarf<'a>,
@@ -438,7 +449,7 @@ fn node<'a, Ix: Index>(
     requires summaries { AreSummaries dwarf.now found.now summaries.now }
     requires there { IfSome ty (λ e. Contains found.now e) }
     requires fits { (e : ℕ) → Contains found.now e → is_too_large dwarf.now e ≡ false }
-    ensures { IfOk result (λ node. node ≡ made_node dwarf.now found.now ty) }
+    ensures { IfOk result (λ node. node ≡ first_node dwarf.now found.now ty) }
 {
     laws_of_types();
     let own = summary_at(dwarf, found, summaries, ty);
@@ -453,7 +464,103 @@ fn node<'a, Ix: Index>(
     })
 }
 
+// The nodes of void and of all that was found. Those of which the core is another entry are given no parts yet.
+fn first_nodes<'a, Ix: Index>(
+    alloc: Global,
+    dwarf: &Dwarf<'a>,
+    found: &Found,
+    leads: &Leads,
+    summaries: &[Summary],
+) -> Result<List<Node<'a, Ix>>, NoMemory>
+    requires closed { IsClosed dwarf.now.tree found.now }
+    requires leads { AreLeads dwarf.now.tree found.now leads.now }
+    requires summaries { AreSummaries dwarf.now found.now summaries.now }
+    requires fits { (e : ℕ) → Contains found.now e → is_too_large dwarf.now e ≡ false }
+    ensures { IfOk result (λ nodes. nodes ≡ the_first_nodes dwarf.now found.now) }
+{
+    let mut nodes = List::of(Vec::with_capacity(alloc, found.len() + 1)?);
+    nodes.push(node(alloc, dwarf, found, leads, summaries, None)?)?;
+    'found: for number in 0..found.len() {
+        let e = found.at(number);
+        nodes.push(node(alloc, dwarf, found, leads, summaries, Some(e))?)?;
+    }
+    Ok(nodes)
+}
+
+// Gives a node these parts.
+fn put_parts<'a, Ix: Index>(node: &mut Node<'a, Ix>, parts: Parts<'a, Ix>)
+    ensures { node.new ≡ with_parts node.old parts.entry }
+{
+    node.view.parts = parts;
+}
+
+// Gives the node of one number the parts of the node of another.
+fn share_from<'a, Ix: Index>(
+    nodes: &mut Vec<Node<'a, Ix>>,
+    from: usize,
+    to: usize,
+) -> Result<(), NoMemory>
+    requires from { from < length nodes.old.items }
+    requires to { to < length nodes.old.items }
+    ensures { OnOk result (nodes.new.items ≡ set nodes.old.items to (with_parts (node_at nodes.old.items to) (node_at nodes.old.items from).view.parts)) }
+{
+    let parts = nodes[from].view.parts.shared()?;
+    put_parts(&mut nodes[to], parts);
+    Ok(())
+}
+
+// Gives the entry of a number the parts of its core, where that is another entry. The core's own node has them from the first,
+// so it may stand before or behind.
+fn share_at<'a, Ix: Index>(
+    dwarf: &Dwarf<'a>,
+    found: &Found,
+    summaries: &[Summary],
+    nodes: &mut Vec<Node<'a, Ix>>,
+    number: usize,
+) -> Result<(), NoMemory>
+    requires closed { IsClosed dwarf.now.tree found.now }
+    requires summaries { AreSummaries dwarf.now found.now summaries.now }
+    requires inside { number < length found.now }
+    requires nodes { AreShared dwarf.now found.now number nodes.old.items }
+    ensures { OnOk result (AreShared dwarf.now found.now (number + 1) nodes.new.items) }
+{
+    laws_of_types();
+    let e = found.at(number);
+    let own = summary_by_number(dwarf, found, summaries, number, e);
+    match own.core {
+        None => Ok(()),
+        Some(c) => {
+            if c == e {
+                return Ok(());
+            }
+            let _many = found.len();
+            let core = found.number_of(c);
+            share_from(nodes, core + 1, number + 1)?;
+            Ok(())
+        }
+    }
+}
+
+// Gives each node the parts of its core.
+fn share_parts<'a, Ix: Index>(
+    dwarf: &Dwarf<'a>,
+    found: &Found,
+    summaries: &[Summary],
+    mut nodes: Vec<Node<'a, Ix>>,
+) -> Result<Vec<Node<'a, Ix>>, NoMemory>
+    requires closed { IsClosed dwarf.now.tree found.now }
+    requires summaries { AreSummaries dwarf.now found.now summaries.now }
+    requires nodes { nodes.items ≡ the_first_nodes dwarf.now found.now }
+    ensures { IfOk result (λ shared. shared.items ≡ made_nodes dwarf.now found.now) }
+{
+    'shared: for number in 0..found.len() {
+        share_at(dwarf, found, summaries, &mut nodes, number)?;
+    }
+    Ok(nodes)
+}
+
 /// The nodes of void and of all that was found, in the order of the numbers.
+// A structure, its typedefs, and these with `const` share one list of parts: most parts of a library would else be copies.
 pub(crate) fn nodes<'a, Ix: Index>(
     alloc: Global,
     dwarf: &Dwarf<'a>,
@@ -467,11 +574,7 @@ pub(crate) fn nodes<'a, Ix: Index>(
     requires fits { (e : ℕ) → Contains found.now e → is_too_large dwarf.now e ≡ false }
     ensures { IfOk result (λ nodes. nodes ≡ made_nodes dwarf.now found.now) }
 {
-    let mut nodes = List::of(Vec::with_capacity(alloc, found.len() + 1)?);
-    nodes.push(node(alloc, dwarf, found, leads, summaries, None)?)?;
-    'found: for number in 0..found.len() {
-        let e = found.at(number);
-        nodes.push(node(alloc, dwarf, found, leads, summaries, Some(e))?)?;
-    }
-    Ok(nodes)
+    let first: List<Node<'a, Ix>> = first_nodes(alloc, dwarf, found, leads, summaries)?;
+    let nodes = share_parts(dwarf, found, summaries, first.into_vec())?;
+    Ok(List::of(nodes))
 }

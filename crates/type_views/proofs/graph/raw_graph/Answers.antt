@@ -1,5 +1,5 @@
 -- What has no fault is a graph.
-use Rattle.std.proofs.Common.{◌≡◌, ◌<◌, ℕ, None, length, sym, subst}
+use Rattle.std.proofs.Common.{◌<◌, ℕ, length, sym, subst}
 use Rattle.std.specs.Prelude.{Contains}
 use Rattle.std.proofs.lemmas.List.Elements.{All-contains}
 use Rattle.abi_types.specs.Graphs.{IsGraph}

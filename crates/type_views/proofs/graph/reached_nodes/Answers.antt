@@ -1,9 +1,8 @@
 -- The faults come row by row.
-use Rattle.std.proofs.Common.{◌≡◌, ◌<◌, ℕ, Some, None, map, length, sym, ◌∙◌, ap, subst}
+use Rattle.std.proofs.Common.{◌<◌, ℕ, Some, None, map, length, ◌∙◌, ap}
 use Rattle.std.specs.Prelude.{Contains}
 use Rattle.std.proofs.lemmas.List.Elements.{All-contains}
 use Rattle.abi_base.specs.Outcome.{first}
-use Rattle.abi_types.specs.Graphs.{IsGraph}
 use Rattle.type_entries.specs.Faults.{shape_fault, depth_fault, types_fault}
 use Rattle.type_views.specs.Nodes.{made_nodes}
 use Rattle.type_views.proofs.JudgeLemmas.{sizes-hold, by-shape, by-depth, by-size, refuses-too}

@@ -1,4 +1,4 @@
-use Rattle.std.proofs.Common.{ap, sym, subst, get_or, ◌∙◌}
+use Rattle.std.proofs.Common.{ap, sym, subst, get_or}
 use Rattle.std.specs.Prelude.{Contains}
 use Rattle.type_entries.specs.References.{has_type, type_of}
 use Rattle.type_entries.specs.Cores.{IsFound}
