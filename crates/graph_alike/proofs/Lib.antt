@@ -8,6 +8,7 @@ mod LookLemmas
 mod NumberLemmas
 mod RefineLemmas
 mod RepLemmas
+mod SameLemmas
 mod ShapeLemmas
 mod SpellingLemmas
 mod SplitLemmas

@@ -5,5 +5,6 @@ pub mod Edges
 pub mod Numbered
 pub mod Refined
 pub mod Reps
+pub mod Same
 pub mod Shapes
 pub mod Splits

@@ -72,9 +72,9 @@ impl Blocks {
         ensures unmarked { IfOk result HasNoMarks }
         ensures classes { IfOk result (λ b. (x : ℕ) → x < len → class_in b x ≡ 0) }
     {
-        let mut order = Vec::new(alloc);
-        let mut place = Vec::new(alloc);
-        let mut class = Vec::new(alloc);
+        let mut order = Vec::with_capacity(alloc, len)?;
+        let mut place = Vec::with_capacity(alloc, len)?;
+        let mut class = Vec::with_capacity(alloc, len)?;
         for number in 0..len {
             order.push(number)?;
             place.push(number)?;

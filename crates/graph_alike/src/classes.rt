@@ -6,6 +6,7 @@ ghost use Rattle.graph_alike.specs.Classes.{rep_of, AreSound, AreCoarsest};
 use crate::blocks::Blocks;
 use crate::refine::refine;
 use crate::reps::reps_of;
+use crate::same::are_same;
 use crate::shapes::shape_pairs;
 use crate::split::split_by_keys;
 use abi_base::NoMemory;
@@ -59,7 +60,7 @@ pub fn plain<'g, 'a, Ix: Index>(
     ensures graph { IfOk result (λ c. c.nodes ≡ graph.now) }
     ensures alone { IfOk result (λ c. (i : ℕ) → rep_of c i ≡ i) }
 {
-    let mut reps = Vec::new(alloc);
+    let mut reps = Vec::with_capacity(alloc, graph.len())?;
     for number in 0..graph.len() {
         reps.push(number)?;
     }
@@ -80,5 +81,23 @@ pub fn alike<'g, 'a, Ix: Index>(
     split_by_keys(&mut blocks, pairs.as_slice())?;
     refine(alloc, graph, &mut blocks)?;
     let reps = reps_of(alloc, graph, &blocks)?;
+    Ok(Classes { graph, reps })
+}
+
+/// The classes of nodes that are alike, beside those of another graph that are known: where the two graphs are the same, they
+/// are not computed again.
+pub fn alike_beside<'g, 'a, Ix: Index, Jx: Index>(
+    alloc: Global,
+    graph: &'g Graph<'a, Ix>,
+    known: &Classes<'_, '_, Jx>,
+) -> Result<Classes<'g, 'a, Ix>, NoMemory>
+    requires { AreCoarsest known.now }
+    ensures graph { IfOk result (λ c. c.nodes ≡ graph.now) }
+    ensures coarsest { IfOk result AreCoarsest }
+{
+    if !are_same(known.graph, graph) {
+        return alike(alloc, graph);
+    }
+    let reps = Vec::from_slice(alloc, known.reps.as_slice())?;
     Ok(Classes { graph, reps })
 }

@@ -8,7 +8,7 @@ ghost use Rattle.graph_alike.specs.Splits.{key_of};
 ghost use Rattle.graph_alike.specs.Edges.{node_count, AreLinked, IsIncoming, IsAdded, Names, AreIncoming};
 
 use abi_base::NoMemory;
-use abi_types::{Graph, Index, Part};
+use abi_types::{Graph, Index, Kind, Part};
 use std::alloc::Global;
 
 /// A part that names a node.
@@ -31,18 +31,16 @@ pub struct Incoming {
 }
 
 impl Incoming {
-    // So many nodes that no part names.
-    fn none(alloc: Global, count: usize) -> Result<Incoming, NoMemory>
+    // So many nodes that no part names, with room for so many parts that do.
+    fn none(alloc: Global, count: usize, room: usize) -> Result<Incoming, NoMemory>
         ensures edges { IfOk result (λ i. i.edges.items ≡ []) }
         ensures count { IfOk result (λ i. node_count i ≡ count) }
         ensures last { IfOk result (λ i. (s : ℕ) → s < count → at i.last.items s ≡ 0) }
     {
-        let mut last = Vec::new(alloc);
+        let edges = Vec::with_capacity(alloc, room)?;
+        let mut last = Vec::with_capacity(alloc, count)?;
         last.resize(count, 0)?;
-        Ok(Incoming {
-            edges: Vec::new(alloc),
-            last,
-        })
+        Ok(Incoming { edges, last })
     }
 
     // Adds a part, given by its position and its node, that names a node.
@@ -114,11 +112,24 @@ fn add_parts<Ix: Index>(
     Ok(())
 }
 
+// How many parts there are that name a node. Enumerations have none.
+fn edge_count<Ix: Index>(graph: &Graph<Ix>) -> usize {
+    let mut count: usize = 0;
+    for node in 0..graph.len() {
+        let view = graph.view(Ix::of(node));
+        match view.kind {
+            Kind::Enumeration => {}
+            _ => count = count.saturating_add(view.parts_len()),
+        }
+    }
+    count
+}
+
 /// For each node of the graph the parts that name it, each by its position and the node that it is of.
 pub fn incoming_of<Ix: Index>(alloc: Global, graph: &Graph<Ix>) -> Result<Incoming, NoMemory>
     ensures { IfOk result (AreIncoming graph.now (length graph.now)) }
 {
-    let mut incoming = Incoming::none(alloc, graph.len())?;
+    let mut incoming = Incoming::none(alloc, graph.len(), edge_count(graph))?;
     'nodes: for node in 0..graph.len() {
         add_parts(&mut incoming, graph, node)?;
     }

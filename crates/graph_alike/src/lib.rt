@@ -8,7 +8,8 @@ mod edges;
 pub mod laws;
 mod refine;
 mod reps;
+mod same;
 mod shapes;
 mod split;
 
-pub use classes::{Classes, alike, plain};
+pub use classes::{Classes, alike, alike_beside, plain};

@@ -13,7 +13,7 @@ fn first_nodes(alloc: Global, blocks: &Blocks) -> Result<Vec<usize>, NoMemory>
     requires { AreBlocks blocks.now }
     ensures { IfOk result (λ list. AreOfClasses (len_of blocks.now) (count_of blocks.now) (class_in blocks.now) list.items) }
 {
-    let mut list = Vec::new(alloc);
+    let mut list = Vec::with_capacity(alloc, blocks.count())?;
     'classes: for class in 0..blocks.count() {
         let members = blocks.members(class);
         list.push(members[0])?;
@@ -62,7 +62,7 @@ pub fn reps_of<Ix: Index>(
     ensures { IfOk result (λ reps. AreReps graph.now (class_in blocks.now) reps.items) }
 {
     let list = least_nodes(alloc, graph, blocks)?;
-    let mut reps = Vec::new(alloc);
+    let mut reps = Vec::with_capacity(alloc, graph.len())?;
     'nodes: for node in 0..graph.len() {
         reps.push(list[blocks.class_of(node)])?;
     }

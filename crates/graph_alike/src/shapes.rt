@@ -45,6 +45,42 @@ impl Hash for Spelling {
 
 // Each kind has a number of its own, and so have groups, kinds of labels, slots, places and parts.
 
+// The head of a view counts its kind, its group and two truths in one number: each of them counts by more than all before it
+// come to. There are 9 kinds and 7 groups.
+const GROUP_STEP: u64 = 9;
+// 9 kinds in 7 groups.
+const DECLARED_ONLY_STEP: u64 = 63;
+// As many again for what is only declared.
+const VARIADIC_STEP: u64 = 126;
+
+// There are 5 sorts of slots: the number of a register counts by as many, and its sort stands in between.
+const SLOT_STEP: u64 = 5;
+
+// How many eightbytes places in registers have.
+const EIGHTBYTES: u64 = 8;
+
+// What a place begins with.
+const NOTHING: u64 = 0;
+
+const REGISTERS: u64 = 1;
+
+const STACK: u64 = 2;
+
+const HIDDEN: u64 = 3;
+
+// What a part begins with.
+const MEMBER: u64 = 0;
+
+const ENUMERATOR: u64 = 1;
+
+const TARGET: u64 = 2;
+
+const ELEMENT: u64 = 3;
+
+const OUTCOME: u64 = 4;
+
+const PARAM: u64 = 5;
+
 fn kind_number(kind: Kind) -> u64
     ensures number { result ≡ the_kind_number kind }
     ensures small { result < 9 }
@@ -102,35 +138,37 @@ fn slot_number(slot: Slot) -> u64
 {
     match slot {
         Slot::Unused => 0,
-        Slot::General(number) => 5 * u64::from(number) + 1,
-        Slot::Vector(number) => 5 * u64::from(number) + 2,
-        Slot::Upper(number) => 5 * u64::from(number) + 3,
-        Slot::X87(number) => 5 * u64::from(number) + 4,
+        Slot::General(number) => SLOT_STEP * u64::from(number) + 1,
+        Slot::Vector(number) => SLOT_STEP * u64::from(number) + 2,
+        Slot::Upper(number) => SLOT_STEP * u64::from(number) + 3,
+        Slot::X87(number) => SLOT_STEP * u64::from(number) + 4,
     }
 }
 
-fn push_slots(into: &mut Vec<u64>, slots: &[Slot]) -> Result<(), NoMemory>
-    ensures { OnOk result (into.new.items ≡ into.old.items ++ spelled_list spelled_slot slots.now) }
-{
-    into.push(slots.len() as u64)?;
-    'slots: for i in 0..slots.len() {
-        into.push(slot_number(slots[i]))?;
-    }
-    Ok(())
-}
-
-fn push_registers(into: &mut Vec<u64>, slots: &[Slot]) -> Result<(), NoMemory>
+// The numbers are pushed as one list, which is faster than one by one.
+fn push_registers(into: &mut Vec<u64>, slots: &[Slot; 8]) -> Result<(), NoMemory>
     ensures { OnOk result (into.new.items ≡ into.old.items ++ 1 ∷ spelled_list spelled_slot slots.now) }
 {
-    into.push(1)?;
-    push_slots(into, slots)
+    into.extend_from_slice(&[
+        REGISTERS,
+        EIGHTBYTES,
+        slot_number(slots[0]),
+        slot_number(slots[1]),
+        slot_number(slots[2]),
+        slot_number(slots[3]),
+        slot_number(slots[4]),
+        slot_number(slots[5]),
+        slot_number(slots[6]),
+        slot_number(slots[7]),
+    ])?;
+    Ok(())
 }
 
 fn push_stack(into: &mut Vec<u64>, offset: u64, size: u64) -> Result<(), NoMemory>
     ensures { OnOk result (into.new.items ≡ into.old.items ++ 2 ∷ offset ∷ size ∷ []) }
 {
-    into.push(2)?;
-    push_pair(into, offset, size)
+    into.extend_from_slice(&[STACK, offset, size])?;
+    Ok(())
 }
 
 fn push_number(into: &mut Vec<u64>, number: u64) -> Result<(), NoMemory>
@@ -145,10 +183,10 @@ fn push_place(into: &mut Vec<u64>, place: &Place) -> Result<(), NoMemory>
     ensures { OnOk result (into.new.items ≡ into.old.items ++ spelled_place place.now) }
 {
     match place {
-        Place::Nothing => push_number(into, 0),
+        Place::Nothing => push_number(into, NOTHING),
         Place::Registers { eightbytes } => push_registers(into, eightbytes),
         Place::Stack { offset, size } => push_stack(into, *offset, *size),
-        Place::Hidden => push_number(into, 3),
+        Place::Hidden => push_number(into, HIDDEN),
     }
 }
 
@@ -165,14 +203,14 @@ fn push_places(into: &mut Vec<u64>, places: &[Place]) -> Result<(), NoMemory>
 fn push_member(into: &mut Vec<u64>, letters: usize, bit: u64, width: u64) -> Result<(), NoMemory>
     ensures { OnOk result (into.new.items ≡ into.old.items ++ 0 ∷ letters ∷ bit ∷ width ∷ []) }
 {
-    into.extend_from_slice(&[0, letters as u64, bit, width])?;
+    into.extend_from_slice(&[MEMBER, letters as u64, bit, width])?;
     Ok(())
 }
 
 fn push_enumerator(into: &mut Vec<u64>, letters: usize, value: u64) -> Result<(), NoMemory>
     ensures { OnOk result (into.new.items ≡ into.old.items ++ 1 ∷ letters ∷ value ∷ []) }
 {
-    into.extend_from_slice(&[1, letters as u64, value])?;
+    into.extend_from_slice(&[ENUMERATOR, letters as u64, value])?;
     Ok(())
 }
 
@@ -188,10 +226,10 @@ fn push_part<Ix: Index>(into: &mut Vec<u64>, part: &Part<Ix>) -> Result<(), NoMe
             ..
         } => push_member(into, name.len(), *bit, *width),
         Part::Enumerator { name, value } => push_enumerator(into, name.len(), *value),
-        Part::Target { .. } => push_number(into, 2),
-        Part::Element { .. } => push_number(into, 3),
-        Part::Outcome { .. } => push_number(into, 4),
-        Part::Param { .. } => push_number(into, 5),
+        Part::Target { .. } => push_number(into, TARGET),
+        Part::Element { .. } => push_number(into, ELEMENT),
+        Part::Outcome { .. } => push_number(into, OUTCOME),
+        Part::Param { .. } => push_number(into, PARAM),
     }
 }
 
@@ -233,9 +271,9 @@ fn head_number(kind: Kind, group: Group, declared_only: bool, variadic: bool) ->
     ensures { result ≡ the_head_number kind group declared_only variadic }
 {
     kind_number(kind)
-        + 9 * group_number(group)
-        + 63 * u64::from(declared_only)
-        + 126 * u64::from(variadic)
+        + GROUP_STEP * group_number(group)
+        + DECLARED_ONLY_STEP * u64::from(declared_only)
+        + VARIADIC_STEP * u64::from(variadic)
 }
 
 fn push_numbers<Ix: Index>(into: &mut Vec<u64>, view: &View<Ix>) -> Result<(), NoMemory>
@@ -351,7 +389,7 @@ fn numbered<Ix: Index>(alloc: Global, graph: &Graph<Ix>) -> Result<Vec<(usize, u
 {
     the_same_are_equal();
     let mut numbers = HashMap::new(alloc);
-    let mut pairs = Vec::new(alloc);
+    let mut pairs = Vec::with_capacity(alloc, graph.len())?;
     let mut spelling = Spelling {
         numbers: Vec::new(alloc),
         letters: Vec::new(alloc),

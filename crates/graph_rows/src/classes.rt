@@ -1,9 +1,11 @@
 // Classes of small graphs, by hand.
+ghost use Rattle.graph_alike.specs.Classes.{AreCoarsest};
+
 use abi_base::{List, NoMemory};
 use abi_types::{
-    Call, Graph, Group, Index, Kind, Label, LabelKind, Node, OldIx, Part, Parts, View,
+    Call, Graph, Group, Index, Kind, Label, LabelKind, NewIx, Node, OldIx, Part, Parts, View,
 };
-use graph_alike::{alike, plain};
+use graph_alike::{Classes, alike, alike_beside, plain};
 use hand_graphs::is_graph;
 use std::alloc::Global;
 use std::process::Abort;
@@ -199,4 +201,52 @@ fn declared_and_defined_structures_differ(rt: HostRuntime) -> Result<(), Fail> {
         nodes.push(node)?;
     }
     assert_reps(&rt, alloc, nodes, [0, 1, 4, 3, 4].as_slice())
+}
+
+// A row of a table: what is asserted of a graph beside another one is that each node has the same node stand for it as without
+// the other graph, and that it is this node.
+fn assert_reps_beside(
+    rt: &impl Abort,
+    alloc: Global,
+    nodes: List<Node<NewIx>>,
+    known: &Classes<OldIx>,
+    reps: &[usize],
+) -> Result<(), Fail>
+    requires { AreCoarsest known.now }
+{
+    let is_made = is_graph(alloc, nodes.as_slice())?;
+    assert!(rt; is_made);
+    let graph = Graph::of_nodes(alloc, nodes)?;
+    assert_eq!(rt; graph.len(), reps.len());
+    let beside = alike_beside(alloc, &graph, known)?;
+    let classes = alike(alloc, &graph)?;
+    for i in 0..graph.len() {
+        assert_eq!(rt; beside.rep(NewIx::of(i)).number(), reps[i], "node {i}");
+        assert_eq!(rt; classes.rep(NewIx::of(i)).number(), reps[i], "node {i}");
+    }
+    Ok(())
+}
+
+// Two structures, each with a pointer to the other one. The member `v` of the second one is the node `value`.
+fn ring_of_two<'a, Ix: Index>(alloc: Global, value: usize) -> Result<List<Node<'a, Ix>>, NoMemory> {
+    let mut nodes = start::<Ix>(alloc)?;
+    push_link(alloc, &mut nodes, 2, 5, 1)?;
+    push_link(alloc, &mut nodes, 4, 3, value)?;
+    Ok(nodes)
+}
+
+// The first new graph is the same as the old one, and the second one has void in place of an int.
+#[test]
+fn classes_beside_known_ones_are_the_same(rt: HostRuntime) -> Result<(), Fail> {
+    let alloc = rt.alloc();
+    let nodes = ring_of_two::<OldIx>(alloc, 1)?;
+    let is_made = is_graph(alloc, nodes.as_slice())?;
+    assert!(rt; is_made);
+    let old = Graph::of_nodes(alloc, nodes)?;
+    let known = alike(alloc, &old)?;
+    for (value, reps) in [(1, [0, 1, 2, 3, 2, 3]), (0, [0, 1, 2, 3, 4, 5])] {
+        let new = ring_of_two::<NewIx>(alloc, value)?;
+        assert_reps_beside(&rt, alloc, new, &known, reps.as_slice())?;
+    }
+    Ok(())
 }

@@ -10,7 +10,7 @@ use abi_types::{Library, Marks, NewIx, OldIx};
 use break_report::Row;
 use cert_make::make_cert;
 use cert_text::Cert;
-use graph_alike::alike;
+use graph_alike::{alike, alike_beside};
 use pair_explorer::laws::no_break_is_compatible;
 use report_make::report_rows;
 use std::alloc::Global;
@@ -44,7 +44,7 @@ pub fn compare(
     let bound = bind_all(alloc, old.exports(), new.exports())?;
     let bound = bound.as_slice();
     let old_classes = alike(alloc, old_graph)?;
-    let new_classes = alike(alloc, new_graph)?;
+    let new_classes = alike_beside(alloc, new_graph, &old_classes)?;
     let explored = explore_types(alloc, old, new, marks, bound, &old_classes, &new_classes)?;
     let rows = report_rows(alloc, old, new, marks, bound, &explored)?;
     if !rows.as_slice().is_empty() {

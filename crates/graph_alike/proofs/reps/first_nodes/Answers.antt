@@ -5,7 +5,7 @@ use Rattle.graph_alike.proofs.RepLemmas.{AreOfClasses-start, AreOfClasses-more}
 use Rattle.graph_alike.proofs.reps.first_nodes.Goals as goal
 
 pub classes-init : goal.classes-init
-classes-init c = AreOfClasses-start (len_of c.args.blocks.now) (class_in c.args.blocks.now) c.new-list.result.items c.new-list.ensures.items
+classes-init c = AreOfClasses-start (len_of c.args.blocks.now) (class_in c.args.blocks.now) c.in_ok-list.list.items c.in_ok-list.ensures.items
 
 pub classes-preserved : goal.classes-preserved
 classes-preserved c =

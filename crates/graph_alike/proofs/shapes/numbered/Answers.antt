@@ -6,7 +6,7 @@ use Rattle.graph_alike.proofs.NumberLemmas.{IsNumbering-start, IsNumbering-more,
 use Rattle.graph_alike.proofs.shapes.numbered.Goals as goal
 
 pub nodes-init : goal.nodes-init
-nodes-init g c = IsNumbering-start c.args.graph.now c.new-numbers.result c.new-pairs.result.items c.new-numbers.ensures.empty c.new-pairs.ensures.items
+nodes-init g c = IsNumbering-start c.args.graph.now c.new-numbers.result c.in_ok-pairs.pairs.items c.new-numbers.ensures.empty c.in_ok-pairs.ensures.items
 
 pub nodes-preserved : goal.nodes-preserved
 nodes-preserved g c =

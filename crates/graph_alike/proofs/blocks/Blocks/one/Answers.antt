@@ -11,10 +11,10 @@ use Rattle.graph_alike.proofs.blocks.Blocks.one.Goals as goal
 
 pub loop-number-init : goal.loop-number-init
 loop-number-init c = record {
-  order = c.new-order.ensures.items;
-  place = c.new-place.ensures.items;
-  len = ap length c.new-class.ensures.items;
-  class = λ x. ap (λ (xs : List ℕ). at xs x) c.new-class.ensures.items;
+  order = c.in_ok-order.ensures.items;
+  place = c.in_ok-place.ensures.items;
+  len = ap length c.in_ok-class.ensures.items;
+  class = λ x. ap (λ (xs : List ℕ). at xs x) c.in_ok-class.ensures.items;
 }
 
 pub loop-number-preserved : goal.loop-number-preserved
