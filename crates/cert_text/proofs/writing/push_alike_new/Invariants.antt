@@ -1,7 +1,7 @@
-use Rattle.std.proofs.Common.{◌≡◌, ◌++◌, take, map, string_bytes}
+use Rattle.std.proofs.Common.{◌≡◌, ◌++◌, take, map}
 use Rattle.cert_text.specs.declared.line.Version.TheVariants.{Two}
 use Rattle.cert_text.specs.Grammar.{lined, spelling, alike_new_of}
 use Rattle.cert_text.proofs.writing.push_alike_new.Given as goal
 
 abbrev pub invariant-loop-line : goal.invariant-loop-line
-invariant-loop-line l = string_bytes l.text ≡ string_bytes l.fn.text ++ lined (map (spelling Two) (map alike_new_of (take l.line-index l.lines)))
+invariant-loop-line l = l.text.items ≡ l.fn.text.items ++ lined (map (spelling Two) (map alike_new_of (take l.line-index l.lines)))

@@ -1,13 +1,12 @@
-use Rattle.std.proofs.Common.{subst, string_bytes}
+use Rattle.std.proofs.Common.{subst}
 use Rattle.cert_text.specs.Grammar.{IsSpelled}
 use Rattle.cert_text.proofs.WritingLemmas.{written}
 use Rattle.cert_text.proofs.writing.write_cert.Goals as goal
 
 pub returns : goal.returns
 returns c =
-    rw c.into_bytes.ensures.value
-    (subst (IsSpelled (string_bytes c.push_line.new.text)) c.cert.view_is
+    subst (IsSpelled c.push_line.new.text.items) c.cert.view_is
     (written _ _ _ _ _ _ _ _ _ _ c.cert.invariant
-    c.in_ok-text.ensures.ok c.in_ok-push_digest.ensures c.in_ok-push_digest-2.ensures c.in_ok-push_digest-3.ensures
+    (rw c.in_ok-text.ensures.items at c.in_ok-extend_from_slice.ensures.items) c.in_ok-push_digest.ensures c.in_ok-push_digest-2.ensures c.in_ok-push_digest-3.ensures
     (rw c.as_slice.ensures at c.in_ok-push_binds.ensures) (rw c.as_slice-2.ensures at c.in_ok-push_alike_old.ensures)
-    (rw c.as_slice-3.ensures at c.in_ok-push_alike_new.ensures) (rw c.as_slice-4.ensures at c.in_ok-push_pairs.ensures) c.in_ok-push_line.ensures))
+    (rw c.as_slice-3.ensures at c.in_ok-push_alike_new.ensures) (rw c.as_slice-4.ensures at c.in_ok-push_pairs.ensures) c.in_ok-push_line.ensures)
