@@ -5,9 +5,9 @@ use Rattle.std.specs.Bool.{beq}
 use Rattle.std.specs.List.{Contains}
 use Rattle.std.proofs.lemmas.Bool.{cases_Bool, and_from, eq-eqb}
 use Rattle.std.proofs.lemmas.Option.{none-some, same_Some}
-use Rattle.abi_base.proofs.lemmas.Lists.{contains_at, at_contains}
 use Rattle.cert_text.specs.Certs.{PairLine, is_pointer}
 use Rattle.cert_check.specs.Accepted.{line_of, same_line, is_line}
+use Rattle.cert_check.proofs.ListLemmas.{contains_at, at_contains}
 use Rattle.cert_check.proofs.Lines.{line_of-some, is_line-at}
 use Rattle.cert_check.proofs.Search.{any_is}
 

@@ -5,8 +5,8 @@ use Rattle.std.specs.List.{range_with_len, Contains}
 use Rattle.std.proofs.lemmas.Bool.{cases_order}
 use Rattle.std.proofs.lemmas.List.Elements.{filter_map-append}
 use Rattle.std.proofs.lemmas.Option.{none-some}
-use Rattle.abi_base.proofs.lemmas.Lists.{contains_at, at_contains}
 use Rattle.cert_check.specs.Given.{given_below, IsGivenBy, AreGivenInOrder, StandInOrder}
+use Rattle.cert_check.proofs.ListLemmas.{contains_at, at_contains}
 
 range_more : (a n : ℕ) → range_with_len a (suc n) ≡ range_with_len a n ++ (a + n) ∷ []
 range_more a zero = ap (λ k. k ∷ []) (omega arith)

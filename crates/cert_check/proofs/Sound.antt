@@ -1,7 +1,6 @@
 -- An accepted certificate is a proof.
 use Rattle.std.proofs.Common.{◌≡◌, ◌<◌, ◌&&◌, ◌==◌, ℕ, Bool, true, false, List, [], ◌∷◌, length, slice_get, Option, Some, None, refl, sym, ◌∙◌, ap, subst, inl, inr, arith}
 use Rattle.std.specs.Prelude.{slice_index_or, ◌↔◌}
-use Rattle.abi_base.proofs.lemmas.Lists.{at_contains}
 use Rattle.std.specs.List.{range_with_len, AllByRecursion, Contains}
 use Rattle.std.proofs.lemmas.Bool.{cases_Bool, and_parts, and_from, eqb-true, lt-ltb}
 use Rattle.std.proofs.lemmas.Option.{same_Some, none-some, slice_get_within}
@@ -22,6 +21,7 @@ use Rattle.cert_check.specs.Kept.{KeepsAll}
 use Rattle.cert_check.specs.Relation.{relation_of}
 use Rattle.cert_check.specs.TypedPairs.{IsTypedPair, HasTypes}
 use Rattle.cert_check.specs.Accepted.{Place, heads, joined, Binding, Rules, AlikeOld, AlikeNew, Root, Rule, Partners, groups, places, binding_places, pair_places, IsAccepted, Case, line_of, rep, class_in, old_class, new_class, listed, is_line, KeepsAlike, KeepsBinding, KeepsRule, KeepsPartners, Keeps}
+use Rattle.cert_check.proofs.ListLemmas.{at_contains}
 use Rattle.cert_check.proofs.First.{grouped, join, each-at, each-from, twos-at, twos-from, find_range, filter_map-given}
 use Rattle.cert_check.proofs.Numbered.{given_there, given_ascends}
 use Rattle.cert_check.proofs.Lines.{line_of-some, rep-some, rep-none, is_line-at}

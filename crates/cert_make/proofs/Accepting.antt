@@ -3,7 +3,6 @@ use Rattle.std.proofs.Common.{◌≡◌, ◌<◌, ℕ, true, false, List, [], le
 use Rattle.std.specs.Prelude.{◌↔◌, is_some}
 use Rattle.std.specs.List.{Contains}
 use Rattle.std.proofs.lemmas.Option.{same_Some, slice_get_within, get_or_from_slice_get}
-use Rattle.abi_base.proofs.lemmas.Lists.{contains_at, at_contains}
 use Rattle.abi_types.specs.declared.kind.Way.{Way}
 use Rattle.abi_types.specs.declared.kind.Way.TheVariants.{Direct}
 use Rattle.abi_types.specs.Exports.{PlainExport}
@@ -21,6 +20,7 @@ use Rattle.cert_check.specs.Accepted.{Case, KeepsBinding, KeepsRules, KeepsRoot,
 use Rattle.cert_check.specs.Kept.{KeepsAll}
 use Rattle.cert_make.specs.Lines.{IsReachedPair, bind_lines}
 use Rattle.cert_make.specs.Certificates.{IsCertificateOf, AreLibraries, AreMarkedAlike}
+use Rattle.cert_make.proofs.ListLemmas.{contains_at, at_contains}
 use Rattle.cert_make.proofs.Leasts.{AlikeLaws, node_of-is, node_there, least_moved}
 use Rattle.cert_make.proofs.AlikeLemmas.{LineLaws, rep_least, lines_kept}
 use Rattle.cert_make.proofs.Leading.{RuleLaws, goes_alike}

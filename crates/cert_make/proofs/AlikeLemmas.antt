@@ -2,7 +2,6 @@
 use Rattle.std.proofs.Common.{◌≡◌, ◌<◌, ℕ, List, length, Option, Some, None, refl, sym, ◌∙◌, subst, arith}
 use Rattle.std.specs.Prelude.{◌↔◌, true}
 use Rattle.std.specs.List.{Contains}
-use Rattle.abi_base.proofs.lemmas.Lists.{contains_at}
 use Rattle.abi_types.specs.Types.{PlainNode}
 use Rattle.abi_types.specs.Graphs.{IsGraph, node_at}
 use Rattle.graph_alike.specs.Alike.{AreAlike}
@@ -10,6 +9,7 @@ use Rattle.graph_alike.specs.Classes.{IsLeastEntry}
 use Rattle.cert_text.specs.Certs.{PairLine}
 use Rattle.cert_check.specs.Accepted.{line_of, rep, is_line, class_in, KeepsAlike}
 use Rattle.cert_make.specs.Lines.{AreAlikeLines}
+use Rattle.cert_make.proofs.ListLemmas.{contains_at}
 use Rattle.cert_make.proofs.Leasts.{AlikeLaws, node_there, one_least, own_least}
 
 -- what look-ups find among lines

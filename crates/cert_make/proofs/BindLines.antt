@@ -5,7 +5,6 @@ use Rattle.std.specs.Prelude.{option_and_then}
 use Rattle.std.specs.declared.cmp.Ordering.TheVariants.{Less}
 use Rattle.std.proofs.lemmas.Bool.{cases_Bool, cases_order}
 use Rattle.std.proofs.lemmas.Option.{none-some, same_Some, slice_get_within, slice_get-get_or}
-use Rattle.abi_base.proofs.lemmas.Lists.{contains_at}
 use Rattle.abi_types.specs.Exports.{PlainExport}
 use Rattle.abi_types.specs.Libraries.{AreNumbered}
 use Rattle.abi_types.specs.Limits.{symbol_limit}
@@ -14,6 +13,7 @@ use Rattle.cert_text.specs.Certs.{Ascend, IsBelow, first_cmp}
 use Rattle.cert_check.specs.Compatible.{Sides, IsCompared, bound}
 use Rattle.cert_check.specs.Accepted.{line_of}
 use Rattle.cert_make.specs.Lines.{line_between, line_from, bind_line, bind_lines}
+use Rattle.cert_make.proofs.ListLemmas.{contains_at}
 use Rattle.cert_make.proofs.BindLemmas.{GivenLaw, line_bound}
 use Rattle.cert_make.proofs.AlikeLemmas.{LineLaws}
 use Rattle.cert_make.proofs.Orders.{nat_less}

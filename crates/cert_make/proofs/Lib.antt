@@ -1,4 +1,5 @@
 mod BindLemmas
+mod ListLemmas
 mod Orders
 mod OneList
 mod Leasts

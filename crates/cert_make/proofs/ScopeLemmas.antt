@@ -4,7 +4,6 @@ use Rattle.std.specs.Prelude.{◌↔◌}
 use Rattle.std.specs.List.{Contains}
 use Rattle.std.proofs.lemmas.Bool.{cases_lt}
 use Rattle.std.proofs.lemmas.List.{get_or_past}
-use Rattle.abi_base.proofs.lemmas.Lists.{contains_at}
 use Rattle.abi_types.specs.declared.kind.Way.{Way}
 use Rattle.abi_types.specs.declared.kind.Way.TheVariants.{Direct, Pointer}
 use Rattle.abi_types.specs.Types.{PlainNode}
@@ -17,6 +16,7 @@ use Rattle.pair_explorer.specs.Scopes.{IsScope, AreEvenMarks}
 use Rattle.cert_check.specs.Compatible.{Sides, typed_roots, task_of}
 use Rattle.cert_check.specs.TypedPairs.{IsTypedPair, HasTypes}
 use Rattle.cert_make.specs.Searches.{scope_of, AreMarksOf}
+use Rattle.cert_make.proofs.ListLemmas.{contains_at}
 
 rep_past : (reps : List ℕ) (x : ℕ) → length reps ≤ x → rep_in reps x ≡ x
 unfolding rep_in

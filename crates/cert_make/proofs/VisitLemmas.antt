@@ -9,7 +9,6 @@ use Rattle.std.proofs.lemmas.Bool.{cases_Bool}
 use Rattle.std.proofs.lemmas.List.{take_more, map-append}
 use Rattle.std.proofs.lemmas.List.Sorted.{Contains-permutation, IsPermutation-sym}
 use Rattle.std.proofs.lemmas.Option.{slice_get_within, slice_get-get_or, slice_get-map, get_or_from_slice_get}
-use Rattle.abi_base.proofs.lemmas.Lists.{contains_at, at_contains, map_source}
 use Rattle.abi_types.specs.declared.kind.Way.{Way}
 use Rattle.abi_types.specs.Types.{PlainNode}
 use Rattle.abi_types.specs.Graphs.{IsGraph, node_at}
@@ -28,6 +27,7 @@ use Rattle.cert_check.specs.Compatible.{Sides, task_of}
 use Rattle.cert_make.specs.Lines.{IsReachedPair, ArePairLines}
 use Rattle.cert_make.specs.LineLists.{pair_line}
 use Rattle.cert_make.specs.Searches.{scope_of, AreClassesOf, IsUnbroken}
+use Rattle.cert_make.proofs.ListLemmas.{contains_at, at_contains, map_source}
 use Rattle.cert_make.proofs.Orders.{sorted_ascends, pair_cmp_total, pair_same, pair_eq}
 use Rattle.cert_make.proofs.FoundLemmas.{ClassLaws}
 

@@ -1,15 +1,14 @@
 -- Exports as the code reads them, and the names of exports.
-use Rattle.std.proofs.Common.{◌≡◌, ◌≤◌, ℕ, ◌+◌, ◌++◌, Bool, true, false, not, List, [], ◌∷◌, length, get_or, slice_get, Option, Some, None, refl, sym, ◌∙◌, ap, inl, inr, arith, append-nil, append_assoc}
+use Rattle.std.proofs.Common.{◌≡◌, ◌≤◌, ℕ, suc, ◌+◌, ◌++◌, Bool, true, false, not, List, [], ◌∷◌, length, get_or, slice_get, Option, Some, None, refl, sym, ◌∙◌, ap, inl, inr, arith, append-nil, append_assoc}
 use Rattle.std.specs.Prelude.{◌==◌, option_and_then, slice_index_or, unwrap_or}
 use Rattle.std.specs.List.{list_any}
 use Rattle.std.specs.Option.{option_map, option_map_or}
 use Rattle.std.specs.Str.{bytes_eq}
 use Rattle.std.proofs.Math.Dec.{eqb-suc-zero}
-use Rattle.std.proofs.lemmas.Bool.{cases_Bool}
+use Rattle.std.proofs.lemmas.Bool.{cases_Bool, false≢true, or_cases}
 use Rattle.std.proofs.lemmas.List.{length-map}
 use Rattle.std.proofs.lemmas.Map.Keys.{any_passes_from_place}
 use Rattle.std.proofs.lemmas.Option.{slice_get-map, get_or_from_slice_get}
-use Rattle.abi_base.proofs.lemmas.Lists.{any_found}
 use Rattle.abi_types.specs.declared.export.Export.{Export}
 use Rattle.abi_types.specs.Exports.{PlainExport}
 use Rattle.abi_types.specs.Graphs.{node_of}
@@ -118,6 +117,15 @@ exports_all s start rows exports k are same low high =
     are ∙ ap (rows_so_far s start) count
 
 -- ---- names
+
+-- one that passes, where any does
+any_found : {X : Type 0} (p : X → Bool) (xs : List X) → list_any p xs ≡ true → (n : ℕ) × (x : X) × (slice_get xs n ≡ Some x) × (p x ≡ true)
+any_found p [] h = absurd (false≢true h)
+any_found p (x ∷ xs) h =
+    elim (or_cases (p x) (list_any p xs) h) [
+      | inl here ↦ (0, x, refl, here)
+      | inr later ↦ let f = any_found p xs later in (suc f.0, f.1, f.2, f.3)
+    ]
 
 -- where the name of no export is found, no export has it
 no_name : (exports : List PlainExport) (name : List ℕ) → AreNamed exports name [] → list_any (is_named name) exports ≡ false

@@ -1,5 +1,6 @@
 mod AlikeDetails
 mod BelowLaws
+mod ListLemmas
 mod ExportLemmas
 mod MapLemmas
 mod NoneLemmas

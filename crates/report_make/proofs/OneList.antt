@@ -2,7 +2,7 @@
 use Rattle.std.proofs.Common.{◌≡◌, suc, List, [], ◌∷◌, refl, sym, ◌∙◌, ap, subst, inl, inr, arith}
 use Rattle.std.specs.List.{Contains}
 use Rattle.abi_base.specs.Lists.{Ascends}
-use Rattle.abi_base.proofs.lemmas.Lists.{at_contains}
+use Rattle.report_make.proofs.ListLemmas.{at_contains}
 use Rattle.report_make.proofs.MapLemmas.{none_in, in_front, behind_first, first_or_later}
 
 module _ {X : Type 0} (R : X → X → Type 0) (itself : (x : X) → R x x → ⊥) (both : (x y : X) → R x y → R y x → ⊥) where

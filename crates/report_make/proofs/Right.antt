@@ -4,7 +4,7 @@ use Rattle.std.specs.List.{Contains}
 use Rattle.std.proofs.lemmas.Bool.{cases_order}
 use Rattle.std.proofs.lemmas.Option.{same_Some}
 use Rattle.abi_base.specs.Lists.{AreFirsts, HasSame}
-use Rattle.abi_base.proofs.lemmas.Lists.{AreFirsts-all, contains_at, at_contains, map_source}
+use Rattle.abi_base.proofs.lemmas.Lists.{AreFirsts-all}
 use Rattle.abi_types.specs.declared.kind.Way.{Way}
 use Rattle.abi_types.specs.declared.kind.Way.TheVariants.{Direct}
 use Rattle.abi_types.specs.Types.{PlainNode}
@@ -24,6 +24,7 @@ use Rattle.pair_explorer.specs.ByClass.{IsToldBy, IsToldBefore}
 use Rattle.report_make.specs.Findings.{Finding, detail_at}
 use Rattle.report_make.specs.Reports.{AreRight, IsTrueBreak, IsFound, IsFoundBefore, IsAlikeTo, LeadsTo, IsOwn}
 use Rattle.report_make.specs.Told.{IsCoarse, found_of, finding_of, same_told, told_breaks, findings_of}
+use Rattle.report_make.proofs.ListLemmas.{contains_at, at_contains, map_source}
 use Rattle.report_make.proofs.AlikeDetails.{same_detail}
 use Rattle.report_make.proofs.BelowLaws.{PathLaws, ExplorationLaws, TextLaws}
 use Rattle.report_make.proofs.MapLemmas.{Contains-mapped, Contains-map_source}

@@ -4,7 +4,7 @@ use Rattle.std.specs.Prelude.{◌↔◌}
 use Rattle.std.specs.List.{Contains}
 use Rattle.std.proofs.lemmas.Option.{none-some}
 use Rattle.abi_base.specs.Lists.{firsts_after}
-use Rattle.abi_base.proofs.lemmas.Lists.{AreFirsts-all, contains_at, map_source}
+use Rattle.abi_base.proofs.lemmas.Lists.{AreFirsts-all}
 use Rattle.abi_types.specs.Graphs.{IsGraph}
 use Rattle.abi_types.specs.declared.rule.RuleName.{RuleName}
 use Rattle.abi_types.specs.Rules.{rule_place}
@@ -20,6 +20,7 @@ use Rattle.cert_check.specs.Compatible.{Sides, task_of}
 use Rattle.report_make.specs.Findings.{Finding}
 use Rattle.report_make.specs.Reports.{AreRight, AreOneRow, AreRightRows, row_of}
 use Rattle.report_make.specs.Told.{IsExplored, finding_of, findings_of, same_told, told_breaks, type_rows}
+use Rattle.report_make.proofs.ListLemmas.{contains_at, map_source}
 use Rattle.report_make.proofs.BelowLaws.{PathLaws, ExplorationLaws, TextLaws}
 use Rattle.report_make.proofs.MapLemmas.{map-nil}
 use Rattle.report_make.proofs.Right.{are_right, once}

@@ -7,7 +7,7 @@ use Rattle.std.proofs.lemmas.List.{take_more, take_all, map-append}
 use Rattle.std.proofs.lemmas.List.Elements.{Contains-get_or}
 use Rattle.std.proofs.lemmas.Option.{slice_get-get_or}
 use Rattle.abi_base.specs.Lists.{with_first, firsts_after, firsts}
-use Rattle.abi_base.proofs.lemmas.Lists.{AreFirsts-all, contains_at}
+use Rattle.abi_base.proofs.lemmas.Lists.{AreFirsts-all}
 use Rattle.abi_types.specs.declared.rule.RuleName.TheVariants.{X1}
 use Rattle.abi_types.specs.Graphs.{node_at, view_at}
 use Rattle.abi_types.specs.Rules.{rule_place}
@@ -26,6 +26,7 @@ use Rattle.report_make.specs.PathTexts.{label_at, steps_text}
 use Rattle.report_make.specs.Readable.{IsReadable, AreReadable}
 use Rattle.report_make.specs.Reports.{row_of}
 use Rattle.report_make.specs.Told.{finding_of, found_of, same_row, same_told, told_breaks, type_rows}
+use Rattle.report_make.proofs.ListLemmas.{contains_at}
 use Rattle.report_make.proofs.MapLemmas.{map-map}
 use Rattle.report_make.proofs.RowLemmas.{PlacesAreOwn}
 use Rattle.report_make.proofs.SameRows.{same_row-itself, same_row-turned}

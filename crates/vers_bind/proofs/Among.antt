@@ -5,7 +5,6 @@ use Rattle.std.proofs.lemmas.List.{append-nil, map-append}
 use Rattle.std.proofs.lemmas.List.Elements.{filter_map-append}
 use Rattle.abi_base.specs.declared.fault.Fault.{Fault}
 use Rattle.abi_base.specs.Outcome.{first}
-use Rattle.abi_base.proofs.lemmas.Outcomes.{first-append}
 use Rattle.abi_types.specs.declared.export.Export.{Export}
 use Rattle.abi_types.specs.Exports.{PlainExport}
 use Rattle.abi_types.specs.Plain.{plain_export, plain_exports}
@@ -63,6 +62,11 @@ module _ (versions : List (Option PlainVersion)) (symbols : List Symbol) (i : �
       so_far ∙ sym (one_more ∙ rw (← is) (append-nil (exports_with (take i (plain_symbols symbols)) versions)))
 
 -- ---- the fault of all
+
+first-append : (xs ys : List (Option Fault)) → first (xs ++ ys) ≡ option_or (first xs) (first ys)
+first-append [] ys = refl
+first-append (None ∷ xs) ys = first-append xs ys
+first-append (Some f ∷ xs) ys = refl
 
 pub faulty_version : (symbols : List PlainSymbol) (versions : List (Option PlainVersion)) (f : Fault) → Some f ≡ first (map (version_fault_of versions) symbols) → export_fault symbols versions ≡ Some f
 unfolding export_fault

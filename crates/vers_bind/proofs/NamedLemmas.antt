@@ -6,9 +6,8 @@ use Rattle.std.specs.Option.{option_or}
 use Rattle.std.proofs.lemmas.Bool.{cases_Bool}
 use Rattle.std.proofs.lemmas.Iterator.Adapters.{position_from-zero}
 use Rattle.std.proofs.lemmas.List.Sums.{sum_by-cons}
-use Rattle.std.proofs.lemmas.Option.{slice_get-map, none-some, same_Some}
+use Rattle.std.proofs.lemmas.Option.{slice_get-map, slice_get_within, slice_get-get_or, get_or_from_slice_get, none-some, same_Some}
 use Rattle.std.proofs.lemmas.Slice.Eq.{bytes_eq-Decides}
-use Rattle.abi_base.proofs.lemmas.Lists.{contains_at, at_contains}
 use Rattle.abi_types.specs.Exports.{PlainExport}
 use Rattle.abi_types.specs.Names.{IsNamed, AreNamed}
 use Rattle.vers_bind.specs.Binding.{is_named, has_version, has_first_version, is_default, bind_to}
@@ -150,8 +149,8 @@ module _ (exports : List PlainExport) (name : List ℕ) (places : List ℕ) (nam
   named_places =
       places_are (is_named name) exports 0 places (record {
         ascend = named.ascend;
-        forth = λ m k at. place k ((named.exact k).0 (contains_at places m k at));
-        back = λ k p. at_contains places k ((named.exact k).1 (stands k p));
+        forth = λ m k at. place k ((named.exact k).0 (m, slice_get_within places m k at, get_or_from_slice_get places m k k at));
+        back = λ k p. let (m, inside, is) = (named.exact k).1 (stands k p) in (m, slice_get-get_or places m k inside ∙ ap Some is);
       })
     where
       place : (k : ℕ) → IsNamed exports name k → IsPlace (is_named name) 0 exports k
