@@ -1,8 +1,8 @@
 // Named inputs, each read from its start to its end.
-ghost use Rattle.std.specs.Prelude.{◌≡◌, ◌+◌, ◌≤◌, ◌<◌, ◌||◌, List, ℕ, Bool, length, Option, Some, None, OnOk, OnErr, IfOk, IfSome, IsErrOf, is_err, is_none};
+ghost use Rattle.std.specs.Prelude.{◌≡◌, ◌+◌, ◌≤◌, ◌<◌, ◌||◌, List, ℕ, length, Option, Some, None, OnOk, OnErr, IfOk, IfSome, IsSome, IsErrOf, Bool, false, is_err, is_none};
 ghost use Rattle.std.specs.Io.{ReadsAtMost};
 ghost use Rattle.std.specs.Io.KnownBytes.{ReadConsumes};
-ghost use Rattle.abi_base.specs.Causes.{Rose, NeverFall, SameNames, OnTold, count_after};
+ghost use Rattle.abi_base.specs.Causes.{Rose, NeverFall, SameCounts, SameNames, Unfailing, OnTold, count_after};
 
 use crate::{Failed, Take};
 use std::alloc::{AllocError, Global};
@@ -24,6 +24,9 @@ pub trait Inputs {
     /// How many bytes were given since the last call of `start`. The count stands still at the end of `u64`.
     ghost given: { Self → ℕ };
 
+    /// How many calls of `start` there were. The count stands still at the end of `u64`.
+    ghost started: { Self → ℕ };
+
     /// Whether the call k calls from here on is made to fail, the next one being 0, where that is known. Nothing is known
     /// of a real file.
     ghost is_made_to_fail: { Self → ℕ → Option Bool } = { λ inputs k. None };
@@ -36,10 +39,19 @@ pub trait Inputs {
         ensures current { OnOk result (answers_to self.new name.now) }
         ensures left { OnOk result (OnTold (told self.old name.now) (left self.new)) }
         ensures given { given self.new ≡ 0 }
+        ensures started { started self.new ≡ count_after (started self.old) 1 }
+
+        // A name whose bytes are told is the only one that the current input answers to.
+        ensures only { OnOk result (IfSome (told self.old name.now) (λ _. (other : List ℕ) → answers_to self.new other → other ≡ name.now)) }
 
         ensures cause { OnErr result (Rose (faults self.old name.now) (faults self.new name.now)) }
+        ensures steady { OnOk result (SameCounts (faults self.old) (faults self.new)) }
         ensures kept { OnErr result (left self.new ≡ left self.old) }
         ensures kept_names { OnErr result (SameNames (answers_to self.old) (answers_to self.new)) }
+
+        // A failure counts once; where it was not made to happen, it counts for none of the names whose bytes are told.
+        ensures once { (other : List ℕ) → faults self.new other ≤ faults self.old other + 1 }
+        ensures missing { IfSome (is_made_to_fail self.old 0) (λ fails. fails ≡ false → (other : List ℕ) → IsSome (told self.old other) → faults self.new other ≡ faults self.old other) }
 
         // Where it is known which calls are made to fail, those fail and each other one whose name is not told.
         ensures fails { IfSome (is_made_to_fail self.old 0) (λ fails. is_err result ≡ (fails || is_none (told self.old name.now))) }
@@ -57,7 +69,12 @@ pub trait Inputs {
         ensures given { IfOk result (λ count. given self.new ≡ count_after (given self.old) count) }
 
         ensures cause { OnErr result ((name : List ℕ) → answers_to self.old name → Rose (faults self.old name) (faults self.new name)) }
+        ensures steady { OnOk result (SameCounts (faults self.old) (faults self.new)) }
         ensures kept_given { OnErr result (given self.new ≡ given self.old) }
+        ensures started { started self.new ≡ started self.old }
+
+        // A failure counts once.
+        ensures once { (other : List ℕ) → faults self.new other ≤ faults self.old other + 1 }
 
         // Where it is known which calls are made to fail, those fail and no other.
         ensures fails { IfSome (is_made_to_fail self.old 0) (λ fails. is_err result ≡ fails) }
@@ -103,8 +120,15 @@ pub fn read_whole<I: Inputs>(
     ensures told_too_long { IsErrOf result Take.TooLong → IfSome (I.told inputs.old name.now) (λ all. limit < length all) }
     ensures given_more { limit < I.given inputs.new → IsErrOf result Take.TooLong }
 
+    // Where no call from here on is made to fail and the name is told, no count rises.
+    ensures still { Unfailing I.is_made_to_fail inputs.old → Unfailing I.is_made_to_fail inputs.new }
+    ensures steady { Unfailing I.is_made_to_fail inputs.old → IsSome (I.told inputs.old name.now) → SameCounts (I.faults inputs.old) (I.faults inputs.new) }
+
     ensures failed { IsErrOf result Take.Failed → Rose (I.faults inputs.old name.now) (I.faults inputs.new name.now) }
     ensures failed_within { IsErrOf result Take.Failed → I.given inputs.new ≤ limit }
+
+    // The input was started once, unless memory ran out.
+    ensures started { I.started inputs.new ≡ count_after (I.started inputs.old) 1 }
 {
     inputs.start(name)?;
     let mut piece = piece_of(alloc)?;

@@ -40,6 +40,7 @@ pub struct MemInputs {
     current: Option<usize>,
     at: usize,
     given: u64,
+    started: u64,
 }
 
 impl MemInputs {
@@ -52,6 +53,7 @@ impl MemInputs {
         // Nothing is left before a first start.
         ensures left { ⟦<MemInputs as Inputs>⟧.left result ≡ Some [] }
         ensures given { ⟦<MemInputs as Inputs>⟧.given result ≡ 0 }
+        ensures started { ⟦<MemInputs as Inputs>⟧.started result ≡ 0 }
 
         ensures calls { (k : ℕ) → ⟦<MemInputs as Inputs>⟧.is_made_to_fail result k ≡ Some (is_listed failing.items 0 k) }
     {
@@ -63,6 +65,7 @@ impl MemInputs {
             current: None,
             at: 0,
             given: 0,
+            started: 0,
         }
     }
 }
@@ -90,10 +93,13 @@ impl Inputs for MemInputs {
 
     ghost given = { λ m. m.given };
 
+    ghost started = { λ m. m.started };
+
     ghost is_made_to_fail = { λ m k. Some (is_listed m.calls.failing.items m.calls.so_far k) };
 
     fn start(&mut self, name: &str) -> Result<(), Failed> {
         self.given = 0;
+        self.started = self.started.saturating_add(1);
         if self.calls.next_fails() {
             self.failed = self.failed.saturating_add(1);
             return Err(Failed);
@@ -178,6 +184,7 @@ impl MemSink {
         ensures held { IfOk result (λ sink. ⟦<MemSink as Sink>⟧.held sink ≡ Some []) }
         ensures faults { IfOk result (λ sink. ⟦<MemSink as Sink>⟧.faults sink ≡ 0) }
         ensures room { IfOk result (λ sink. ⟦<MemSink as Sink>⟧.room sink ≡ Some sink_room) }
+        ensures takes { IfOk result (λ sink. ⟦<MemSink as Sink>⟧.takes sink ≡ Some take) }
         ensures calls { IfOk result (λ sink. (k : ℕ) → ⟦<MemSink as Sink>⟧.is_made_to_fail sink k ≡ Some (is_listed failing.items 0 k)) }
     {
         Ok(MemSink {
@@ -202,6 +209,8 @@ impl Sink for MemSink {
     ghost faults = { λ s. s.failed };
 
     ghost room = { λ s. Some (sink_room - vec_len s.bytes) };
+
+    ghost takes = { λ s. Some s.take };
 
     ghost is_made_to_fail = { λ s k. Some (is_listed s.calls.failing.items s.calls.so_far k) };
 

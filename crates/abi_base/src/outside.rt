@@ -54,6 +54,7 @@ pub struct FileInputs<'a, R: Files> {
     current: Option<R::File>,
     given: u64,
     faults: u64,
+    started: u64,
 }
 
 impl<'a, R: Files> FileInputs<'a, R> {
@@ -61,6 +62,7 @@ impl<'a, R: Files> FileInputs<'a, R> {
     pub fn new(rt: &'a R) -> Self
         ensures faults { (name : List ℕ) → ⟦<FileInputs<'a, R> as Inputs>⟧.faults result name ≡ 0 }
         ensures given { ⟦<FileInputs<'a, R> as Inputs>⟧.given result ≡ 0 }
+        ensures started { ⟦<FileInputs<'a, R> as Inputs>⟧.started result ≡ 0 }
 
         // Nothing is left before a first start.
         ensures left { ⟦<FileInputs<'a, R> as Inputs>⟧.left result ≡ Some [] }
@@ -70,6 +72,7 @@ impl<'a, R: Files> FileInputs<'a, R> {
             current: None,
             given: 0,
             faults: 0,
+            started: 0,
         }
     }
 }
@@ -85,8 +88,11 @@ impl<R: Files> Inputs for FileInputs<'_, R> {
 
     ghost given = { λ s. s.given };
 
+    ghost started = { λ s. s.started };
+
     fn start(&mut self, name: &str) -> Result<(), Failed> {
         self.given = 0;
+        self.started = self.started.saturating_add(1);
         match fs::open(self.rt, name) {
             Ok(file) => {
                 self.current = Some(file);

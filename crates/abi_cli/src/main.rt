@@ -1,37 +1,34 @@
-//! The program `abi`: the words of the command line, files and standard output in, and the exit number of the status out. Beside
+//! The program `abi`: the words of the command line, files and standard output in, and the exit number of the outcome out. Beside
 //! the answer it tells people on standard error what is wrong with an input.
 #![tactic(auto)]
 
 mod notes;
 
 use crate::notes::notes;
-use abi_base::{FileInputs, NoMemory, Remark, StdSink};
-use abi_top::{Status, run};
-use break_report::{
-    CountsListener, FirstListener, Listener, TableListener, TextListener, add_listener,
-};
-use explain::NotedSink;
+use abi_base::{FileInputs, NoMemory, StdSink};
+use abi_top::{Ended, Outcome, run};
+use report::{CountsListener, FirstListener, Listener, TableListener, TextListener, add_listener};
 use std::io::ErrorKind;
 use std::process::ExitCode;
 use std::rt::{Env, Files};
 use std::{env, io};
 
 fn main(rt: HostRuntime) -> ExitCode {
-    ExitCode::from(status_of_process(&rt).number())
+    ExitCode::from(outcome_of_process(&rt).number())
 }
 
 // Arguments that are no text are taken as no words, which are wrong ones.
-fn status_of_process<R: Files + Print + Eprint + Env + AllocGlobal>(rt: &R) -> Status {
+fn outcome_of_process<R: Files + Print + Eprint + Env + AllocGlobal>(rt: &R) -> Outcome {
     let arguments = match arguments_of(rt) {
         Ok(arguments) => arguments,
         Err(error) => {
             if error.kind() == ErrorKind::OutOfMemory {
-                return Status::NoMemory;
+                return Outcome::NoMemory;
             }
             Vec::new(rt.alloc())
         }
     };
-    status_of(rt, &arguments).unwrap_or(Status::NoMemory)
+    outcome_of(rt, &arguments).unwrap_or(Outcome::NoMemory)
 }
 
 // The arguments, but for the program's name.
@@ -47,16 +44,16 @@ fn arguments_of<R: Env + AllocGlobal>(rt: &R) -> io::Result<Vec<String>> {
 const FIRST_ROWS: u32 = 10;
 
 // The listeners are made here, as a function that handed them out could promise nothing of them.
-fn status_of<R: Files + Print + Eprint + AllocGlobal>(
+fn outcome_of<R: Files + Print + Eprint + AllocGlobal>(
     rt: &R,
     arguments: &[String],
-) -> Result<Status, NoMemory> {
+) -> Result<Outcome, NoMemory> {
     let mut words = Vec::new(rt.alloc());
     for argument in arguments {
         words.push(argument.as_str())?;
     }
     let mut inputs = FileInputs::new(rt);
-    let mut sink = NotedSink::new(StdSink::new(rt));
+    let mut sink = StdSink::new(rt);
     // A listener for each style of a report but one's own.
     let alloc = rt.alloc();
     let mut listeners: Vec<Box<dyn Listener>> = Vec::new(alloc);
@@ -67,26 +64,14 @@ fn status_of<R: Files + Print + Eprint + AllocGlobal>(
         &mut listeners,
         Box::new(alloc, FirstListener::new(alloc, FIRST_ROWS))?,
     )?;
-    let status = run(alloc, &words, &mut inputs, &mut sink, listeners);
-    tell(
-        rt,
-        &words,
-        status,
-        sink.text().unwrap_or_default(),
-        sink.told(),
-    );
-    Ok(status)
+    let ended = run(alloc, &words, &mut inputs, &mut sink, listeners);
+    tell(rt, &ended);
+    Ok(ended.outcome)
 }
 
 // Tells on standard error what the answer does not say. Where that fails, the answer stands.
-fn tell<R: Files + Eprint + AllocGlobal>(
-    rt: &R,
-    words: &[&str],
-    status: Status,
-    text: &str,
-    remark: Option<Remark>,
-) {
-    let Ok(notes) = notes(rt, words, status, text, remark) else {
+fn tell<R: Files + Eprint + AllocGlobal>(rt: &R, ended: &Ended<'_>) {
+    let Ok(notes) = notes(rt, ended) else {
         return;
     };
     for note in &notes {

@@ -1,7 +1,2 @@
+mod ParsedArguments
 mod Clauses
-mod Endings
-mod InOrder
-mod OneByOne
-mod Printed
-mod Single
-mod Told

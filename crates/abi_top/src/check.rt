@@ -1,42 +1,85 @@
-// Judges two libraries.
-ghost use Rattle.std.specs.Prelude.{◌≡◌, ◌≤◌, ℕ, List, [], ◌∷◌, length, map, All, OnOk, IfOk, IfErr};
+// `check`: whether the new library may replace the old one.
+ghost use Rattle.std.specs.Prelude.{◌≡◌, ◌≤◌, ℕ, List, [], ◌∷◌, Some, length, map, All, OnOk, IfOk, IfErr};
 ghost use Rattle.abi_base.specs.Limits.{input_limit};
-ghost use Rattle.abi_top.specs.Check.{CheckJudges};
-ghost use Rattle.abi_top.specs.Faults.{AreReadable, StopsAt, whole_fault};
-ghost use Rattle.break_report.specs.declared.style.Style.{Style as AnyStyle};
+ghost use Rattle.abi_base.specs.declared.remark.Remark.{Remark as AnyRemark};
+ghost use Rattle.abi_top.specs.Rows.{check_inputs};
+ghost use Rattle.abi_top.specs.Says.{CheckSays, check_says};
+ghost use Rattle.report.specs.declared.style.Style.{Style as AnyStyle};
+ghost use Rattle.cli_args.specs.Requests.{plain_word};
+ghost use Rattle.commands.specs.Commands.{asks_of, places_of, plain_place};
+ghost use Rattle.commands.specs.Faults.{AreReadable, StopsAt};
 ghost use Rattle.library_check.specs.Checks.{IsChecked};
-ghost use Rattle.report_styles.specs.Wanted.{wanted_styles};
+ghost use Rattle.report.specs.styles.Wanted.{wanted_styles};
+ghost use Rattle.library_check.specs.Remarks.{remark_on};
 
-use crate::Input;
-use crate::judge::{Judgement, Stop, Verdict};
-use break_report::Listener;
-use library_check::{Checked, Said, Unchecked, check};
-use report_styles::{ReportStyle, wanted_listeners};
+use abi_base::NoMemory;
+use commands::{Command, Input, Judgement, Place, Stop, Verdict, three};
+use library_check::{CheckResult, Checked, Unchecked};
+use report::Listener;
+use report::styles::{ReportStyle, wanted_listeners};
 use std::alloc::Global;
 
+/// `check` of two libraries, with a rule file or none. The listeners of a style are told all breaks where it ends with no.
+#[derive(Clone, Copy)]
+pub struct Check<'a> {
+    pub rules: Option<&'a str>,
+    pub report: ReportStyle,
+    pub old: &'a str,
+    pub new: &'a str,
+}
+
+impl<'a> Check<'a> {
+    /// Where its inputs stand. It fails only when memory runs out.
+    pub fn places(&self, alloc: Global) -> Result<Vec<Place<'a>>, NoMemory>
+        ensures { IfOk result (λ places. map plain_place places.items ≡ places_of (check_inputs (plain_word self.now.rules) self.now.old.now self.now.new.now)) }
+    {
+        let rules = Place::named_or_empty(alloc, Input::Rules, self.rules);
+        Ok(vec![in alloc;
+            Place::named(Input::Old, self.old),
+            Place::named(Input::New, self.new),
+            rules,
+        ]?)
+    }
+}
+
+impl Command for Check<'_> {
+    ghost inputs = { λ c. check_inputs (plain_word c.rules) c.old.now c.new.now };
+
+    ghost says = { λ c styles. check_says (wanted_styles c.report styles) };
+
+    fn judge(
+        self,
+        alloc: Global,
+        all: &[Vec<u8>],
+        listeners: Vec<Box<dyn Listener>>,
+    ) -> Result<Judgement, Stop> {
+        let (old, new, rules) = three(all);
+        check_pair(alloc, old, new, rules, self.report, listeners)
+    }
+}
+
 // The judgement that says the same.
-fn judgement_of(said: Said) -> Judgement
-    ensures { (styles : List AnyStyle) (old new rules : List ℕ) → IsChecked styles old new rules said.checked → CheckJudges styles old new rules result.verdict result.text.items }
+fn judgement_of(said: CheckResult) -> Judgement
+    ensures says { (styles : List AnyStyle) (old new rules : List ℕ) → IsChecked styles old new rules said.checked → CheckSays styles old new rules result.verdict result.text.items }
+    ensures untyped { result.untyped ≡ Some said.remark }
 {
-    let Said { checked, remark } = said;
+    let CheckResult { checked, remark } = said;
     match checked {
         Checked::Yes(text) => Judgement {
             verdict: Verdict::Yes,
+            untyped: Some(remark),
             text,
-            remark: Some(remark),
         },
         Checked::No(text) => Judgement {
             verdict: Verdict::No,
+            untyped: Some(remark),
             text,
-            remark: Some(remark),
         },
     }
 }
 
-/// The judgement of `check` on the bytes of an old library, of a new one and of a rule file: yes with the certificate, or no with
-/// the lines that listeners of a style make of all breaks. The old library's fault goes before the new one's, and both go before
-/// that of the rule file.
-pub fn check_pair(
+// The judgement of `check` on the bytes of an old library, of a new one and of a rule file, whose faults come in this order.
+fn check_pair(
     alloc: Global,
     old: &[u8],
     new: &[u8],
@@ -46,18 +89,17 @@ pub fn check_pair(
 ) -> Result<Judgement, Stop>
     requires old_short { length old.now ≤ input_limit }
     requires new_short { length new.now ≤ input_limit }
-    requires rules_short { length rules.now ≤ input_limit }
     requires unheard { All (λ listener. heard listener ≡ []) listeners.items }
-    ensures readable { OnOk result (AreReadable whole_fault (Input.Old ∷ Input.New ∷ Input.Rules ∷ []) (old.now ∷ new.now ∷ rules.now ∷ [])) }
-    ensures judged { IfOk result (λ j. CheckJudges (wanted_styles report (map asks listeners.items)) old.now new.now rules.now j.verdict j.text.items) }
-    ensures stops { IfErr result (StopsAt whole_fault (Input.Old ∷ Input.New ∷ Input.Rules ∷ []) (old.now ∷ new.now ∷ rules.now ∷ [])) }
+    ensures readable { (rules_name : _) (old_name new_name : List ℕ) → OnOk result (AreReadable (asks_of (check_inputs rules_name old_name new_name)) (old.now ∷ new.now ∷ rules.now ∷ [])) }
+    ensures said { IfOk result (λ j. check_says (wanted_styles report (map asks listeners.items)) (old.now ∷ new.now ∷ rules.now ∷ []) j.verdict j.untyped j.text.items) }
+    ensures stops { (rules_name : _) (old_name new_name : List ℕ) → IfErr result (StopsAt (asks_of (check_inputs rules_name old_name new_name)) (old.now ∷ new.now ∷ rules.now ∷ [])) }
 {
     let told = wanted_listeners(alloc, listeners, report)?;
-    match check(alloc, old, new, rules, told) {
+    match library_check::check(alloc, old, new, rules, told) {
         Ok(said) => Ok(judgement_of(said)),
-        Err(Unchecked::Old(fault)) => Err(Stop::Fault(Input::Old, fault)),
-        Err(Unchecked::New(fault)) => Err(Stop::Fault(Input::New, fault)),
-        Err(Unchecked::Rules(fault)) => Err(Stop::Fault(Input::Rules, fault)),
+        Err(Unchecked::Old(fault)) => Err(Stop::Unreadable(Input::Old, fault)),
+        Err(Unchecked::New(fault)) => Err(Stop::Unreadable(Input::New, fault)),
+        Err(Unchecked::Rules(fault)) => Err(Stop::Unreadable(Input::Rules, fault)),
         Err(Unchecked::NoMemory) => Err(Stop::NoMemory),
     }
 }

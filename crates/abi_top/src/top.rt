@@ -1,286 +1,251 @@
 // The top call.
 ghost use Rattle.std.specs.Prelude.{◌≡◌, ◌≢◌, ◌⊎◌, ◌≤◌, List, [], ℕ, Option, None, Some, map, All, OnOk, OnErr, IfOk};
 ghost use Rattle.std.specs.Io.KnownBytes.{Appends};
-ghost use Rattle.abi_base.specs.Causes.{Rose, AppendsFront, HasCause};
+ghost use Rattle.abi_base.specs.Causes.{Rose, AppendsFront};
 ghost use Rattle.abi_base.specs.declared.fault.Fault.{Fault as AnyFault};
-ghost use Rattle.abi_top.specs.Answer.{Answers, Asks, Call, FailsToRead, IsFaulty, call_of};
-ghost use Rattle.abi_top.specs.Ends.{IsStopAnswer, IsUnreadAnswer};
-ghost use Rattle.abi_top.specs.Faults.{AreReadable, whole_fault};
-ghost use Rattle.abi_top.specs.Headline.{OnCheck, OnVerify, OnListing, OnTrial, IsServed, IsVerdict, IsVerification};
-ghost use Rattle.abi_top.specs.Inputs.{inputs_of, judged_of, IsCountedRight};
-ghost use Rattle.abi_top.specs.Text.{accepted_text, refused_text, usage_text, unreadable_text, read_fault_text};
-ghost use Rattle.abi_top.specs.declared.status.Input.{Input as AnyInput};
-ghost use Rattle.abi_top.specs.declared.status.Status.{Status as AnyStatus};
+ghost use Rattle.abi_base.specs.declared.remark.Remark.{Remark as AnyRemark};
+ghost use Rattle.abi_top.specs.Answer.{Answers, Asks, Call, call_of, row_of};
+ghost use Rattle.abi_top.specs.Headline.{OnCheck, OnVerify, OnListing, OnTrial};
+ghost use Rattle.abi_top.specs.Rows.{command_of};
+ghost use Rattle.abi_top.specs.Text.{accepted_text, refused_text, usage_text};
 ghost use Rattle.cert_check.specs.declared.refused.Refused.{Refused as Refusal};
-ghost use Rattle.command_words.specs.Asked.{asked_by, check, verify, entries, exports, trial, request as requested, help, usage};
-ghost use Rattle.command_words.specs.Requests.{plain_request};
-ghost use Rattle.command_words.specs.Words.{texts};
-ghost use Rattle.entry_list.specs.EntryLines.{listing_fault};
-ghost use Rattle.lib_graph.specs.Faults.{library_fault};
+ghost use Rattle.cli_args.specs.ParsedArguments.{PlainRequest, arguments_by, check, trial, request as requested, help, usage};
+ghost use Rattle.cli_args.specs.Requests.{plain_request};
+ghost use Rattle.cli_args.specs.Words.{texts};
+ghost use Rattle.commands.specs.Commands.{files_of, places_of, plain_file};
+ghost use Rattle.commands.specs.Reading.{reading_of};
+ghost use Rattle.commands.specs.Replies.{FailsToRead, IsFaulty, Replies};
+ghost use Rattle.commands.specs.Served.{AreServed, IsVerdict};
+ghost use Rattle.commands.specs.Texts.{read_fault_text, unreadable_text};
+ghost use Rattle.commands.specs.declared.input.Input.{Input as AnyInput};
+ghost use Rattle.commands.specs.declared.outcome.Outcome.{Outcome as AnyOutcome};
 ghost use Rattle.library_check.specs.Checks.{Compatible, IsCertificateText, IsReportText};
-ghost use Rattle.library_check.specs.Verifications.{certificate_fault, IsAcceptedText, IsRefusedText};
-ghost use Rattle.report_styles.specs.declared.wanted.ReportStyle.{ReportStyle as AnyStyle};
-ghost use Rattle.report_styles.specs.Wanted.{wanted_styles};
-ghost use Rattle.rule_text.specs.Faults.{rule_fault};
+ghost use Rattle.library_check.specs.Remarks.{remark_on};
+ghost use Rattle.library_check.specs.Verifications.{IsAcceptedText, IsRefusedText};
+ghost use Rattle.report.specs.declared.styles.report_option.ReportStyle.{ReportStyle as AnyStyle};
+ghost use Rattle.report.specs.styles.Wanted.{wanted_styles};
 
-use crate::inputs::wanted_for;
-use crate::judge::{Stop, judge};
-use crate::reading::{Unread, read_all};
-use crate::{Input, Status, text};
-use abi_base::{
-    Fault, FaultKind, INPUT_LIMIT, Inputs, NoMemory, Remark, Sink, WriteFailed, write_all,
-};
-use break_report::Listener;
-use command_words::laws::a_trial_is_of_a_count;
-use command_words::{Asked, Request, asked_in};
-use library_check::laws::{a_file_may_replace_itself, an_accepted_certificate_is_a_proof};
+use crate::check::Check;
+use crate::entries::Entries;
+use crate::exports::Exports;
+use crate::text;
+use crate::trial::Trial;
+use crate::verify::Verify;
+use abi_base::{Inputs, NoMemory, Sink, write_all};
+use cli_args::laws::a_trial_is_of_a_count;
+use cli_args::{ParsedArguments, Request, parse_arguments};
+use commands::{Answer, File, Input, Outcome, Verdict, answer_with};
+use library_check::laws::a_file_may_replace_itself;
+use report::Listener;
 use std::alloc::Global;
+
+/// How a run ends, and under which names the words had it read its inputs.
+#[derive(Drop)]
+pub struct Ended<'a> {
+    pub outcome: Outcome,
+    pub files: Vec<File<'a>>,
+}
 
 /// Does what the words ask for, and says how it ended. The words are those after the program's name. The inputs that they
 /// name are read whole, in order; then the first one with a fault decides; then the command gives its verdict. All that
 /// is to be printed is built before the first write.
 ///
 /// The listeners whose style the words ask for are told all breaks, in the order in which they were handed in; the others are
-/// dropped unheard. After the text of a `check` the sink is told how many exports have no type in the debug information.
+/// dropped unheard.
 ///
-/// In the clauses `call` is this call: its words, the styles of its listeners, the bytes told of each name, the count of faults of
-/// each name before the call and after it, and how many bytes the input that was read last has given.
-pub fn run<I: Inputs, S: Sink>(
+/// In the clauses `call` is this call: its words, the styles of its listeners, and what is known of its inputs; `row_of call` is the
+/// row of what is asked for, in the table of commands.
+pub fn run<'a, I: Inputs, S: Sink>(
     alloc: Global,
-    words: &[&str],
+    words: &'a [&'a str],
     inputs: &mut I,
     sink: &mut S,
     listeners: Vec<Box<dyn Listener>>,
-) -> Status
+) -> Ended<'a>
     requires { All (λ listener. heard listener ≡ []) listeners.items }
 
-    // Every status but `NoMemory` and `WriteFault` comes with its row of the table `Answers`, whose text was
-    // appended whole.
-    ensures answered { let call : Call = call_of I.told I.faults I.given (map asks listeners.items) words.now inputs.old inputs.new in
-        result ≢ Status.NoMemory → result ≢ Status.WriteFault
-        → (text : List ℕ) × Answers call result text × Appends (S.held sink.old) (S.held sink.new) text }
+    // Every outcome but `NoMemory` and `WriteFault` comes with its row of the table `Answers`, whose text was appended whole.
+    ensures answered { let call : Call = call_of I.told I.faults I.given (map asks listeners.items) words.entry.now inputs.old inputs.new in
+        result.outcome ≢ Outcome.NoMemory → result.outcome ≢ Outcome.WriteFault
+        → (text : List ℕ) × Answers call result.outcome text × Appends (S.held sink.old) (S.held sink.new) text }
 
     // Yes: all inputs are readable, and the new library may replace the old one, but for what the rule file leaves out. The
     // answer to `check` is the certificate, which a checker accepts; the answer to `verify` says that the certificate is accepted.
-    ensures yes { let call : Call = call_of I.told I.faults I.given (map asks listeners.items) words.now inputs.old inputs.new in
-        result ≡ Status.Yes
-        → OnCheck call (λ report old new rules. Compatible old new rules × (text : List ℕ) × IsCertificateText old new rules text × Appends (S.held sink.old) (S.held sink.new) text)
+    ensures yes { let call : Call = call_of I.told I.faults I.given (map asks listeners.items) words.entry.now inputs.old inputs.new in
+        (untyped : Option AnyRemark) → result.outcome ≡ Outcome.Judged Verdict.Yes untyped
+        → OnCheck call (λ report old new rules. Compatible old new rules × (untyped ≡ Some (remark_on old new)) × (text : List ℕ) × IsCertificateText old new rules text × Appends (S.held sink.old) (S.held sink.new) text)
         ⊎ OnVerify call (λ old new rules certificate. IsAcceptedText old new rules certificate × Compatible old new rules × Appends (S.held sink.old) (S.held sink.new) accepted_text) }
 
     // No: all inputs are readable, the new library may not replace the old one, and what listeners of the style that is asked for
     // make of all breaks was printed, each break of types with the first path to it from an export.
-    ensures no { let call : Call = call_of I.told I.faults I.given (map asks listeners.items) words.now inputs.old inputs.new in
-        result ≡ Status.No
-        → OnCheck call (λ report old new rules. (Compatible old new rules → ⊥) × (text : List ℕ) × IsReportText (wanted_styles report call.styles) old new rules text × Appends (S.held sink.old) (S.held sink.new) text) }
+    ensures no { let call : Call = call_of I.told I.faults I.given (map asks listeners.items) words.entry.now inputs.old inputs.new in
+        (untyped : Option AnyRemark) → result.outcome ≡ Outcome.Judged Verdict.No untyped
+        → OnCheck call (λ report old new rules. (Compatible old new rules → ⊥) × (untyped ≡ Some (remark_on old new)) × (text : List ℕ) × IsReportText (wanted_styles report call.styles) old new rules text × Appends (S.held sink.old) (S.held sink.new) text) }
 
     // A library may replace itself, whatever a rule file leaves out: where both names tell the same bytes, the answer is not no.
-    ensures itself { (rules : Option (List ℕ)) (report : AnyStyle) (old_name new_name bytes : List ℕ) → asked_by (texts words.now) ≡ requested (check rules report old_name new_name)
-        → I.told inputs.old old_name ≡ Some bytes → I.told inputs.old new_name ≡ Some bytes → result ≢ Status.No }
+    ensures itself { (rules : Option (List ℕ)) (report : AnyStyle) (old_name new_name bytes : List ℕ) (untyped : Option AnyRemark) → arguments_by (texts words.entry.now) ≡ requested (check rules report old_name new_name)
+        → I.told inputs.old old_name ≡ Some bytes → I.told inputs.old new_name ≡ Some bytes → result.outcome ≢ Outcome.Judged Verdict.No untyped }
 
     // Refused: all inputs are readable, and the text names the first condition that the certificate does not meet.
-    ensures refused { let call : Call = call_of I.told I.faults I.given (map asks listeners.items) words.now inputs.old inputs.new in
-        result ≡ Status.Refused
+    ensures refused { let call : Call = call_of I.told I.faults I.given (map asks listeners.items) words.entry.now inputs.old inputs.new in
+        (untyped : Option AnyRemark) → result.outcome ≡ Outcome.Judged Verdict.Refused untyped
         → OnVerify call (λ old new rules certificate. (refusal : Refusal) × IsRefusedText old new rules certificate refusal × Appends (S.held sink.old) (S.held sink.new) (refused_text refusal)) }
 
     // Done: the library is readable, and a line was printed for each of its entries, or for each of its exports; or the lines of
     // a trial were printed.
-    ensures done { let call : Call = call_of I.told I.faults I.given (map asks listeners.items) words.now inputs.old inputs.new in
-        result ≡ Status.Done
+    ensures done { let call : Call = call_of I.told I.faults I.given (map asks listeners.items) words.entry.now inputs.old inputs.new in
+        (untyped : Option AnyRemark) → result.outcome ≡ Outcome.Judged Verdict.Done untyped
         → OnListing call (λ text. Appends (S.held sink.old) (S.held sink.new) text) ⊎ OnTrial call (λ text. Appends (S.held sink.old) (S.held sink.new) text) }
 
-    // Unreadable: the text names the first fault of the first input that has one, too long before all others.
-    ensures unreadable { let call : Call = call_of I.told I.faults I.given (map asks listeners.items) words.now inputs.old inputs.new in
-        result ≡ Status.Unreadable
-        → (which : AnyInput) × (fault : AnyFault) × Asks call (IsFaulty call which fault)
+    // Where the words are right, all inputs that the command wants tell readable bytes and did not fail, and the sink did not fail,
+    // the outcome is a verdict that the command's row allows, with the text that was appended; or memory ran out.
+    ensures complete { let call : Call = call_of I.told I.faults I.given (map asks listeners.items) words.entry.now inputs.old inputs.new in
+        (asked : PlainRequest) (all : List (List ℕ)) → arguments_by (texts words.entry.now) ≡ requested asked → AreServed call.reading (row_of call asked).inputs all
+        → (Rose (S.faults sink.old) (S.faults sink.new) → ⊥) → result.outcome ≢ Outcome.NoMemory
+        → IsVerdict (row_of call asked).says all result.outcome (λ text. Appends (S.held sink.old) (S.held sink.new) text) }
+
+    // Unreadable: this input has this fault, by its length or by its bytes, and none before it has one; a length goes before all
+    // bytes. The text names both.
+    ensures unreadable { let call : Call = call_of I.told I.faults I.given (map asks listeners.items) words.entry.now inputs.old inputs.new in
+        (which : AnyInput) (fault : AnyFault) → result.outcome ≡ Outcome.Unreadable which fault
+        → Asks call (λ asked. IsFaulty call.reading (row_of call asked).inputs which fault)
         × Appends (S.held sink.old) (S.held sink.new) (unreadable_text which fault) }
 
-    // Read fault: the count of the name that the words give for that input rose in this call, and no input before it is
-    // told to be too long.
-    ensures read_fault { let call : Call = call_of I.told I.faults I.given (map asks listeners.items) words.now inputs.old inputs.new in
-        result ≡ Status.ReadFault
-        → (which : AnyInput) × Asks call (FailsToRead call which)
+    // Read fault: the count of the name that the words give for this input rose in this call, and no input before it is told to be
+    // too long.
+    ensures read_fault { let call : Call = call_of I.told I.faults I.given (map asks listeners.items) words.entry.now inputs.old inputs.new in
+        (which : AnyInput) → result.outcome ≡ Outcome.ReadFault which
+        → Asks call (λ asked. FailsToRead call.reading (row_of call asked).inputs which)
         × Appends (S.held sink.old) (S.held sink.new) (read_fault_text which) }
 
     // Usage comes exactly where the words are wrong, but where memory runs out or writing fails.
-    ensures usage { result ≡ Status.Usage → (asked_by (texts words.now) ≡ usage) × Appends (S.held sink.old) (S.held sink.new) usage_text }
-    ensures wrong_words { asked_by (texts words.now) ≡ usage
-        → (result ≡ Status.Usage) ⊎ ((result ≡ Status.NoMemory) ⊎ (result ≡ Status.WriteFault)) }
+    ensures usage { result.outcome ≡ Outcome.Usage → (arguments_by (texts words.entry.now) ≡ usage) × Appends (S.held sink.old) (S.held sink.new) usage_text }
+    ensures wrong_words { arguments_by (texts words.entry.now) ≡ usage
+        → (result.outcome ≡ Outcome.Usage) ⊎ ((result.outcome ≡ Outcome.NoMemory) ⊎ (result.outcome ≡ Outcome.WriteFault)) }
 
     // And help comes exactly where the words ask for it.
-    ensures help { result ≡ Status.Help → (asked_by (texts words.now) ≡ help) × Appends (S.held sink.old) (S.held sink.new) usage_text }
-    ensures help_words { asked_by (texts words.now) ≡ help
-        → (result ≡ Status.Help) ⊎ ((result ≡ Status.NoMemory) ⊎ (result ≡ Status.WriteFault)) }
+    ensures help { result.outcome ≡ Outcome.Help → (arguments_by (texts words.entry.now) ≡ help) × Appends (S.held sink.old) (S.held sink.new) usage_text }
+    ensures help_words { arguments_by (texts words.entry.now) ≡ help
+        → (result.outcome ≡ Outcome.Help) ⊎ ((result.outcome ≡ Outcome.NoMemory) ⊎ (result.outcome ≡ Outcome.WriteFault)) }
 
-    // A write failed in this call, after a prefix of a text with which another status could have come.
-    ensures write_fault { result ≡ Status.WriteFault → Rose (S.faults sink.old) (S.faults sink.new) }
-    ensures front { let call : Call = call_of I.told I.faults I.given (map asks listeners.items) words.now inputs.old inputs.new in
-        result ≡ Status.WriteFault
-        → (status : AnyStatus) × (text : List ℕ) × Answers call status text × AppendsFront (S.held sink.old) (S.held sink.new) text }
+    // A write failed in this call, after a prefix of a text with which another outcome could have come.
+    ensures write_fault { result.outcome ≡ Outcome.WriteFault → Rose (S.faults sink.old) (S.faults sink.new) }
+    ensures front { let call : Call = call_of I.told I.faults I.given (map asks listeners.items) words.entry.now inputs.old inputs.new in
+        result.outcome ≡ Outcome.WriteFault
+        → (outcome : AnyOutcome) × (text : List ℕ) × Answers call outcome text × AppendsFront (S.held sink.old) (S.held sink.new) text }
 
     // Where memory runs out, the sink is as before.
-    ensures no_memory { result ≡ Status.NoMemory → sink.new ≡ sink.old }
+    ensures no_memory { result.outcome ≡ Outcome.NoMemory → sink.new ≡ sink.old }
 
-    // Where the words are right, all inputs tell readable bytes and did not fail, and the sink did not fail, the answer
-    // is the verdict, or memory ran out.
-    ensures complete { let call : Call = call_of I.told I.faults I.given (map asks listeners.items) words.now inputs.old inputs.new in
-        (rules_name : Option (List ℕ)) (report : AnyStyle) (old_name new_name old new rules : List ℕ)
-        → asked_by (texts words.now) ≡ requested (check rules_name report old_name new_name)
-        → IsServed call library_fault (Some old_name) old → IsServed call library_fault (Some new_name) new → IsServed call rule_fault rules_name rules
-        → (Rose (S.faults sink.old) (S.faults sink.new) → ⊥) → result ≢ Status.NoMemory → IsVerdict old new rules result }
-
-    // The same of a certificate.
-    ensures complete_verify { let call : Call = call_of I.told I.faults I.given (map asks listeners.items) words.now inputs.old inputs.new in
-        (rules_name : Option (List ℕ)) (old_name new_name certificate_name old new rules certificate : List ℕ)
-        → asked_by (texts words.now) ≡ requested (verify rules_name old_name new_name certificate_name)
-        → IsServed call library_fault (Some old_name) old → IsServed call library_fault (Some new_name) new → IsServed call rule_fault rules_name rules
-        → IsServed call certificate_fault (Some certificate_name) certificate
-        → (Rose (S.faults sink.old) (S.faults sink.new) → ⊥) → result ≢ Status.NoMemory → IsVerification old new rules certificate result }
-
-    // Of the entries of one library.
-    ensures complete_entries { let call : Call = call_of I.told I.faults I.given (map asks listeners.items) words.now inputs.old inputs.new in
-        (name library : List ℕ) → asked_by (texts words.now) ≡ requested (entries name)
-        → IsServed call listing_fault (Some name) library → (Rose (S.faults sink.old) (S.faults sink.new) → ⊥)
-        → result ≢ Status.NoMemory → result ≡ Status.Done }
-
-    // Of its exports.
-    ensures complete_exports { let call : Call = call_of I.told I.faults I.given (map asks listeners.items) words.now inputs.old inputs.new in
-        (name library : List ℕ) → asked_by (texts words.now) ≡ requested (exports name)
-        → IsServed call library_fault (Some name) library → (Rose (S.faults sink.old) (S.faults sink.new) → ⊥)
-        → result ≢ Status.NoMemory → result ≡ Status.Done }
-
-    // And of a trial, where the libraries that it makes are readable.
-    ensures complete_trial { (count : ℕ) → asked_by (texts words.now) ≡ requested (trial count)
-        → AreReadable whole_fault (inputs_of (trial count)) (judged_of (trial count) []) → (Rose (S.faults sink.old) (S.faults sink.new) → ⊥)
-        → result ≢ Status.NoMemory → result ≡ Status.Done }
+    // The names of the inputs are those that the words give, in the order of the command's row.
+    ensures files { (asked : PlainRequest) → arguments_by (texts words.entry.now) ≡ requested asked → result.outcome ≢ Outcome.NoMemory
+        → map plain_file result.files.items ≡ files_of (places_of (command_of (map asks listeners.items) asked).inputs) }
 {
     a_file_may_replace_itself();
-    an_accepted_certificate_is_a_proof();
     match answer_to(alloc, words, inputs, listeners) {
-        Err(NoMemory) => Status::NoMemory,
-        Ok(answer) => match write_answer(sink, &answer.text, answer.remark) {
-            Ok(()) => answer.status,
-            Err(_) => Status::WriteFault,
+        Err(NoMemory) => Ended {
+            outcome: Outcome::NoMemory,
+            files: Vec::new(alloc),
+        },
+        Ok(answer) => match write_all(sink, &answer.text) {
+            Ok(()) => Ended {
+                outcome: answer.outcome,
+                files: answer.files,
+            },
+            Err(_) => Ended {
+                outcome: Outcome::WriteFault,
+                files: answer.files,
+            },
         },
     }
-}
-
-// Writes all of a text, and then hands on a remark. After `WriteFailed` a prefix of the text was written, and no remark was made.
-fn write_answer<S: Sink>(
-    sink: &mut S,
-    text: &[u8],
-    remark: Option<Remark>,
-) -> Result<(), WriteFailed>
-    ensures whole { OnOk result (Appends (S.held sink.old) (S.held sink.new) text.now) }
-    ensures front { OnErr result (AppendsFront (S.held sink.old) (S.held sink.new) text.now) }
-    ensures cause { HasCause (S.faults sink.old) (S.faults sink.new) result }
-{
-    match write_all(sink, text) {
-        Ok(()) => {
-            if let Some(remark) = remark {
-                sink.remark(remark);
-            }
-            Ok(())
-        }
-        Err(failed) => Err(failed),
-    }
-}
-
-/// A status and the text that goes with it, and what people want to know beside it.
-#[derive(Drop)]
-struct Answer {
-    status: Status,
-    text: Vec<u8>,
-    remark: Option<Remark>,
 }
 
 // The answer to the words, built whole.
-fn answer_to<I: Inputs>(
+fn answer_to<'a, I: Inputs>(
     alloc: Global,
-    words: &[&str],
+    words: &'a [&'a str],
     inputs: &mut I,
     listeners: Vec<Box<dyn Listener>>,
-) -> Result<Answer, NoMemory>
+) -> Result<Answer<'a>, NoMemory>
     requires { All (λ listener. heard listener ≡ []) listeners.items }
-    ensures { IfOk result (λ a. Answers (call_of I.told I.faults I.given (map asks listeners.items) words.now inputs.old inputs.new) a.status a.text.items) }
+    ensures answers { IfOk result (λ a. Answers (call_of I.told I.faults I.given (map asks listeners.items) words.entry.now inputs.old inputs.new) a.outcome a.text.items) }
+    ensures files { IfOk result (λ a. (asked : PlainRequest) → arguments_by (texts words.entry.now) ≡ requested asked → map plain_file a.files.items ≡ files_of (places_of (command_of (map asks listeners.items) asked).inputs)) }
 {
     a_trial_is_of_a_count();
-    match asked_in(alloc, words)? {
-        Asked::Request(request) => answer_of(alloc, words, &request, inputs, listeners),
-        Asked::Help => Ok(Answer {
-            status: Status::Help,
+    match parse_arguments(alloc, words)? {
+        ParsedArguments::Request(request) => answer_of(alloc, request, inputs, listeners),
+        ParsedArguments::Help => Ok(Answer {
+            outcome: Outcome::Help,
             text: text::usage(alloc)?,
-            remark: None,
+            files: Vec::new(alloc),
         }),
-        Asked::Usage => Ok(Answer {
-            status: Status::Usage,
+        ParsedArguments::Usage => Ok(Answer {
+            outcome: Outcome::Usage,
             text: text::usage(alloc)?,
-            remark: None,
+            files: Vec::new(alloc),
         }),
     }
 }
 
-// The answer to a request of these words.
-fn answer_of<I: Inputs>(
+// The answer to a request: that of its command.
+fn answer_of<'a, I: Inputs>(
     alloc: Global,
-    words: &[&str],
-    request: &Request,
+    request: Request<'a>,
     inputs: &mut I,
     listeners: Vec<Box<dyn Listener>>,
-) -> Result<Answer, NoMemory>
-    requires asked { asked_by (texts words.now) ≡ requested (plain_request request.now) }
-    requires counted { IsCountedRight (plain_request request.now) }
+) -> Result<Answer<'a>, NoMemory>
+    requires counted { (count : ℕ) → plain_request request ≡ trial count → (1 ≤ count) × (count ≤ 50000) }
     requires unheard { All (λ listener. heard listener ≡ []) listeners.items }
-    ensures { IfOk result (λ a. Answers (call_of I.told I.faults I.given (map asks listeners.items) words.now inputs.old inputs.new) a.status a.text.items) }
+    ensures replies { let row = command_of (map asks listeners.items) (plain_request request.entry) in
+        IfOk result (λ a. Replies (reading_of I.told I.faults I.given inputs.old inputs.new) row.inputs row.says a.outcome a.text.items) }
+    ensures files { let row = command_of (map asks listeners.items) (plain_request request.entry) in
+        IfOk result (λ a. map plain_file a.files.items ≡ files_of (places_of row.inputs)) }
 {
-    let wanted = wanted_for(alloc, request)?;
-    match read_all(alloc, inputs, &wanted) {
-        Err(unread) => unread_answer(alloc, unread),
-        Ok(all) => match judge(alloc, request, &all, listeners) {
-            Ok(judgement) => Ok(Answer {
-                status: judgement.verdict.status(),
-                text: judgement.text,
-                remark: judgement.remark,
-            }),
-            Err(stop) => stop_answer(alloc, stop),
-        },
-    }
-}
-
-// The answer where an input can't be read whole.
-fn unread_answer(alloc: Global, unread: Unread) -> Result<Answer, NoMemory>
-    ensures { IfOk result (λ a. IsUnreadAnswer unread a.status a.text.items) }
-{
-    match unread {
-        Unread::NoMemory => Err(NoMemory),
-        Unread::Failed(which) => Ok(Answer {
-            status: Status::ReadFault,
-            text: text::read_fault(alloc, which)?,
-            remark: None,
-        }),
-        Unread::TooLong(which) => {
-            let fault = Fault {
-                kind: FaultKind::TooLong,
-                at: INPUT_LIMIT as u64,
+    match request {
+        Request::Check {
+            rules,
+            report,
+            old,
+            new,
+        } => {
+            let command = Check {
+                rules,
+                report,
+                old,
+                new,
             };
-            Ok(Answer {
-                status: Status::Unreadable,
-                text: text::unreadable(alloc, which, fault)?,
-                remark: None,
-            })
+            let places = command.places(alloc)?;
+            answer_with(alloc, &places, command, inputs, listeners)
         }
-    }
-}
-
-// The answer where an input has a fault.
-fn stop_answer(alloc: Global, stop: Stop) -> Result<Answer, NoMemory>
-    ensures { IfOk result (λ a. IsStopAnswer stop a.status a.text.items) }
-{
-    match stop {
-        Stop::NoMemory => Err(NoMemory),
-        Stop::Fault(which, fault) => Ok(Answer {
-            status: Status::Unreadable,
-            text: text::unreadable(alloc, which, fault)?,
-            remark: None,
-        }),
+        Request::Verify {
+            rules,
+            old,
+            new,
+            certificate,
+        } => {
+            let command = Verify {
+                rules,
+                old,
+                new,
+                certificate,
+            };
+            let places = command.places(alloc)?;
+            answer_with(alloc, &places, command, inputs, listeners)
+        }
+        Request::Entries { library } => {
+            let command = Entries { library };
+            let places = command.places(alloc)?;
+            answer_with(alloc, &places, command, inputs, listeners)
+        }
+        Request::Exports { library } => {
+            let command = Exports { library };
+            let places = command.places(alloc)?;
+            answer_with(alloc, &places, command, inputs, listeners)
+        }
+        Request::Trial { count } => {
+            let command = Trial { count };
+            let places = command.places(alloc)?;
+            answer_with(alloc, &places, command, inputs, listeners)
+        }
     }
 }

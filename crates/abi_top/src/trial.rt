@@ -1,45 +1,83 @@
-// Tries two libraries that are made.
-ghost use Rattle.std.specs.Prelude.{◌≡◌, ◌≤◌, [], ◌∷◌, map, All, OnOk, IfOk, IfErr};
-ghost use Rattle.abi_gen.specs.Libraries.{library as made_library};
-ghost use Rattle.abi_gen.specs.declared.making.Side.TheVariants as side;
-ghost use Rattle.abi_top.specs.Faults.{AreReadable, StopsAt, whole_fault};
-ghost use Rattle.abi_top.specs.Listed.{IsTried};
+// `trial`: two libraries that are made, and checked.
+ghost use Rattle.std.specs.Prelude.{◌≡◌, ◌≤◌, ◌<◌, List, [], ◌∷◌, map, All, IfOk, length};
+ghost use Rattle.abi_base.specs.Limits.{input_limit};
+ghost use Rattle.trial_libraries.specs.Libraries.{library as made_library};
+ghost use Rattle.abi_top.specs.Rows.{trial_inputs};
+ghost use Rattle.commands.specs.Commands.{places_of, plain_place};
+ghost use Rattle.commands.specs.Reading.{AreOwnShort};
+ghost use Rattle.report.specs.declared.styles.report_option.ReportStyle.TheVariants.{Text};
+ghost use Rattle.report.specs.styles.Wanted.{wanted_styles};
+ghost use Rattle.abi_top.specs.Says.{trial_says};
 
-use crate::Input;
-use crate::judge::{Judgement, Stop, Verdict};
-use abi_gen::MOST_FUNCTIONS;
-use break_report::Listener;
+use abi_base::NoMemory;
+use commands::{Command, Input, Judgement, Place, Stop, Verdict};
 use library_check::Unchecked;
 use library_check::laws::no_rules_are_readable;
-use library_trial::try_both;
-use report_styles::{ReportStyle, wanted_listeners};
+use library_check::trial::try_both;
+use report::Listener;
+use report::styles::{ReportStyle, wanted_listeners};
 use std::alloc::Global;
+use trial_libraries::laws::made_libraries_are_no_longer_than_inputs;
+use trial_libraries::{GenRefusal, MOST_FUNCTIONS, Side, make};
 
-/// The judgement of `trial` on a number of functions: that two libraries of so many were made and checked, with an empty rule file
-/// and the listeners that make a line of each break. Where one of them had a fault, it would be told as if they were inputs.
-pub fn try_made(
-    alloc: Global,
-    count: u32,
-    listeners: Vec<Box<dyn Listener>>,
-) -> Result<Judgement, Stop>
-    requires some { 1 ≤ count }
+/// `trial` of so many functions: two libraries of so many are made and checked, with an empty rule file and these listeners.
+/// Where one of them had a fault, it would be told as if they were read.
+#[derive(Clone, Copy)]
+pub struct Trial {
+    pub count: u32,
+    ghost some: { 0 < count },
+    ghost few: { count ≤ 50000 },
+}
+
+// The made library of a side. It fails only when memory runs out.
+fn make_one(alloc: Global, count: u32, side: Side) -> Result<Vec<u8>, NoMemory>
+    requires some { 0 < count }
     requires few { count ≤ MOST_FUNCTIONS }
-    requires unheard { All (λ listener. heard listener ≡ []) listeners.items }
-    ensures readable { OnOk result (AreReadable whole_fault (Input.Old ∷ Input.New ∷ []) (made_library count side.Old ∷ made_library count side.New ∷ [])) }
-    ensures tried { IfOk result (λ j. IsTried (map asks listeners.items) count j.verdict j.text.items) }
-    ensures stops { IfErr result (StopsAt whole_fault (Input.Old ∷ Input.New ∷ []) (made_library count side.Old ∷ made_library count side.New ∷ [])) }
+    ensures { IfOk result (λ file. file.items ≡ made_library count side) }
 {
-    no_rules_are_readable();
-    let told = wanted_listeners(alloc, listeners, ReportStyle::Text)?;
-    match try_both(alloc, count, told) {
-        Ok(text) => Ok(Judgement {
-            verdict: Verdict::Done,
-            text,
-            remark: None,
-        }),
-        Err(Unchecked::Old(fault)) => Err(Stop::Fault(Input::Old, fault)),
-        Err(Unchecked::New(fault)) => Err(Stop::Fault(Input::New, fault)),
-        Err(Unchecked::Rules(_)) => unreachable!(),
-        Err(Unchecked::NoMemory) => Err(Stop::NoMemory),
+    match make(alloc, count, side) {
+        Ok(file) => Ok(file),
+        Err(GenRefusal::Size) => unreachable!(),
+        Err(GenRefusal::NoMemory) => Err(NoMemory),
+    }
+}
+
+impl Trial {
+    /// Where its inputs stand. It fails only when memory runs out.
+    pub fn places<'a>(&self, alloc: Global) -> Result<Vec<Place<'a>>, NoMemory>
+        ensures places { IfOk result (λ places. map plain_place places.items ≡ places_of (trial_inputs self.now.count)) }
+        ensures short { AreOwnShort (places_of (trial_inputs self.now.count)) }
+    {
+        made_libraries_are_no_longer_than_inputs();
+        let old = make_one(alloc, self.count, Side::Old)?;
+        let new = make_one(alloc, self.count, Side::New)?;
+        Ok(vec![in alloc; Place::own(Input::Old, old), Place::own(Input::New, new)]?)
+    }
+}
+
+impl Command for Trial {
+    ghost inputs = { λ c. trial_inputs c.count };
+
+    ghost says = { λ c styles. trial_says (wanted_styles Text styles) c.count };
+
+    fn judge(
+        self,
+        alloc: Global,
+        _all: &[Vec<u8>],
+        listeners: Vec<Box<dyn Listener>>,
+    ) -> Result<Judgement, Stop> {
+        no_rules_are_readable();
+        let told = wanted_listeners(alloc, listeners, ReportStyle::Text)?;
+        match try_both(alloc, self.count, told) {
+            Ok(text) => Ok(Judgement {
+                verdict: Verdict::Done,
+                untyped: None,
+                text,
+            }),
+            Err(Unchecked::Old(fault)) => Err(Stop::Unreadable(Input::Old, fault)),
+            Err(Unchecked::New(fault)) => Err(Stop::Unreadable(Input::New, fault)),
+            Err(Unchecked::Rules(_)) => unreachable!(),
+            Err(Unchecked::NoMemory) => Err(Stop::NoMemory),
+        }
     }
 }

@@ -1,17 +1,62 @@
-// Judges a certificate.
-ghost use Rattle.std.specs.Prelude.{◌≡◌, ◌≤◌, [], ◌∷◌, length, OnOk, IfOk, IfErr};
+// `verify`: whether a certificate is accepted.
+ghost use Rattle.std.specs.Prelude.{◌≡◌, ◌≤◌, ℕ, List, [], ◌∷◌, length, OnOk, IfOk, IfErr, map};
 ghost use Rattle.abi_base.specs.Limits.{input_limit};
-ghost use Rattle.abi_top.specs.Faults.{AreReadable, StopsAt, whole_fault};
-ghost use Rattle.abi_top.specs.Verify.{VerifyJudges};
+ghost use Rattle.abi_top.specs.Rows.{verify_inputs};
+ghost use Rattle.abi_top.specs.Says.{verify_says};
+ghost use Rattle.cli_args.specs.Requests.{plain_word};
+ghost use Rattle.commands.specs.Commands.{asks_of, places_of, plain_place};
+ghost use Rattle.commands.specs.Faults.{AreReadable, StopsAt};
 
-use crate::judge::{Judgement, Stop, Verdict};
-use crate::{Input, text};
-use library_check::{Unverified, Verified, verify};
+use crate::text;
+use abi_base::NoMemory;
+use commands::{Command, Input, Judgement, Place, Stop, Verdict, four};
+use library_check::{Unverified, Verified};
+use report::Listener;
 use std::alloc::Global;
 
-/// The judgement of `verify` on the bytes of an old library, of a new one, of a rule file and of a certificate: yes where the
-/// certificate is accepted, or refused with the first condition that it does not meet. The inputs' faults come in this order.
-pub fn verify_certificate(
+/// `verify` of a certificate for two libraries, with a rule file or none.
+#[derive(Clone, Copy)]
+pub struct Verify<'a> {
+    pub rules: Option<&'a str>,
+    pub old: &'a str,
+    pub new: &'a str,
+    pub certificate: &'a str,
+}
+
+impl<'a> Verify<'a> {
+    /// Where its inputs stand. It fails only when memory runs out.
+    pub fn places(&self, alloc: Global) -> Result<Vec<Place<'a>>, NoMemory>
+        ensures { IfOk result (λ places. map plain_place places.items ≡ places_of (verify_inputs (plain_word self.now.rules) self.now.old.now self.now.new.now self.now.certificate.now)) }
+    {
+        let rules = Place::named_or_empty(alloc, Input::Rules, self.rules);
+        Ok(vec![in alloc;
+            Place::named(Input::Old, self.old),
+            Place::named(Input::New, self.new),
+            rules,
+            Place::named(Input::Certificate, self.certificate),
+        ]?)
+    }
+}
+
+impl Command for Verify<'_> {
+    ghost inputs = { λ c. verify_inputs (plain_word c.rules) c.old.now c.new.now c.certificate.now };
+
+    ghost says = { λ c styles. verify_says };
+
+    fn judge(
+        self,
+        alloc: Global,
+        all: &[Vec<u8>],
+        _listeners: Vec<Box<dyn Listener>>,
+    ) -> Result<Judgement, Stop> {
+        let (old, new, rules, certificate) = four(all);
+        verify_certificate(alloc, old, new, rules, certificate)
+    }
+}
+
+// The judgement of `verify` on the bytes of an old library, of a new one, of a rule file and of a certificate, whose faults come
+// in this order.
+fn verify_certificate(
     alloc: Global,
     old: &[u8],
     new: &[u8],
@@ -20,27 +65,25 @@ pub fn verify_certificate(
 ) -> Result<Judgement, Stop>
     requires old_short { length old.now ≤ input_limit }
     requires new_short { length new.now ≤ input_limit }
-    requires rules_short { length rules.now ≤ input_limit }
-    requires certificate_short { length certificate.now ≤ input_limit }
-    ensures readable { OnOk result (AreReadable whole_fault (Input.Old ∷ Input.New ∷ Input.Rules ∷ Input.Certificate ∷ []) (old.now ∷ new.now ∷ rules.now ∷ certificate.now ∷ [])) }
-    ensures judged { IfOk result (λ j. VerifyJudges old.now new.now rules.now certificate.now j.verdict j.text.items) }
-    ensures stops { IfErr result (StopsAt whole_fault (Input.Old ∷ Input.New ∷ Input.Rules ∷ Input.Certificate ∷ []) (old.now ∷ new.now ∷ rules.now ∷ certificate.now ∷ [])) }
+    ensures readable { (rules_name : _) (old_name new_name certificate_name : List ℕ) → OnOk result (AreReadable (asks_of (verify_inputs rules_name old_name new_name certificate_name)) (old.now ∷ new.now ∷ rules.now ∷ certificate.now ∷ [])) }
+    ensures said { IfOk result (λ j. verify_says (old.now ∷ new.now ∷ rules.now ∷ certificate.now ∷ []) j.verdict j.untyped j.text.items) }
+    ensures stops { (rules_name : _) (old_name new_name certificate_name : List ℕ) → IfErr result (StopsAt (asks_of (verify_inputs rules_name old_name new_name certificate_name)) (old.now ∷ new.now ∷ rules.now ∷ certificate.now ∷ [])) }
 {
-    match verify(alloc, old, new, rules, certificate) {
+    match library_check::verify(alloc, old, new, rules, certificate) {
         Ok(Verified::Accepted) => Ok(Judgement {
             verdict: Verdict::Yes,
+            untyped: None,
             text: text::accepted(alloc)?,
-            remark: None,
         }),
         Ok(Verified::Refused(refused)) => Ok(Judgement {
             verdict: Verdict::Refused,
+            untyped: None,
             text: text::refused(alloc, refused)?,
-            remark: None,
         }),
-        Err(Unverified::Old(fault)) => Err(Stop::Fault(Input::Old, fault)),
-        Err(Unverified::New(fault)) => Err(Stop::Fault(Input::New, fault)),
-        Err(Unverified::Rules(fault)) => Err(Stop::Fault(Input::Rules, fault)),
-        Err(Unverified::Certificate(fault)) => Err(Stop::Fault(Input::Certificate, fault)),
+        Err(Unverified::Old(fault)) => Err(Stop::Unreadable(Input::Old, fault)),
+        Err(Unverified::New(fault)) => Err(Stop::Unreadable(Input::New, fault)),
+        Err(Unverified::Rules(fault)) => Err(Stop::Unreadable(Input::Rules, fault)),
+        Err(Unverified::Certificate(fault)) => Err(Stop::Unreadable(Input::Certificate, fault)),
         Err(Unverified::NoMemory) => Err(Stop::NoMemory),
     }
 }

@@ -2,8 +2,8 @@
 use Rattle.std.specs.Prelude.{ℕ, List, codes}
 use Rattle.abi_types.specs.declared.export.SymbolKind.{SymbolKind}
 use Rattle.abi_types.specs.declared.export.SymbolKind.TheVariants.{NoType, Object, Func, Common, Tls, Ifunc}
-use Rattle.abi_types.specs.declared.rule.RuleName.{RuleName}
-use Rattle.abi_types.specs.declared.rule.RuleName.TheVariants.{X1, X2, X3, X4, X5, X6, L1, L2, L3, L4, L5, L6, L7, L8, L9, L10, L11, L12, L13, L14}
+use Rattle.abi_types.specs.declared.rule.Rule.{Rule}
+use Rattle.abi_types.specs.declared.rule.Rule.TheVariants.{LibrarySoname, ExportPresence, ExportVersion, ExportKind, ExportSize, ExportType, KindOfType, TypeSize, ScalarGroup, TypeAlignment, DeclarationTag, MemberPresence, MemberOffset, BitFieldWidth, EnumeratorPresence, EnumeratorValue, ElementCount, ParameterCount, VariadicArguments, PassingPlace}
 
 abbrev pub kind_word : SymbolKind → List ℕ
 kind_word NoType = codes "NOTYPE"
@@ -13,24 +13,24 @@ kind_word Common = codes "COMMON"
 kind_word Tls = codes "TLS"
 kind_word Ifunc = codes "IFUNC"
 
-abbrev pub rule_word : RuleName → List ℕ
-rule_word X1 = codes "X1"
-rule_word X2 = codes "X2"
-rule_word X3 = codes "X3"
-rule_word X4 = codes "X4"
-rule_word X5 = codes "X5"
-rule_word X6 = codes "X6"
-rule_word L1 = codes "L1"
-rule_word L2 = codes "L2"
-rule_word L3 = codes "L3"
-rule_word L4 = codes "L4"
-rule_word L5 = codes "L5"
-rule_word L6 = codes "L6"
-rule_word L7 = codes "L7"
-rule_word L8 = codes "L8"
-rule_word L9 = codes "L9"
-rule_word L10 = codes "L10"
-rule_word L11 = codes "L11"
-rule_word L12 = codes "L12"
-rule_word L13 = codes "L13"
-rule_word L14 = codes "L14"
+abbrev pub rule_word : Rule → List ℕ
+rule_word LibrarySoname = codes "X1"
+rule_word ExportPresence = codes "X2"
+rule_word ExportVersion = codes "X3"
+rule_word ExportKind = codes "X4"
+rule_word ExportSize = codes "X5"
+rule_word ExportType = codes "X6"
+rule_word KindOfType = codes "L1"
+rule_word TypeSize = codes "L2"
+rule_word ScalarGroup = codes "L3"
+rule_word TypeAlignment = codes "L4"
+rule_word DeclarationTag = codes "L5"
+rule_word MemberPresence = codes "L6"
+rule_word MemberOffset = codes "L7"
+rule_word BitFieldWidth = codes "L8"
+rule_word EnumeratorPresence = codes "L9"
+rule_word EnumeratorValue = codes "L10"
+rule_word ElementCount = codes "L11"
+rule_word ParameterCount = codes "L12"
+rule_word VariadicArguments = codes "L13"
+rule_word PassingPlace = codes "L14"

@@ -14,9 +14,9 @@ pub mod Lookups
 pub mod Names
 pub mod Parts
 pub mod Plain
-pub mod Room
+pub mod PartSize
 pub mod Rules
-pub mod Seen
+pub mod ClassLooks
 pub mod Shown
 pub mod Sorts
 pub mod Types

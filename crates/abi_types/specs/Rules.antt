@@ -1,27 +1,27 @@
 -- The rules in their order.
 use Rattle.std.specs.Prelude.{ℕ}
-use Rattle.abi_types.specs.declared.rule.RuleName.{RuleName}
-use Rattle.abi_types.specs.declared.rule.RuleName.TheVariants.{X1, X2, X3, X4, X5, X6, L1, L2, L3, L4, L5, L6, L7, L8, L9, L10, L11, L12, L13, L14}
+use Rattle.abi_types.specs.declared.rule.Rule.{Rule}
+use Rattle.abi_types.specs.declared.rule.Rule.TheVariants.{LibrarySoname, ExportPresence, ExportVersion, ExportKind, ExportSize, ExportType, KindOfType, TypeSize, ScalarGroup, TypeAlignment, DeclarationTag, MemberPresence, MemberOffset, BitFieldWidth, EnumeratorPresence, EnumeratorValue, ElementCount, ParameterCount, VariadicArguments, PassingPlace}
 
 -- the place of a rule: those of exports first, and each group by its numbers
-abbrev pub rule_place : RuleName → ℕ
-rule_place X1 = 0
-rule_place X2 = 1
-rule_place X3 = 2
-rule_place X4 = 3
-rule_place X5 = 4
-rule_place X6 = 5
-rule_place L1 = 6
-rule_place L2 = 7
-rule_place L3 = 8
-rule_place L4 = 9
-rule_place L5 = 10
-rule_place L6 = 11
-rule_place L7 = 12
-rule_place L8 = 13
-rule_place L9 = 14
-rule_place L10 = 15
-rule_place L11 = 16
-rule_place L12 = 17
-rule_place L13 = 18
-rule_place L14 = 19
+abbrev pub rule_place : Rule → ℕ
+rule_place LibrarySoname = 0
+rule_place ExportPresence = 1
+rule_place ExportVersion = 2
+rule_place ExportKind = 3
+rule_place ExportSize = 4
+rule_place ExportType = 5
+rule_place KindOfType = 6
+rule_place TypeSize = 7
+rule_place ScalarGroup = 8
+rule_place TypeAlignment = 9
+rule_place DeclarationTag = 10
+rule_place MemberPresence = 11
+rule_place MemberOffset = 12
+rule_place BitFieldWidth = 13
+rule_place EnumeratorPresence = 14
+rule_place EnumeratorValue = 15
+rule_place ElementCount = 16
+rule_place ParameterCount = 17
+rule_place VariadicArguments = 18
+rule_place PassingPlace = 19

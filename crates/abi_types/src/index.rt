@@ -1,7 +1,7 @@
 // Numbers of nodes, of one library or of the other.
 ghost use Rattle.std.specs.Prelude.{◌≡◌, ℕ};
 ghost use Rattle.std.proofs.Common.{rules};
-ghost use Rattle.abi_types.specs.Room.{PartFits};
+ghost use Rattle.abi_types.specs.PartSize.{PartFits};
 
 use std::marker::Model;
 

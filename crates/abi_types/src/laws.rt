@@ -1,7 +1,7 @@
 //! Laws of graphs. The functions do nothing.
 ghost use Rattle.std.specs.Prelude.{◌≡◌, List};
 ghost use Rattle.abi_types.specs.declared.place.CallShape.{CallShape};
-ghost use Rattle.abi_types.specs.declared.rule.RuleName.{RuleName};
+ghost use Rattle.abi_types.specs.declared.rule.Rule.{Rule};
 ghost use Rattle.abi_types.specs.Types.{PlainNode};
 ghost use Rattle.abi_types.specs.Calls.{ParamsAreCounted, ShapesChangeCallsAlone};
 ghost use Rattle.abi_types.specs.Inside.{PartsNameWhatIsInside};
@@ -37,5 +37,5 @@ pub fn params_are_counted()
 
 /// No two rules stand at one place of their order.
 pub fn rules_have_places_of_their_own()
-    ensures { (one other : RuleName) → rule_place one ≡ rule_place other → one ≡ other }
+    ensures { (one other : Rule) → rule_place one ≡ rule_place other → one ≡ other }
 {}

@@ -31,6 +31,6 @@ pub use library::{Library, Marks};
 pub use part::Part;
 pub use parts::Parts;
 pub use place::{Call, CallShape, Place, Slot};
-pub use rule::RuleName;
+pub use rule::Rule;
 pub use shown::{push_label, push_shown};
 pub use view::{Label, Node, View};

@@ -25,7 +25,7 @@ struct Several<'a, Ix: Index> {
 // What keeps the parts of a type. Pointers and arrays have one part, which stands in its place and takes no memory of its own.
 // Several parts are shared by the types that have the same ones: a structure, its typedefs, and these with `const`.
 #[derive(Drop)]
-enum Kept<'a, Ix: Index> {
+enum PartStorage<'a, Ix: Index> {
     Nothing,
     One(Part<'a, Ix>),
     Many(Rc<Several<'a, Ix>>),
@@ -35,7 +35,7 @@ enum Kept<'a, Ix: Index> {
 /// see it as the list of its parts.
 #[derive(Drop)]
 pub struct Parts<'a, Ix: Index> {
-    kept: Kept<'a, Ix>,
+    kept: PartStorage<'a, Ix>,
 }
 
 impl<'a, Ix: Index> Model for Parts<'a, Ix> {
@@ -74,7 +74,7 @@ impl<'a, Ix: Index> Parts<'a, Ix> {
         ensures { result ≡ [] }
     {
         Parts {
-            kept: Kept::Nothing,
+            kept: PartStorage::Nothing,
         }
     }
 
@@ -83,7 +83,7 @@ impl<'a, Ix: Index> Parts<'a, Ix> {
         ensures { result ≡ plain_part Ix.number_of part.entry ∷ [] }
     {
         Parts {
-            kept: Kept::One(part),
+            kept: PartStorage::One(part),
         }
     }
 
@@ -95,7 +95,7 @@ impl<'a, Ix: Index> Parts<'a, Ix> {
         let items = List::of(items);
         let several = Rc::new(alloc, Several { items, lookup })?;
         Ok(Parts {
-            kept: Kept::Many(several),
+            kept: PartStorage::Many(several),
         })
     }
 
@@ -117,15 +117,15 @@ impl<'a, Ix: Index> Parts<'a, Ix> {
         ensures { IfOk result (λ parts. parts ≡ self.now) }
     {
         match &self.kept {
-            Kept::Nothing => Ok(Parts {
-                kept: Kept::Nothing,
+            PartStorage::Nothing => Ok(Parts {
+                kept: PartStorage::Nothing,
             }),
-            Kept::One(part) => match Some(part).copied() {
+            PartStorage::One(part) => match Some(part).copied() {
                 Some(part) => Ok(Parts::one(part)),
                 None => unreachable!(),
             },
-            Kept::Many(several) => Ok(Parts {
-                kept: Kept::Many(several.clone()?),
+            PartStorage::Many(several) => Ok(Parts {
+                kept: PartStorage::Many(several.clone()?),
             }),
         }
     }
@@ -149,9 +149,9 @@ impl<'a, Ix: Index> Parts<'a, Ix> {
         ensures { map (plain_part Ix.number_of) result.now ≡ self.now }
     {
         match &self.kept {
-            Kept::Nothing => &[],
-            Kept::One(part) => slice::from_ref(part),
-            Kept::Many(several) => several.items.as_slice(),
+            PartStorage::Nothing => &[],
+            PartStorage::One(part) => slice::from_ref(part),
+            PartStorage::Many(several) => several.items.as_slice(),
         }
     }
 
@@ -168,7 +168,7 @@ impl<'a, Ix: Index> Parts<'a, Ix> {
         ensures { IfSome result (λ lookup. IsLookup lookup.now self.now) }
     {
         match &self.kept {
-            Kept::Many(several) => match &several.lookup {
+            PartStorage::Many(several) => match &several.lookup {
                 Some(lookup) => Some(lookup),
                 None => None,
             },

@@ -6,50 +6,50 @@ ghost use Rattle.abi_types.specs.Rules.{rule_place};
 /// A rule that a new library may break: `X1` to `X6` are asked of exports, `L1` to `L14` of two types, the old one and the new
 /// one. Each is told here as what it asks.
 #[derive(Clone, Copy, Debug, PartialEq, Eq)]
-pub enum RuleName {
+pub enum Rule {
     /// The sonames agree.
-    X1,
+    LibrarySoname,
     /// The export is there.
-    X2,
+    ExportPresence,
     /// The version of the export is there.
-    X3,
+    ExportVersion,
     /// The kinds of symbols agree.
-    X4,
+    ExportKind,
     /// The sizes of objects agree.
-    X5,
+    ExportSize,
     /// The export has a type still.
-    X6,
+    ExportType,
     /// The kinds of both types agree. Where it is broken, no other rule is asked.
-    L1,
+    KindOfType,
     /// The sizes of scalars, enumerations, structures, unions, arrays and vectors are equal.
-    L2,
+    TypeSize,
     /// The groups of two scalars are equal: what their bits mean. Their names do not count.
-    L3,
+    ScalarGroup,
     /// The explicit alignments are equal. It is not asked of functions and void.
-    L4,
+    TypeAlignment,
     /// Where one side is a declaration, the tags are equal; then no rule but L1 and this one is asked.
-    L5,
+    DeclarationTag,
     /// Each old member has a match: the new member of its name and number among those of the name.
-    L6,
+    MemberPresence,
     /// A matched member stands at the same bit.
-    L7,
+    MemberOffset,
     /// A matched member has the same width as a bit field, or is none on both sides.
-    L8,
+    BitFieldWidth,
     /// Each old enumerator has a match, as members have.
-    L9,
+    EnumeratorPresence,
     /// A matched enumerator has the same value, modulo 2 to the number of its enumeration's bits.
-    L10,
+    EnumeratorValue,
     /// Arrays and vectors have equally many elements.
-    L11,
+    ElementCount,
     /// Functions have equally many parameters.
-    L12,
+    ParameterCount,
     /// Both functions take further arguments, or neither does.
-    L13,
+    VariadicArguments,
     /// The result, and each parameter that both functions have, is at the same place.
-    L14,
+    PassingPlace,
 }
 
-impl RuleName {
+impl Rule {
     /// Its place in the order of rules, counted from 0: those of exports first, and each group by its numbers.
     pub fn place(self) -> u8
         ensures { result ≡ rule_place self }
@@ -62,26 +62,26 @@ impl RuleName {
         ensures { result.now ≡ rule_word self }
     {
         match self {
-            RuleName::X1 => "X1",
-            RuleName::X2 => "X2",
-            RuleName::X3 => "X3",
-            RuleName::X4 => "X4",
-            RuleName::X5 => "X5",
-            RuleName::X6 => "X6",
-            RuleName::L1 => "L1",
-            RuleName::L2 => "L2",
-            RuleName::L3 => "L3",
-            RuleName::L4 => "L4",
-            RuleName::L5 => "L5",
-            RuleName::L6 => "L6",
-            RuleName::L7 => "L7",
-            RuleName::L8 => "L8",
-            RuleName::L9 => "L9",
-            RuleName::L10 => "L10",
-            RuleName::L11 => "L11",
-            RuleName::L12 => "L12",
-            RuleName::L13 => "L13",
-            RuleName::L14 => "L14",
+            Rule::LibrarySoname => "X1",
+            Rule::ExportPresence => "X2",
+            Rule::ExportVersion => "X3",
+            Rule::ExportKind => "X4",
+            Rule::ExportSize => "X5",
+            Rule::ExportType => "X6",
+            Rule::KindOfType => "L1",
+            Rule::TypeSize => "L2",
+            Rule::ScalarGroup => "L3",
+            Rule::TypeAlignment => "L4",
+            Rule::DeclarationTag => "L5",
+            Rule::MemberPresence => "L6",
+            Rule::MemberOffset => "L7",
+            Rule::BitFieldWidth => "L8",
+            Rule::EnumeratorPresence => "L9",
+            Rule::EnumeratorValue => "L10",
+            Rule::ElementCount => "L11",
+            Rule::ParameterCount => "L12",
+            Rule::VariadicArguments => "L13",
+            Rule::PassingPlace => "L14",
         }
     }
 }

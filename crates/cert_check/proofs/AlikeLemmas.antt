@@ -4,7 +4,7 @@ use Rattle.std.specs.Prelude.{◌↔◌, is_none}
 use Rattle.std.proofs.lemmas.Option.{same_Some, none-some}
 use Rattle.abi_types.specs.Types.{PlainNode}
 use Rattle.abi_types.specs.Graphs.{node_at, node_of}
-use Rattle.abi_types.specs.Seen.{look_of}
+use Rattle.abi_types.specs.ClassLooks.{look_of}
 use Rattle.cert_check.specs.Accepted.{class_in, line_of, IsAlikeLine, KeepsAlike}
 
 never : {P : Type 0} → (P → ⊥) → (false ≡ true) ↔ P

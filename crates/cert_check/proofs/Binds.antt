@@ -25,7 +25,7 @@ use Rattle.cert_check.specs.Accepted.{Case, Place, Binding, Keeps, HasBinding, K
 use Rattle.cert_check.specs.Bindings.{AreBound, AreOwned, IsOwned, IsWrongAt, IsFirstUnbound, IsFirstUnowned, FindsUnbound, FindsUnowned, least}
 use Rattle.cert_check.proofs.First.{each-from}
 use Rattle.cert_check.proofs.Lines.{line_of-some}
-use Rattle.cert_check.proofs.PairLemmas.{Told, from_zero}
+use Rattle.cert_check.proofs.PairLemmas.{RefusalOrder, from_zero}
 
 -- below a number, each compared export has its line, and each line its export
 pub record AreKeptBelow (c : Case) (s : ℕ) : Type 0 where
@@ -47,14 +47,14 @@ map_places [] ys = refl
 map_places (x ∷ xs) ys = ap (λ (ps : List Place). Binding x ∷ ps) (map_places xs ys)
 
 -- what is wrong at a number, below which all is right, is the least
-pub told_at_symbol : (c : Case) (s : ℕ) (answer : Refused) → AreKeptBelow c s → s < symbol_limit → (KeepsBinding c s → ⊥) → answer ≡ refused c (Binding s) → Told c binding_places answer
+pub told_at_symbol : (c : Case) (s : ℕ) (answer : Refused) → AreKeptBelow c s → s < symbol_limit → (KeepsBinding c s → ⊥) → answer ≡ refused c (Binding s) → RefusalOrder c binding_places answer
 unfolding binding_places
 told_at_symbol c s answer below lt fails is =
     let m : ℕ = symbol_limit - s - 1 in
     let e : symbol_limit ≡ s + suc m = omega arith in
     let whole : each Binding symbol_limit ≡ each Binding s ++ (Binding s ∷ map Binding (range_with_len (s + 1) m)) =
     ap (λ (n : ℕ). each Binding n) e ∙ ap (map Binding) (from_zero s (suc m)) ∙ map_places (range_with_len 0 s) (range_with_len s (suc m)) in
-    subst (λ (ps : List Place). Told c ps answer) (sym whole) (
+    subst (λ (ps : List Place). RefusalOrder c ps answer) (sym whole) (
       Binding s,
       record {
         before = each Binding s;
@@ -89,10 +89,10 @@ bound_below c s t le all k e compared lt = all k e compared (omega (arith, lt, l
 owned_below : (c : Case) (s t : ℕ) → s ≤ t → AreOwned c t → AreOwned c s
 owned_below c s t le all k n m at lt = all k n m at (omega (arith, lt, le))
 
-wrong_at : (c : Case) (s : ℕ) (answer : Refused) → AreBound c s → AreOwned c s → IsWrongAt c s → answer ≡ refused c (Binding s) → Told c binding_places answer
+wrong_at : (c : Case) (s : ℕ) (answer : Refused) → AreBound c s → AreOwned c s → IsWrongAt c s → answer ≡ refused c (Binding s) → RefusalOrder c binding_places answer
 wrong_at c s answer bound owned wrong is = told_at_symbol c s answer (record { exports = bound; lines = owned }) wrong.below wrong.fails is
 
-pub bindings_told : (c : Case) (one other : Option ℕ) (s : ℕ) (answer : Refused) → FindsUnbound c one → FindsUnowned c other → least one other ≡ Some s → answer ≡ refused c (Binding s) → Told c binding_places answer
+pub bindings_told : (c : Case) (one other : Option ℕ) (s : ℕ) (answer : Refused) → FindsUnbound c one → FindsUnowned c other → least one other ≡ Some s → answer ≡ refused c (Binding s) → RefusalOrder c binding_places answer
 bindings_told c None None s answer unbound unowned is answered = absurd (none-some s is)
 bindings_told c None (Some n) s answer unbound unowned is answered =
     let e : n ≡ s = same_Some n s is in

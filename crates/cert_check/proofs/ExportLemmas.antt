@@ -6,10 +6,10 @@ use Rattle.std.proofs.lemmas.Option.{none-some, same_Some, slice_get-map}
 use Rattle.abi_types.specs.declared.export.Export.{Export}
 use Rattle.abi_types.specs.Exports.{PlainExport}
 use Rattle.abi_types.specs.Plain.{plain_export, plain_exports}
-use Rattle.vers_bind.specs.Binding.{bind_to}
+use Rattle.elf_bind.specs.Binding.{bind_to}
 use Rattle.cert_check.specs.Compatible.{Sides, IsCompared, bound, KeepsExport, is_typed}
 use Rattle.cert_check.specs.Accepted.{Case, KeepsRules, KeepsRoot}
-use Rattle.cert_check.specs.Ground.{has_root_line}
+use Rattle.cert_check.specs.CertifiedPair.{has_root_line}
 
 pub export_read : (exports : List Export) (plain : List PlainExport) (k : ℕ) (e : Export) → plain_exports exports ≡ plain → slice_get exports k ≡ Some e → slice_get plain k ≡ Some (plain_export e)
 export_read exports plain k e same at = ap (λ (es : List PlainExport). slice_get es k) (sym same) ∙ slice_get-map plain_export exports k ∙ ap (option_map plain_export) at

@@ -18,7 +18,7 @@ use Rattle.abi_types.specs.Types.{PlainPart, Member, Enumerator, Target, Element
 use Rattle.abi_types.specs.declared.view.Label.{Label}
 use Rattle.abi_types.specs.Plain.{plain_label}
 use Rattle.abi_types.specs.Graphs.{part_at, no_part}
-use Rattle.abi_types.specs.Seen.{part_seen, view_seen, Look, look_of}
+use Rattle.abi_types.specs.ClassLooks.{part_seen, view_seen, Look, look_of}
 use Rattle.pair_rules.specs.Same.{same_kind, same_group, same_place}
 use Rattle.cert_check.specs.Looks.{same_label_kind, same_label, same_part, same_heads}
 

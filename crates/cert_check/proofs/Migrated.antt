@@ -9,7 +9,7 @@ use Rattle.pair_rules.specs.Steps.{Task, Triple, is_marked, step, IsStep}
 use Rattle.cert_text.specs.Certs.{PlainCert1, PairLine, both_ways, without_way}
 use Rattle.cert_check.specs.Compatible.{Sides, task_of}
 use Rattle.cert_check.specs.Accepted.{KeepsBinding, KeepsRoot, KeepsRule, KeepsPartners, is_line}
-use Rattle.cert_check.specs.Kept.{KeepsAll}
+use Rattle.cert_check.specs.ProvedConditions.{KeepsAll}
 use Rattle.cert_check.specs.FirstVersion.{AreOneMark, is_marked_any, case_1, migrated_case, IsAccepted1}
 use Rattle.cert_check.proofs.ListLemmas.{contains_at, at_contains}
 use Rattle.cert_check.proofs.LineLaws.{is_line_there}

@@ -12,12 +12,12 @@ use Rattle.abi_types.specs.Graphs.{IsGraph, node_at, node_of}
 use Rattle.pair_rules.specs.Steps.{PlainRoot, Task, Triple}
 use Rattle.pair_rules.specs.Paths.{root_triple}
 use Rattle.pair_rules.specs.Closed.{IsClosed, HoldsRoots}
-use Rattle.abi_types.specs.Seen.{look_of}
+use Rattle.abi_types.specs.ClassLooks.{look_of}
 use Rattle.pair_rules.specs.Stable.{IsStable, AreEven, AreClasses, IsInside, is_inside, classed, StandsFor, related}
 use Rattle.cert_check.specs.Compatible.{Sides, IsCompared, IsCompatible, bound, is_typed, root_with, root_to, root_from, typed_root, typed_roots, task_of}
 use Rattle.abi_types.specs.Limits.{symbol_limit}
 use Rattle.abi_types.specs.Libraries.{AreNumbered}
-use Rattle.cert_check.specs.Kept.{KeepsAll}
+use Rattle.cert_check.specs.ProvedConditions.{KeepsAll}
 use Rattle.cert_check.specs.Relation.{relation_of}
 use Rattle.cert_check.specs.TypedPairs.{IsTypedPair, HasTypes}
 use Rattle.cert_check.specs.Accepted.{Place, heads, joined, Binding, Rules, AlikeOld, AlikeNew, Root, Rule, Partners, groups, places, binding_places, pair_places, IsAccepted, Case, line_of, rep, class_in, old_class, new_class, listed, is_line, KeepsAlike, KeepsBinding, KeepsRule, KeepsPartners, Keeps}

@@ -7,7 +7,7 @@ use Rattle.abi_types.specs.Types.{PlainNode}
 use Rattle.abi_types.specs.Exports.{PlainExport}
 use Rattle.abi_types.specs.Graphs.{node_at, node_of}
 use Rattle.pair_rules.specs.Steps.{Triple, is_marked, breaks_of, step}
-use Rattle.abi_types.specs.Seen.{look_of}
+use Rattle.abi_types.specs.ClassLooks.{look_of}
 use Rattle.pair_rules.specs.Stable.{classed}
 use Rattle.cert_text.specs.Certs.{PlainCert, PairLine, is_pointer}
 use Rattle.cert_check.specs.declared.refused.RefusedKind.TheVariants as kind

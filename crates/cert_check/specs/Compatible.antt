@@ -5,7 +5,7 @@ use Rattle.abi_types.specs.declared.library.Marks.{Marks}
 use Rattle.abi_types.specs.Exports.{PlainExport}
 use Rattle.abi_types.specs.Libraries.{PlainLibrary}
 use Rattle.abi_types.specs.Graphs.{node_of}
-use Rattle.vers_bind.specs.Binding.{bind_to}
+use Rattle.elf_bind.specs.Binding.{bind_to}
 use Rattle.pair_rules.specs.ExportRules.{export_breaks}
 use Rattle.pair_rules.specs.Steps.{PlainRoot, Task}
 use Rattle.pair_rules.specs.Closed.{AreCompatible}

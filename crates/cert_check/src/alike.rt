@@ -3,12 +3,12 @@ ghost use Rattle.std.specs.Prelude.{◌≡◌, ◌<◌, ◌↔◌, ◌+◌, IsTr
 ghost use Rattle.cert_text.specs.Certs.{Ascend, first_cmp};
 ghost use Rattle.cert_check.specs.Accepted.{Settles, AlikeOld, AlikeNew, KeepsAlike, each, line_of as the_line_of};
 ghost use Rattle.cert_check.specs.Finds.{FindsFirst};
-ghost use Rattle.cert_check.specs.Ground.{case_of};
+ghost use Rattle.cert_check.specs.CertifiedPair.{case_of};
 
-use crate::ground::{Ground, alike_new_of, alike_old_of, find};
-use crate::looks::look_alike;
+use crate::certified_pair::{CertifiedPair, alike_new_of, alike_old_of, find};
 use crate::lookups::line_of;
 use crate::refused::{Refused, RefusedKind};
+use crate::same_looks::look_alike;
 use abi_types::{Index, Library};
 use cert_text::Cert;
 
@@ -21,7 +21,7 @@ fn is_own(lines: &[(u64, u64)], entry: u64) -> bool
 }
 
 // Whether the alike line at a position keeps what is asked of it.
-fn keeps_alike<Ix: Index>(library: &Library<Ix>, lines: &[(u64, u64)], k: usize) -> bool
+fn keeps_alike_line<Ix: Index>(library: &Library<Ix>, lines: &[(u64, u64)], k: usize) -> bool
     requires inside { k < length lines.now }
     requires ascend { Ascend first_cmp lines.now }
     ensures { IsTrue result ↔ KeepsAlike library.now.graph lines.now k }
@@ -47,7 +47,7 @@ fn first_unlike<Ix: Index>(library: &Library<Ix>, lines: &[(u64, u64)]) -> Optio
     ensures { FindsFirst (KeepsAlike library.now.graph lines.now) (length lines.now) result }
 {
     for k in 0..lines.len() {
-        if !keeps_alike(library, lines, k) {
+        if !keeps_alike_line(library, lines, k) {
             return Some(k);
         }
     }
@@ -75,7 +75,7 @@ fn new_line(cert: &Cert, k: usize) -> u64
 }
 
 /// The alike lines of the old library, in their order.
-pub fn check_alike_old(ground: &Ground) -> Result<(), Refused>
+pub fn check_alike_lines_of_old(ground: &CertifiedPair) -> Result<(), Refused>
     ensures { Settles (case_of ground.now) (each AlikeOld (length ground.now.cert.now.alike_old)) result }
 {
     match first_unlike(ground.old, alike_old_of(ground.cert)) {
@@ -88,7 +88,7 @@ pub fn check_alike_old(ground: &Ground) -> Result<(), Refused>
 }
 
 /// The alike lines of the new library, in their order.
-pub fn check_alike_new(ground: &Ground) -> Result<(), Refused>
+pub fn check_alike_lines_of_new(ground: &CertifiedPair) -> Result<(), Refused>
     ensures { Settles (case_of ground.now) (each AlikeNew (length ground.now.cert.now.alike_new)) result }
 {
     match first_unlike(ground.new, alike_new_of(ground.cert)) {

@@ -4,9 +4,11 @@ ghost use Rattle.abi_types.specs.Plain.{plain_export};
 ghost use Rattle.cert_text.specs.Certs.{Ascend, first_cmp};
 ghost use Rattle.cert_check.specs.Accepted.{Settles, HasBinding, line_of as the_line_of, binding_places};
 ghost use Rattle.cert_check.specs.Bindings.{IsOwned, FindsUnbound, FindsUnowned, least as the_least};
-ghost use Rattle.cert_check.specs.Ground.{case_of};
+ghost use Rattle.cert_check.specs.CertifiedPair.{case_of};
 
-use crate::ground::{Ground, binds_of, bound_to, export_at, export_count, is_compared};
+use crate::certified_pair::{
+    CertifiedPair, binds_of, bound_to, export_at, export_count, is_compared,
+};
 use crate::refused::{Refused, RefusedKind};
 use abi_types::Export;
 
@@ -28,7 +30,7 @@ fn same_symbol(one: u32, other: u32) -> bool
 }
 
 // Whether an old export binds, and its line says to what.
-fn has_binding(ground: &Ground, export: &Export) -> bool
+fn has_binding(ground: &CertifiedPair, export: &Export) -> bool
     ensures { IsTrue result ↔ HasBinding (case_of ground.now) export.now.symbol (plain_export export.now) }
 {
     let said = match line_of(binds_of(ground.cert), export.symbol) {
@@ -42,7 +44,7 @@ fn has_binding(ground: &Ground, export: &Export) -> bool
 }
 
 // The number of the least old export that is compared and lacks its line.
-fn first_unbound(ground: &Ground) -> Option<u32>
+fn first_unbound(ground: &CertifiedPair) -> Option<u32>
     ensures { FindsUnbound (case_of ground.now) result }
 {
     ground.old.known();
@@ -56,7 +58,7 @@ fn first_unbound(ground: &Ground) -> Option<u32>
 }
 
 // Whether a number is that of the symbol of an old export that is compared, by binary search.
-fn is_owned(ground: &Ground, symbol: u32) -> bool
+fn is_owned(ground: &CertifiedPair, symbol: u32) -> bool
     ensures { IsTrue result ↔ IsOwned (case_of ground.now) symbol }
 {
     ground.old.known();
@@ -71,7 +73,7 @@ fn is_owned(ground: &Ground, symbol: u32) -> bool
 }
 
 // The number of the least bind line that is no compared export's.
-fn first_unowned(ground: &Ground) -> Option<u32>
+fn first_unowned(ground: &CertifiedPair) -> Option<u32>
     ensures { FindsUnowned (case_of ground.now) result }
 {
     let lines = binds_of(ground.cert);
@@ -96,7 +98,7 @@ fn least(one: Option<u32>, other: Option<u32>) -> Option<u32>
 }
 
 /// The bind lines, symbol by symbol.
-pub fn check_bindings(ground: &Ground) -> Result<(), Refused>
+pub fn check_bindings(ground: &CertifiedPair) -> Result<(), Refused>
     ensures { Settles (case_of ground.now) binding_places result }
 {
     let unbound = first_unbound(ground);

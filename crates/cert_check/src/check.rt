@@ -1,10 +1,10 @@
 // The whole check.
 ghost use Rattle.cert_check.specs.Accepted.{Settles, asked, places};
 
-use crate::alike::{check_alike_new, check_alike_old};
+use crate::alike::{check_alike_lines_of_new, check_alike_lines_of_old};
 use crate::bindings::check_bindings;
+use crate::certified_pair::CertifiedPair;
 use crate::exports::{check_roots, check_rules};
-use crate::ground::Ground;
 use crate::heads::check_heads;
 use crate::pairs::check_pairs;
 use crate::refused::Refused;
@@ -21,7 +21,7 @@ pub fn check_cert(
 ) -> Result<(), Refused>
     ensures { Settles (asked old.now new.now marks.now cert.now) (places (asked old.now new.now marks.now cert.now)) result }
 {
-    let ground = Ground {
+    let ground = CertifiedPair {
         old,
         new,
         marks,
@@ -36,10 +36,10 @@ pub fn check_cert(
     if let Err(refused) = check_rules(&ground) {
         return Err(refused);
     }
-    if let Err(refused) = check_alike_old(&ground) {
+    if let Err(refused) = check_alike_lines_of_old(&ground) {
         return Err(refused);
     }
-    if let Err(refused) = check_alike_new(&ground) {
+    if let Err(refused) = check_alike_lines_of_new(&ground) {
         return Err(refused);
     }
     if let Err(refused) = check_roots(&ground) {

@@ -4,9 +4,11 @@ ghost use Rattle.abi_types.specs.Plain.{plain_export};
 ghost use Rattle.cert_check.specs.Compatible.{KeepsExport, is_typed as the_export_is_typed};
 ghost use Rattle.cert_check.specs.Accepted.{Settles, Rules, Root, KeepsRules, KeepsRoot, each};
 ghost use Rattle.cert_check.specs.Finds.{FindsFirst};
-ghost use Rattle.cert_check.specs.Ground.{case_of, has_root_line as it_has_a_root_line};
+ghost use Rattle.cert_check.specs.CertifiedPair.{case_of, has_root_line as it_has_a_root_line};
 
-use crate::ground::{Ground, bound_to, export_at, export_count, is_compared, symbol_at};
+use crate::certified_pair::{
+    CertifiedPair, bound_to, export_at, export_count, is_compared, symbol_at,
+};
 use crate::lookups::{is_line, rep};
 use crate::refused::{Refused, RefusedKind};
 use abi_types::{Export, Way};
@@ -20,7 +22,7 @@ fn keeps_export(old: &Export, new: &Export) -> bool
 }
 
 // Whether the old export at a position keeps the rules, where it is compared and binds.
-fn keeps_rules(ground: &Ground, k: usize) -> bool
+fn keeps_rules(ground: &CertifiedPair, k: usize) -> bool
     requires { k < length ground.now.old.now.exports }
     ensures { IsTrue result ↔ KeepsRules (case_of ground.now) k }
 {
@@ -35,7 +37,7 @@ fn keeps_rules(ground: &Ground, k: usize) -> bool
 }
 
 // The first position of an old export that breaks a rule.
-fn first_broken(ground: &Ground) -> Option<usize>
+fn first_broken(ground: &CertifiedPair) -> Option<usize>
     ensures { FindsFirst (KeepsRules (case_of ground.now)) (length ground.now.old.now.exports) result }
 {
     for k in 0..export_count(ground) {
@@ -47,7 +49,7 @@ fn first_broken(ground: &Ground) -> Option<usize>
 }
 
 /// The rules of exports, export by export.
-pub fn check_rules(ground: &Ground) -> Result<(), Refused>
+pub fn check_rules(ground: &CertifiedPair) -> Result<(), Refused>
     ensures { Settles (case_of ground.now) (each Rules (length ground.now.old.now.exports)) result }
 {
     match first_broken(ground) {
@@ -67,7 +69,7 @@ fn is_typed(export: &Export) -> bool
 }
 
 // Whether the types of two exports have a pair line by their representatives, as reached by value.
-fn has_root_line(ground: &Ground, old: &Export, new: &Export) -> bool
+fn has_root_line(ground: &CertifiedPair, old: &Export, new: &Export) -> bool
     ensures { result ≡ it_has_a_root_line (case_of ground.now) (plain_export old.now) (plain_export new.now) }
 {
     let cert = ground.cert;
@@ -79,7 +81,7 @@ fn has_root_line(ground: &Ground, old: &Export, new: &Export) -> bool
 
 // Whether the types of the old export at a position and of the one that it binds to have a pair line, where both have a
 // type.
-fn keeps_root(ground: &Ground, k: usize) -> bool
+fn keeps_root(ground: &CertifiedPair, k: usize) -> bool
     requires { k < length ground.now.old.now.exports }
     ensures { IsTrue result ↔ KeepsRoot (case_of ground.now) k }
 {
@@ -101,7 +103,7 @@ fn keeps_root(ground: &Ground, k: usize) -> bool
 }
 
 // The first position of an old export whose types have no pair line.
-fn first_rootless(ground: &Ground) -> Option<usize>
+fn first_rootless(ground: &CertifiedPair) -> Option<usize>
     ensures { FindsFirst (KeepsRoot (case_of ground.now)) (length ground.now.old.now.exports) result }
 {
     for k in 0..export_count(ground) {
@@ -113,7 +115,7 @@ fn first_rootless(ground: &Ground) -> Option<usize>
 }
 
 /// The pair lines of the types of exports, export by export.
-pub fn check_roots(ground: &Ground) -> Result<(), Refused>
+pub fn check_roots(ground: &CertifiedPair) -> Result<(), Refused>
     ensures { Settles (case_of ground.now) (each Root (length ground.now.old.now.exports)) result }
 {
     match first_rootless(ground) {

@@ -10,7 +10,7 @@ ghost use Rattle.cert_check.specs.Compatible.{Sides, IsCompatible, task_of, type
 ghost use Rattle.cert_check.specs.TypedPairs.{IsTypedPair, HasTypes};
 ghost use Rattle.cert_check.specs.Accepted.{Case, Place, IsAccepted, IsFirstFailing, is_line, line_of, places};
 ghost use Rattle.cert_check.specs.Given.{StandInOrder};
-ghost use Rattle.cert_check.specs.Kept.{KeepsAll};
+ghost use Rattle.cert_check.specs.ProvedConditions.{KeepsAll};
 ghost use Rattle.cert_check.specs.Relation.{relation_of};
 ghost use Rattle.cert_check.specs.FirstVersion.{AreOneMark, IsAccepted1, migrated_case};
 

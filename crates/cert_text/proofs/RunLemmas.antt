@@ -152,11 +152,11 @@ body_numbers c kept = subst (All (HasNumbers Two)) (sym (body-groups c)) (number
 -- ---- a run of lines
 
 -- the line may stand behind the one before it
-abbrev Leads : Option Line → Line → Type 0
-Leads None x = Unit {0}
-Leads (Some before) x = Follows before x
+abbrev PathLeadsTo : Option Line → Line → Type 0
+PathLeadsTo None x = Unit {0}
+PathLeadsTo (Some before) x = Follows before x
 
-no_order_fault : (number : ℕ) (before : Option Line) (x : Line) → Leads before x → order_fault number before x ≡ None
+no_order_fault : (number : ℕ) (before : Option Line) (x : Line) → PathLeadsTo before x → order_fault number before x ≡ None
 no_order_fault number None x leads = refl
 no_order_fault number (Some before) x leads = let e : may_follow before x ≡ true = leads in rw e refl
 
@@ -167,7 +167,7 @@ before_end (AlikeNew i j) is = later_kind (AlikeNew i j) End (lit< tt)
 before_end (Pair i j w) is = later_kind (Pair i j w) End (lit< tt)
 before_end End is = cc
 
-leads_end : (before : Option Line) → is_end before ≡ false → Leads before End
+leads_end : (before : Option Line) → is_end before ≡ false → PathLeadsTo before End
 leads_end None going = tt
 leads_end (Some x) going = before_end x going
 
@@ -178,7 +178,7 @@ last_line v number before going =
     let order = no_order_fault number before End (leads_end before going) in
     rw (going, form, order) refl
 
-pub run : (v : Version) (number : ℕ) (before : Option Line) (xs : List Line) → is_end before ≡ false → All (HasNumbers v) xs → All IsBody xs → All (Leads before) xs → AllPairs Follows xs → body_fault v number before (map (spelling v) xs ++ spelling v End ∷ []) [] ≡ None
+pub run : (v : Version) (number : ℕ) (before : Option Line) (xs : List Line) → is_end before ≡ false → All (HasNumbers v) xs → All IsBody xs → All (PathLeadsTo before) xs → AllPairs Follows xs → body_fault v number before (map (spelling v) xs ++ spelling v End ∷ []) [] ≡ None
 unfolding body_fault
 run v number before [] going numbers bodies leads pairs = last_line v number before going
 run v number before (x ∷ xs) going numbers bodies leads pairs =

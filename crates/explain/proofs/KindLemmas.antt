@@ -6,7 +6,7 @@ use Rattle.abi_base.specs.Fault.{fault_number, fault_name}
 use Rattle.abi_base.specs.declared.fault.FaultKind.{FaultKind}
 use Rattle.abi_base.specs.declared.fault.FaultKind.TheVariants.{ShortFile, NotElf, Class, Data, Version, NotShared, Machine, SectionTable, SectionRange, SectionName, Compressed, NoDynamicSymbols, SymbolTable, DynamicTable, VersionTable, VersionDefinition, VersionIndex, DuplicateExport, UnitHeader, DwarfVersion, UnitType, AddressSize, Dwarf64, Abbrev, AbbrevCode, Form, Cut, Tree, Text, Index, Ranges, Language, Reference, Shape, TooDeep, TooLarge, Supplementary, OriginTooDeep, TooLong, VersionNeed, ImportVersion, TypeOffset, BadText, RuleLine, Section, Property, EmptyRule, BadPattern, LongPattern, Repeated, Brace, CertLine, Order, End}
 use Rattle.explain.specs.declared.kinds.TheConstants.{KINDS}
-use Rattle.explain.specs.Told.{lacks}
+use Rattle.explain.specs.FaultSentence.{lacks}
 
 -- an option is itself, seen item by item
 pub same_option : (o : Option FaultKind) → o ≡ option_map (λ k. k) o

@@ -6,7 +6,7 @@ use Rattle.abi_base.specs.declared.fault.Fault.{Fault}
 use Rattle.abi_base.specs.declared.fault.FaultKind.{FaultKind}
 use Rattle.std.specs.Str.{bytes_eq}
 use Rattle.std.specs.Cmp.Lexicographic.{same_text}
-use Rattle.explain.specs.Told.{unreadable_line}
+use Rattle.explain.specs.FaultSentence.{unreadable_line}
 
 abbrev pub behind_name : Fault → List ℕ → List ℕ
 behind_name fault more = decimal fault.at ++ 10 ∷ more

@@ -8,7 +8,7 @@ use Rattle.std.specs.List.{position_or_len, before_first, after_first}
 use Rattle.std.proofs.Math.Seq.{take-append_seam, drop-append-add}
 use Rattle.std.proofs.lemmas.List.Folds.{list_all-append}
 use Rattle.std.proofs.lemmas.Fmt.{decimal_by_steps}
-use Rattle.explain.specs.Told.{lacks}
+use Rattle.explain.specs.FaultSentence.{lacks}
 
 -- the first such byte stands behind a word that lacks it
 pub first_behind : (byte : ℕ) (word rest : List ℕ) → lacks byte word ≡ true → position_or_len (λ b. nat_eq b byte) (word ++ byte ∷ rest) ≡ length word

@@ -1,4 +1,4 @@
-pub mod Room
-pub mod Noted
+pub mod NotedLimit
+pub mod NotedBytes
 pub mod Texts
-pub mod Told
+pub mod FaultSentence

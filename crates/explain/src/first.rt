@@ -1,6 +1,6 @@
 // The first bytes of what passes.
 ghost use Rattle.std.specs.Prelude.{◌≡◌, ◌≤◌, ◌++◌, ℕ, List, [], take};
-ghost use Rattle.explain.specs.Room.{most_noted};
+ghost use Rattle.explain.specs.NotedLimit.{most_noted};
 
 use std::marker::Model;
 

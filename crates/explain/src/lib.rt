@@ -3,16 +3,16 @@
 #![tactic(auto)]
 
 mod constants;
+mod fault_sentence;
 mod faults;
 mod files;
 mod first;
 mod kinds;
-mod noted;
 mod places;
+mod recording_sink;
 mod remarks;
 mod sections;
-mod told;
 
-pub use noted::NotedSink;
+pub use fault_sentence::{push_fault, told_fault};
+pub use recording_sink::RecordingSink;
 pub use remarks::push_untyped;
-pub use told::{push_fault, told_fault};

@@ -8,12 +8,12 @@ use Rattle.abi_types.specs.Types.{PlainLabel, PlainNode}
 use Rattle.abi_types.specs.declared.kind.Way.{Way}
 use Rattle.abi_types.specs.declared.kind.Way.TheVariants.{Direct, Pointer}
 use Rattle.abi_types.specs.declared.library.Marks.{Marks}
-use Rattle.lib_compare.specs.Marking.{no_marks}
-use Rattle.rule_text.specs.Faults.{rule_fault}
-use Rattle.rule_text.specs.Lines.{forms_of}
-use Rattle.rule_text.specs.Rules.{PlainRules, rules_of, sections_from}
-use Rattle.rules.specs.Marks.{export_flags, marks_of, way_flags}
-use Rattle.rules.specs.Meaning.{is_dropped, is_marked, marks_names}
+use Rattle.pair_compare.specs.Marking.{no_marks}
+use Rattle.suppression_text.specs.Faults.{rule_fault}
+use Rattle.suppression_text.specs.Lines.{forms_of}
+use Rattle.suppression_text.specs.Rules.{PlainRules, rules_of, sections_from}
+use Rattle.suppressions.specs.Marks.{export_flags, marks_of, way_flags}
+use Rattle.suppressions.specs.Meaning.{is_dropped, is_marked, marks_names}
 
 pub no_fault : rule_fault [] ≡ None
 unfolding rule_fault forms_of sections_from is_utf8 chars

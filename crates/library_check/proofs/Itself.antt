@@ -3,18 +3,18 @@ use Rattle.std.proofs.Common.{◌≡◌, ℕ, List, [], ◌∷◌, map, length, 
 use Rattle.abi_base.specs.declared.fault.Fault.{Fault}
 use Rattle.abi_base.specs.Outcome.{first}
 use Rattle.abi_types.specs.Exports.{PlainExport}
-use Rattle.dw_entries.specs.Debug.{PlainDwarf}
-use Rattle.dw_entries.specs.Pass.{dwarf_fault}
-use Rattle.elf_file.specs.Elf.{elf_fault}
-use Rattle.elf_syms.specs.Dynamic.{dynamic_fault}
-use Rattle.elf_syms.specs.Symbols.{symbol_fault, symbols_of}
-use Rattle.elf_vers.specs.Versions.{version_fault}
-use Rattle.type_entries.specs.Faults.{types_fault}
-use Rattle.vers_bind.specs.Exports.{export_fault, exports_with}
-use Rattle.lib_compare.specs.Distinct.{name_and_version}
-use Rattle.lib_graph.specs.Debug.{debug_of, sections_in}
-use Rattle.lib_graph.specs.Exports.{roots_of, symbol_versions, typed, typed_exports_of, untyped_exports_of}
-use Rattle.lib_graph.specs.Faults.{library_fault}
+use Rattle.dwarf_entries.specs.Debug.{PlainDwarf}
+use Rattle.dwarf_entries.specs.Pass.{dwarf_fault}
+use Rattle.elf.specs.file.Elf.{elf_fault}
+use Rattle.elf.specs.symbols.Dynamic.{dynamic_fault}
+use Rattle.elf.specs.symbols.Symbols.{symbol_fault, symbols_of}
+use Rattle.elf.specs.versions.Versions.{version_fault}
+use Rattle.type_reach.specs.Faults.{types_fault}
+use Rattle.elf_bind.specs.Exports.{export_fault, exports_with}
+use Rattle.pair_compare.specs.Distinct.{name_and_version}
+use Rattle.library_read.specs.Debug.{debug_of, sections_in}
+use Rattle.library_read.specs.Exports.{roots_of, symbol_versions, typed, typed_exports_of, untyped_exports_of}
+use Rattle.library_read.specs.Faults.{library_fault}
 
 none_first : (o : Option Fault) (os : List (Option Fault)) → first (o ∷ os) ≡ None → (o ≡ None) × (first os ≡ None)
 none_first None os is = (refl, is)

@@ -5,3 +5,4 @@ mod Settled
 mod Texts
 mod Verdicts
 mod Empty
+mod trial

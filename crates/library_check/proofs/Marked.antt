@@ -9,12 +9,12 @@ use Rattle.abi_types.specs.declared.kind.Way.{Way}
 use Rattle.abi_types.specs.declared.kind.Way.TheVariants.{Direct, Pointer}
 use Rattle.abi_types.specs.declared.library.Marks.{Marks}
 use Rattle.cert_check.specs.Compatible.{task_of}
-use Rattle.lib_compare.specs.Marking.{AreMarksOf}
+use Rattle.pair_compare.specs.Marking.{AreMarksOf}
 use Rattle.pair_rules.specs.Steps.{Task}
 use Rattle.pair_rules.specs.Stable.{AreEven}
-use Rattle.rule_text.specs.Rules.{PlainRules}
-use Rattle.rules.specs.Marks.{IsEven, marks_of, way_flags}
-use Rattle.rules.specs.Meaning.{is_dropped, is_marked}
+use Rattle.suppression_text.specs.Rules.{PlainRules}
+use Rattle.suppressions.specs.Marks.{IsEven, marks_of, way_flags}
+use Rattle.suppressions.specs.Meaning.{is_dropped, is_marked}
 use Rattle.library_check.specs.Judgements.{ruled}
 
 -- flags that are even at both ways make an exploration's marks even

@@ -7,11 +7,11 @@ use Rattle.cert_check.specs.Accepted.{Case, IsAccepted, asked}
 use Rattle.cert_check.specs.Compatible.{IsCompatible, sides, task_of}
 use Rattle.cert_text.specs.Certs.{PlainCert}
 use Rattle.cert_text.specs.Grammar.{IsSpelled}
-use Rattle.lib_compare.specs.Marking.{AreMarksOf}
-use Rattle.lib_graph.specs.Libraries.{library_of}
+use Rattle.pair_compare.specs.Marking.{AreMarksOf}
+use Rattle.library_read.specs.Libraries.{library_of}
 use Rattle.pair_rules.specs.Stable.{AreEven}
-use Rattle.rule_text.specs.Rules.{PlainRules, rules_of}
-use Rattle.rules.specs.Marks.{marks_of}
+use Rattle.suppression_text.specs.Rules.{PlainRules, rules_of}
+use Rattle.suppressions.specs.Marks.{marks_of}
 use Rattle.library_check.specs.declared.verifying.Verified.{Verified}
 use Rattle.library_check.specs.declared.verifying.Verified.TheVariants as verified
 use Rattle.library_check.specs.Checks.{sides_of}

@@ -3,23 +3,23 @@ use Rattle.std.proofs.Common.{◌≡◌, ◌≢◌, ℕ, List, [], ◌∷◌, re
 use Rattle.std.specs.Prelude.{codes}
 use Rattle.std.specs.List.{concat}
 use Rattle.abi_types.specs.Graphs.{IsGraph}
-use Rattle.break_report.specs.Render.{newline}
+use Rattle.report.specs.Render.{newline}
 use Rattle.cert_check.specs.Compatible.{Sides}
 use Rattle.cert_text.specs.Certs.{PlainCert}
 use Rattle.cert_text.specs.Grammar.{text_of}
 use Rattle.cert_text.specs.declared.line.Version.TheVariants.{Two}
-use Rattle.lib_compare.specs.declared.comparing.Comparison.{Comparison}
-use Rattle.lib_compare.specs.declared.comparing.Comparison.TheVariants.{Compatible, Broken}
-use Rattle.lib_compare.specs.Judged.{IsRight}
-use Rattle.lib_graph.specs.Libraries.{graph_of, library_of}
+use Rattle.pair_compare.specs.declared.comparing.Comparison.{Comparison}
+use Rattle.pair_compare.specs.declared.comparing.Comparison.TheVariants.{Compatible, Broken}
+use Rattle.pair_compare.specs.Judged.{IsRight}
+use Rattle.library_read.specs.Libraries.{graph_of, library_of}
 use Rattle.library_check.specs.Checks.{IsCertificateText, IsReportText, sides_of}
-use Rattle.break_report.specs.declared.row.Row.{Row}
-use Rattle.break_report.specs.declared.style.Style.{Style}
-use Rattle.break_report.specs.declared.style.Style.TheVariants as style
-use Rattle.break_report.specs.Listening.{Reports}
-use Rattle.report_styles.specs.declared.wanted.ReportStyle.{ReportStyle}
-use Rattle.report_styles.specs.declared.wanted.ReportStyle.TheVariants.{Text, Table, Counts, First, Own}
-use Rattle.report_styles.specs.Wanted.{wanted_styles}
+use Rattle.report.specs.declared.row.Row.{Row}
+use Rattle.report.specs.declared.style.Style.{Style}
+use Rattle.report.specs.declared.style.Style.TheVariants as style
+use Rattle.report.specs.Listening.{Reports}
+use Rattle.report.specs.declared.styles.report_option.ReportStyle.{ReportStyle}
+use Rattle.report.specs.declared.styles.report_option.ReportStyle.TheVariants.{Text, Table, Counts, First, Own}
+use Rattle.report.specs.styles.Wanted.{wanted_styles}
 
 -- no listener makes a text of its own
 abbrev AreAlike : List Style → Type 0

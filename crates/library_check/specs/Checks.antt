@@ -1,12 +1,12 @@
 -- What `check` promises: when a new library may replace an old one, by their bytes and those of a rule file, and which text
 -- shows it.
 use Rattle.std.specs.Prelude.{◌≡◌, ℕ, List, Some, None}
-use Rattle.break_report.specs.declared.style.Style.{Style}
+use Rattle.report.specs.declared.style.Style.{Style}
 use Rattle.cert_check.specs.Compatible.{Sides, IsCompatible}
-use Rattle.lib_graph.specs.Faults.{library_fault}
-use Rattle.lib_graph.specs.Libraries.{library_of}
-use Rattle.rule_text.specs.Faults.{rule_fault}
-use Rattle.rule_text.specs.Rules.{rules_of}
+use Rattle.library_read.specs.Faults.{library_fault}
+use Rattle.library_read.specs.Libraries.{library_of}
+use Rattle.suppression_text.specs.Faults.{rule_fault}
+use Rattle.suppression_text.specs.Rules.{rules_of}
 use Rattle.library_check.specs.declared.judging.Checked.{Checked}
 use Rattle.library_check.specs.declared.checking.Unchecked.{Unchecked}
 use Rattle.library_check.specs.declared.checking.Unchecked.TheVariants as unchecked

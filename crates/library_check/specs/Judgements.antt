@@ -2,16 +2,16 @@
 use Rattle.std.specs.Prelude.{◌≡◌, ℕ, List, [], ◌∷◌, codes}
 use Rattle.std.specs.List.{concat}
 use Rattle.abi_types.specs.Libraries.{PlainLibrary}
-use Rattle.break_report.specs.declared.row.Row.{Row}
-use Rattle.break_report.specs.declared.style.Style.{Style}
-use Rattle.break_report.specs.Listening.{Reports}
-use Rattle.break_report.specs.Render.{newline}
+use Rattle.report.specs.declared.row.Row.{Row}
+use Rattle.report.specs.declared.style.Style.{Style}
+use Rattle.report.specs.Listening.{Reports}
+use Rattle.report.specs.Render.{newline}
 use Rattle.cert_check.specs.Compatible.{Sides, sides, IsCompatible}
 use Rattle.cert_text.specs.Certs.{PlainCert}
 use Rattle.cert_text.specs.Grammar.{IsSpelled}
-use Rattle.lib_compare.specs.Judged.{IsProved, IsRefuted}
-use Rattle.rule_text.specs.Rules.{PlainRules}
-use Rattle.rules.specs.Marks.{marks_of}
+use Rattle.pair_compare.specs.Judged.{IsProved, IsRefuted}
+use Rattle.suppression_text.specs.Rules.{PlainRules}
+use Rattle.suppressions.specs.Marks.{marks_of}
 use Rattle.library_check.specs.declared.judging.Checked.{Checked}
 use Rattle.library_check.specs.declared.judging.Checked.TheVariants.{Yes, No}
 

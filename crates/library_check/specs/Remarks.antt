@@ -4,7 +4,7 @@ use Rattle.abi_base.specs.declared.remark.Remark.{Remark}
 use Rattle.abi_base.specs.declared.remark.SizedExports.{SizedExports}
 use Rattle.abi_types.specs.Exports.{PlainExport}
 use Rattle.abi_types.specs.Libraries.{PlainLibrary}
-use Rattle.lib_graph.specs.Libraries.{library_of}
+use Rattle.library_read.specs.Libraries.{library_of}
 
 -- Whether an export has a size (gABI, "Symbol Table": 0 where a symbol has none, or an unknown one).
 abbrev pub has_size : PlainExport → Bool

@@ -9,8 +9,8 @@ use Rattle.cert_text.specs.Certs.{PlainCert}
 use Rattle.cert_text.specs.Faults.{fault_of}
 use Rattle.cert_text.specs.Grammar.{IsSpelled}
 use Rattle.cert_text.specs.declared.line.Version.TheVariants.{Two}
-use Rattle.lib_graph.specs.Faults.{library_fault}
-use Rattle.rule_text.specs.Faults.{rule_fault}
+use Rattle.library_read.specs.Faults.{library_fault}
+use Rattle.suppression_text.specs.Faults.{rule_fault}
 use Rattle.library_check.specs.declared.verifying.Verified.{Verified}
 use Rattle.library_check.specs.declared.verifying.Verified.TheVariants as verified
 use Rattle.library_check.specs.declared.verifying.Unverified.{Unverified}

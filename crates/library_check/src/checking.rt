@@ -1,10 +1,10 @@
 // Whether a new library may replace an old one, by their bytes and those of a rule file.
 ghost use Rattle.std.specs.Prelude.{◌≡◌, ◌≤◌, ℕ, List, [], None, length, map, All, OnOk, IfOk, IfErr};
 ghost use Rattle.abi_base.specs.Limits.{input_limit};
-ghost use Rattle.lib_graph.specs.Faults.{library_fault};
-ghost use Rattle.lib_graph.specs.Libraries.{library_of};
-ghost use Rattle.rule_text.specs.Faults.{rule_fault};
-ghost use Rattle.rule_text.specs.Rules.{rules_of};
+ghost use Rattle.library_read.specs.Faults.{library_fault};
+ghost use Rattle.library_read.specs.Libraries.{library_of};
+ghost use Rattle.suppression_text.specs.Faults.{rule_fault};
+ghost use Rattle.suppression_text.specs.Rules.{rules_of};
 ghost use Rattle.library_check.specs.Checks.{AreReadable, IsChecked, IsUnchecked};
 ghost use Rattle.library_check.specs.Remarks.{remark_on};
 
@@ -12,11 +12,11 @@ use crate::judging::{Checked, judge};
 use crate::remarks::remark;
 use abi_base::{Fault, NoMemory, Refusal, Remark};
 use abi_types::{Library, NewIx, OldIx};
-use break_report::Listener;
-use lib_graph::read_library;
-use library_copy::copied;
-use rule_text::{Rules, read_rules};
+use library_read::copy::copied;
+use library_read::read_library;
+use report::Listener;
 use std::alloc::Global;
+use suppression_text::{Rules, read_rules};
 
 /// Why `check` says nothing.
 #[derive(Clone, Copy, Debug)]
@@ -51,7 +51,7 @@ pub(crate) struct Inputs<'a> {
 
 /// What `check` says, and what people want to know beside it.
 #[derive(Drop)]
-pub struct Said {
+pub struct CheckResult {
     /// What it says.
     pub checked: Checked,
     /// How many exports of each library have no type in its debug information.
@@ -182,7 +182,7 @@ pub fn check(
     new: &[u8],
     rules: &[u8],
     listeners: Vec<Box<dyn Listener>>,
-) -> Result<Said, Unchecked>
+) -> Result<CheckResult, Unchecked>
     requires old_short { length old.now ≤ input_limit }
     requires new_short { length new.now ≤ input_limit }
     requires unheard { All (λ listener. heard listener ≡ []) listeners.items }
@@ -203,7 +203,7 @@ pub fn check(
         &inputs.rules,
         listeners,
     ) {
-        Ok(checked) => Ok(Said { checked, remark }),
+        Ok(checked) => Ok(CheckResult { checked, remark }),
         Err(NoMemory) => Err(Unchecked::NoMemory),
     }
 }

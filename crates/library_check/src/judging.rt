@@ -1,17 +1,17 @@
 // What is said of two libraries as they were read.
 ghost use Rattle.std.specs.Prelude.{◌≡◌, [], map, All, IfOk};
-ghost use Rattle.lib_compare.specs.Marking.{AreMarksOf};
-ghost use Rattle.rules.specs.Marks.{marks_of};
+ghost use Rattle.pair_compare.specs.Marking.{AreMarksOf};
+ghost use Rattle.suppressions.specs.Marks.{marks_of};
 ghost use Rattle.library_check.specs.Judgements.{IsJudged, IsReport};
 
 use abi_base::NoMemory;
 use abi_types::{Library, Marks, NewIx, OldIx};
-use break_report::{Listener, Row, tell_all};
 use cert_text::write_cert;
-use lib_compare::{Comparison, compare};
-use rule_text::Rules;
-use rules::marks;
+use pair_compare::{Comparison, compare};
+use report::{Listener, Row, tell_all};
 use std::alloc::Global;
+use suppression_text::Rules;
+use suppressions::marks;
 
 /// What `check` says of two readable libraries, with the text that shows it.
 #[derive(Drop)]

@@ -2,29 +2,29 @@
 ghost use Rattle.std.specs.Prelude.{◌≡◌, ◌≢◌, ◌≤◌, ℕ, List, [], None, length};
 ghost use Rattle.abi_base.specs.Limits.{input_limit};
 ghost use Rattle.abi_types.specs.Libraries.{PlainLibrary};
-ghost use Rattle.break_report.specs.declared.style.Style.{Style as AnyStyle};
-ghost use Rattle.lib_compare.specs.Marking.{no_marks};
-ghost use Rattle.lib_graph.specs.Faults.{library_fault};
-ghost use Rattle.rule_text.specs.Faults.{rule_fault};
-ghost use Rattle.rule_text.specs.Rules.{rules_of};
-ghost use Rattle.rules.specs.Marks.{marks_of};
+ghost use Rattle.report.specs.declared.style.Style.{Style as AnyStyle};
+ghost use Rattle.pair_compare.specs.Marking.{no_marks};
+ghost use Rattle.library_read.specs.Faults.{library_fault};
+ghost use Rattle.suppression_text.specs.Faults.{rule_fault};
+ghost use Rattle.suppression_text.specs.Rules.{rules_of};
+ghost use Rattle.suppressions.specs.Marks.{marks_of};
 ghost use Rattle.library_check.specs.declared.verifying.Unverified.{Unverified};
 ghost use Rattle.library_check.specs.declared.verifying.Unverified.TheVariants.{NoMemory};
 ghost use Rattle.library_check.specs.declared.verifying.Verified.{Verified};
 ghost use Rattle.library_check.specs.declared.verifying.Verified.TheVariants.{Accepted};
 ghost use Rattle.library_check.specs.Checks.{AreReadable, Compatible, IsCertificateText, IsReportText};
 ghost use Rattle.library_check.specs.Verifications.{IsAcceptedText, IsUnverified, IsVerified, certificate_fault};
-ghost use Rattle.report_styles.specs.declared.wanted.ReportStyle.{ReportStyle as AnyWanted};
-ghost use Rattle.report_styles.specs.declared.wanted.ReportStyle.TheVariants.{Own};
-ghost use Rattle.report_styles.specs.Wanted.{wanted_styles};
+ghost use Rattle.report.specs.declared.styles.report_option.ReportStyle.{ReportStyle as AnyWanted};
+ghost use Rattle.report.specs.declared.styles.report_option.ReportStyle.TheVariants.{Own};
+ghost use Rattle.report.specs.styles.Wanted.{wanted_styles};
 
 use cert_check::laws::one_place_fails_first;
 use cert_text::laws::{a_text_is_of_one_certificate, what_is_spelled_has_no_fault};
-use lib_compare::laws::{
+use library_read::laws::{nodes_stand_for_what_exports_reach, readable_files_are_libraries};
+use pair_compare::laws::{
     a_library_may_replace_itself, exports_without_a_fault_are_distinct,
     two_libraries_have_one_right_answer,
 };
-use lib_graph::laws::{nodes_stand_for_what_exports_reach, readable_files_are_libraries};
 
 /// A readable file may replace itself, whatever a rule file leaves out.
 pub fn a_file_may_replace_itself()

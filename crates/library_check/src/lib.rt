@@ -7,9 +7,10 @@ mod checking;
 mod judging;
 pub mod laws;
 mod remarks;
+pub mod trial;
 mod verifying;
 
 pub use cert_check::{Refused, RefusedKind};
-pub use checking::{Pair, Said, Unchecked, check, read_pair};
+pub use checking::{CheckResult, Pair, Unchecked, check, read_pair};
 pub use judging::{Checked, judge};
 pub use verifying::{Unverified, Verified, verify};

@@ -13,8 +13,8 @@ use abi_types::{Library, NewIx, OldIx};
 use cert_check::laws::an_accepted_certificate_is_a_proof;
 use cert_check::{Refused, check_cert};
 use cert_text::{Cert, read_cert};
-use rule_text::Rules;
 use std::alloc::Global;
+use suppression_text::Rules;
 
 /// What `verify` says of a readable certificate.
 #[derive(Clone, Copy, Debug)]

@@ -14,7 +14,7 @@ use Rattle.abi_types.specs.declared.kind.Way.{Way}
 use Rattle.abi_types.specs.declared.kind.Way.TheVariants.{Direct, Pointer}
 use Rattle.pair_rules.specs.Steps.{Triple}
 use Rattle.pair_explorer.proofs.Ranges.{range_with_len_more}
-use Rattle.graph_alike.specs.Classes.{PlainClasses, rep_of, class_reps, class_count}
+use Rattle.type_classes.specs.Classes.{PlainClasses, rep_of, class_reps, class_count}
 use Rattle.pair_explorer.specs.declared.visits.Visit.{Visit}
 use Rattle.pair_explorer.specs.Scopes.{Scope}
 use Rattle.pair_explorer.specs.Explorations.{most_triples}

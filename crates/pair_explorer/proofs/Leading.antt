@@ -9,7 +9,7 @@ use Rattle.abi_types.specs.Graphs.{view_at, IsGraph}
 use Rattle.pair_rules.specs.Steps.{PlainRoot, Task, Triple, is_marked, step, next_of, IsStep}
 use Rattle.pair_rules.specs.Stable.{IsInside}
 use Rattle.pair_rules.specs.Paths.{root_triple}
-use Rattle.graph_alike.specs.Classes.{PlainClasses, AreSound, rep_of}
+use Rattle.type_classes.specs.Classes.{PlainClasses, AreSound, rep_of}
 use Rattle.pair_explorer.specs.declared.visits.Parent.{Parent}
 use Rattle.pair_explorer.specs.declared.visits.Parent.TheVariants.{Root, Step}
 use Rattle.pair_explorer.specs.declared.visits.Visit.{Visit}

@@ -8,10 +8,10 @@ use Rattle.abi_types.specs.Types.{PlainNode, PlainView}
 use Rattle.abi_types.specs.Graphs.{node_at, view_at}
 use Rattle.pair_rules.specs.TypeRules.{breaks}
 use Rattle.pair_rules.specs.Steps.{Task, Triple, is_marked, breaks_of, step, next_of}
-use Rattle.pair_rules.specs.Paths.{Path, From, Then, root_triple, Leads}
-use Rattle.abi_types.specs.Seen.{Look, look_of, view_seen}
+use Rattle.pair_rules.specs.Paths.{Path, From, Then, root_triple, PathLeadsTo}
+use Rattle.abi_types.specs.ClassLooks.{Look, look_of, view_seen}
 use Rattle.pair_rules.specs.Stable.{classed}
-use Rattle.graph_alike.specs.Classes.{PlainClasses, AreSound, rep_of}
+use Rattle.type_classes.specs.Classes.{PlainClasses, AreSound, rep_of}
 use Rattle.pair_explorer.specs.Scopes.{Scope, rep, rep_step, LeadsByRep}
 use Rattle.pair_explorer.specs.ByClass.{IsSound}
 use Rattle.pair_explorer.proofs.Scoped.{rep_past}
@@ -98,12 +98,12 @@ module _ (unseen : AreUnseen) (s : Scope) (sound : IsSound s) where
       ]
 
   -- a path over nodes is one over representatives
-  pub goes : (path : Path) (x : Triple) → Leads s.task path x → LeadsByRep s path (rep s x)
+  pub goes : (path : Path) (x : Triple) → PathLeadsTo s.task path x → LeadsByRep s path (rep s x)
   goes (From export) x (k, root, at, is, e) = (k, root, at, is, ap (rep s) e)
   goes (Then path part) y (x, leads, stepped) = (rep s x, goes path x leads, rep_step_same (rep s x) x part (rep_twice x) ∙ rep_step_of s x y part stepped)
 
   -- and the other way round
-  pub comes : (path : Path) (z : Triple) → LeadsByRep s path z → (x : Triple) × Leads s.task path x × (rep s x ≡ z)
+  pub comes : (path : Path) (z : Triple) → LeadsByRep s path z → (x : Triple) × PathLeadsTo s.task path x × (rep s x ≡ z)
   comes (From export) z (k, root, at, is, e) = (root_triple root, (k, root, at, is, refl), sym e)
   comes (Then path part) z (y, leads, stepped) =
       let x = comes path y leads in

@@ -5,7 +5,7 @@ use Rattle.std.proofs.lemmas.List.{get_or_default, get_or_past}
 use Rattle.std.proofs.lemmas.Option.{slice_get_within, slice_get_read, same_Some}
 use Rattle.abi_types.specs.Types.{PlainNode}
 use Rattle.pair_rules.specs.Steps.{PlainRoot}
-use Rattle.graph_alike.specs.Classes.{PlainClasses, AreSound, rep_in, rep_of}
+use Rattle.type_classes.specs.Classes.{PlainClasses, AreSound, rep_in, rep_of}
 use Rattle.pair_explorer.specs.Scopes.{AreInside, AreAscending, AreEvenMarks}
 
 -- the roots before number n are nodes

@@ -7,7 +7,7 @@ use Rattle.std.proofs.lemmas.List.Elements.{Contains-append_left, Contains-appen
 use Rattle.std.proofs.lemmas.Option.{slice_get_within, same_Some}
 use Rattle.pair_rules.specs.declared.rules.Broken.{Broken}
 use Rattle.pair_rules.specs.Steps.{Task, Triple, is_marked, breaks_of}
-use Rattle.pair_rules.specs.Paths.{Path, From, Then, IsReachable, Leads}
+use Rattle.pair_rules.specs.Paths.{Path, From, Then, IsReachable, PathLeadsTo}
 use Rattle.pair_rules.specs.Closed.{AreCompatible, IsClosed, HoldsRoots}
 use Rattle.pair_explorer.specs.declared.visits.Visit.{Visit}
 use Rattle.pair_explorer.specs.Scopes.{Scope, rep, rep_step, LeadsByRep}
@@ -136,7 +136,7 @@ told_below t vs (suc m) n v b le lt at unmarked breaks =
 
 -- what the law of closed relations says
 abbrev pub HoldReachable : Type 0
-HoldReachable = (t : Task) (r : Triple → Bool) (path : Path) (x : Triple) → IsClosed t r → HoldsRoots t r → Leads t path x → r x ≡ true
+HoldReachable = (t : Task) (r : Triple → Bool) (path : Path) (x : Triple) → IsClosed t r → HoldsRoots t r → PathLeadsTo t path x → r x ≡ true
 
 module _ (unseen : AreUnseen) (s : Scope) (vs : List Visit) (broken : List (ℕ × Broken)) (sound : IsSound s) (explored : IsExploration s vs broken) where
   -- the representatives of a visit are itself
@@ -201,7 +201,7 @@ module _ (unseen : AreUnseen) (s : Scope) (vs : List Visit) (broken : List (ℕ 
   same_reps x v n at is = is ∙ sym (explored.represented n v at)
 
   -- what a path along a visit that breaks a rule leads to
-  told_of : (n : ℕ) (b : Broken) (path : Path) (at : IsBrokenAt s.task vs n b) (x : Triple) → Along vs n path → Leads s.task path x → rep s x ≡ seen at.visit → IsToldBy s vs n b path
+  told_of : (n : ℕ) (b : Broken) (path : Path) (at : IsBrokenAt s.task vs n b) (x : Triple) → Along vs n path → PathLeadsTo s.task path x → rep s x ≡ seen at.visit → IsToldBy s vs n b path
   told_of n b path at x along leads is =
       let same = same_reps x at.visit n at.at is in
       record {

@@ -1,10 +1,10 @@
 -- What holds over representatives, and over all nodes.
 use Rattle.std.specs.Prelude.{◌≡◌, ◌<◌, ◌⊎◌, ℕ, Bool, false, List, Some, Contains, slice_get}
-use Rattle.graph_alike.specs.Classes.{AreSound}
+use Rattle.type_classes.specs.Classes.{AreSound}
 use Rattle.pair_rules.specs.declared.rules.Broken.{Broken}
 use Rattle.pair_rules.specs.BreakOrder.{IsBrokenBefore}
 use Rattle.pair_rules.specs.Steps.{Triple, is_marked, breaks_of}
-use Rattle.pair_rules.specs.Paths.{Path, Leads, IsNotAfter}
+use Rattle.pair_rules.specs.Paths.{Path, PathLeadsTo, IsNotAfter}
 use Rattle.pair_explorer.specs.declared.visits.Visit.{Visit}
 use Rattle.pair_explorer.specs.Scopes.{Scope, IsScope, rep}
 use Rattle.pair_explorer.specs.Visits.{seen, has}
@@ -19,9 +19,9 @@ pub record IsSound (s : Scope) : Type 0 where
 pub record IsToldBy (s : Scope) (visits : List Visit) (n : ℕ) (broken : Broken) (path : Path) : Type 0 where
   pub triple : Triple
   -- the path leads to it
-  pub leads : Leads s.task path triple
+  pub leads : PathLeadsTo s.task path triple
   -- and none to a triple of the same classes and the same way comes before
-  pub first : (other : Path) (x : Triple) → Leads s.task other x → rep s x ≡ rep s triple → IsNotAfter path other
+  pub first : (other : Path) (x : Triple) → PathLeadsTo s.task other x → rep s x ≡ rep s triple → IsNotAfter path other
   pub unmarked : is_marked s.task triple.old triple.way ≡ false
   pub breaks : Contains (breaks_of s.task triple) broken
   -- its representatives are those of the visit
@@ -45,7 +45,7 @@ covers s visits x = has visits (rep s x)
 pub record IsReached (s : Scope) (z : Triple) : Type 0 where
   pub triple : Triple
   pub path : Path
-  pub leads : Leads s.task path triple
+  pub leads : PathLeadsTo s.task path triple
   pub is : rep s triple ≡ z
 
 -- told at an earlier visit, or at the same one as an earlier break

@@ -4,7 +4,7 @@ use Rattle.std.specs.List.{range_with_len}
 use Rattle.pair_rules.specs.declared.rules.Broken.{Broken}
 use Rattle.pair_rules.specs.Steps.{PlainRoot, Task, Triple, is_marked, breaks_of, step}
 use Rattle.pair_rules.specs.Paths.{Path, root_triple, IsBefore, IsNotAfter}
-use Rattle.graph_alike.specs.Classes.{class_count}
+use Rattle.type_classes.specs.Classes.{class_count}
 use Rattle.pair_explorer.specs.declared.visits.Visit.{Visit}
 use Rattle.pair_explorer.specs.Scopes.{Scope, rep, LeadsByRep}
 use Rattle.pair_explorer.specs.Visits.{seen, has, Along, AreEarlier}

@@ -1,7 +1,7 @@
 pub mod Adding
 pub mod ByClass
 pub mod Explorations
-pub mod Grounds
+pub mod GraphPairs
 pub mod Keys
 pub mod Routes
 pub mod Scopes

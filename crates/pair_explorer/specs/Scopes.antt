@@ -6,7 +6,7 @@ use Rattle.abi_types.specs.Types.{PlainNode}
 use Rattle.abi_types.specs.Graphs.{IsGraph}
 use Rattle.pair_rules.specs.Steps.{PlainRoot, Task, Triple, step}
 use Rattle.pair_rules.specs.Paths.{Path, From, Then, root_triple}
-use Rattle.graph_alike.specs.Classes.{PlainClasses, rep_of}
+use Rattle.type_classes.specs.Classes.{PlainClasses, rep_of}
 
 -- what is compared, and the classes of the old nodes and of the new ones
 pub record Scope : Type 0 where

@@ -2,19 +2,19 @@
 ghost use Rattle.std.specs.Prelude.{◌≡◌, ◌≤◌, ◌<◌, ◌+◌, ◌++◌, map, false, length, IfOk, OnOk};
 ghost use Rattle.pair_explorer.specs.Adding.{expanded};
 ghost use Rattle.pair_explorer.specs.Explorations.{IsExploration, visit_breaks, most_triples};
-ghost use Rattle.pair_explorer.specs.Grounds.{scope_of};
+ghost use Rattle.pair_explorer.specs.GraphPairs.{scope_of};
 ghost use Rattle.pair_explorer.specs.Scopes.{AreGraphs, HasNodes, IsScope, scope};
 
-use crate::ground::{Ground, add_partners, add_roots, is_marked};
+use crate::graph_pair::{GraphPair, add_partners, add_roots, is_marked};
 use crate::roots::Root;
 use crate::visits::{Visit, Visits};
 use abi_base::{List, NoMemory};
 use abi_types::{Graph, Marks, NewIx, OldIx};
-use graph_alike::Classes;
 use pair_rules::laws::steps_lead_to_nodes;
 use pair_rules::{Broken, Comparison, Steps};
 use std::alloc::Global;
 use std::sync::ledger::Ledger;
+use type_classes::Classes;
 
 /// What an exploration gives.
 #[derive(Drop)]
@@ -43,7 +43,7 @@ fn add_breaks(
 #[tactic(auto, unfolding(crate::specs::Adding::expanded, crate::specs::Explorations::visit_breaks))]
 fn expand<L: Ledger>(
     alloc: Global,
-    ground: &Ground,
+    ground: &GraphPair,
     explored: &mut Explored,
     number: usize,
     visit: &Visit,
@@ -92,7 +92,7 @@ pub fn explore<L: Ledger>(
     new.known();
     old_classes.known();
     new_classes.known();
-    let ground = Ground {
+    let ground = GraphPair {
         old,
         new,
         roots,

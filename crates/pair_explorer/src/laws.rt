@@ -3,7 +3,7 @@
 ghost use Rattle.std.specs.Prelude.{◌≡◌, ◌<◌, ◌↔◌, ℕ, true, false, [], List, Some, Contains, slice_get};
 ghost use Rattle.pair_rules.specs.declared.rules.Broken.{Broken};
 ghost use Rattle.pair_rules.specs.Steps.{Triple, is_marked, breaks_of};
-ghost use Rattle.pair_rules.specs.Paths.{Path, Leads, IsReachable, IsBefore, IsNotAfter};
+ghost use Rattle.pair_rules.specs.Paths.{Path, PathLeadsTo, IsReachable, IsBefore, IsNotAfter};
 ghost use Rattle.pair_rules.specs.Closed.{AreCompatible, IsClosed, HoldsRoots};
 ghost use Rattle.pair_explorer.specs.declared.visits.Visit.{Visit};
 ghost use Rattle.pair_explorer.specs.Scopes.{Scope, rep, LeadsByRep};
@@ -52,9 +52,9 @@ pub fn what_is_visited_has_a_visit()
 
 /// A path over nodes is one over representatives, to those of the nodes to which it leads, and the other way round.
 pub fn paths_by_representatives()
-    ensures goes { (s : Scope) (path : Path) (x : Triple) → IsSound s → Leads s.task path x → LeadsByRep s path (rep s x) }
+    ensures goes { (s : Scope) (path : Path) (x : Triple) → IsSound s → PathLeadsTo s.task path x → LeadsByRep s path (rep s x) }
     ensures comes { (s : Scope) (path : Path) (z : Triple) → IsSound s → LeadsByRep s path z →
-        (x : Triple) × Leads s.task path x × (rep s x ≡ z) }
+        (x : Triple) × PathLeadsTo s.task path x × (rep s x ≡ z) }
 {
     rules_see_no_nodes();
 }

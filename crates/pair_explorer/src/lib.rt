@@ -3,7 +3,7 @@
 #![tactic(auto)]
 
 mod exploring;
-mod ground;
+mod graph_pair;
 pub mod laws;
 mod roots;
 mod routes;

@@ -4,7 +4,7 @@ ghost use Rattle.pair_explorer.specs.Scopes.{scope, IsScope, AreInside, AreAscen
 
 use crate::roots::Root;
 use abi_types::{Graph, Index, Marks, NewIx, OldIx};
-use graph_alike::Classes;
+use type_classes::Classes;
 
 // Whether a root names nodes of both graphs.
 fn is_inside(old: &Graph<OldIx>, new: &Graph<NewIx>, root: &Root) -> bool

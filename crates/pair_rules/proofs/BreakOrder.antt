@@ -5,7 +5,7 @@ use Rattle.std.proofs.lemmas.Bool.{cases_Bool, and_parts, ltb-true}
 use Rattle.std.proofs.lemmas.List.FromFn.{get_or-range_with_len, length-range_with_len}
 use Rattle.std.proofs.lemmas.List.Kept.{AllPairs-filter}
 use Rattle.std.proofs.lemmas.Option.{slice_get_within, get_or_from_slice_get, same_Some, none-some}
-use Rattle.abi_types.specs.declared.rule.RuleName.{RuleName}
+use Rattle.abi_types.specs.declared.rule.Rule.{Rule}
 use Rattle.abi_types.specs.Rules.{rule_place}
 use Rattle.abi_types.specs.Types.{PlainView}
 use Rattle.pair_rules.specs.declared.rules.Broken.{Broken}
@@ -39,7 +39,7 @@ none : {X : Type 0} (R : X → X → Type 0) → Ascends R []
 none R m n x y lt at_m at_n = absurd (none-some x at_m)
 
 module _ (v w : PlainView) where
-  broken-ascends : (rule : RuleName) → Ascends IsBrokenBefore (broken v w rule)
+  broken-ascends : (rule : Rule) → Ascends IsBrokenBefore (broken v w rule)
   unfolding broken
   broken-ascends rule =
       elim (cases_Bool (speaks_of_parts rule)) [
@@ -50,7 +50,7 @@ module _ (v w : PlainView) where
         ]
       ]
 
-  broken-rule : (rule : RuleName) (k : ℕ) (b : Broken) → slice_get (broken v w rule) k ≡ Some b → b.rule ≡ rule
+  broken-rule : (rule : Rule) (k : ℕ) (b : Broken) → slice_get (broken v w rule) k ≡ Some b → b.rule ≡ rule
   unfolding broken
   broken-rule rule k b at =
       elim (cases_Bool (speaks_of_parts rule)) [
@@ -68,16 +68,16 @@ module _ (v w : PlainView) where
         ]
       ]
     where
-      single : (rule : RuleName) (k : ℕ) (b : Broken) → slice_get (broken_at rule 0 ∷ []) k ≡ Some b → b.rule ≡ rule
+      single : (rule : Rule) (k : ℕ) (b : Broken) → slice_get (broken_at rule 0 ∷ []) k ≡ Some b → b.rule ≡ rule
       single rule zero b at = sym (ap (λ (c : Broken). c.rule) (same_Some (broken_at rule 0) b at))
       single rule (suc k) b at = absurd (none-some b at)
 
   -- the rules rise, from above a place
-  rises : ℕ → List RuleName → Bool
+  rises : ℕ → List Rule → Bool
   rises low [] = true
   rises low (r ∷ rules) = ltb low (rule_place r) && rises (rule_place r) rules
 
-  above : (low : ℕ) (rules : List RuleName) → rises low rules ≡ true → (k : ℕ) (b : Broken) → slice_get (flat_map (broken v w) rules) k ≡ Some b → low < rule_place b.rule
+  above : (low : ℕ) (rules : List Rule) → rises low rules ≡ true → (k : ℕ) (b : Broken) → slice_get (flat_map (broken v w) rules) k ≡ Some b → low < rule_place b.rule
   unfolding rises
   above low [] up k b at = absurd (none-some b at)
   above low (r ∷ rules) up k b at =
@@ -88,7 +88,7 @@ module _ (v w : PlainView) where
         | inr later ↦ omega (arith, here, above (rule_place r) rules parts.1 later.0 b later.2)
       ]
 
-  all-ascend : (low : ℕ) (rules : List RuleName) → rises low rules ≡ true → Ascends IsBrokenBefore (flat_map (broken v w) rules)
+  all-ascend : (low : ℕ) (rules : List Rule) → rises low rules ≡ true → Ascends IsBrokenBefore (flat_map (broken v w) rules)
   unfolding rises
   all-ascend low [] up = none IsBrokenBefore
   all-ascend low (r ∷ rules) up =

@@ -5,7 +5,7 @@ use Rattle.std.proofs.lemmas.Bool.{and_parts, and_from, ltb-true, lt-ltb}
 use Rattle.std.proofs.lemmas.Option.{same_Some, none-some}
 use Rattle.abi_types.specs.declared.kind.Way.{Way}
 use Rattle.abi_types.specs.Graphs.{node_at, view_at}
-use Rattle.abi_types.specs.Seen.{Look, look_of, view_seen}
+use Rattle.abi_types.specs.ClassLooks.{Look, look_of, view_seen}
 use Rattle.pair_rules.specs.TypeRules.{breaks}
 use Rattle.pair_rules.specs.Steps.{Task, Triple, is_marked, breaks_of, step, next_of}
 use Rattle.pair_rules.specs.Closed.{IsClosed}

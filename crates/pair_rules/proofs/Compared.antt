@@ -6,8 +6,8 @@ use Rattle.std.proofs.lemmas.Bool.{cases_Bool, false≢true, ltb-true, lt-ltb}
 use Rattle.std.proofs.lemmas.List.FromFn.{length-map-range_with_len, get_or-map-range_with_len}
 use Rattle.std.proofs.lemmas.Option.{slice_get-get_or, slice_get_read, none-some}
 use Rattle.abi_types.specs.declared.kind.Way.{Way}
-use Rattle.abi_types.specs.declared.rule.RuleName.{RuleName}
-use Rattle.abi_types.specs.declared.rule.RuleName.TheVariants.{L1, L5}
+use Rattle.abi_types.specs.declared.rule.Rule.{Rule}
+use Rattle.abi_types.specs.declared.rule.Rule.TheVariants.{KindOfType, DeclarationTag}
 use Rattle.abi_types.specs.Types.{PlainView, PlainPart}
 use Rattle.abi_types.specs.Graphs.{part_at, to_of}
 use Rattle.pair_rules.specs.Same.{same_kind}
@@ -116,22 +116,22 @@ by_number (Some i) n is = is
 
 -- ---- rules that speak of parts are asked of types whose parts are compared
 
-single : (k : ℕ) (r d : RuleName) → k < 1 → get_or (r ∷ []) k d ≡ r
+single : (k : ℕ) (r d : Rule) → k < 1 → get_or (r ∷ []) k d ≡ r
 single zero r d lt = refl
 single (suc k) r d lt = absurd (omega arith)
 
-pub asked_of_parts : (v w : PlainView) (k : ℕ) (d : RuleName) → k < length (rules_asked v w) → speaks_of_parts (get_or (rules_asked v w) k d) ≡ true → are_compared v w ≡ true
+pub asked_of_parts : (v w : PlainView) (k : ℕ) (d : Rule) → k < length (rules_asked v w) → speaks_of_parts (get_or (rules_asked v w) k d) ≡ true → are_compared v w ≡ true
 asked_of_parts v w k d inside speaks =
     elim (cases_Bool (same_kind v.kind w.kind)) [
       | inl same ↦ elim (cases_Bool (is_declaration v w)) [
         | inl declared ↦
             let inside' = rw (same, declared) at inside in
             let speaks' = rw (same, declared) at speaks in
-            absurd (false≢true (ap speaks_of_parts (sym (single k L5 d inside')) ∙ speaks'))
+            absurd (false≢true (ap speaks_of_parts (sym (single k DeclarationTag d inside')) ∙ speaks'))
         | inr defined ↦ rw (same, defined) refl
       ]
       | inr differ ↦
           let inside' = rw differ at inside in
           let speaks' = rw differ at speaks in
-          absurd (false≢true (ap speaks_of_parts (sym (single k L1 d inside')) ∙ speaks'))
+          absurd (false≢true (ap speaks_of_parts (sym (single k KindOfType d inside')) ∙ speaks'))
     ]

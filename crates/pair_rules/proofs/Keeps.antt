@@ -3,8 +3,8 @@ use Rattle.std.proofs.Common.{◌≡◌, ◌<◌, ℕ, Bool, true, false, cond, 
 use Rattle.std.specs.List.{filter, flat_map, list_all, range_with_len, AllPass}
 use Rattle.std.proofs.lemmas.Bool.{cases_Bool, and_parts, and_from, not-true, not_from_false, false≢true}
 use Rattle.std.proofs.lemmas.List.Sums.{AllPass-from_list_all}
-use Rattle.abi_types.specs.declared.rule.RuleName.{RuleName}
-use Rattle.abi_types.specs.declared.rule.RuleName.TheVariants.{L1, L2, L3, L4, L5, L6, L7, L8, L9, L10, L11, L12, L13, L14}
+use Rattle.abi_types.specs.declared.rule.Rule.{Rule}
+use Rattle.abi_types.specs.declared.rule.Rule.TheVariants.{KindOfType, TypeSize, ScalarGroup, TypeAlignment, DeclarationTag, MemberPresence, MemberOffset, BitFieldWidth, EnumeratorPresence, EnumeratorValue, ElementCount, ParameterCount, VariadicArguments, PassingPlace}
 use Rattle.abi_types.specs.Types.{PlainView}
 use Rattle.pair_rules.specs.Same.{same_kind}
 use Rattle.pair_rules.specs.TypeRules.{is_declaration, are_compared, breaks_whole, breaks_part, speaks_of_parts, rules_asked, broken_at, broken, breaks}
@@ -13,48 +13,48 @@ use Rattle.pair_rules.proofs.Ranges.{list_all-below, list_all-below_at}
 
 -- ---- each rule speaks either of the types as a whole or of their parts
 
-pub whole-of_parts : (v w : PlainView) (r : RuleName) → speaks_of_parts r ≡ true → breaks_whole r v w ≡ false
+pub whole-of_parts : (v w : PlainView) (r : Rule) → speaks_of_parts r ≡ true → breaks_whole r v w ≡ false
 unfolding breaks_whole
-whole-of_parts v w L6 e = refl
-whole-of_parts v w L7 e = refl
-whole-of_parts v w L8 e = refl
-whole-of_parts v w L9 e = refl
-whole-of_parts v w L10 e = refl
-whole-of_parts v w L14 e = refl
+whole-of_parts v w MemberPresence e = refl
+whole-of_parts v w MemberOffset e = refl
+whole-of_parts v w BitFieldWidth e = refl
+whole-of_parts v w EnumeratorPresence e = refl
+whole-of_parts v w EnumeratorValue e = refl
+whole-of_parts v w PassingPlace e = refl
 whole-of_parts v w r e = absurd cc
 
-pub part-of_whole : (v w : PlainView) (i : ℕ) (r : RuleName) → speaks_of_parts r ≡ false → breaks_part r v w i ≡ false
+pub part-of_whole : (v w : PlainView) (i : ℕ) (r : Rule) → speaks_of_parts r ≡ false → breaks_part r v w i ≡ false
 unfolding breaks_part
-part-of_whole v w i L6 e = absurd cc
-part-of_whole v w i L7 e = absurd cc
-part-of_whole v w i L8 e = absurd cc
-part-of_whole v w i L9 e = absurd cc
-part-of_whole v w i L10 e = absurd cc
-part-of_whole v w i L14 e = absurd cc
+part-of_whole v w i MemberPresence e = absurd cc
+part-of_whole v w i MemberOffset e = absurd cc
+part-of_whole v w i BitFieldWidth e = absurd cc
+part-of_whole v w i EnumeratorPresence e = absurd cc
+part-of_whole v w i EnumeratorValue e = absurd cc
+part-of_whole v w i PassingPlace e = absurd cc
 part-of_whole v w i r e = refl
 
-among_part_rules : (t : RuleName → Bool) (r : RuleName) → list_all t part_rules ≡ true → speaks_of_parts r ≡ true → t r ≡ true
-among_part_rules t L6 all e = AllPass-from_list_all t part_rules all 0 L6 (omega arith)
-among_part_rules t L7 all e = AllPass-from_list_all t part_rules all 1 L7 (omega arith)
-among_part_rules t L8 all e = AllPass-from_list_all t part_rules all 2 L8 (omega arith)
-among_part_rules t L9 all e = AllPass-from_list_all t part_rules all 3 L9 (omega arith)
-among_part_rules t L10 all e = AllPass-from_list_all t part_rules all 4 L10 (omega arith)
-among_part_rules t L14 all e = AllPass-from_list_all t part_rules all 5 L14 (omega arith)
+among_part_rules : (t : Rule → Bool) (r : Rule) → list_all t part_rules ≡ true → speaks_of_parts r ≡ true → t r ≡ true
+among_part_rules t MemberPresence all e = AllPass-from_list_all t part_rules all 0 MemberPresence (omega arith)
+among_part_rules t MemberOffset all e = AllPass-from_list_all t part_rules all 1 MemberOffset (omega arith)
+among_part_rules t BitFieldWidth all e = AllPass-from_list_all t part_rules all 2 BitFieldWidth (omega arith)
+among_part_rules t EnumeratorPresence all e = AllPass-from_list_all t part_rules all 3 EnumeratorPresence (omega arith)
+among_part_rules t EnumeratorValue all e = AllPass-from_list_all t part_rules all 4 EnumeratorValue (omega arith)
+among_part_rules t PassingPlace all e = AllPass-from_list_all t part_rules all 5 PassingPlace (omega arith)
 among_part_rules t r all e = absurd cc
 
 -- the rules that are asked of two definitions
-abbrev definition_rules : List RuleName
-definition_rules = L2 ∷ L3 ∷ L4 ∷ L6 ∷ L7 ∷ L8 ∷ L9 ∷ L10 ∷ L11 ∷ L12 ∷ L13 ∷ L14 ∷ []
+abbrev definition_rules : List Rule
+definition_rules = TypeSize ∷ ScalarGroup ∷ TypeAlignment ∷ MemberPresence ∷ MemberOffset ∷ BitFieldWidth ∷ EnumeratorPresence ∷ EnumeratorValue ∷ ElementCount ∷ ParameterCount ∷ VariadicArguments ∷ PassingPlace ∷ []
 
-part_rules-among : (t : RuleName → Bool) → list_all t definition_rules ≡ true → list_all t part_rules ≡ true
+part_rules-among : (t : Rule → Bool) → list_all t definition_rules ≡ true → list_all t part_rules ≡ true
 part_rules-among t all =
     let at : AllPass t definition_rules = AllPass-from_list_all t definition_rules all in
-    and_from _ _ (at 3 L6 (omega arith)) (and_from _ _ (at 4 L7 (omega arith)) (and_from _ _ (at 5 L8 (omega arith)) (and_from _ _ (at 6 L9 (omega arith)) (and_from _ _ (at 7 L10 (omega arith)) (and_from _ _ (at 11 L14 (omega arith)) (refl))))))
+    and_from _ _ (at 3 MemberPresence (omega arith)) (and_from _ _ (at 4 MemberOffset (omega arith)) (and_from _ _ (at 5 BitFieldWidth (omega arith)) (and_from _ _ (at 6 EnumeratorPresence (omega arith)) (and_from _ _ (at 7 EnumeratorValue (omega arith)) (and_from _ _ (at 11 PassingPlace (omega arith)) (refl))))))
 
 -- ---- a rule that is broken nowhere
 
 -- whether the rule is broken nowhere
-unfoldable pub kept : PlainView → PlainView → RuleName → Bool
+unfoldable pub kept : PlainView → PlainView → Rule → Bool
 kept v w r = cond (speaks_of_parts r) (list_all (λ i. not (breaks_part r v w i)) (range_with_len 0 (length v.parts))) (not (breaks_whole r v w))
 
 all_fail : {X : Type 0} (h : ℕ → X) (p : ℕ → Bool) (xs : List ℕ) → map h (filter p xs) ≡ [] → list_all (λ i. not (p i)) xs ≡ true
@@ -71,7 +71,7 @@ none_pass h p (x ∷ xs) all =
     let both = and_parts (not (p x)) _ all in
     rw (not-true (p x) both.0) (none_pass h p xs both.1)
 
-kept_from_none : (v w : PlainView) (r : RuleName) → broken v w r ≡ [] → kept v w r ≡ true
+kept_from_none : (v w : PlainView) (r : Rule) → broken v w r ≡ [] → kept v w r ≡ true
 unfolding broken kept
 kept_from_none v w r e =
     elim (cases_Bool (speaks_of_parts r)) [
@@ -83,7 +83,7 @@ kept_from_none v w r e =
           ]
     ]
 
-none_from_kept : (v w : PlainView) (r : RuleName) → kept v w r ≡ true → broken v w r ≡ []
+none_from_kept : (v w : PlainView) (r : Rule) → kept v w r ≡ true → broken v w r ≡ []
 unfolding broken kept
 none_from_kept v w r e =
     elim (cases_Bool (speaks_of_parts r)) [
@@ -95,13 +95,13 @@ left_nil : {X : Type 0} (xs ys : List X) → xs ++ ys ≡ [] → (xs ≡ []) × 
 left_nil [] ys e = (refl, e)
 left_nil (x ∷ xs) ys e = absurd cc
 
-all_kept : (v w : PlainView) (rs : List RuleName) → flat_map (broken v w) rs ≡ [] → list_all (kept v w) rs ≡ true
+all_kept : (v w : PlainView) (rs : List Rule) → flat_map (broken v w) rs ≡ [] → list_all (kept v w) rs ≡ true
 all_kept v w [] e = refl
 all_kept v w (r ∷ rs) e =
     let both = left_nil (broken v w r) (flat_map (broken v w) rs) e in
     and_from (kept v w r) (list_all (kept v w) rs) (kept_from_none v w r both.0) (all_kept v w rs both.1)
 
-pub none_broken : (v w : PlainView) (rs : List RuleName) → list_all (kept v w) rs ≡ true → flat_map (broken v w) rs ≡ []
+pub none_broken : (v w : PlainView) (rs : List Rule) → list_all (kept v w) rs ≡ true → flat_map (broken v w) rs ≡ []
 none_broken v w [] e = refl
 none_broken v w (r ∷ rs) e =
     let both = and_parts (kept v w r) (list_all (kept v w) rs) e in
@@ -115,7 +115,7 @@ list_all-weaker p q weaker (x ∷ xs) all =
     let both = and_parts (p x) (list_all p xs) all in
     and_from (q x) (list_all q xs) (weaker x both.0) (list_all-weaker p q weaker xs both.1)
 
-whole_from_kept : (v w : PlainView) (r : RuleName) → kept v w r ≡ true → not (breaks_whole r v w) ≡ true
+whole_from_kept : (v w : PlainView) (r : Rule) → kept v w r ≡ true → not (breaks_whole r v w) ≡ true
 unfolding kept
 whole_from_kept v w r e =
     elim (cases_Bool (speaks_of_parts r)) [
@@ -123,7 +123,7 @@ whole_from_kept v w r e =
       | inr of_whole ↦ rw of_whole at e
     ]
 
-part_from_kept : (v w : PlainView) (i : ℕ) → i < length v.parts → (r : RuleName) → kept v w r ≡ true → not (breaks_part r v w i) ≡ true
+part_from_kept : (v w : PlainView) (i : ℕ) → i < length v.parts → (r : Rule) → kept v w r ≡ true → not (breaks_part r v w i) ≡ true
 unfolding kept
 part_from_kept v w i inside r e =
     elim (cases_Bool (speaks_of_parts r)) [
@@ -131,7 +131,7 @@ part_from_kept v w i inside r e =
       | inr of_whole ↦ not_from_false (breaks_part r v w i) (part-of_whole v w i r of_whole)
     ]
 
-kept_from_both : (v w : PlainView) → keeps_parts v w ≡ true → (r : RuleName) → not (breaks_whole r v w) ≡ true → kept v w r ≡ true
+kept_from_both : (v w : PlainView) → keeps_parts v w ≡ true → (r : Rule) → not (breaks_whole r v w) ≡ true → kept v w r ≡ true
 unfolding kept keeps_parts keeps_part
 kept_from_both v w parts r e =
     elim (cases_Bool (speaks_of_parts r)) [
@@ -139,10 +139,10 @@ kept_from_both v w parts r e =
       | inr of_whole ↦ rw of_whole e
     ]
 
-rules_asked-kinds : (v w : PlainView) → same_kind v.kind w.kind ≡ false → rules_asked v w ≡ L1 ∷ []
+rules_asked-kinds : (v w : PlainView) → same_kind v.kind w.kind ≡ false → rules_asked v w ≡ KindOfType ∷ []
 rules_asked-kinds v w e = rw e refl
 
-rules_asked-declared : (v w : PlainView) → same_kind v.kind w.kind ≡ true → is_declaration v w ≡ true → rules_asked v w ≡ L5 ∷ []
+rules_asked-declared : (v w : PlainView) → same_kind v.kind w.kind ≡ true → is_declaration v w ≡ true → rules_asked v w ≡ DeclarationTag ∷ []
 rules_asked-declared v w e d = rw (e, d) refl
 
 rules_asked-defined : (v w : PlainView) → same_kind v.kind w.kind ≡ true → is_declaration v w ≡ false → rules_asked v w ≡ definition_rules
@@ -157,12 +157,12 @@ none_uncompared v w e whole =
           elim (cases_Bool (is_declaration v w)) [
             | inl declared ↦
                 let asked = rules_asked-declared v w same declared in
-                rw asked (none_broken v w (L5 ∷ []) (rw asked at whole))
+                rw asked (none_broken v w (DeclarationTag ∷ []) (rw asked at whole))
             | inr defined ↦ absurd (false≢true (sym (rw (same, defined) at e)))
           ]
       | inr differ ↦
           let asked = rules_asked-kinds v w differ in
-          rw asked (none_broken v w (L1 ∷ []) (rw asked at whole))
+          rw asked (none_broken v w (KindOfType ∷ []) (rw asked at whole))
     ]
 
 pub none_compared : (v w : PlainView) → are_compared v w ≡ true → keeps_whole v w ≡ true → keeps_parts v w ≡ true → breaks v w ≡ []

@@ -9,7 +9,7 @@ use Rattle.pair_rules.specs.Partners.{partner_at}
 use Rattle.pair_rules.specs.Ways.{after}
 use Rattle.pair_rules.specs.Steps.{Task, Triple, is_marked, triple_of, led_by, next_of, step, PlainRoot, IsStep}
 use Rattle.pair_rules.specs.Stable.{IsInside}
-use Rattle.pair_rules.specs.Paths.{Path, From, Then, Leads, root_triple}
+use Rattle.pair_rules.specs.Paths.{Path, From, Then, PathLeadsTo, root_triple}
 use Rattle.pair_rules.specs.Closed.{IsClosed, HoldsRoots}
 use Rattle.pair_rules.proofs.Partnering.{IsPartner-from_some, some_from_IsPartner}
 
@@ -90,11 +90,11 @@ step-inside t x y i old new e =
     record { old = old.inside x.old i y.old is.old; new = new.inside x.new is.new_part y.new is.new }
 
 -- where roots are nodes, paths lead to nodes
-pub leads-inside : (t : Task) → IsGraph t.old → IsGraph t.new → ((k : ℕ) (root : PlainRoot) → slice_get t.roots k ≡ Some root → IsInside t (root_triple root)) → (path : Path) (x : Triple) → Leads t path x → IsInside t x
+pub leads-inside : (t : Task) → IsGraph t.old → IsGraph t.new → ((k : ℕ) (root : PlainRoot) → slice_get t.roots k ≡ Some root → IsInside t (root_triple root)) → (path : Path) (x : Triple) → PathLeadsTo t path x → IsInside t x
 leads-inside t old new roots (From export) x (k, root, at, is, e) = rw e (roots k root at)
 leads-inside t old new roots (Then path part) y (x, leads, stepped) = step-inside t x y part old new stepped
 
-pub related_from_path : (t : Task) (r : Triple → Bool) → IsClosed t r → HoldsRoots t r → (path : Path) (x : Triple) → Leads t path x → r x ≡ true
+pub related_from_path : (t : Task) (r : Triple → Bool) → IsClosed t r → HoldsRoots t r → (path : Path) (x : Triple) → PathLeadsTo t path x → r x ≡ true
 related_from_path t r closed roots (From export) x leads = ap r leads.4 ∙ roots leads.0 leads.1 leads.2
 related_from_path t r closed roots (Then path part) y leads =
     closed.leads_on leads.0 y part (related_from_path t r closed roots path leads.0 leads.1) leads.2

@@ -4,7 +4,7 @@ use Rattle.std.specs.List.{filter, flat_map, range_with_len, Contains}
 use Rattle.std.proofs.lemmas.Bool.{cases_Bool}
 use Rattle.std.proofs.lemmas.List.Elements.{Contains-append_left, Contains-append_right, Contains-append_cases}
 use Rattle.std.proofs.lemmas.List.FromFn.{length-range_with_len, get_or-range_with_len}
-use Rattle.abi_types.specs.declared.rule.RuleName.{RuleName}
+use Rattle.abi_types.specs.declared.rule.Rule.{Rule}
 use Rattle.abi_types.specs.Types.{PlainView}
 use Rattle.pair_rules.specs.declared.rules.Broken.{Broken}
 use Rattle.pair_rules.specs.TypeRules.{breaks_whole, breaks_part, speaks_of_parts, rules_asked, broken_at, broken, breaks, IsBroken}
@@ -79,10 +79,10 @@ range_in n i below = (i, omega (arith, length-range_with_len 0 n), get_or-range_
 
 -- ---- where a rule is broken
 
-same_broken : (b : Broken) (r : RuleName) (i : ℕ) → b ≡ broken_at r i → (b.rule ≡ r) × (b.part ≡ i)
+same_broken : (b : Broken) (r : Rule) (i : ℕ) → b ≡ broken_at r i → (b.rule ≡ r) × (b.part ≡ i)
 same_broken b r i e = (ap (λ x. x.rule) e, ap (λ x. x.part) e)
 
-IsBroken-from_broken : (v w : PlainView) (r : RuleName) (b : Broken) → Contains (broken v w r) b → (b.rule ≡ r) × IsBroken v w b
+IsBroken-from_broken : (v w : PlainView) (r : Rule) (b : Broken) → Contains (broken v w r) b → (b.rule ≡ r) × IsBroken v w b
 unfolding broken
 IsBroken-from_broken v w r b c =
     elim (cases_Bool (speaks_of_parts r)) [

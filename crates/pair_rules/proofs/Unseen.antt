@@ -7,8 +7,8 @@ use Rattle.std.proofs.lemmas.List.{length-map}
 use Rattle.std.proofs.lemmas.List.Elements.{filter_agree}
 use Rattle.std.proofs.lemmas.List.Sums.{sum_by-cons}
 use Rattle.abi_types.specs.declared.kind.Way.{Way}
-use Rattle.abi_types.specs.declared.rule.RuleName.{RuleName}
-use Rattle.abi_types.specs.declared.rule.RuleName.TheVariants.{L6, L7, L8, L9, L10, L12, L14}
+use Rattle.abi_types.specs.declared.rule.Rule.{Rule}
+use Rattle.abi_types.specs.declared.rule.Rule.TheVariants.{MemberPresence, MemberOffset, BitFieldWidth, EnumeratorPresence, EnumeratorValue, ParameterCount, PassingPlace}
 use Rattle.abi_types.specs.Types.{PlainPart, Member, Enumerator, Target, Element, Outcome, Param, PlainView}
 use Rattle.abi_types.specs.Forms.{is_member, is_enumerator, is_param, is_function}
 use Rattle.abi_types.specs.Graphs.{part_at, no_part, to_of}
@@ -20,7 +20,7 @@ use Rattle.pair_rules.specs.Partners.{pair_of, partner_at}
 use Rattle.pair_rules.specs.Ways.{after}
 use Rattle.pair_rules.specs.Steps.{triple_of, led_by, next_of}
 use Rattle.pair_rules.specs.Stable.{classed}
-use Rattle.abi_types.specs.Seen.{part_seen, view_seen}
+use Rattle.abi_types.specs.ClassLooks.{part_seen, view_seen}
 
 -- ---- what each part says
 
@@ -199,9 +199,9 @@ pub params_of-seen : (f : ℕ → ℕ) (v : PlainView) → params_of (view_seen 
 unfolding view_seen
 params_of-seen f v = count_by-map (part_seen f) is_param is_param (is_param-seen f) v.parts
 
-breaks_whole-seen : (f g : ℕ → ℕ) (r : RuleName) (v w : PlainView) → breaks_whole r (view_seen f v) (view_seen g w) ≡ breaks_whole r v w
+breaks_whole-seen : (f g : ℕ → ℕ) (r : Rule) (v w : PlainView) → breaks_whole r (view_seen f v) (view_seen g w) ≡ breaks_whole r v w
 unfolding breaks_whole view_seen
-breaks_whole-seen f g L12 v w =
+breaks_whole-seen f g ParameterCount v w =
     ap (λ n. is_function v.kind && not (n == params_of (view_seen g w))) (params_of-seen f v)
     ∙ ap (λ n. is_function v.kind && not (params_of v == n)) (params_of-seen g w)
 breaks_whole-seen f g r v w = refl
@@ -248,21 +248,21 @@ param_moved-seen f g v w i =
     (ap (λ k. places_differ (slice_get (view_seen f v).call.params k) (slice_get (view_seen g w).call.params k)) (number_of-seen f v i)
     ∙ params-seen f g v w (number_of v i))
 
-breaks_part-seen : (f g : ℕ → ℕ) (r : RuleName) (v w : PlainView) (i : ℕ) → breaks_part r (view_seen f v) (view_seen g w) i ≡ breaks_part r v w i
+breaks_part-seen : (f g : ℕ → ℕ) (r : Rule) (v w : PlainView) (i : ℕ) → breaks_part r (view_seen f v) (view_seen g w) i ≡ breaks_part r v w i
 unfolding breaks_part
-breaks_part-seen f g L6 v w i = and_same _ _ _ _ (said-seen is_member is_member-seen f v i) (ap (λ m. is_none m) (match_of-seen f g v w i))
-breaks_part-seen f g L7 v w i = and_same _ _ _ _ (said-seen is_member is_member-seen f v i) (matched-seen bit_at bit_at-seen f g v w i)
-breaks_part-seen f g L8 v w i = and_same _ _ _ _ (said-seen is_member is_member-seen f v i) (matched-seen width_at width_at-seen f g v w i)
-breaks_part-seen f g L9 v w i = and_same _ _ _ _ (said-seen is_enumerator is_enumerator-seen f v i) (ap (λ m. is_none m) (match_of-seen f g v w i))
-breaks_part-seen f g L10 v w i = and_same _ _ _ _ (said-seen is_enumerator is_enumerator-seen f v i) (matched-seen value_at value_at-seen f g v w i)
-breaks_part-seen f g L14 v w i =
+breaks_part-seen f g MemberPresence v w i = and_same _ _ _ _ (said-seen is_member is_member-seen f v i) (ap (λ m. is_none m) (match_of-seen f g v w i))
+breaks_part-seen f g MemberOffset v w i = and_same _ _ _ _ (said-seen is_member is_member-seen f v i) (matched-seen bit_at bit_at-seen f g v w i)
+breaks_part-seen f g BitFieldWidth v w i = and_same _ _ _ _ (said-seen is_member is_member-seen f v i) (matched-seen width_at width_at-seen f g v w i)
+breaks_part-seen f g EnumeratorPresence v w i = and_same _ _ _ _ (said-seen is_enumerator is_enumerator-seen f v i) (ap (λ m. is_none m) (match_of-seen f g v w i))
+breaks_part-seen f g EnumeratorValue v w i = and_same _ _ _ _ (said-seen is_enumerator is_enumerator-seen f v i) (matched-seen value_at value_at-seen f g v w i)
+breaks_part-seen f g PassingPlace v w i =
     ap (λ a. a || (is_param (part_at (view_seen f v) i) && param_moved (view_seen f v) (view_seen g w) i))
     (and_same _ _ _ _ (said-seen is_outcome is_outcome-seen f v i) (ap not (outcomes-seen f g v w)))
     ∙ ap (λ b. (is_outcome (part_at v i) && not (same_place v.call.outcome w.call.outcome)) || b)
     (and_same _ _ _ _ (said-seen is_param is_param-seen f v i) (param_moved-seen f g v w i))
 breaks_part-seen f g r v w i = refl
 
-broken-seen : (f g : ℕ → ℕ) (v w : PlainView) (r : RuleName) → broken (view_seen f v) (view_seen g w) r ≡ broken v w r
+broken-seen : (f g : ℕ → ℕ) (v w : PlainView) (r : Rule) → broken (view_seen f v) (view_seen g w) r ≡ broken v w r
 unfolding broken
 broken-seen f g v w r =
     ap (λ n. cond (speaks_of_parts r) (map (broken_at r) (filter (breaks_part r (view_seen f v) (view_seen g w)) (range_with_len 0 n))) (cond (breaks_whole r (view_seen f v) (view_seen g w)) (broken_at r 0 ∷ []) [])) (length-seen f v)
@@ -270,7 +270,7 @@ broken-seen f g v w r =
     (filter_agree (breaks_part r (view_seen f v) (view_seen g w)) (breaks_part r v w) (breaks_part-seen f g r v w) (range_with_len 0 (length v.parts)))
     ∙ ap (λ b. cond (speaks_of_parts r) (map (broken_at r) (filter (breaks_part r v w) (range_with_len 0 (length v.parts)))) (cond b (broken_at r 0 ∷ []) [])) (breaks_whole-seen f g r v w)
 
-all_broken-seen : (f g : ℕ → ℕ) (v w : PlainView) (rs : List RuleName) → flat_map (broken (view_seen f v) (view_seen g w)) rs ≡ flat_map (broken v w) rs
+all_broken-seen : (f g : ℕ → ℕ) (v w : PlainView) (rs : List Rule) → flat_map (broken (view_seen f v) (view_seen g w)) rs ≡ flat_map (broken v w) rs
 all_broken-seen f g v w [] = refl
 all_broken-seen f g v w (r ∷ rs) = rw (broken-seen f g v w r, all_broken-seen f g v w rs) refl
 

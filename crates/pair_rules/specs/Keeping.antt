@@ -1,14 +1,14 @@
 -- That two types keep rules, part by part.
 use Rattle.std.specs.Prelude.{ℕ, Bool, not, List, [], ◌∷◌, length}
 use Rattle.std.specs.List.{list_all, range_with_len}
-use Rattle.abi_types.specs.declared.rule.RuleName.{RuleName}
-use Rattle.abi_types.specs.declared.rule.RuleName.TheVariants.{L6, L7, L8, L9, L10, L14}
+use Rattle.abi_types.specs.declared.rule.Rule.{Rule}
+use Rattle.abi_types.specs.declared.rule.Rule.TheVariants.{MemberPresence, MemberOffset, BitFieldWidth, EnumeratorPresence, EnumeratorValue, PassingPlace}
 use Rattle.abi_types.specs.Types.{PlainView}
 use Rattle.pair_rules.specs.TypeRules.{rules_asked, breaks_whole, breaks_part}
 
 -- the rules that speak of parts
-abbrev pub part_rules : List RuleName
-part_rules = L6 ∷ L7 ∷ L8 ∷ L9 ∷ L10 ∷ L14 ∷ []
+abbrev pub part_rules : List Rule
+part_rules = MemberPresence ∷ MemberOffset ∷ BitFieldWidth ∷ EnumeratorPresence ∷ EnumeratorValue ∷ PassingPlace ∷ []
 
 -- whether two types break no rule that is asked of them as a whole
 unfoldable pub keeps_whole : PlainView → PlainView → Bool

@@ -13,13 +13,13 @@ abbrev pub root_triple : PlainRoot → Triple
 root_triple root = record { old = root.old; new = root.new; way = Direct }
 
 -- the path leads to the triple
-abbrev pub Leads : Task → Path → Triple → Type 0
-Leads t (From export) x = (k : ℕ) × (root : PlainRoot) × (slice_get t.roots k ≡ Some root) × (root.export ≡ export) × (x ≡ root_triple root)
-Leads t (Then path part) y = (x : Triple) × Leads t path x × (step t x part ≡ Some y)
+abbrev pub PathLeadsTo : Task → Path → Triple → Type 0
+PathLeadsTo t (From export) x = (k : ℕ) × (root : PlainRoot) × (slice_get t.roots k ≡ Some root) × (root.export ≡ export) × (x ≡ root_triple root)
+PathLeadsTo t (Then path part) y = (x : Triple) × PathLeadsTo t path x × (step t x part ≡ Some y)
 
 -- some path leads to the triple
 abbrev pub IsReachable : Task → Triple → Type 0
-IsReachable t x = (path : Path) × Leads t path x
+IsReachable t x = (path : Path) × PathLeadsTo t path x
 
 -- The path is shorter; or it is as long, and it comes from an earlier export, or from the same one by earlier parts, the first
 -- step counting most.

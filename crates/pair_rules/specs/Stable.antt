@@ -3,7 +3,7 @@ use Rattle.std.specs.Prelude.{◌≡◌, ◌<◌, ◌&&◌, nat_lt, ℕ, Bool, t
 use Rattle.abi_types.specs.declared.kind.Way.{Way}
 use Rattle.abi_types.specs.Types.{PlainNode}
 use Rattle.abi_types.specs.Graphs.{node_at, IsGraph}
-use Rattle.abi_types.specs.Seen.{look_of}
+use Rattle.abi_types.specs.ClassLooks.{look_of}
 use Rattle.pair_rules.specs.Steps.{Task, Triple, is_marked, breaks_of, step}
 
 -- Nodes of one class have equal labels, and views that are equal in all but the nodes that parts name; and the nodes that

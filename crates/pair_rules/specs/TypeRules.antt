@@ -7,8 +7,8 @@ use Rattle.std.specs.Bool.{beq}
 use Rattle.abi_types.specs.declared.kind.Kind.{Kind}
 use Rattle.abi_types.specs.declared.kind.Kind.TheVariants as kind
 use Rattle.abi_types.specs.declared.place.Place.{Place}
-use Rattle.abi_types.specs.declared.rule.RuleName.{RuleName}
-use Rattle.abi_types.specs.declared.rule.RuleName.TheVariants.{L1, L2, L3, L4, L5, L6, L7, L8, L9, L10, L11, L12, L13, L14}
+use Rattle.abi_types.specs.declared.rule.Rule.{Rule}
+use Rattle.abi_types.specs.declared.rule.Rule.TheVariants.{KindOfType, TypeSize, ScalarGroup, TypeAlignment, DeclarationTag, MemberPresence, MemberOffset, BitFieldWidth, EnumeratorPresence, EnumeratorValue, ElementCount, ParameterCount, VariadicArguments, PassingPlace}
 use Rattle.abi_types.specs.Types.{PlainPart, Member, Enumerator, Outcome, PlainView}
 use Rattle.abi_types.specs.Forms.{is_scalar, has_elements, is_function, is_member, is_enumerator, is_param}
 use Rattle.abi_types.specs.Graphs.{part_at}
@@ -98,67 +98,67 @@ param_moved v w i =
 -- ---- the rules
 
 -- whether two types break a rule that speaks of them as a whole
-unfoldable pub breaks_whole : RuleName → PlainView → PlainView → Bool
+unfoldable pub breaks_whole : Rule → PlainView → PlainView → Bool
 -- their kinds differ
-breaks_whole L1 v w = not (same_kind v.kind w.kind)
+breaks_whole KindOfType v w = not (same_kind v.kind w.kind)
 -- their sizes differ
-breaks_whole L2 v w = has_size v.kind && not (v.size == w.size)
+breaks_whole TypeSize v w = has_size v.kind && not (v.size == w.size)
 -- the groups of two scalars differ
-breaks_whole L3 v w = is_scalar v.kind && not (same_group v.group w.group)
+breaks_whole ScalarGroup v w = is_scalar v.kind && not (same_group v.group w.group)
 -- their explicit alignments differ
-breaks_whole L4 v w = has_alignment v.kind && not (v.align == w.align)
+breaks_whole TypeAlignment v w = has_alignment v.kind && not (v.align == w.align)
 -- their tags differ
-breaks_whole L5 v w = not (bytes_eq v.tag w.tag)
+breaks_whole DeclarationTag v w = not (bytes_eq v.tag w.tag)
 -- the counts of two arrays or vectors differ
-breaks_whole L11 v w = has_elements v.kind && not (v.count == w.count)
+breaks_whole ElementCount v w = has_elements v.kind && not (v.count == w.count)
 -- two functions have different numbers of parameters
-breaks_whole L12 v w = is_function v.kind && not (params_of v == params_of w)
+breaks_whole ParameterCount v w = is_function v.kind && not (params_of v == params_of w)
 -- one function takes unspecified parameters, and the other does not
-breaks_whole L13 v w = is_function v.kind && not (beq v.variadic w.variadic)
+breaks_whole VariadicArguments v w = is_function v.kind && not (beq v.variadic w.variadic)
 breaks_whole other v w = false
 
 -- whether two types break a rule that speaks of parts, at part i of the old one
-unfoldable pub breaks_part : RuleName → PlainView → PlainView → ℕ → Bool
+unfoldable pub breaks_part : Rule → PlainView → PlainView → ℕ → Bool
 -- a member has no match
-breaks_part L6 v w i = is_member (part_at v i) && is_none (match_of v w i)
+breaks_part MemberPresence v w i = is_member (part_at v i) && is_none (match_of v w i)
 -- a matched member stands at another bit
-breaks_part L7 v w i = is_member (part_at v i) && differs (bit_at v i) (matched bit_at v w i)
+breaks_part MemberOffset v w i = is_member (part_at v i) && differs (bit_at v i) (matched bit_at v w i)
 -- a matched member has another width as a bit field, where 0 stands for none
-breaks_part L8 v w i = is_member (part_at v i) && differs (width_at v i) (matched width_at v w i)
+breaks_part BitFieldWidth v w i = is_member (part_at v i) && differs (width_at v i) (matched width_at v w i)
 -- an enumerator has no match
-breaks_part L9 v w i = is_enumerator (part_at v i) && is_none (match_of v w i)
+breaks_part EnumeratorPresence v w i = is_enumerator (part_at v i) && is_none (match_of v w i)
 -- a matched enumerator has another value, each in the bytes of its own enumeration
-breaks_part L10 v w i = is_enumerator (part_at v i) && differs (value_at v i) (matched value_at v w i)
+breaks_part EnumeratorValue v w i = is_enumerator (part_at v i) && differs (value_at v i) (matched value_at v w i)
 -- the place of the result differs, or that of a parameter that both have
-breaks_part L14 v w i =
+breaks_part PassingPlace v w i =
     (is_outcome (part_at v i) && not (same_place v.call.outcome w.call.outcome)) || (is_param (part_at v i) && param_moved v w i)
 breaks_part other v w i = false
 
 -- ---- all that is broken
 
-abbrev pub speaks_of_parts : RuleName → Bool
-speaks_of_parts L6 = true
-speaks_of_parts L7 = true
-speaks_of_parts L8 = true
-speaks_of_parts L9 = true
-speaks_of_parts L10 = true
-speaks_of_parts L14 = true
+abbrev pub speaks_of_parts : Rule → Bool
+speaks_of_parts MemberPresence = true
+speaks_of_parts MemberOffset = true
+speaks_of_parts BitFieldWidth = true
+speaks_of_parts EnumeratorPresence = true
+speaks_of_parts EnumeratorValue = true
+speaks_of_parts PassingPlace = true
 speaks_of_parts other = false
 
 -- The rules that are asked, in order: of two kinds L1 alone, of a declaration and a type of its kind their tags alone, and of
 -- two definitions of one kind all others.
-abbrev pub rules_asked : PlainView → PlainView → List RuleName
+abbrev pub rules_asked : PlainView → PlainView → List Rule
 rules_asked v w =
-    if not (same_kind v.kind w.kind) then L1 ∷ []
-    else (if is_declaration v w then L5 ∷ []
-    else L2 ∷ L3 ∷ L4 ∷ L6 ∷ L7 ∷ L8 ∷ L9 ∷ L10 ∷ L11 ∷ L12 ∷ L13 ∷ L14 ∷ [])
+    if not (same_kind v.kind w.kind) then KindOfType ∷ []
+    else (if is_declaration v w then DeclarationTag ∷ []
+    else TypeSize ∷ ScalarGroup ∷ TypeAlignment ∷ MemberPresence ∷ MemberOffset ∷ BitFieldWidth ∷ EnumeratorPresence ∷ EnumeratorValue ∷ ElementCount ∷ ParameterCount ∷ VariadicArguments ∷ PassingPlace ∷ [])
 
 -- a rule broken at a part, or at 0 where it speaks of no part
-abbrev pub broken_at : RuleName → ℕ → Broken
+abbrev pub broken_at : Rule → ℕ → Broken
 broken_at rule i = record { rule = rule; part = i }
 
 -- where two types break a rule, in order of the old parts
-unfoldable pub broken : PlainView → PlainView → RuleName → List Broken
+unfoldable pub broken : PlainView → PlainView → Rule → List Broken
 broken v w rule =
     if speaks_of_parts rule then map (broken_at rule) (filter (breaks_part rule v w) (range_with_len 0 (length v.parts)))
     else (if breaks_whole rule v w then broken_at rule 0 ∷ [] else [])

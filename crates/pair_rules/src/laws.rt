@@ -9,7 +9,7 @@ ghost use Rattle.abi_types.specs.declared.place.Place.{Place};
 ghost use Rattle.abi_types.specs.Types.{PlainView};
 ghost use Rattle.abi_types.specs.Graphs.{part_at, view_at, IsGraph};
 ghost use Rattle.abi_types.specs.Parts.{like};
-ghost use Rattle.abi_types.specs.Seen.{part_seen, view_seen};
+ghost use Rattle.abi_types.specs.ClassLooks.{part_seen, view_seen};
 ghost use Rattle.pair_rules.specs.declared.rules.Broken.{Broken};
 ghost use Rattle.pair_rules.specs.BreakOrder.{IsBrokenBefore};
 ghost use Rattle.pair_rules.specs.Same.{same_kind, same_group, same_place};
@@ -18,7 +18,7 @@ ghost use Rattle.pair_rules.specs.TypeRules.{bit_at, params_of, value_at, width_
 ghost use Rattle.pair_rules.specs.Partners.{partner_at, IsPartner};
 ghost use Rattle.pair_rules.specs.Steps.{PlainRoot, Task, Triple, is_marked, breaks_of, next_of, step, IsStep};
 ghost use Rattle.pair_rules.specs.Stable.{AreClasses, StandsFor, IsInside, LeadsLike, classed, related};
-ghost use Rattle.pair_rules.specs.Paths.{Path, Then, Leads, root_triple};
+ghost use Rattle.pair_rules.specs.Paths.{Path, Then, PathLeadsTo, root_triple};
 ghost use Rattle.pair_rules.specs.Closed.{IsClosed, HoldsRoots};
 
 /// The k-th part of a sort and a name matches the k-th part of that sort and name, and a part has no match exactly where the
@@ -70,14 +70,14 @@ pub fn steps_lead_to_nodes()
 pub fn paths_lead_to_nodes()
     ensures nodes { (t : Task) (path : Path) (x : Triple) → IsGraph t.old → IsGraph t.new
         → ((k : ℕ) (root : PlainRoot) → slice_get t.roots k ≡ Some root → IsInside t (root_triple root))
-        → Leads t path x → IsInside t x }
-    ensures parts { (t : Task) (path : Path) (part : ℕ) (y : Triple) → Leads t (Then path part) y
-        → (x : Triple) × Leads t path x × (part < length (view_at t.old x.old).parts) }
+        → PathLeadsTo t path x → IsInside t x }
+    ensures parts { (t : Task) (path : Path) (part : ℕ) (y : Triple) → PathLeadsTo t (Then path part) y
+        → (x : Triple) × PathLeadsTo t path x × (part < length (view_at t.old x.old).parts) }
 {}
 
 /// A closed relation that holds the roots holds all to which a path leads.
 pub fn closed_relations_hold_what_is_reachable()
-    ensures { (t : Task) (r : Triple → Bool) (path : Path) (x : Triple) → IsClosed t r → HoldsRoots t r → Leads t path x → r x ≡ true }
+    ensures { (t : Task) (r : Triple → Bool) (path : Path) (x : Triple) → IsClosed t r → HoldsRoots t r → PathLeadsTo t path x → r x ≡ true }
 {}
 
 /// Rules, partners and steps see of the nodes that parts name no more than which they are: with other numbers for the nodes the

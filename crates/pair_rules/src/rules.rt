@@ -11,50 +11,50 @@ ghost use Rattle.pair_rules.specs.Keeping.{keeps_part as the_part_keeps, keeps_p
 
 use crate::matching::{are_compared, match_of, number_of, same_kind};
 use abi_base::{List, NoMemory};
-use abi_types::{Group, Index, Kind, NewIx, OldIx, Part, Place, RuleName, View};
+use abi_types::{Group, Index, Kind, NewIx, OldIx, Part, Place, Rule, View};
 use std::alloc::Global;
 
 /// A broken rule, with the position of the old part that it speaks of, else 0.
 #[derive(Clone, Copy, Debug, PartialEq, Eq)]
 pub struct Broken {
-    pub rule: RuleName,
+    pub rule: Rule,
     pub part: usize,
 }
 
 // The rule that is asked of two kinds.
-static KIND_RULES: [RuleName; 1] = [RuleName::L1];
+static KIND_RULES: [Rule; 1] = [Rule::KindOfType];
 
 // The rule that is asked where one type is only declared.
-static TAG_RULES: [RuleName; 1] = [RuleName::L5];
+static TAG_RULES: [Rule; 1] = [Rule::DeclarationTag];
 
 // The rules that are asked of two definitions of one kind.
-static DEFINITION_RULES: [RuleName; 12] = [
-    RuleName::L2,
-    RuleName::L3,
-    RuleName::L4,
-    RuleName::L6,
-    RuleName::L7,
-    RuleName::L8,
-    RuleName::L9,
-    RuleName::L10,
-    RuleName::L11,
-    RuleName::L12,
-    RuleName::L13,
-    RuleName::L14,
+static DEFINITION_RULES: [Rule; 12] = [
+    Rule::TypeSize,
+    Rule::ScalarGroup,
+    Rule::TypeAlignment,
+    Rule::MemberPresence,
+    Rule::MemberOffset,
+    Rule::BitFieldWidth,
+    Rule::EnumeratorPresence,
+    Rule::EnumeratorValue,
+    Rule::ElementCount,
+    Rule::ParameterCount,
+    Rule::VariadicArguments,
+    Rule::PassingPlace,
 ];
 
 // Those of them that speak of parts.
-static PART_RULES: [RuleName; 6] = [
-    RuleName::L6,
-    RuleName::L7,
-    RuleName::L8,
-    RuleName::L9,
-    RuleName::L10,
-    RuleName::L14,
+static PART_RULES: [Rule; 6] = [
+    Rule::MemberPresence,
+    Rule::MemberOffset,
+    Rule::BitFieldWidth,
+    Rule::EnumeratorPresence,
+    Rule::EnumeratorValue,
+    Rule::PassingPlace,
 ];
 
 // The rules that are asked of two types, in order.
-fn rules_asked(old: &View<OldIx>, new: &View<NewIx>) -> &'static [RuleName]
+fn rules_asked(old: &View<OldIx>, new: &View<NewIx>) -> &'static [Rule]
     ensures { result.now ≡ the_rules_asked old.now new.now }
 {
     if !same_kind(old.kind, new.kind) {
@@ -66,12 +66,17 @@ fn rules_asked(old: &View<OldIx>, new: &View<NewIx>) -> &'static [RuleName]
     &DEFINITION_RULES
 }
 
-fn speaks_of_parts(rule: RuleName) -> bool
+fn speaks_of_parts(rule: Rule) -> bool
     ensures { result ≡ the_rule_speaks_of_parts rule }
 {
     matches!(
         rule,
-        RuleName::L6 | RuleName::L7 | RuleName::L8 | RuleName::L9 | RuleName::L10 | RuleName::L14
+        Rule::MemberPresence
+            | Rule::MemberOffset
+            | Rule::BitFieldWidth
+            | Rule::EnumeratorPresence
+            | Rule::EnumeratorValue
+            | Rule::PassingPlace
     )
 }
 
@@ -120,18 +125,18 @@ pub fn params_of<Ix: Index>(view: &View<Ix>) -> usize
 
 // Whether two types break a rule that speaks of them as a whole.
 #[tactic(auto, unfolding(crate::specs::TypeRules::breaks_whole))]
-fn breaks_whole(rule: RuleName, old: &View<OldIx>, new: &View<NewIx>) -> bool
+fn breaks_whole(rule: Rule, old: &View<OldIx>, new: &View<NewIx>) -> bool
     ensures { result ≡ the_whole_breaks rule old.now new.now }
 {
     match rule {
-        RuleName::L1 => !same_kind(old.kind, new.kind),
-        RuleName::L2 => has_size(old.kind) && old.size != new.size,
-        RuleName::L3 => old.kind == Kind::Scalar && !same_group(old.group, new.group),
-        RuleName::L4 => has_alignment(old.kind) && old.align != new.align,
-        RuleName::L5 => old.tag != new.tag,
-        RuleName::L11 => has_elements(old.kind) && old.count != new.count,
-        RuleName::L12 => old.kind == Kind::Function && params_of(old) != params_of(new),
-        RuleName::L13 => old.kind == Kind::Function && old.variadic != new.variadic,
+        Rule::KindOfType => !same_kind(old.kind, new.kind),
+        Rule::TypeSize => has_size(old.kind) && old.size != new.size,
+        Rule::ScalarGroup => old.kind == Kind::Scalar && !same_group(old.group, new.group),
+        Rule::TypeAlignment => has_alignment(old.kind) && old.align != new.align,
+        Rule::DeclarationTag => old.tag != new.tag,
+        Rule::ElementCount => has_elements(old.kind) && old.count != new.count,
+        Rule::ParameterCount => old.kind == Kind::Function && params_of(old) != params_of(new),
+        Rule::VariadicArguments => old.kind == Kind::Function && old.variadic != new.variadic,
         _ => false,
     }
 }
@@ -213,7 +218,7 @@ fn param_moved(old: &View<OldIx>, new: &View<NewIx>, i: usize, found: Option<usi
 // Whether two types break a rule that speaks of parts, at part `i` of the old one, whose match is at hand.
 #[tactic(auto, using(crate::proofs::Matches::inside), unfolding(crate::specs::TypeRules::breaks_part))]
 fn breaks_part(
-    rule: RuleName,
+    rule: Rule,
     old: &View<OldIx>,
     new: &View<NewIx>,
     i: usize,
@@ -224,22 +229,22 @@ fn breaks_part(
     ensures { result ≡ the_part_breaks rule old.now new.now i }
 {
     match (rule, old.part(i)) {
-        (RuleName::L6, Part::Member { .. }) => found.is_none(),
-        (RuleName::L7, Part::Member { bit, .. }) => match found {
+        (Rule::MemberPresence, Part::Member { .. }) => found.is_none(),
+        (Rule::MemberOffset, Part::Member { bit, .. }) => match found {
             Some(j) => *bit != bit_at(new, j),
             None => false,
         },
-        (RuleName::L8, Part::Member { width, .. }) => match found {
+        (Rule::BitFieldWidth, Part::Member { width, .. }) => match found {
             Some(j) => *width != width_at(new, j),
             None => false,
         },
-        (RuleName::L9, Part::Enumerator { .. }) => found.is_none(),
-        (RuleName::L10, Part::Enumerator { value, .. }) => match found {
+        (Rule::EnumeratorPresence, Part::Enumerator { .. }) => found.is_none(),
+        (Rule::EnumeratorValue, Part::Enumerator { value, .. }) => match found {
             Some(j) => in_bytes(old.size, *value) != value_at(new, j),
             None => false,
         },
-        (RuleName::L14, Part::Outcome { .. }) => outcome_moved(old, new),
-        (RuleName::L14, Part::Param { .. }) => param_moved(old, new, i, found),
+        (Rule::PassingPlace, Part::Outcome { .. }) => outcome_moved(old, new),
+        (Rule::PassingPlace, Part::Param { .. }) => param_moved(old, new, i, found),
         _ => false,
     }
 }
@@ -247,7 +252,7 @@ fn breaks_part(
 // Appends where two types break a rule that speaks of parts, in order of the old parts.
 fn push_parts(
     list: &mut List<Broken>,
-    rule: RuleName,
+    rule: Rule,
     old: &View<OldIx>,
     new: &View<NewIx>,
     matches: &[Option<usize>],
@@ -267,7 +272,7 @@ fn push_parts(
 #[tactic(auto, unfolding(crate::specs::TypeRules::broken))]
 fn push_broken(
     list: &mut List<Broken>,
-    rule: RuleName,
+    rule: Rule,
     old: &View<OldIx>,
     new: &View<NewIx>,
     matches: &[Option<usize>],

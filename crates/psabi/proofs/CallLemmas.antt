@@ -2,7 +2,7 @@
 use Rattle.std.proofs.Common.{◌≡◌, ◌<◌, ◌≤◌, ◌≢◌, ◌+◌, ◌-◌, ◌^◌, ◌∙◌, ℕ, List, [], ◌∷◌, ◌++◌, length, get_or, set, take, refl, ap, arith, get_or-set_other, get_or-set_same, below_more, append-nil, Some, None}
 use Rattle.std.specs.Prelude.{Bool, true, false, ◌||◌, nat_lt}
 use Rattle.psabi.specs.declared.class.Class.{Class}
-use Rattle.psabi.specs.declared.taken.Taken.{Taken}
+use Rattle.psabi.specs.declared.argument_registers.ArgumentRegisters.{ArgumentRegisters}
 use Rattle.std.specs.List.{list_any, sum_by}
 use Rattle.std.proofs.lemmas.Bool.{ltb-false}
 use Rattle.std.proofs.Math.Nat.{div-mul-le_self}
@@ -15,7 +15,7 @@ use Rattle.abi_types.specs.Types.{PlainPart, Member, Enumerator, Target, Element
 use Rattle.abi_types.specs.Forms.{is_function, no_call}
 use Rattle.abi_types.specs.Graphs.{no_part, to_of, room_of, view_at, param_of, params_of}
 use Rattle.abi_types.specs.declared.place.CallShape.{CallShape}
-use Rattle.psabi.specs.Results.{outcome_of, taken_by_result}
+use Rattle.psabi.specs.Results.{outcome_of, registers_of_result}
 use Rattle.psabi.specs.Calls.{call_of}
 use Rattle.psabi.specs.Arguments.{places, place_of_node, taken_by, taken_with_node, is_stacked, argument_slots, stack_offset, stack_size, step_of, goes_to_stack, taken_with, place_in}
 use Rattle.psabi.specs.Registers.{has_no_place, general_count, vector_count}
@@ -29,15 +29,15 @@ fill-more f xs k x d lt e below =
 
 -- ---- one argument, case by case
 
-pub place-none : (t : Taken) (size align : ℕ) (cs : List Class) → has_no_place size cs ≡ true → (place_in t size align cs ≡ place.Nothing) × (taken_with t size align cs ≡ t)
+pub place-none : (t : ArgumentRegisters) (size align : ℕ) (cs : List Class) → has_no_place size cs ≡ true → (place_in t size align cs ≡ place.Nothing) × (taken_with t size align cs ≡ t)
 unfolding place_in taken_with
 place-none t size align cs none = (rw none refl, rw none refl)
 
-pub place-stack : (t : Taken) (size align : ℕ) (cs : List Class) → has_no_place size cs ≡ false → goes_to_stack t cs ≡ true → (place_in t size align cs ≡ place.Stack (stack_offset t.stack align) (stack_size size)) × (taken_with t size align cs ≡ record t { stack = stack_offset t.stack align + stack_size size })
+pub place-stack : (t : ArgumentRegisters) (size align : ℕ) (cs : List Class) → has_no_place size cs ≡ false → goes_to_stack t cs ≡ true → (place_in t size align cs ≡ place.Stack (stack_offset t.stack align) (stack_size size)) × (taken_with t size align cs ≡ record t { stack = stack_offset t.stack align + stack_size size })
 unfolding place_in taken_with
 place-stack t size align cs some stack = (rw (some, stack) refl, rw (some, stack) refl)
 
-pub place-registers : (t : Taken) (size align : ℕ) (cs : List Class) → has_no_place size cs ≡ false → goes_to_stack t cs ≡ false → (place_in t size align cs ≡ place.Registers (argument_slots t cs)) × (taken_with t size align cs ≡ record t { general = t.general + general_count cs; vector = t.vector + vector_count cs })
+pub place-registers : (t : ArgumentRegisters) (size align : ℕ) (cs : List Class) → has_no_place size cs ≡ false → goes_to_stack t cs ≡ false → (place_in t size align cs ≡ place.Registers (argument_slots t cs)) × (taken_with t size align cs ≡ record t { general = t.general + general_count cs; vector = t.vector + vector_count cs })
 unfolding place_in taken_with
 place-registers t size align cs some stack = (rw (some, stack) refl, rw (some, stack) refl)
 
@@ -46,7 +46,7 @@ or-false true b e = cc
 or-false false b e = (refl, e)
 
 -- registers suffice for an argument that does not go to the stack
-pub registers-suffice : (t : Taken) (cs : List Class) → goes_to_stack t cs ≡ false → (t.general + general_count cs ≤ 6) × (t.vector + vector_count cs ≤ 8)
+pub registers-suffice : (t : ArgumentRegisters) (cs : List Class) → goes_to_stack t cs ≡ false → (t.general + general_count cs ≤ 6) × (t.vector + vector_count cs ≤ 8)
 unfolding goes_to_stack
 registers-suffice t cs e =
     let first = or-false (list_any is_stacked cs || nat_lt 6 (t.general + general_count cs)) (nat_lt 8 (t.vector + vector_count cs)) e in
@@ -71,12 +71,12 @@ stack-bound end size align le =
 
 -- ---- one more argument
 
-pub places-more : (nodes : List PlainNode) (t : Taken) (params : List ℕ) (i : ℕ) → places nodes t (params ++ i ∷ []) ≡ places nodes t params ++ place_of_node nodes (taken_by nodes t params) i ∷ []
+pub places-more : (nodes : List PlainNode) (t : ArgumentRegisters) (params : List ℕ) (i : ℕ) → places nodes t (params ++ i ∷ []) ≡ places nodes t params ++ place_of_node nodes (taken_by nodes t params) i ∷ []
 unfolding places taken_by
 places-more nodes t [] i = refl
 places-more nodes t (p ∷ params) i = ap (λ (ps : List Place). place_of_node nodes t p ∷ ps) (places-more nodes (taken_with_node nodes t p) params i)
 
-pub taken-more : (nodes : List PlainNode) (t : Taken) (params : List ℕ) (i : ℕ) → taken_by nodes t (params ++ i ∷ []) ≡ taken_with_node nodes (taken_by nodes t params) i
+pub taken-more : (nodes : List PlainNode) (t : ArgumentRegisters) (params : List ℕ) (i : ℕ) → taken_by nodes t (params ++ i ∷ []) ≡ taken_with_node nodes (taken_by nodes t params) i
 unfolding taken_by
 taken-more nodes t params i = fold-append (taken_with_node nodes) t params (i ∷ [])
 
@@ -102,11 +102,11 @@ param-is (Outcome to) i e = cc
 pub param-named : (p : PlainPart) (i : ℕ) → param_of p ≡ Some i → to_of p ≡ Some i
 param-named p i e = rw (param-is p i e) refl
 
-pub placed-params : (nodes : List PlainNode) (t u : Taken) (parts : List PlainPart) (k i : ℕ) (p : Place) (ps qs : List Place) → k < length parts → param_of (get_or parts k no_part) ≡ Some i → ps ≡ places nodes t (params_of (take k parts)) → u ≡ taken_by nodes t (params_of (take k parts)) → p ≡ place_of_node nodes u i → qs ≡ ps ++ p ∷ [] → qs ≡ places nodes t (params_of (take (k + 1) parts))
+pub placed-params : (nodes : List PlainNode) (t u : ArgumentRegisters) (parts : List PlainPart) (k i : ℕ) (p : Place) (ps qs : List Place) → k < length parts → param_of (get_or parts k no_part) ≡ Some i → ps ≡ places nodes t (params_of (take k parts)) → u ≡ taken_by nodes t (params_of (take k parts)) → p ≡ place_of_node nodes u i → qs ≡ ps ++ p ∷ [] → qs ≡ places nodes t (params_of (take (k + 1) parts))
 placed-params nodes t u parts k i p ps qs lt e so_far held here next =
     rw (params-some parts k i lt e, places-more nodes t (params_of (take k parts)) i, ← so_far, ← held, ← here) next
 
-pub placed-taken : (nodes : List PlainNode) (t u w : Taken) (parts : List PlainPart) (k i : ℕ) → k < length parts → param_of (get_or parts k no_part) ≡ Some i → u ≡ taken_by nodes t (params_of (take k parts)) → w ≡ taken_with_node nodes u i → w ≡ taken_by nodes t (params_of (take (k + 1) parts))
+pub placed-taken : (nodes : List PlainNode) (t u w : ArgumentRegisters) (parts : List PlainPart) (k i : ℕ) → k < length parts → param_of (get_or parts k no_part) ≡ Some i → u ≡ taken_by nodes t (params_of (take k parts)) → w ≡ taken_with_node nodes u i → w ≡ taken_by nodes t (params_of (take (k + 1) parts))
 placed-taken nodes t u w parts k i lt e held next =
     rw (params-some parts k i lt e, taken-more nodes t (params_of (take k parts)) i, ← held) next
 
@@ -125,22 +125,22 @@ pub call-none : (nodes : List PlainNode) (i : ℕ) → is_function (view_at node
 unfolding call_of
 call-none nodes i other = rw other refl
 
-pub call-whole : (nodes : List PlainNode) (i k : ℕ) (v : PlainView) (o : Place) (ps : List Place) → v ≡ view_at nodes i → is_function (view_at nodes i).kind ≡ true → length v.parts ≤ k → o ≡ outcome_of nodes (view_at nodes i) → ps ≡ places nodes (taken_by_result o) (params_of (take k v.parts)) → ◌≡◌ {A = CallShape} (record { outcome = o; params = ps }) (call_of nodes i)
+pub call-whole : (nodes : List PlainNode) (i k : ℕ) (v : PlainView) (o : Place) (ps : List Place) → v ≡ view_at nodes i → is_function (view_at nodes i).kind ≡ true → length v.parts ≤ k → o ≡ outcome_of nodes (view_at nodes i) → ps ≡ places nodes (registers_of_result o) (params_of (take k v.parts)) → ◌≡◌ {A = CallShape} (record { outcome = o; params = ps }) (call_of nodes i)
 unfolding call_of
 call-whole nodes i k v o ps same function past outcome params =
     let all = take_all k v.parts past in
     rw (function, params, all, outcome, same) refl
 
-pub result-takes : (o : Place) → ((taken_by_result o).general ≤ 6) × ((taken_by_result o).vector ≤ 8) × ((taken_by_result o).stack ≤ 0)
+pub result-takes : (o : Place) → ((registers_of_result o).general ≤ 6) × ((registers_of_result o).vector ≤ 8) × ((registers_of_result o).stack ≤ 0)
 result-takes place.Hidden = (omega arith, omega arith, omega arith)
 result-takes place.Nothing = (omega arith, omega arith, omega arith)
 result-takes (place.Registers slots) = (omega arith, omega arith, omega arith)
 result-takes (place.Stack offset size) = (omega arith, omega arith, omega arith)
 
-pub places-none : (nodes : List PlainNode) (t : Taken) → places nodes t [] ≡ []
+pub places-none : (nodes : List PlainNode) (t : ArgumentRegisters) → places nodes t [] ≡ []
 unfolding places
 places-none nodes t = refl
 
-pub taken-none : (nodes : List PlainNode) (t : Taken) → taken_by nodes t [] ≡ t
+pub taken-none : (nodes : List PlainNode) (t : ArgumentRegisters) → taken_by nodes t [] ≡ t
 unfolding taken_by
 taken-none nodes t = refl

@@ -17,7 +17,7 @@ use Rattle.psabi.specs.declared.class.Class.TheVariants.{NoClass}
 use Rattle.psabi.specs.declared.eightbytes.Eightbytes.{Eightbytes}
 use Rattle.abi_types.specs.Leaves.{leaves_of}
 use Rattle.psabi.specs.Past.{ends_past}
-use Rattle.psabi.specs.Rows.{one, all_memory, integer_row, float_row, quad_row, decimal_row, complex_row, vector_row, scalar_row, row}
+use Rattle.psabi.specs.Rows.{one, all_memory_class, integer_row, float_row, quad_row, decimal_row, complex_row, vector_row, scalar_row, row}
 use Rattle.psabi.specs.Touching.{is_aligned}
 use Rattle.psabi.specs.Merging.{merge_leaf, MergesLeaves, nothing_merged}
 use Rattle.psabi.specs.Class.{class_at}
@@ -58,7 +58,7 @@ pub classes-none : (nodes : List PlainNode) (i : ℕ) → is_leaf (view_at nodes
 unfolding classes_of
 classes-none nodes i leaf whole = rw (leaf, whole) refl
 
-classes-memory : (nodes : List PlainNode) (i : ℕ) → is_leaf (view_at nodes i).kind ≡ false → is_aggregate (view_at nodes i).kind ≡ true → in_memory nodes i ≡ true → classes_of nodes i ≡ all_memory
+classes-memory : (nodes : List PlainNode) (i : ℕ) → is_leaf (view_at nodes i).kind ≡ false → is_aggregate (view_at nodes i).kind ≡ true → in_memory nodes i ≡ true → classes_of nodes i ≡ all_memory_class
 unfolding classes_of
 classes-memory nodes i leaf whole memory = rw (leaf, whole, memory) refl
 
@@ -66,20 +66,20 @@ or-true : (b : Bool) → (b || true) ≡ true
 or-true true = refl
 or-true false = refl
 
-pub classes-large : (nodes : List PlainNode) (i : ℕ) → is_leaf (view_at nodes i).kind ≡ false → is_aggregate (view_at nodes i).kind ≡ true → 64 < (view_at nodes i).size → classes_of nodes i ≡ all_memory
+pub classes-large : (nodes : List PlainNode) (i : ℕ) → is_leaf (view_at nodes i).kind ≡ false → is_aggregate (view_at nodes i).kind ≡ true → 64 < (view_at nodes i).size → classes_of nodes i ≡ all_memory_class
 unfolding in_memory
 classes-large nodes i leaf whole lt =
     let large : nat_lt 64 (view_at nodes i).size ≡ true = lt-ltb 64 (view_at nodes i).size lt in
     let memory : in_memory nodes i ≡ true = rw large refl in
     classes-memory nodes i leaf whole memory
 
-pub classes-past : (nodes : List PlainNode) (i : ℕ) → is_leaf (view_at nodes i).kind ≡ false → is_aggregate (view_at nodes i).kind ≡ true → ends_past nodes i ≡ true → classes_of nodes i ≡ all_memory
+pub classes-past : (nodes : List PlainNode) (i : ℕ) → is_leaf (view_at nodes i).kind ≡ false → is_aggregate (view_at nodes i).kind ≡ true → ends_past nodes i ≡ true → classes_of nodes i ≡ all_memory_class
 unfolding in_memory
 classes-past nodes i leaf whole past =
     let memory : in_memory nodes i ≡ true = rw (past, or-true (nat_lt 64 (view_at nodes i).size)) refl in
     classes-memory nodes i leaf whole memory
 
-pub classes-unaligned : (nodes : List PlainNode) (i : ℕ) → is_leaf (view_at nodes i).kind ≡ false → is_aggregate (view_at nodes i).kind ≡ true → list_all is_aligned (leaves_of nodes i 0 0) ≡ false → classes_of nodes i ≡ all_memory
+pub classes-unaligned : (nodes : List PlainNode) (i : ℕ) → is_leaf (view_at nodes i).kind ≡ false → is_aggregate (view_at nodes i).kind ≡ true → list_all is_aligned (leaves_of nodes i 0 0) ≡ false → classes_of nodes i ≡ all_memory_class
 unfolding in_memory
 classes-unaligned nodes i leaf whole odd =
     let memory : in_memory nodes i ≡ true = rw odd (or-true (nat_lt 64 (view_at nodes i).size || ends_past nodes i)) in
@@ -93,25 +93,25 @@ classes-merged nodes i leaf whole le kept even =
 
 -- ---- large objects
 
-integer-large : (size : ℕ) → 64 < size → integer_row size ≡ all_memory
+integer-large : (size : ℕ) → 64 < size → integer_row size ≡ all_memory_class
 integer-large size lt = grind (arith, nat_tests)
 
-float-large : (size : ℕ) → 64 < size → float_row size ≡ all_memory
+float-large : (size : ℕ) → 64 < size → float_row size ≡ all_memory_class
 float-large size lt = grind (arith, nat_tests)
 
-quad-large : (size : ℕ) → 64 < size → quad_row size ≡ all_memory
+quad-large : (size : ℕ) → 64 < size → quad_row size ≡ all_memory_class
 quad-large size lt = grind (arith, nat_tests)
 
-decimal-large : (size : ℕ) → 64 < size → decimal_row size ≡ all_memory
+decimal-large : (size : ℕ) → 64 < size → decimal_row size ≡ all_memory_class
 decimal-large size lt = grind (arith, nat_tests)
 
-complex-large : (size : ℕ) → 64 < size → complex_row size ≡ all_memory
+complex-large : (size : ℕ) → 64 < size → complex_row size ≡ all_memory_class
 complex-large size lt = grind (arith, nat_tests)
 
-vector-large : (size : ℕ) → 64 < size → vector_row size ≡ all_memory
+vector-large : (size : ℕ) → 64 < size → vector_row size ≡ all_memory_class
 vector-large size lt = grind (arith, nat_tests)
 
-scalar-large : (g : Group) (size : ℕ) → 64 < size → scalar_row g size ≡ all_memory
+scalar-large : (g : Group) (size : ℕ) → 64 < size → scalar_row g size ≡ all_memory_class
 scalar-large group.Bool size lt = integer-large size lt
 scalar-large group.Signed size lt = integer-large size lt
 scalar-large group.Unsigned size lt = integer-large size lt
@@ -120,7 +120,7 @@ scalar-large group.Quad size lt = quad-large size lt
 scalar-large group.Complex size lt = complex-large size lt
 scalar-large group.Decimal size lt = decimal-large size lt
 
-row-large : (k : Kind) (g : Group) (size : ℕ) → 64 < size → row k g size ≡ all_memory
+row-large : (k : Kind) (g : Group) (size : ℕ) → 64 < size → row k g size ≡ all_memory_class
 unfolding row
 row-large kind.Scalar g size lt = scalar-large g size lt
 row-large kind.Enumeration g size lt = integer-large size lt
@@ -144,9 +144,9 @@ no_bytes kind.Structure size leaf whole e = cc
 no_bytes kind.Union size leaf whole e = cc
 no_bytes kind.Array size leaf whole e = cc
 
-pub large-memory : (nodes : List PlainNode) (i : ℕ) → IsGraph nodes → 64 < (view_at nodes i).size → classes_of nodes i ≡ all_memory
+pub large-memory : (nodes : List PlainNode) (i : ℕ) → IsGraph nodes → 64 < (view_at nodes i).size → classes_of nodes i ≡ all_memory_class
 large-memory nodes i is lt = go (is_leaf (view_at nodes i).kind) (is_aggregate (view_at nodes i).kind) refl refl where
-  go : (a b : Bool) → is_leaf (view_at nodes i).kind ≡ a → is_aggregate (view_at nodes i).kind ≡ b → classes_of nodes i ≡ all_memory
+  go : (a b : Bool) → is_leaf (view_at nodes i).kind ≡ a → is_aggregate (view_at nodes i).kind ≡ b → classes_of nodes i ≡ all_memory_class
   go true b leaf whole = classes-leaf nodes i leaf ∙ row-large (view_at nodes i).kind (view_at nodes i).group (view_at nodes i).size lt
   go false true leaf whole = classes-large nodes i leaf whole lt
   go false false leaf whole = let none = no_bytes (view_at nodes i).kind (view_at nodes i).size leaf whole (is.forms i).size in absurd (omega (arith, none))

@@ -16,7 +16,7 @@ use Rattle.abi_types.specs.Types.{PlainNode}
 use Rattle.abi_types.specs.Graphs.{view_at, params_of}
 use Rattle.psabi.specs.declared.class.Class.{Class}
 use Rattle.psabi.specs.declared.class.Class.TheVariants.{NoClass, Integer, Sse, SseUp, X87, X87Up, ComplexX87, Memory}
-use Rattle.psabi.specs.declared.taken.Taken.{Taken}
+use Rattle.psabi.specs.declared.argument_registers.ArgumentRegisters.{ArgumentRegisters}
 use Rattle.psabi.specs.Class.{class_at, is_sse, is_integer}
 use Rattle.psabi.specs.Classes.{classes_of}
 use Rattle.psabi.specs.Alignment.{align_of}
@@ -24,7 +24,7 @@ use Rattle.psabi.specs.Registers.{has_no_place, general_count, vector_count}
 use Rattle.psabi.specs.Arguments.{goes_to_stack, step_of, stack_offset, stack_size, argument_slot_of, argument_slot, argument_slots, place_in, taken_with, place_of_node, taken_with_node, places}
 use Rattle.psabi.specs.Laws.{HoldsGeneral, HoldsVector, IsPlaceOf}
 use Rattle.psabi.specs.Psabi.{general_registers, vector_registers, rdi}
-use Rattle.psabi.specs.Results.{outcome_of, taken_by_result}
+use Rattle.psabi.specs.Results.{outcome_of, registers_of_result}
 use Rattle.psabi.specs.Calls.{call_of_view, call_of}
 use Rattle.abi_types.specs.Forms.{is_function, no_call}
 use Rattle.abi_types.specs.declared.kind.Kind.TheVariants as kind
@@ -33,11 +33,11 @@ use Rattle.psabi.proofs.CallLemmas.{place-none, place-stack, place-registers, re
 
 -- ---- one argument
 
-pub stack_takes_none : (t : Taken) (size align : ℕ) (cs : List Class) → goes_to_stack t cs ≡ true → ((taken_with t size align cs).general ≡ t.general) × ((taken_with t size align cs).vector ≡ t.vector)
+pub stack_takes_none : (t : ArgumentRegisters) (size align : ℕ) (cs : List Class) → goes_to_stack t cs ≡ true → ((taken_with t size align cs).general ≡ t.general) × ((taken_with t size align cs).vector ≡ t.vector)
 stack_takes_none t size align cs stack = go (has_no_place size cs) refl where
   go : (b : Bool) → has_no_place size cs ≡ b → ((taken_with t size align cs).general ≡ t.general) × ((taken_with t size align cs).vector ≡ t.vector)
-  go true none = let e = (place-none t size align cs none).1 in (ap (λ (w : Taken). w.general) e, ap (λ (w : Taken). w.vector) e)
-  go false some = let e = (place-stack t size align cs some stack).1 in (ap (λ (w : Taken). w.general) e, ap (λ (w : Taken). w.vector) e)
+  go true none = let e = (place-none t size align cs none).1 in (ap (λ (w : ArgumentRegisters). w.general) e, ap (λ (w : ArgumentRegisters). w.vector) e)
+  go false some = let e = (place-stack t size align cs some stack).1 in (ap (λ (w : ArgumentRegisters). w.general) e, ap (λ (w : ArgumentRegisters). w.vector) e)
 
 count-from : (p : Class → Bool) (cs : List Class) (a : ℕ) → a ≤ fold (λ (a : ℕ) (c : Class). a + cond (p c) 1 0) a cs
 count-from p [] a = omega arith
@@ -84,7 +84,7 @@ slot-vector X87Up a b n e = cc
 slot-vector ComplexX87 a b n e = cc
 slot-vector Memory a b n e = cc
 
-slot-at : (t : Taken) (cs : List Class) (k : ℕ) (s : Slot) → slice_get (argument_slots t cs) k ≡ Some s → argument_slot t cs k ≡ s
+slot-at : (t : ArgumentRegisters) (cs : List Class) (k : ℕ) (s : Slot) → slice_get (argument_slots t cs) k ≡ Some s → argument_slot t cs k ≡ s
 unfolding argument_slots
 slot-at t cs k s e =
     let within = slice_get_within (argument_slots t cs) k s e in
@@ -95,7 +95,7 @@ slot-at t cs k s e =
     sym at_k ∙ read
 
 -- the registers of an argument are those that it takes
-general-registers : (t : Taken) (cs : List Class) (n : ℕ) → HoldsGeneral (place.Registers (argument_slots t cs)) n → (t.general ≤ n) × (n < t.general + general_count cs)
+general-registers : (t : ArgumentRegisters) (cs : List Class) (n : ℕ) → HoldsGeneral (place.Registers (argument_slots t cs)) n → (t.general ≤ n) × (n < t.general + general_count cs)
 unfolding general_count
 general-registers t cs n holds =
     let k = holds.0 in
@@ -103,7 +103,7 @@ general-registers t cs n holds =
     let one = count-one is_integer cs k refl both.0 in
     (omega (arith, both.1), omega (arith, both.1, one))
 
-vector-registers : (t : Taken) (cs : List Class) (n : ℕ) → HoldsVector (place.Registers (argument_slots t cs)) n → (t.vector ≤ n) × (n < t.vector + vector_count cs)
+vector-registers : (t : ArgumentRegisters) (cs : List Class) (n : ℕ) → HoldsVector (place.Registers (argument_slots t cs)) n → (t.vector ≤ n) × (n < t.vector + vector_count cs)
 unfolding vector_count
 vector-registers t cs n holds =
     let k = holds.0 in
@@ -111,7 +111,7 @@ vector-registers t cs n holds =
     let one = count-one is_sse cs k refl both.0 in
     (omega (arith, both.1), omega (arith, both.1, one))
 
-general-within : (t : Taken) (size align : ℕ) (cs : List Class) (n : ℕ) → HoldsGeneral (place_in t size align cs) n → (t.general ≤ n) × (n < (taken_with t size align cs).general)
+general-within : (t : ArgumentRegisters) (size align : ℕ) (cs : List Class) (n : ℕ) → HoldsGeneral (place_in t size align cs) n → (t.general ≤ n) × (n < (taken_with t size align cs).general)
 general-within t size align cs n holds = go (has_no_place size cs) (goes_to_stack t cs) refl refl where
   P : Place → Type 0
   P q = HoldsGeneral q n
@@ -121,10 +121,10 @@ general-within t size align cs n holds = go (has_no_place size cs) (goes_to_stac
   go false true some stack = absurd (subst P (place-stack t size align cs some stack).0 holds)
   go false false some stack =
       let both = general-registers t cs n (subst P (place-registers t size align cs some stack).0 holds) in
-      let e = ap (λ (w : Taken). w.general) (place-registers t size align cs some stack).1 in
+      let e = ap (λ (w : ArgumentRegisters). w.general) (place-registers t size align cs some stack).1 in
       (both.0, omega (arith, both.1, e))
 
-vector-within : (t : Taken) (size align : ℕ) (cs : List Class) (n : ℕ) → HoldsVector (place_in t size align cs) n → (t.vector ≤ n) × (n < (taken_with t size align cs).vector)
+vector-within : (t : ArgumentRegisters) (size align : ℕ) (cs : List Class) (n : ℕ) → HoldsVector (place_in t size align cs) n → (t.vector ≤ n) × (n < (taken_with t size align cs).vector)
 vector-within t size align cs n holds = go (has_no_place size cs) (goes_to_stack t cs) refl refl where
   P : Place → Type 0
   P q = HoldsVector q n
@@ -134,18 +134,18 @@ vector-within t size align cs n holds = go (has_no_place size cs) (goes_to_stack
   go false true some stack = absurd (subst P (place-stack t size align cs some stack).0 holds)
   go false false some stack =
       let both = vector-registers t cs n (subst P (place-registers t size align cs some stack).0 holds) in
-      let e = ap (λ (w : Taken). w.vector) (place-registers t size align cs some stack).1 in
+      let e = ap (λ (w : ArgumentRegisters). w.vector) (place-registers t size align cs some stack).1 in
       (both.0, omega (arith, both.1, e))
 
 -- ---- what is taken never falls
 
-step-some : (align : ℕ) → 0 < step_of align
+pub step-some : (align : ℕ) → 0 < step_of align
 step-some align = go (nat_lt align 16) refl where
   go : (b : Bool) → nat_lt align 16 ≡ b → 0 < step_of align
   go true is = rw is (omega arith)
   go false is = let le = ltb-false align 16 is in rw is (omega (arith, le))
 
-rounded-above : (end align : ℕ) → end ≤ stack_offset end align
+pub rounded-above : (end align : ℕ) → end ≤ stack_offset end align
 unfolding stack_offset
 rounded-above end align =
     let step = step_of align in
@@ -154,12 +154,12 @@ rounded-above end align =
     let rest = mod-lt (end + (step_of align - 1)) some in
     omega (arith, whole, rest, some)
 
-pub record IsAbove (t w : Taken) : Type 0 where
+pub record IsAbove (t w : ArgumentRegisters) : Type 0 where
   pub general : t.general ≤ w.general
   pub vector : t.vector ≤ w.vector
   pub stack : t.stack ≤ w.stack
 
-taken-above : (t : Taken) (size align : ℕ) (cs : List Class) → IsAbove t (taken_with t size align cs)
+taken-above : (t : ArgumentRegisters) (size align : ℕ) (cs : List Class) → IsAbove t (taken_with t size align cs)
 taken-above t size align cs = go (has_no_place size cs) (goes_to_stack t cs) refl refl where
   go : (a b : Bool) → has_no_place size cs ≡ a → goes_to_stack t cs ≡ b → IsAbove t (taken_with t size align cs)
   go true b none stack = rw (place-none t size align cs none).1 (record { general = omega arith; vector = omega arith; stack = omega arith })
@@ -169,7 +169,7 @@ taken-above t size align cs = go (has_no_place size cs) (goes_to_stack t cs) ref
 -- ---- arguments in order
 
 -- the later arguments hold registers above what is taken before
-later-general : (nodes : List PlainNode) (t : Taken) (params : List ℕ) (b n : ℕ) (q : Place) → slice_get (places nodes t params) b ≡ Some q → HoldsGeneral q n → t.general ≤ n
+later-general : (nodes : List PlainNode) (t : ArgumentRegisters) (params : List ℕ) (b n : ℕ) (q : Place) → slice_get (places nodes t params) b ≡ Some q → HoldsGeneral q n → t.general ≤ n
 unfolding places
 later-general nodes t [] b n q e holds = cc
 later-general nodes t (i ∷ params) zero n q e holds =
@@ -181,7 +181,7 @@ later-general nodes t (i ∷ params) (suc b) n q e holds =
     let later = later-general nodes (taken_with_node nodes t i) params b n q e holds in
     omega (arith, above.general, later)
 
-later-vector : (nodes : List PlainNode) (t : Taken) (params : List ℕ) (b n : ℕ) (q : Place) → slice_get (places nodes t params) b ≡ Some q → HoldsVector q n → t.vector ≤ n
+later-vector : (nodes : List PlainNode) (t : ArgumentRegisters) (params : List ℕ) (b n : ℕ) (q : Place) → slice_get (places nodes t params) b ≡ Some q → HoldsVector q n → t.vector ≤ n
 unfolding places
 later-vector nodes t [] b n q e holds = cc
 later-vector nodes t (i ∷ params) zero n q e holds =
@@ -193,7 +193,7 @@ later-vector nodes t (i ∷ params) (suc b) n q e holds =
     let later = later-vector nodes (taken_with_node nodes t i) params b n q e holds in
     omega (arith, above.vector, later)
 
-no_register_shared : (nodes : List PlainNode) (t : Taken) (params : List ℕ) (a b : ℕ) (p q : Place) → a < b → slice_get (places nodes t params) a ≡ Some p → slice_get (places nodes t params) b ≡ Some q → (n : ℕ) → (HoldsGeneral p n → HoldsGeneral q n → ⊥) × (HoldsVector p n → HoldsVector q n → ⊥)
+no_register_shared : (nodes : List PlainNode) (t : ArgumentRegisters) (params : List ℕ) (a b : ℕ) (p q : Place) → a < b → slice_get (places nodes t params) a ≡ Some p → slice_get (places nodes t params) b ≡ Some q → (n : ℕ) → (HoldsGeneral p n → HoldsGeneral q n → ⊥) × (HoldsVector p n → HoldsVector q n → ⊥)
 unfolding places
 no_register_shared nodes t [] a b p q lt e f n = cc
 no_register_shared nodes t (i ∷ params) a zero p q lt e f n = absurd (omega arith)
@@ -214,7 +214,7 @@ no_register_shared nodes t (i ∷ params) zero (suc b) p q lt e f n =
 
 -- ---- stack places
 
-stack-within : (t : Taken) (size align : ℕ) (cs : List Class) (from many : ℕ) → place_in t size align cs ≡ place.Stack from many → (t.stack ≤ from) × (from + many ≤ (taken_with t size align cs).stack)
+stack-within : (t : ArgumentRegisters) (size align : ℕ) (cs : List Class) (from many : ℕ) → place_in t size align cs ≡ place.Stack from many → (t.stack ≤ from) × (from + many ≤ (taken_with t size align cs).stack)
 stack-within t size align cs from many e = go (has_no_place size cs) (goes_to_stack t cs) refl refl where
   go : (a b : Bool) → has_no_place size cs ≡ a → goes_to_stack t cs ≡ b → (t.stack ≤ from) × (from + many ≤ (taken_with t size align cs).stack)
   go true b none stack = let other = (place-none t size align cs none).0 in cc
@@ -223,11 +223,11 @@ stack-within t size align cs from many e = go (has_no_place size cs) (goes_to_st
       let offset : stack_offset t.stack align ≡ from = cc in
       let bytes : stack_size size ≡ many = cc in
       let above = rounded-above t.stack align in
-      let end = ap (λ (w : Taken). w.stack) (place-stack t size align cs some stack).1 in
+      let end = ap (λ (w : ArgumentRegisters). w.stack) (place-stack t size align cs some stack).1 in
       (omega (arith, above, offset), omega (arith, end, offset, bytes))
   go false false some stack = let other = (place-registers t size align cs some stack).0 in cc
 
-later-stack : (nodes : List PlainNode) (t : Taken) (params : List ℕ) (b from many : ℕ) → slice_get (places nodes t params) b ≡ Some (place.Stack from many) → t.stack ≤ from
+later-stack : (nodes : List PlainNode) (t : ArgumentRegisters) (params : List ℕ) (b from many : ℕ) → slice_get (places nodes t params) b ≡ Some (place.Stack from many) → t.stack ≤ from
 unfolding places
 later-stack nodes t [] b from many e = cc
 later-stack nodes t (i ∷ params) zero from many e =
@@ -238,7 +238,7 @@ later-stack nodes t (i ∷ params) (suc b) from many e =
     let later = later-stack nodes (taken_with_node nodes t i) params b from many e in
     omega (arith, above.stack, later)
 
-places_ascend : (nodes : List PlainNode) (t : Taken) (params : List ℕ) (a b from size from' size' : ℕ) → a < b → slice_get (places nodes t params) a ≡ Some (place.Stack from size) → slice_get (places nodes t params) b ≡ Some (place.Stack from' size') → from + size ≤ from'
+places_ascend : (nodes : List PlainNode) (t : ArgumentRegisters) (params : List ℕ) (a b from size from' size' : ℕ) → a < b → slice_get (places nodes t params) a ≡ Some (place.Stack from size) → slice_get (places nodes t params) b ≡ Some (place.Stack from' size') → from + size ≤ from'
 unfolding places
 places_ascend nodes t [] a b from size from' size' lt e f = cc
 places_ascend nodes t (i ∷ params) a zero from size from' size' lt e f = absurd (omega arith)
@@ -251,14 +251,14 @@ places_ascend nodes t (i ∷ params) zero (suc b) from size from' size' lt e f =
 
 -- ---- the registers for arguments suffice
 
-taken-within : (t : Taken) (size align : ℕ) (cs : List Class) → t.general ≤ general_registers → t.vector ≤ vector_registers → ((taken_with t size align cs).general ≤ general_registers) × ((taken_with t size align cs).vector ≤ vector_registers)
+taken-within : (t : ArgumentRegisters) (size align : ℕ) (cs : List Class) → t.general ≤ general_registers → t.vector ≤ vector_registers → ((taken_with t size align cs).general ≤ general_registers) × ((taken_with t size align cs).vector ≤ vector_registers)
 taken-within t size align cs general vector = go (has_no_place size cs) (goes_to_stack t cs) refl refl where
   go : (a b : Bool) → has_no_place size cs ≡ a → goes_to_stack t cs ≡ b → ((taken_with t size align cs).general ≤ general_registers) × ((taken_with t size align cs).vector ≤ vector_registers)
   go true b none stack = rw (place-none t size align cs none).1 (general, vector)
   go false true some stack = rw (place-stack t size align cs some stack).1 (general, vector)
   go false false some stack = rw (place-registers t size align cs some stack).1 (registers-suffice t cs stack)
 
-registers-below : (nodes : List PlainNode) (t : Taken) (params : List ℕ) (a n : ℕ) (p : Place) → t.general ≤ general_registers → t.vector ≤ vector_registers → slice_get (places nodes t params) a ≡ Some p → (HoldsGeneral p n → n < general_registers) × (HoldsVector p n → n < vector_registers)
+registers-below : (nodes : List PlainNode) (t : ArgumentRegisters) (params : List ℕ) (a n : ℕ) (p : Place) → t.general ≤ general_registers → t.vector ≤ vector_registers → slice_get (places nodes t params) a ≡ Some p → (HoldsGeneral p n → n < general_registers) × (HoldsVector p n → n < vector_registers)
 unfolding places
 registers-below nodes t [] a n p general vector e = cc
 registers-below nodes t (i ∷ params) zero n p general vector e =
@@ -290,16 +290,16 @@ pub arguments_share_none : (nodes : List PlainNode) (i a b : ℕ) (p q : Place) 
 arguments_share_none nodes i a b p q lt =
     let P : CallShape → Type 0 = λ call. IsPlaceOf call a p → IsPlaceOf call b q → (n : ℕ) → (HoldsGeneral p n → HoldsGeneral q n → ⊥) × (HoldsVector p n → HoldsVector q n → ⊥) in
     let v = view_at nodes i in
-    call-cases nodes i P (λ e f n. cc) (λ e f n. no_register_shared nodes (taken_by_result (outcome_of nodes v)) (params_of v.parts) a b p q lt e f n)
+    call-cases nodes i P (λ e f n. cc) (λ e f n. no_register_shared nodes (registers_of_result (outcome_of nodes v)) (params_of v.parts) a b p q lt e f n)
 
 pub arguments_hold_theirs : (nodes : List PlainNode) (i a : ℕ) (p : Place) → IsPlaceOf (call_of nodes i) a p → (n : ℕ) → (HoldsGeneral p n → n < general_registers) × (HoldsVector p n → n < vector_registers)
 arguments_hold_theirs nodes i a p =
     let P : CallShape → Type 0 = λ call. IsPlaceOf call a p → (n : ℕ) → (HoldsGeneral p n → n < general_registers) × (HoldsVector p n → n < vector_registers) in
     let v = view_at nodes i in
     let few = result-takes (outcome_of nodes v) in
-    call-cases nodes i P (λ e n. cc) (λ e n. registers-below nodes (taken_by_result (outcome_of nodes v)) (params_of v.parts) a n p few.0 few.1 e)
+    call-cases nodes i P (λ e n. cc) (λ e n. registers-below nodes (registers_of_result (outcome_of nodes v)) (params_of v.parts) a n p few.0 few.1 e)
 
-hidden-takes : (o : Place) → o ≡ place.Hidden → (taken_by_result o).general ≡ 1
+hidden-takes : (o : Place) → o ≡ place.Hidden → (registers_of_result o).general ≡ 1
 hidden-takes o e = rw e refl
 
 pub hidden_keeps_rdi : (nodes : List PlainNode) (i a : ℕ) (p : Place) → (call_of nodes i).outcome ≡ place.Hidden → IsPlaceOf (call_of nodes i) a p → HoldsGeneral p rdi → ⊥
@@ -309,16 +309,16 @@ hidden_keeps_rdi nodes i a p =
     call-cases nodes i P (λ hidden e holds. cc)
     (λ hidden e holds.
     let one = hidden-takes (outcome_of nodes v) hidden in
-    let above = later-general nodes (taken_by_result (outcome_of nodes v)) (params_of v.parts) a rdi p e holds in
+    let above = later-general nodes (registers_of_result (outcome_of nodes v)) (params_of v.parts) a rdi p e holds in
     omega (arith, one, above))
 
 pub stack_ascends : (nodes : List PlainNode) (i a b from size from' size' : ℕ) → a < b → IsPlaceOf (call_of nodes i) a (place.Stack from size) → IsPlaceOf (call_of nodes i) b (place.Stack from' size') → from + size ≤ from'
 stack_ascends nodes i a b from size from' size' lt =
     let P : CallShape → Type 0 = λ call. IsPlaceOf call a (place.Stack from size) → IsPlaceOf call b (place.Stack from' size') → from + size ≤ from' in
     let v = view_at nodes i in
-    call-cases nodes i P (λ e f. cc) (λ e f. places_ascend nodes (taken_by_result (outcome_of nodes v)) (params_of v.parts) a b from size from' size' lt e f)
+    call-cases nodes i P (λ e f. cc) (λ e f. places_ascend nodes (registers_of_result (outcome_of nodes v)) (params_of v.parts) a b from size from' size' lt e f)
 
-length-places : (nodes : List PlainNode) (t : Taken) (params : List ℕ) → length (places nodes t params) ≡ length params
+length-places : (nodes : List PlainNode) (t : ArgumentRegisters) (params : List ℕ) → length (places nodes t params) ≡ length params
 unfolding places
 length-places nodes t [] = refl
 length-places nodes t (i ∷ params) = let later = length-places nodes (taken_with_node nodes t i) params in omega (arith, later)
@@ -327,4 +327,4 @@ pub parameters_have_places : (nodes : List PlainNode) (i : ℕ) → (view_at nod
 unfolding call_of
 parameters_have_places nodes i function =
     let v = view_at nodes i in
-    rw function (length-places nodes (taken_by_result (outcome_of nodes v)) (params_of v.parts))
+    rw function (length-places nodes (registers_of_result (outcome_of nodes v)) (params_of v.parts))

@@ -16,14 +16,14 @@ use Rattle.abi_types.specs.Inside.{element_inside, inside_at, count_inside}
 use Rattle.abi_types.specs.Leaves.{leaves_inside, leaves_step, no_leaves, leaves_of}
 use Rattle.psabi.proofs.Recursion.{by_value-same}
 use Rattle.psabi.specs.declared.class.Class.TheVariants.{NoClass}
-use Rattle.psabi.specs.declared.taken.Taken.{Taken}
+use Rattle.psabi.specs.declared.argument_registers.ArgumentRegisters.{ArgumentRegisters}
 use Rattle.psabi.specs.Alignment.{align_step, align_of, named_or}
 use Rattle.psabi.specs.Past.{part_past, past_step, ends_past}
 use Rattle.psabi.specs.Merging.{merge_leaf}
 use Rattle.psabi.specs.Classes.{merged_at, merged, in_memory, classes_of}
 use Rattle.psabi.specs.Psabi.{eightbyte_limit}
 use Rattle.psabi.specs.Arguments.{place_of_node, taken_with_node, places}
-use Rattle.psabi.specs.Results.{result_of_node, outcome_of, taken_by_result}
+use Rattle.psabi.specs.Results.{result_of_node, outcome_of, registers_of_result}
 use Rattle.psabi.specs.Calls.{call_of, calls_of}
 use Rattle.psabi.proofs.CallLemmas.{call-none}
 
@@ -127,13 +127,13 @@ module _ (nodes others : List PlainNode) (same : (i : ℕ) → IsSameButCall (no
 
   -- ---- places
 
-  place-same : (t : Taken) (i : ℕ) → place_of_node others t i ≡ place_of_node nodes t i
+  place-same : (t : ArgumentRegisters) (i : ℕ) → place_of_node others t i ≡ place_of_node nodes t i
   place-same t i = rw (size-same i, align-same i, classes-same i) refl
 
-  taken-same : (t : Taken) (i : ℕ) → taken_with_node others t i ≡ taken_with_node nodes t i
+  taken-same : (t : ArgumentRegisters) (i : ℕ) → taken_with_node others t i ≡ taken_with_node nodes t i
   taken-same t i = rw (size-same i, align-same i, classes-same i) refl
 
-  places-same : (t : Taken) (params : List ℕ) → places others t params ≡ places nodes t params
+  places-same : (t : ArgumentRegisters) (params : List ℕ) → places others t params ≡ places nodes t params
   unfolding places
   places-same t [] = refl
   places-same t (i ∷ params) = rw (place-same t i, taken-same t i, places-same (taken_with_node nodes t i) params) refl
@@ -147,7 +147,7 @@ module _ (nodes others : List PlainNode) (same : (i : ℕ) → IsSameButCall (no
 
   pub call-same : (i : ℕ) → call_of others i ≡ call_of nodes i
   unfolding call_of
-  call-same i = rw (outcome-same i, kind-same i, parts-same i, places-same (taken_by_result (outcome_of nodes (view_at nodes i))) (params_of (view_at nodes i).parts)) refl
+  call-same i = rw (outcome-same i, kind-same i, parts-same i, places-same (registers_of_result (outcome_of nodes (view_at nodes i))) (params_of (view_at nodes i).parts)) refl
 
 -- ---- graphs with the calls of their nodes
 

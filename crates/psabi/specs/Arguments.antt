@@ -10,7 +10,7 @@ use Rattle.abi_types.specs.Types.{PlainNode}
 use Rattle.abi_types.specs.Graphs.{view_at}
 use Rattle.psabi.specs.declared.class.Class.{Class}
 use Rattle.psabi.specs.declared.class.Class.TheVariants.{Integer, Sse, SseUp, X87, X87Up, ComplexX87, Memory}
-use Rattle.psabi.specs.declared.taken.Taken.{Taken}
+use Rattle.psabi.specs.declared.argument_registers.ArgumentRegisters.{ArgumentRegisters}
 use Rattle.psabi.specs.Alignment.{align_of}
 use Rattle.psabi.specs.Class.{class_at}
 use Rattle.psabi.specs.Classes.{classes_of}
@@ -26,7 +26,7 @@ is_stacked Memory = true
 is_stacked other = false
 
 -- an argument goes to the stack where a class asks for it, or the registers that are left do not suffice for all of it
-unfoldable pub goes_to_stack : Taken → List Class → Bool
+unfoldable pub goes_to_stack : ArgumentRegisters → List Class → Bool
 goes_to_stack taken cs = list_any is_stacked cs || nat_lt general_registers (taken.general + general_count cs) || nat_lt vector_registers (taken.vector + vector_count cs)
 
 -- the least multiple of the step from the offset on
@@ -51,36 +51,36 @@ argument_slot_of SseUp general vector = slot.Upper (vector - 1)
 argument_slot_of other general vector = slot.Unused
 
 -- the slot of an eightbyte: the next register after those that earlier arguments and earlier eightbytes hold
-abbrev pub argument_slot : Taken → List Class → ℕ → Slot
+abbrev pub argument_slot : ArgumentRegisters → List Class → ℕ → Slot
 argument_slot taken cs k = argument_slot_of (class_at cs k) (taken.general + general_count (take k cs)) (taken.vector + vector_count (take k cs))
 
-unfoldable pub argument_slots : Taken → List Class → List Slot
+unfoldable pub argument_slots : ArgumentRegisters → List Class → List Slot
 argument_slots taken cs = map (argument_slot taken cs) (range_with_len 0 eightbyte_limit)
 
 -- the place of an argument of this size, alignment and these classes, after what is taken
-unfoldable pub place_in : Taken → ℕ → ℕ → List Class → Place
+unfoldable pub place_in : ArgumentRegisters → ℕ → ℕ → List Class → Place
 place_in taken size align cs =
     if has_no_place size cs then place.Nothing else
     if goes_to_stack taken cs then place.Stack (stack_offset taken.stack align) (stack_size size) else place.Registers (argument_slots taken cs)
 
 -- what is taken after it: an argument that goes to the stack takes no register
-unfoldable pub taken_with : Taken → ℕ → ℕ → List Class → Taken
+unfoldable pub taken_with : ArgumentRegisters → ℕ → ℕ → List Class → ArgumentRegisters
 taken_with taken size align cs =
     if has_no_place size cs then taken else
     if goes_to_stack taken cs then record taken { stack = stack_offset taken.stack align + stack_size size } else
     record taken { general = taken.general + general_count cs; vector = taken.vector + vector_count cs }
 
-abbrev pub place_of_node : List PlainNode → Taken → ℕ → Place
+abbrev pub place_of_node : List PlainNode → ArgumentRegisters → ℕ → Place
 place_of_node nodes taken i = place_in taken (view_at nodes i).size (align_of nodes i) (classes_of nodes i)
 
-abbrev pub taken_with_node : List PlainNode → Taken → ℕ → Taken
+abbrev pub taken_with_node : List PlainNode → ArgumentRegisters → ℕ → ArgumentRegisters
 taken_with_node nodes taken i = taken_with taken (view_at nodes i).size (align_of nodes i) (classes_of nodes i)
 
 -- what earlier arguments take
-unfoldable pub taken_by : List PlainNode → Taken → List ℕ → Taken
+unfoldable pub taken_by : List PlainNode → ArgumentRegisters → List ℕ → ArgumentRegisters
 taken_by nodes taken params = fold (taken_with_node nodes) taken params
 
 -- the places of arguments in order, each after what the earlier ones take
-unfoldable pub places : List PlainNode → Taken → List ℕ → List Place
+unfoldable pub places : List PlainNode → ArgumentRegisters → List ℕ → List Place
 places nodes taken [] = []
 places nodes taken (i ∷ params) = place_of_node nodes taken i ∷ places nodes (taken_with_node nodes taken i) params

@@ -6,13 +6,13 @@ use Rattle.abi_types.specs.Types.{PlainView, PlainNode}
 use Rattle.abi_types.specs.Forms.{is_function, no_call}
 use Rattle.abi_types.specs.Graphs.{view_at, params_of}
 use Rattle.psabi.specs.Arguments.{places}
-use Rattle.psabi.specs.Results.{outcome_of, taken_by_result}
+use Rattle.psabi.specs.Results.{outcome_of, registers_of_result}
 
 -- the call of a function with this view
 abbrev pub call_of_view : List PlainNode → PlainView → CallShape
 call_of_view nodes v = record {
   outcome = outcome_of nodes v;
-  params = places nodes (taken_by_result (outcome_of nodes v)) (params_of v.parts);
+  params = places nodes (registers_of_result (outcome_of nodes v)) (params_of v.parts);
 }
 
 -- the call of a node, which has no places where it is no function

@@ -36,9 +36,9 @@ is_of_x87 X87Up = true
 is_of_x87 ComplexX87 = true
 is_of_x87 other = false
 
-abbrev pub is_memory : Class → Bool
-is_memory Memory = true
-is_memory other = false
+abbrev pub is_memory_class : Class → Bool
+is_memory_class Memory = true
+is_memory_class other = false
 
 abbrev pub same_class : Class → Class → Bool
 same_class NoClass NoClass = true
@@ -63,6 +63,6 @@ merge c d =
     if same_class c d then c else
     if is_no_class c then d else
     if is_no_class d then c else
-    if is_memory c || is_memory d then Memory else
+    if is_memory_class c || is_memory_class d then Memory else
     if is_integer c || is_integer d then Integer else
     if is_of_x87 c || is_of_x87 d then Memory else Sse

@@ -11,7 +11,7 @@ use Rattle.psabi.specs.Cleanup.{cleaned_up}
 use Rattle.psabi.specs.Merging.{merge_leaf}
 use Rattle.psabi.specs.Past.{ends_past}
 use Rattle.psabi.specs.Psabi.{eightbyte_limit, object_limit}
-use Rattle.psabi.specs.Rows.{one, all_memory, row}
+use Rattle.psabi.specs.Rows.{one, all_memory_class, row}
 use Rattle.psabi.specs.Touching.{is_aligned}
 
 -- the class of an eightbyte of an aggregate before the cleanup: the classes of all leaves that touch it, merged in their order
@@ -30,4 +30,4 @@ in_memory nodes i = nat_lt object_limit (view_at nodes i).size || ends_past node
 unfoldable pub classes_of : List PlainNode → ℕ → List Class
 classes_of nodes i =
     if is_leaf (view_at nodes i).kind then row (view_at nodes i).kind (view_at nodes i).group (view_at nodes i).size else
-    if is_aggregate (view_at nodes i).kind then (if in_memory nodes i then all_memory else cleaned_up (merged nodes i) (view_at nodes i).size) else one NoClass
+    if is_aggregate (view_at nodes i).kind then (if in_memory nodes i then all_memory_class else cleaned_up (merged nodes i) (view_at nodes i).size) else one NoClass

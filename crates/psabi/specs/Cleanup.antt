@@ -4,9 +4,9 @@ use Rattle.std.specs.Prelude.{ℕ, ◌+◌, ◌-◌, ◌/◌, ◌==◌, ◌&&◌
 use Rattle.std.specs.List.{list_any, list_all, range_with_len}
 use Rattle.psabi.specs.declared.class.Class.{Class}
 use Rattle.psabi.specs.declared.class.Class.TheVariants.{NoClass, Sse}
-use Rattle.psabi.specs.Class.{is_memory, is_sse, is_sse_up, is_x87, is_x87_up, class_at}
+use Rattle.psabi.specs.Class.{is_memory_class, is_sse, is_sse_up, is_x87, is_x87_up, class_at}
 use Rattle.psabi.specs.Psabi.{eightbyte_size, eightbyte_limit, pair_limit}
-use Rattle.psabi.specs.Rows.{all_memory}
+use Rattle.psabi.specs.Rows.{all_memory_class}
 
 -- the class of the eightbyte before one
 abbrev pub before : List Class → ℕ → Class
@@ -31,12 +31,12 @@ abbrev pub eightbytes_of : ℕ → ℕ
 eightbytes_of size = (size + (eightbyte_size - 1)) / eightbyte_size
 
 -- the rules (a) to (c): an eightbyte in memory, a lone X87UP, or more than two eightbytes that are no vector
-unfoldable pub becomes_memory : List Class → ℕ → Bool
-becomes_memory cs size = list_any is_memory cs || has_lone_x87_up cs || (nat_lt pair_limit size && not (is_vector cs (eightbytes_of size)))
+unfoldable pub becomes_memory_class : List Class → ℕ → Bool
+becomes_memory_class cs size = list_any is_memory_class cs || has_lone_x87_up cs || (nat_lt pair_limit size && not (is_vector cs (eightbytes_of size)))
 
 -- the rule (d): an SSEUP that follows neither SSE nor SSEUP becomes SSE
 abbrev pub grounded : List Class → ℕ → Class
 grounded cs k = if is_sse_up (class_at cs k) && not (is_sse (before cs k) || is_sse_up (before cs k)) then Sse else class_at cs k
 
 abbrev pub cleaned_up : List Class → ℕ → List Class
-cleaned_up cs size = if becomes_memory cs size then all_memory else map (grounded cs) (range_with_len 0 eightbyte_limit)
+cleaned_up cs size = if becomes_memory_class cs size then all_memory_class else map (grounded cs) (range_with_len 0 eightbyte_limit)

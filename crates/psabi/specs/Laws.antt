@@ -1,6 +1,7 @@
 -- What classes and places keep.
-use Rattle.std.specs.Prelude.{◌≡◌, ◌<◌, ◌≤◌, ℕ, ◌+◌, true, List, length, Some, count_by, slice_get}
+use Rattle.std.specs.Prelude.{◌≡◌, ◌↔◌, ◌<◌, ◌≤◌, ℕ, ◌+◌, true, List, length, take, Some, count_by, slice_get}
 use Rattle.abi_types.specs.declared.kind.Kind.TheVariants as kind
+use Rattle.abi_types.specs.declared.place.Slot.{Slot}
 use Rattle.abi_types.specs.declared.place.Slot.TheVariants as slot
 use Rattle.abi_types.specs.declared.place.Place.{Place}
 use Rattle.abi_types.specs.declared.place.Place.TheVariants as place
@@ -10,22 +11,23 @@ use Rattle.abi_types.specs.Forms.{is_param}
 use Rattle.abi_types.specs.Graphs.{IsGraph, view_at, shaped}
 use Rattle.abi_types.specs.Libraries.{HasPlaces}
 use Rattle.psabi.specs.declared.class.Class.{Class}
-use Rattle.psabi.specs.declared.taken.Taken.{Taken}
-use Rattle.psabi.specs.Arguments.{goes_to_stack, taken_with}
+use Rattle.psabi.specs.declared.argument_registers.ArgumentRegisters.{ArgumentRegisters}
+use Rattle.psabi.specs.Arguments.{goes_to_stack, rounded, step_of, taken_with}
 use Rattle.psabi.specs.Calls.{call_of, calls_of}
 use Rattle.psabi.specs.Classes.{classes_of}
-use Rattle.psabi.specs.Psabi.{object_limit, general_registers, vector_registers, rdi}
-use Rattle.psabi.specs.Rows.{all_memory}
+use Rattle.psabi.specs.Counted.{Argument, arguments_of, bytes_before, AreCounted, HoldsItsCount, IsFirstFrom}
+use Rattle.psabi.specs.Psabi.{object_limit, general_registers, vector_registers, stack_alignment, rdi}
+use Rattle.psabi.specs.Rows.{all_memory_class}
 
 -- ---- one object
 
 -- an object above 64 bytes is in memory
 abbrev pub LargeObjectsAreInMemory : Type 0
-LargeObjectsAreInMemory = (nodes : List PlainNode) (i : ℕ) → IsGraph nodes → object_limit < (view_at nodes i).size → classes_of nodes i ≡ all_memory
+LargeObjectsAreInMemory = (nodes : List PlainNode) (i : ℕ) → IsGraph nodes → object_limit < (view_at nodes i).size → classes_of nodes i ≡ all_memory_class
 
 -- an argument that goes to the stack leaves the registers as they were
 abbrev pub StackTakesNoRegister : Type 0
-StackTakesNoRegister = (t : Taken) (size align : ℕ) (cs : List Class) → goes_to_stack t cs ≡ true → ((taken_with t size align cs).general ≡ t.general) × ((taken_with t size align cs).vector ≡ t.vector)
+StackTakesNoRegister = (t : ArgumentRegisters) (size align : ℕ) (cs : List Class) → goes_to_stack t cs ≡ true → ((taken_with t size align cs).general ≡ t.general) × ((taken_with t size align cs).vector ≡ t.vector)
 
 -- ---- the arguments of one call
 
@@ -61,6 +63,22 @@ StackPlacesAscend = (nodes : List PlainNode) (i a b from size from' size' : ℕ)
 -- each parameter has a place
 abbrev pub EachParameterHasAPlace : Type 0
 EachParameterHasAPlace = (nodes : List PlainNode) (i : ℕ) → (view_at nodes i).kind ≡ kind.Function → length (call_of nodes i).params ≡ count_by is_param (view_at nodes i).parts
+
+-- the places of a function's call are the one list in which each argument has the place that the counts over those before it say
+abbrev pub PlacesAreCounted : Type 0
+PlacesAreCounted = (nodes : List PlainNode) (f : ℕ) (places : List Place) → (view_at nodes f).kind ≡ kind.Function → (AreCounted (call_of nodes f).outcome (arguments_of nodes f) places ↔ (places ≡ (call_of nodes f).params))
+
+-- an argument in registers is in as many of each kind as are counted for it
+abbrev pub RegistersAreCounted : Type 0
+RegistersAreCounted = (nodes : List PlainNode) (f k : ℕ) (a : Argument) (slots : List Slot) → (view_at nodes f).kind ≡ kind.Function → slice_get (arguments_of nodes f) k ≡ Some a → IsPlaceOf (call_of nodes f) k (place.Registers slots) → HoldsItsCount a slots
+
+-- what an offset is rounded up to is the first multiple of the step
+abbrev pub RoundedIsFirst : Type 0
+RoundedIsFirst = (from align : ℕ) → IsFirstFrom from (step_of align) (rounded from (step_of align))
+
+-- where no argument up to this one asks for more than eightbytes do, its offset is the sum of the sizes of the places before it
+abbrev pub StackPlacesAddUp : Type 0
+StackPlacesAddUp = (nodes : List PlainNode) (f k offset size : ℕ) → (view_at nodes f).kind ≡ kind.Function → ((j : ℕ) (a : Argument) → j ≤ k → slice_get (arguments_of nodes f) j ≡ Some a → a.align < stack_alignment) → IsPlaceOf (call_of nodes f) k (place.Stack offset size) → offset ≡ bytes_before (take k (call_of nodes f).params)
 
 -- ---- graphs with their calls
 

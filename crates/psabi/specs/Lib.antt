@@ -4,7 +4,8 @@ pub mod Calls
 pub mod Class
 pub mod Classes
 pub mod Cleanup
-pub mod Inner
+pub mod Counted
+pub mod InnerObject
 pub mod Laws
 pub mod Merging
 pub mod Passing

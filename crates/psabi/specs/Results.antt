@@ -10,9 +10,9 @@ use Rattle.abi_types.specs.Types.{PlainView, PlainNode}
 use Rattle.abi_types.specs.Graphs.{view_at, part_at, to_of}
 use Rattle.psabi.specs.declared.class.Class.{Class}
 use Rattle.psabi.specs.declared.class.Class.TheVariants.{Integer, Sse, SseUp, X87, X87Up, ComplexX87}
-use Rattle.psabi.specs.declared.taken.Taken.{Taken}
+use Rattle.psabi.specs.declared.argument_registers.ArgumentRegisters.{ArgumentRegisters}
 use Rattle.psabi.specs.Alignment.{named_or}
-use Rattle.psabi.specs.Class.{class_at, is_memory}
+use Rattle.psabi.specs.Class.{class_at, is_memory_class}
 use Rattle.psabi.specs.Classes.{classes_of}
 use Rattle.psabi.specs.Psabi.{eightbyte_limit, rax, rdx, st0, x87_eightbytes}
 use Rattle.psabi.specs.Registers.{general_count, vector_count, has_no_place}
@@ -41,7 +41,7 @@ result_slots cs = map (result_slot cs) (range_with_len 0 eightbyte_limit)
 unfoldable pub result_place : ℕ → List Class → Place
 result_place size cs =
     if has_no_place size cs then place.Nothing else
-    if list_any is_memory cs then place.Hidden else place.Registers (result_slots cs)
+    if list_any is_memory_class cs then place.Hidden else place.Registers (result_slots cs)
 
 abbrev pub result_of_node : List PlainNode → ℕ → Place
 result_of_node nodes i = result_place (view_at nodes i).size (classes_of nodes i)
@@ -51,6 +51,6 @@ abbrev pub outcome_of : List PlainNode → PlainView → Place
 outcome_of nodes v = named_or place.Nothing (result_of_node nodes) (to_of (part_at v 0))
 
 -- what the result takes of what arguments are passed in: the address of a hidden one takes the first general register
-abbrev pub taken_by_result : Place → Taken
-taken_by_result place.Hidden = record { general = 1; vector = 0; stack = 0 }
-taken_by_result other = record { general = 0; vector = 0; stack = 0 }
+abbrev pub registers_of_result : Place → ArgumentRegisters
+registers_of_result place.Hidden = record { general = 1; vector = 0; stack = 0 }
+registers_of_result other = record { general = 0; vector = 0; stack = 0 }

@@ -23,27 +23,27 @@ four a b = a ∷ b ∷ b ∷ b ∷ NoClass ∷ NoClass ∷ NoClass ∷ NoClass �
 abbrev pub eight : Class → Class → List Class
 eight a b = a ∷ b ∷ b ∷ b ∷ b ∷ b ∷ b ∷ b ∷ []
 
-abbrev pub all_memory : List Class
-all_memory = eight Memory Memory
+abbrev pub all_memory_class : List Class
+all_memory_class = eight Memory Memory
 
 -- truth values, integers, enumerations and pointers
 abbrev pub integer_row : ℕ → List Class
-integer_row size = if size == 0 then one NoClass else if nat_le size long_size then one Integer else if size == int128_size then two Integer Integer else all_memory
+integer_row size = if size == 0 then one NoClass else if nat_le size long_size then one Integer else if size == int128_size then two Integer Integer else all_memory_class
 
 abbrev pub float_row : ℕ → List Class
-float_row size = if size == float16_size || size == float_size || size == double_size then one Sse else if size == long_double_size then two X87 X87Up else all_memory
+float_row size = if size == float16_size || size == float_size || size == double_size then one Sse else if size == long_double_size then two X87 X87Up else all_memory_class
 
 abbrev pub quad_row : ℕ → List Class
-quad_row size = if size == float128_size then two Sse SseUp else all_memory
+quad_row size = if size == float128_size then two Sse SseUp else all_memory_class
 
 abbrev pub decimal_row : ℕ → List Class
-decimal_row size = if size == decimal32_size || size == decimal64_size then one Sse else if size == decimal128_size then two Sse SseUp else all_memory
+decimal_row size = if size == decimal32_size || size == decimal64_size then one Sse else if size == decimal128_size then two Sse SseUp else all_memory_class
 
 abbrev pub complex_row : ℕ → List Class
-complex_row size = if size == complex_float16_size || size == complex_float_size then one Sse else if size == complex_double_size then two Sse Sse else if size == complex_long_double_size then four ComplexX87 ComplexX87 else all_memory
+complex_row size = if size == complex_float16_size || size == complex_float_size then one Sse else if size == complex_double_size then two Sse Sse else if size == complex_long_double_size then four ComplexX87 ComplexX87 else all_memory_class
 
 abbrev pub vector_row : ℕ → List Class
-vector_row size = if size == m64_size then one Sse else if size == m128_size then two Sse SseUp else if size == m256_size then four Sse SseUp else if size == m512_size then eight Sse SseUp else all_memory
+vector_row size = if size == m64_size then one Sse else if size == m128_size then two Sse SseUp else if size == m256_size then four Sse SseUp else if size == m512_size then eight Sse SseUp else all_memory_class
 
 abbrev pub scalar_row : Group → ℕ → List Class
 scalar_row group.Bool size = integer_row size
@@ -60,4 +60,4 @@ row kind.Scalar group size = scalar_row group size
 row kind.Enumeration group size = integer_row size
 row kind.Pointer group size = integer_row size
 row kind.Vector group size = vector_row size
-row other group size = all_memory
+row other group size = all_memory_class

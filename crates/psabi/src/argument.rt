@@ -6,16 +6,16 @@ ghost use Rattle.psabi.specs.Arguments.{place_of_node, taken_with_node};
 ghost use Rattle.psabi.specs.Passing.{IsRight};
 ghost use Rattle.psabi.specs.Psabi.{general_registers, vector_registers};
 
-use crate::passing::Known;
-use crate::taken::Taken;
+use crate::argument_registers::ArgumentRegisters;
+use crate::passing::KnownPassing;
 use abi_types::{Graph, Index, Place};
 
 /// The place of an argument that is the node's object, which is taken from then on.
 pub fn place_argument<Ix: Index>(
     graph: &Graph<Ix>,
     to: Ix,
-    known: &mut Known,
-    taken: &mut Taken,
+    known: &mut KnownPassing,
+    taken: &mut ArgumentRegisters,
 ) -> Place
     requires inside { Ix.number_of to < length graph.now }
     requires right { IsRight graph.now known.now }

@@ -5,8 +5,8 @@ ghost use Rattle.psabi.specs.Passing.{IsRight};
 
 use crate::argument::place_argument;
 use crate::kinds::is_function;
-use crate::outcome::{outcome, taken_by_result};
-use crate::passing::Known;
+use crate::outcome::{outcome, registers_of_result};
+use crate::passing::KnownPassing;
 use abi_base::{List, NoMemory};
 use abi_types::{Call, CallShape, Graph, Index};
 use std::alloc::Global;
@@ -16,7 +16,7 @@ fn shape_with<Ix: Index>(
     alloc: Global,
     graph: &Graph<Ix>,
     ix: Ix,
-    known: &mut Known,
+    known: &mut KnownPassing,
 ) -> Result<Call, NoMemory>
     requires inside { Ix.number_of ix < length graph.now }
     requires right { IsRight graph.now known.now }
@@ -30,7 +30,7 @@ fn shape_with<Ix: Index>(
     }
     let mut params = List::new(alloc);
     let outcome = outcome(graph, ix, known);
-    let mut taken = taken_by_result(&outcome);
+    let mut taken = registers_of_result(&outcome);
     for k in 0..view.parts_len() {
         if let Some(to) = view.part(k).param() {
             let place = place_argument(graph, to, known, &mut taken);
@@ -46,7 +46,7 @@ pub fn call_shape<Ix: Index>(alloc: Global, graph: &Graph<Ix>, ix: Ix) -> Result
     requires { Ix.number_of ix < length graph.now }
     ensures { IfOk result (λ shape. shape ≡ call_of graph.now (Ix.number_of ix)) }
 {
-    let mut known = Known::none(alloc);
+    let mut known = KnownPassing::none(alloc);
     shape_with(alloc, graph, ix, &mut known)
 }
 
@@ -56,7 +56,7 @@ pub fn call_shapes<Ix: Index>(alloc: Global, graph: &Graph<Ix>) -> Result<List<C
     ensures shapes { IfOk result (λ shapes. shapes ≡ calls_of graph.now) }
     ensures many { IfOk result (λ shapes. length shapes ≡ length graph.now) }
 {
-    let mut known = Known::of_len(alloc, graph.len())?;
+    let mut known = KnownPassing::of_len(alloc, graph.len())?;
     let mut shapes = List::new(alloc);
     for i in 0..graph.len() {
         let shape = shape_with(alloc, graph, Ix::of(i), &mut known)?;

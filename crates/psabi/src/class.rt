@@ -1,7 +1,7 @@
 // The classes of eightbytes (psABI, section 3.2.3 "Parameter Passing", "Definitions" and "Classification").
 ghost use Rattle.std.specs.Prelude.{◌≡◌};
 ghost use Rattle.std.specs.List.{list_any};
-ghost use Rattle.psabi.specs.Class.{is_memory, merge as the_merge};
+ghost use Rattle.psabi.specs.Class.{is_memory_class, merge as the_merge};
 
 /// The class of an eightbyte of an object: how it travels as a part of an argument or of a result.
 #[derive(Clone, Copy, Debug, PartialEq, Eq)]
@@ -51,7 +51,7 @@ pub fn merge(one: Class, other: Class) -> Class
 
 /// Whether an eightbyte is in memory.
 pub fn has_memory(classes: &[Class; 8]) -> bool
-    ensures { result ≡ list_any is_memory classes.now }
+    ensures { result ≡ list_any is_memory_class classes.now }
 {
     classes.iter().any(|class| matches!(*class, Class::Memory))
 }

@@ -7,8 +7,8 @@ use crate::cleanup::cleaned_up;
 use crate::descent::add_leaves;
 use crate::eightbytes::Eightbytes;
 use crate::kinds::{is_aggregate, is_leaf};
-use crate::past::ends_past;
-use crate::rows::{all_memory, one, row};
+use crate::overlong_members::ends_past;
+use crate::rows::{all_memory_class, one, row};
 use crate::sizes::OBJECT_LIMIT;
 use abi_types::{Graph, Index};
 
@@ -27,15 +27,15 @@ pub fn classes<Ix: Index>(graph: &Graph<Ix>, ix: Ix) -> [Class; 8]
         return one(Class::NoClass);
     }
     if view.size > OBJECT_LIMIT {
-        return all_memory();
+        return all_memory_class();
     }
     if ends_past(graph, ix) {
-        return all_memory();
+        return all_memory_class();
     }
     let mut eightbytes = Eightbytes::new();
     add_leaves(graph, ix, 0, 0, &mut eightbytes);
     if !eightbytes.aligned {
-        return all_memory();
+        return all_memory_class();
     }
     cleaned_up(&eightbytes.classes, view.size)
 }

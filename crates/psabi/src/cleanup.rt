@@ -1,11 +1,11 @@
 // What follows the merging of an object's leaves (psABI, section 3.2.3 "Parameter Passing", "post merger cleanup").
 ghost use Rattle.std.specs.Prelude.{◌≡◌, ◌<◌, ◌≤◌, ◌-◌};
 ghost use Rattle.std.specs.List.{list_all, range_with_len};
-ghost use Rattle.psabi.specs.Cleanup.{is_lone_x87_up as the_eightbyte_is_lone, has_lone_x87_up as one_is_lone, is_upper_at as the_eightbyte_is_upper, is_vector as they_are_a_vector, eightbytes_of as the_eightbytes_of, becomes_memory as it_becomes_memory, grounded as the_grounded, cleaned_up as the_cleaned_up};
+ghost use Rattle.psabi.specs.Cleanup.{is_lone_x87_up as the_eightbyte_is_lone, has_lone_x87_up as one_is_lone, is_upper_at as the_eightbyte_is_upper, is_vector as they_are_a_vector, eightbytes_of as the_eightbytes_of, becomes_memory_class as it_becomes_memory_class, grounded as the_grounded, cleaned_up as the_cleaned_up};
 ghost use Rattle.psabi.specs.Psabi.{eightbyte_limit, object_limit};
 
 use crate::class::{Class, has_memory};
-use crate::rows::all_memory;
+use crate::rows::all_memory_class;
 use crate::sizes::{EIGHTBYTE, EIGHTBYTES, PAIR_LIMIT};
 
 // Whether the eightbyte is an X87UP without the X87 before it.
@@ -84,10 +84,10 @@ fn eightbytes_of(size: u64) -> usize
     ((size + (EIGHTBYTE - 1)) / EIGHTBYTE) as usize
 }
 
-#[tactic(auto, unfolding(crate::specs::Cleanup::becomes_memory))]
-fn becomes_memory(classes: &[Class; 8], size: u64) -> bool
+#[tactic(auto, unfolding(crate::specs::Cleanup::becomes_memory_class))]
+fn becomes_memory_class(classes: &[Class; 8], size: u64) -> bool
     requires { size ≤ object_limit }
-    ensures { result ≡ it_becomes_memory classes.now size }
+    ensures { result ≡ it_becomes_memory_class classes.now size }
 {
     if has_memory(classes) {
         return true;
@@ -125,8 +125,8 @@ pub fn cleaned_up(classes: &[Class; 8], size: u64) -> [Class; 8]
     requires { size ≤ object_limit }
     ensures { result ≡ the_cleaned_up classes.now size }
 {
-    if becomes_memory(classes, size) {
-        return all_memory();
+    if becomes_memory_class(classes, size) {
+        return all_memory_class();
     }
     let mut cleaned = *classes;
     for k in 0..EIGHTBYTES {

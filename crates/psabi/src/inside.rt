@@ -3,14 +3,14 @@ ghost use Rattle.std.specs.Prelude.{◌≡◌, ◌<◌, length};
 ghost use Rattle.std.specs.Option.{option_map};
 ghost use Rattle.abi_types.specs.Graphs.{view_at};
 ghost use Rattle.abi_types.specs.Inside.{count_inside as the_count_inside, inside_at};
-ghost use Rattle.psabi.specs.Inner.{plain_inner};
+ghost use Rattle.psabi.specs.InnerObject.{plain_inner};
 
 use crate::sizes::BYTE_BITS;
 use abi_types::{Graph, Index, Kind, Part, View};
 
 /// What stands inside an aggregate.
 #[derive(Clone, Copy)]
-pub struct Inner<Ix> {
+pub struct InnerObject<Ix> {
     /// From which bit of the aggregate on it stands.
     pub bit: u64,
     /// How many bits it has where it is a bit field, else 0.
@@ -30,7 +30,7 @@ pub fn count_inside<Ix: Index>(view: &View<Ix>) -> u64
 }
 
 /// What stands inside an aggregate under a number, counted from 0.
-pub fn inside_of<Ix: Index>(graph: &Graph<Ix>, ix: Ix, n: u64) -> Option<Inner<Ix>>
+pub fn inside_of<Ix: Index>(graph: &Graph<Ix>, ix: Ix, n: u64) -> Option<InnerObject<Ix>>
     requires inside { Ix.number_of ix < length graph.now }
     requires below { n < the_count_inside (view_at graph.now (Ix.number_of ix)) }
     ensures { option_map (plain_inner Ix.number_of) result ≡ inside_at graph.now (view_at graph.now (Ix.number_of ix)) n }
@@ -42,7 +42,7 @@ pub fn inside_of<Ix: Index>(graph: &Graph<Ix>, ix: Ix, n: u64) -> Option<Inner<I
             None => None,
             Some(to) => {
                 let held = graph.view(to);
-                Some(Inner {
+                Some(InnerObject {
                     bit: BYTE_BITS * (n * held.size),
                     width: 0,
                     to,
@@ -50,7 +50,7 @@ pub fn inside_of<Ix: Index>(graph: &Graph<Ix>, ix: Ix, n: u64) -> Option<Inner<I
             }
         },
         _ => match view.part(n as usize) {
-            Part::Member { bit, width, to, .. } => Some(Inner {
+            Part::Member { bit, width, to, .. } => Some(InnerObject {
                 bit: *bit,
                 width: *width,
                 to: *to,

@@ -1,10 +1,10 @@
 //! Laws of classes and places. The functions do nothing.
-ghost use Rattle.psabi.specs.Laws.{LargeObjectsAreInMemory, StackTakesNoRegister, ArgumentsShareNoRegister, ArgumentsHoldTheirRegisters, HiddenResultsKeepRdi, StackPlacesAscend, EachParameterHasAPlace, CallsStayInShapedGraphs, GivenCallsAreRight, GivenCallsHavePlaces};
+ghost use Rattle.psabi.specs.Laws.{LargeObjectsAreInMemory, StackTakesNoRegister, ArgumentsShareNoRegister, ArgumentsHoldTheirRegisters, HiddenResultsKeepRdi, StackPlacesAscend, EachParameterHasAPlace, PlacesAreCounted, RegistersAreCounted, RoundedIsFirst, StackPlacesAddUp, CallsStayInShapedGraphs, GivenCallsAreRight, GivenCallsHavePlaces};
 
 use abi_types::laws::{params_are_counted, shapes_change_calls_alone};
 
 /// An object above 64 bytes is in memory, whatever it is made of.
-pub fn large_objects_are_in_memory()
+pub fn large_objects_have_memory_class()
     ensures { LargeObjectsAreInMemory }
 {}
 
@@ -39,6 +39,30 @@ pub fn each_parameter_has_a_place()
 {
     params_are_counted();
 }
+
+/// The places of a call are the one list in which each argument has the place that the arguments before it leave to it: nowhere
+/// without bytes or classes; where no class asks for the stack and the registers suffice, the integer and SSE registers after
+/// those that the address of a hidden result and the earlier arguments in registers took; else the stack, at the first offset of
+/// its alignment that no earlier argument on the stack reaches beyond.
+pub fn places_are_counted()
+    ensures { PlacesAreCounted }
+{}
+
+/// An argument in registers is in as many integer and SSE registers as are counted for it.
+pub fn registers_are_counted()
+    ensures { RegistersAreCounted }
+{}
+
+/// An offset on the stack is rounded up to the first multiple of 8, or of the alignment where that is 16 or more.
+pub fn rounded_is_first()
+    ensures { RoundedIsFirst }
+{}
+
+/// Where no argument up to this one has an alignment of 16 or more, its offset on the stack is the sum of the sizes of the
+/// places before it.
+pub fn stack_places_add_up()
+    ensures { StackPlacesAddUp }
+{}
 
 /// The call of a node is the same in a graph and in that graph with any call shapes.
 pub fn calls_stay_in_shaped_graphs()

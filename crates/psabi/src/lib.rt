@@ -4,6 +4,7 @@
 
 mod alignment;
 mod argument;
+mod argument_registers;
 mod calling;
 mod class;
 mod classification;
@@ -14,12 +15,11 @@ mod inside;
 mod kinds;
 pub mod laws;
 mod outcome;
+mod overlong_members;
 mod passing;
-mod past;
 mod registers;
 mod rows;
 mod sizes;
-mod taken;
 mod touching;
 
 pub use alignment::{align, size};

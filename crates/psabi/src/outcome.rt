@@ -3,13 +3,13 @@ ghost use Rattle.std.specs.Prelude.{◌≡◌, ◌<◌, length};
 ghost use Rattle.abi_types.specs.Graphs.{view_at};
 ghost use Rattle.psabi.specs.Passing.{IsRight};
 ghost use Rattle.psabi.specs.Psabi.{eightbyte_limit};
-ghost use Rattle.psabi.specs.Results.{result_register as the_result_register, result_slot as the_result_slot, result_slots as the_result_slots, result_place as the_result_place, outcome_of, taken_by_result as what_the_result_takes};
+ghost use Rattle.psabi.specs.Results.{result_register as the_result_register, result_slot as the_result_slot, result_slots as the_result_slots, result_place as the_result_place, outcome_of, registers_of_result as what_the_result_takes};
 
+use crate::argument_registers::ArgumentRegisters;
 use crate::class::{Class, has_memory};
-use crate::passing::Known;
+use crate::passing::KnownPassing;
 use crate::registers::{general_count, has_no_place, vector_count};
 use crate::sizes::EIGHTBYTES;
-use crate::taken::Taken;
 use abi_types::{Graph, Index, Place, Slot};
 
 // The numbers of general registers for results, in the order rdi, rsi, rdx, rcx, r8, r9, rax.
@@ -74,7 +74,7 @@ fn result_place(size: u64, classes: &[Class; 8]) -> Place
 }
 
 /// The place of the result of a function.
-pub fn outcome<Ix: Index>(graph: &Graph<Ix>, ix: Ix, known: &mut Known) -> Place
+pub fn outcome<Ix: Index>(graph: &Graph<Ix>, ix: Ix, known: &mut KnownPassing) -> Place
     requires inside { Ix.number_of ix < length graph.now }
     requires right { IsRight graph.now known.now }
     ensures right { IsRight graph.now known.new }
@@ -96,14 +96,14 @@ pub fn outcome<Ix: Index>(graph: &Graph<Ix>, ix: Ix, known: &mut Known) -> Place
 }
 
 /// What a result takes of what arguments are passed in: the address of a hidden one takes the first general register.
-pub fn taken_by_result(outcome: &Place) -> Taken
+pub fn registers_of_result(outcome: &Place) -> ArgumentRegisters
     ensures { result ≡ what_the_result_takes outcome.now }
 {
     let general = match outcome {
         Place::Hidden => 1,
         _ => 0,
     };
-    Taken {
+    ArgumentRegisters {
         general,
         vector: 0,
         stack: 0,

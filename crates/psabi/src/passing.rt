@@ -31,11 +31,11 @@ fn passing_of<Ix: Index>(graph: &Graph<Ix>, ix: Ix) -> Passing
 
 /// What was found so far for the nodes of one graph, each at the number of its node. Contracts see it as the list of these.
 #[derive(Drop)]
-pub struct Known {
+pub struct KnownPassing {
     found: Vec<Option<Passing>>,
 }
 
-impl Model for Known {
+impl Model for KnownPassing {
     ghost use Rattle.std.specs.Prelude.{List, Option};
     ghost use Rattle.psabi.specs.declared.passing.Passing.{Passing};
 
@@ -44,18 +44,18 @@ impl Model for Known {
     ghost view = { λ k. k.found.items };
 }
 
-impl Known {
+impl KnownPassing {
     /// What keeps nothing, and takes no memory.
-    pub fn none(alloc: Global) -> Known
+    pub fn none(alloc: Global) -> KnownPassing
         ensures { result ≡ [] }
     {
-        Known {
+        KnownPassing {
             found: Vec::new(alloc),
         }
     }
 
     /// What has found nothing yet, and keeps what it finds for the first `len` nodes.
-    pub fn of_len(alloc: Global, len: usize) -> Result<Known, NoMemory>
+    pub fn of_len(alloc: Global, len: usize) -> Result<KnownPassing, NoMemory>
         ensures none { IfOk result (λ known. (k : ℕ) → slice_index_or known k None ≡ None) }
         ensures many { IfOk result (λ known. length known ≡ len) }
     {
@@ -63,7 +63,7 @@ impl Known {
         for _k in 0..len {
             found.push(None)?;
         }
-        Ok(Known { found })
+        Ok(KnownPassing { found })
     }
 
     /// What decides the place of the node's object.

@@ -2,7 +2,7 @@
 // "Classification"). The rows of `_Float16`, of decimal numbers and of complex numbers of 4 and of 32 bytes are this
 // project's own.
 ghost use Rattle.std.specs.Prelude.{◌≡◌};
-ghost use Rattle.psabi.specs.Rows.{row as the_row, integer_row as the_integer_row, float_row as the_float_row, quad_row as the_quad_row, complex_row as the_complex_row, decimal_row as the_decimal_row, vector_row as the_vector_row, all_memory, one as the_one, two as the_two, four as the_four, eight as the_eight};
+ghost use Rattle.psabi.specs.Rows.{row as the_row, integer_row as the_integer_row, float_row as the_float_row, quad_row as the_quad_row, complex_row as the_complex_row, decimal_row as the_decimal_row, vector_row as the_vector_row, all_memory_class, one as the_one, two as the_two, four as the_four, eight as the_eight};
 
 use crate::class::Class;
 use crate::sizes::{
@@ -39,8 +39,8 @@ fn eight(first: Class, rest: Class) -> [Class; 8]
 }
 
 /// The classes of an object in memory.
-pub fn all_memory() -> [Class; 8]
-    ensures { result ≡ all_memory }
+pub fn all_memory_class() -> [Class; 8]
+    ensures { result ≡ all_memory_class }
 {
     eight(Class::Memory, Class::Memory)
 }
@@ -55,7 +55,7 @@ fn integer_row(size: u64) -> [Class; 8]
     } else if size == INT128 {
         two(Class::Integer, Class::Integer)
     } else {
-        all_memory()
+        all_memory_class()
     }
 }
 
@@ -65,7 +65,7 @@ fn float_row(size: u64) -> [Class; 8]
     match size {
         FLOAT16 | FLOAT | DOUBLE => one(Class::Sse),
         LONG_DOUBLE => two(Class::X87, Class::X87Up),
-        _ => all_memory(),
+        _ => all_memory_class(),
     }
 }
 
@@ -74,7 +74,7 @@ fn quad_row(size: u64) -> [Class; 8]
 {
     match size {
         FLOAT128 => two(Class::Sse, Class::SseUp),
-        _ => all_memory(),
+        _ => all_memory_class(),
     }
 }
 
@@ -84,7 +84,7 @@ fn decimal_row(size: u64) -> [Class; 8]
     match size {
         DECIMAL32 | DECIMAL64 => one(Class::Sse),
         DECIMAL128 => two(Class::Sse, Class::SseUp),
-        _ => all_memory(),
+        _ => all_memory_class(),
     }
 }
 
@@ -95,7 +95,7 @@ fn complex_row(size: u64) -> [Class; 8]
         COMPLEX_FLOAT16 | COMPLEX_FLOAT => one(Class::Sse),
         COMPLEX_DOUBLE => two(Class::Sse, Class::Sse),
         COMPLEX_LONG_DOUBLE => four(Class::ComplexX87, Class::ComplexX87),
-        _ => all_memory(),
+        _ => all_memory_class(),
     }
 }
 
@@ -107,7 +107,7 @@ fn vector_row(size: u64) -> [Class; 8]
         M128 => two(Class::Sse, Class::SseUp),
         M256 => four(Class::Sse, Class::SseUp),
         M512 => eight(Class::Sse, Class::SseUp),
-        _ => all_memory(),
+        _ => all_memory_class(),
     }
 }
 
@@ -126,6 +126,6 @@ pub fn row(kind: Kind, group: Group, size: u64) -> [Class; 8]
         },
         Kind::Enumeration | Kind::Pointer => integer_row(size),
         Kind::Vector => vector_row(size),
-        _ => all_memory(),
+        _ => all_memory_class(),
     }
 }

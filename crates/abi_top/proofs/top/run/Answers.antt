@@ -1,49 +1,57 @@
-use Rattle.std.proofs.Common.{◌≡◌, List, ℕ, map, subst, refl, rules}
+use Rattle.std.proofs.Common.{◌≡◌, List, ℕ, map, subst}
 use Rattle.std.specs.Io.KnownBytes.{Appends}
 use Rattle.abi_base.specs.Causes.{AppendsFront}
 use Rattle.abi_top.specs.Answer.{Call, Answers}
-use Rattle.command_words.specs.Words.{texts}
-use Rattle.abi_top.proofs.Clauses.{yes_says, no_says, refused_says, itself_says, complete_verify}
+use Rattle.cli_args.specs.Words.{texts}
+use Rattle.commands.specs.Reading.{reading_of}
+use Rattle.abi_top.proofs.ParsedArguments.{complete_says}
+use Rattle.abi_top.proofs.Clauses.{yes_says, no_says, refused_says, itself_says}
 use Rattle.abi_top.proofs.top.run.Goals as goal
 
-pub returns-in-Ok-write_answer-clause-yes : goal.returns-in-Ok-write_answer-clause-yes
-returns-in-Ok-write_answer-clause-yes g c = λ is.
-    let call : Call = record { words = texts c.args.words.now; styles = map (λ b. (goal.Listener-dyn g (b.vtable, b.value)).asks b.value) c.args.listeners.items; told = g.I.Inputs.told c.args.inputs.now; before = g.I.Inputs.faults c.args.inputs.now; after = g.I.Inputs.faults c.answer_to.new.inputs; given = g.I.Inputs.given c.answer_to.new.inputs } in
-    let whole = subst (λ (t : List ℕ). Appends (g.S.Sink.held c.args.sink.now) (g.S.Sink.held c.write_answer.new.sink) t) c.deref.ensures.value c.in-Ok-write_answer.ensures.whole in
-    let answers = subst (λ s. Answers call s c.in-Ok.answer.text.items) is c.in-Ok.ensures in
-    yes_says call c.in-Ok.answer.text.items (λ t. Appends (g.S.Sink.held c.args.sink.now) (g.S.Sink.held c.write_answer.new.sink) t) whole answers
+pub returns-in-Ok-write_all-clause-yes : goal.returns-in-Ok-write_all-clause-yes
+returns-in-Ok-write_all-clause-yes g c = λ untyped is.
+    let call : Call = record { words = texts c.args.words.now; styles = map (λ b. (goal.Listener-dyn g (b.vtable, b.value)).asks b.value) c.args.listeners.items; reading = reading_of g.I.Inputs.told g.I.Inputs.faults g.I.Inputs.given c.args.inputs.now c.answer_to.new.inputs } in
+    let A : List ℕ → Type 0 = λ t. Appends (g.S.Sink.held c.args.sink.now) (g.S.Sink.held c.write_all.new.sink) t in
+    let whole : A c.in-Ok.answer.text.items = subst A c.deref.ensures.value c.in-Ok-write_all.ensures.whole in
+    let answers = subst (λ o. Answers call o c.in-Ok.answer.text.items) is c.in-Ok.ensures.answers in
+    yes_says call untyped c.in-Ok.answer.text.items A whole answers
 
-pub returns-in-Ok-write_answer-clause-no : goal.returns-in-Ok-write_answer-clause-no
-returns-in-Ok-write_answer-clause-no g c = λ is.
-    let call : Call = record { words = texts c.args.words.now; styles = map (λ b. (goal.Listener-dyn g (b.vtable, b.value)).asks b.value) c.args.listeners.items; told = g.I.Inputs.told c.args.inputs.now; before = g.I.Inputs.faults c.args.inputs.now; after = g.I.Inputs.faults c.answer_to.new.inputs; given = g.I.Inputs.given c.answer_to.new.inputs } in
-    let whole = subst (λ (t : List ℕ). Appends (g.S.Sink.held c.args.sink.now) (g.S.Sink.held c.write_answer.new.sink) t) c.deref.ensures.value c.in-Ok-write_answer.ensures.whole in
-    let answers = subst (λ s. Answers call s c.in-Ok.answer.text.items) is c.in-Ok.ensures in
-    no_says call c.in-Ok.answer.text.items (λ t. Appends (g.S.Sink.held c.args.sink.now) (g.S.Sink.held c.write_answer.new.sink) t) whole answers
+pub returns-in-Ok-write_all-clause-no : goal.returns-in-Ok-write_all-clause-no
+returns-in-Ok-write_all-clause-no g c = λ untyped is.
+    let call : Call = record { words = texts c.args.words.now; styles = map (λ b. (goal.Listener-dyn g (b.vtable, b.value)).asks b.value) c.args.listeners.items; reading = reading_of g.I.Inputs.told g.I.Inputs.faults g.I.Inputs.given c.args.inputs.now c.answer_to.new.inputs } in
+    let A : List ℕ → Type 0 = λ t. Appends (g.S.Sink.held c.args.sink.now) (g.S.Sink.held c.write_all.new.sink) t in
+    let whole : A c.in-Ok.answer.text.items = subst A c.deref.ensures.value c.in-Ok-write_all.ensures.whole in
+    let answers = subst (λ o. Answers call o c.in-Ok.answer.text.items) is c.in-Ok.ensures.answers in
+    no_says call untyped c.in-Ok.answer.text.items A whole answers
 
-pub returns-in-Ok-write_answer-clause-itself : goal.returns-in-Ok-write_answer-clause-itself
-returns-in-Ok-write_answer-clause-itself g c = λ rules_name report old_name new_name bytes asked old_told new_told is.
-    let call : Call = record { words = texts c.args.words.now; styles = map (λ b. (goal.Listener-dyn g (b.vtable, b.value)).asks b.value) c.args.listeners.items; told = g.I.Inputs.told c.args.inputs.now; before = g.I.Inputs.faults c.args.inputs.now; after = g.I.Inputs.faults c.answer_to.new.inputs; given = g.I.Inputs.given c.answer_to.new.inputs } in
-    let whole = subst (λ (t : List ℕ). Appends (g.S.Sink.held c.args.sink.now) (g.S.Sink.held c.write_answer.new.sink) t) c.deref.ensures.value c.in-Ok-write_answer.ensures.whole in
-    let answers = subst (λ s. Answers call s c.in-Ok.answer.text.items) is c.in-Ok.ensures in
-    itself_says call rules_name report old_name new_name bytes asked old_told new_told (λ t. Appends (g.S.Sink.held c.args.sink.now) (g.S.Sink.held c.write_answer.new.sink) t) c.a_file_may_replace_itself.ensures
-    (no_says call c.in-Ok.answer.text.items (λ t. Appends (g.S.Sink.held c.args.sink.now) (g.S.Sink.held c.write_answer.new.sink) t) whole answers)
+pub returns-in-Ok-write_all-clause-refused : goal.returns-in-Ok-write_all-clause-refused
+returns-in-Ok-write_all-clause-refused g c = λ untyped is.
+    let call : Call = record { words = texts c.args.words.now; styles = map (λ b. (goal.Listener-dyn g (b.vtable, b.value)).asks b.value) c.args.listeners.items; reading = reading_of g.I.Inputs.told g.I.Inputs.faults g.I.Inputs.given c.args.inputs.now c.answer_to.new.inputs } in
+    let A : List ℕ → Type 0 = λ t. Appends (g.S.Sink.held c.args.sink.now) (g.S.Sink.held c.write_all.new.sink) t in
+    let whole : A c.in-Ok.answer.text.items = subst A c.deref.ensures.value c.in-Ok-write_all.ensures.whole in
+    let answers = subst (λ o. Answers call o c.in-Ok.answer.text.items) is c.in-Ok.ensures.answers in
+    refused_says call untyped c.in-Ok.answer.text.items A whole answers
 
-pub returns-in-Ok-write_answer-clause-refused : goal.returns-in-Ok-write_answer-clause-refused
-returns-in-Ok-write_answer-clause-refused g c = λ is.
-    let call : Call = record { words = texts c.args.words.now; styles = map (λ b. (goal.Listener-dyn g (b.vtable, b.value)).asks b.value) c.args.listeners.items; told = g.I.Inputs.told c.args.inputs.now; before = g.I.Inputs.faults c.args.inputs.now; after = g.I.Inputs.faults c.answer_to.new.inputs; given = g.I.Inputs.given c.answer_to.new.inputs } in
-    let whole = subst (λ (t : List ℕ). Appends (g.S.Sink.held c.args.sink.now) (g.S.Sink.held c.write_answer.new.sink) t) c.deref.ensures.value c.in-Ok-write_answer.ensures.whole in
-    let answers = subst (λ s. Answers call s c.in-Ok.answer.text.items) is c.in-Ok.ensures in
-    refused_says call c.in-Ok.answer.text.items (λ t. Appends (g.S.Sink.held c.args.sink.now) (g.S.Sink.held c.write_answer.new.sink) t) whole answers
+pub returns-in-Ok-write_all-clause-itself : goal.returns-in-Ok-write_all-clause-itself
+returns-in-Ok-write_all-clause-itself g c = λ rules_name report old_name new_name bytes untyped asked old_told new_told is.
+    let call : Call = record { words = texts c.args.words.now; styles = map (λ b. (goal.Listener-dyn g (b.vtable, b.value)).asks b.value) c.args.listeners.items; reading = reading_of g.I.Inputs.told g.I.Inputs.faults g.I.Inputs.given c.args.inputs.now c.answer_to.new.inputs } in
+    let A : List ℕ → Type 0 = λ t. Appends (g.S.Sink.held c.args.sink.now) (g.S.Sink.held c.write_all.new.sink) t in
+    let whole : A c.in-Ok.answer.text.items = subst A c.deref.ensures.value c.in-Ok-write_all.ensures.whole in
+    let answers = subst (λ o. Answers call o c.in-Ok.answer.text.items) is c.in-Ok.ensures.answers in
+    itself_says call rules_name report old_name new_name bytes asked old_told new_told untyped A c.a_file_may_replace_itself.ensures
+    (no_says call untyped c.in-Ok.answer.text.items A whole answers)
 
-pub returns-in-Ok-write_answer-clause-complete_verify : goal.returns-in-Ok-write_answer-clause-complete_verify
-returns-in-Ok-write_answer-clause-complete_verify g c = λ rules_name old_name new_name certificate_name old new rules certificate is one two three four sink memory.
-    let call : Call = record { words = texts c.args.words.now; styles = map (λ b. (goal.Listener-dyn g (b.vtable, b.value)).asks b.value) c.args.listeners.items; told = g.I.Inputs.told c.args.inputs.now; before = g.I.Inputs.faults c.args.inputs.now; after = g.I.Inputs.faults c.answer_to.new.inputs; given = g.I.Inputs.given c.answer_to.new.inputs } in
-    complete_verify call rules_name old_name new_name certificate_name old new rules certificate is one two three four c.in-Ok.answer.status c.in-Ok.answer.text.items c.in-Ok.ensures
+pub returns-in-Ok-write_all-clause-complete : goal.returns-in-Ok-write_all-clause-complete
+returns-in-Ok-write_all-clause-complete g c = λ asked all is served sink memory.
+    let call : Call = record { words = texts c.args.words.now; styles = map (λ b. (goal.Listener-dyn g (b.vtable, b.value)).asks b.value) c.args.listeners.items; reading = reading_of g.I.Inputs.told g.I.Inputs.faults g.I.Inputs.given c.args.inputs.now c.answer_to.new.inputs } in
+    let A : List ℕ → Type 0 = λ t. Appends (g.S.Sink.held c.args.sink.now) (g.S.Sink.held c.write_all.new.sink) t in
+    let whole : A c.in-Ok.answer.text.items = subst A c.deref.ensures.value c.in-Ok-write_all.ensures.whole in
+    complete_says call asked is all served c.in-Ok.answer.outcome c.in-Ok.answer.text.items A c.in-Ok.ensures.answers whole
 
 pub returns-clause-front : goal.returns-clause-front
 returns-clause-front g c = λ is. (
-  c.in-Ok.answer.status,
+  c.in-Ok.answer.outcome,
   c.in-Ok.answer.text.items,
-  c.in-Ok.ensures,
-  subst (λ (t : List ℕ). AppendsFront (g.S.Sink.held c.args.sink.now) (g.S.Sink.held c.write_answer.new.sink) t) c.deref.ensures.value c.in-Err-write_answer.ensures.front,
+  c.in-Ok.ensures.answers,
+  subst (λ (t : List ℕ). AppendsFront (g.S.Sink.held c.args.sink.now) (g.S.Sink.held c.write_all.new.sink) t) c.deref.ensures.value c.in-Err-write_all.ensures.front,
 )

@@ -1,7 +1,7 @@
 use Rattle.std.proofs.Common.{ap, sym, ℕ}
 use Rattle.cert_check.specs.declared.refused.Refused.{Refused}
 use Rattle.cert_check.specs.declared.refused.RefusedKind.TheVariants as kind
-use Rattle.cert_check.specs.Ground.{case_of}
+use Rattle.cert_check.specs.CertifiedPair.{case_of}
 use Rattle.cert_check.proofs.Binds.{bindings_kept, bindings_told}
 use Rattle.cert_check.proofs.bindings.check_bindings.Goals as goal
 

@@ -3,7 +3,7 @@ use Rattle.std.proofs.Common.{ℕ, ◌<◌}
 use Rattle.abi_types.specs.Exports.{PlainExport}
 use Rattle.cert_check.specs.Compatible.{IsCompared}
 use Rattle.cert_check.specs.Accepted.{HasBinding}
-use Rattle.cert_check.specs.Ground.{case_of}
+use Rattle.cert_check.specs.CertifiedPair.{case_of}
 use Rattle.cert_check.proofs.bindings.first_unbound.Given as goal
 
 abbrev pub invariant-loop-k : goal.invariant-loop-k

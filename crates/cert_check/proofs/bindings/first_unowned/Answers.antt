@@ -1,5 +1,5 @@
 use Rattle.std.proofs.Common.{refl, arith, ◌<◌, ◌^◌, get_or}
-use Rattle.cert_check.specs.Ground.{case_of}
+use Rattle.cert_check.specs.CertifiedPair.{case_of}
 use Rattle.cert_check.proofs.Binds.{unowned_at, owned_more, owned_all}
 use Rattle.cert_check.proofs.bindings.first_unowned.Goals as goal
 

@@ -1,7 +1,7 @@
 -- The lines before this one have their exports.
 use Rattle.std.proofs.Common.{ℕ, ◌<◌, ◌≡◌, Some, slice_get}
 use Rattle.cert_check.specs.Bindings.{IsOwned}
-use Rattle.cert_check.specs.Ground.{case_of}
+use Rattle.cert_check.specs.CertifiedPair.{case_of}
 use Rattle.cert_check.proofs.bindings.first_unowned.Given as goal
 
 abbrev pub invariant-loop-k : goal.invariant-loop-k

@@ -1,6 +1,6 @@
 use Rattle.std.proofs.Common.{sym}
 use Rattle.abi_types.specs.Plain.{plain_export}
-use Rattle.cert_check.specs.Ground.{case_of}
+use Rattle.cert_check.specs.CertifiedPair.{case_of}
 use Rattle.cert_check.proofs.Binds.{no_line, no_partner, said_partner}
 use Rattle.cert_check.proofs.bindings.has_binding.Goals as goal
 

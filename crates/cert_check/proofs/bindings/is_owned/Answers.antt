@@ -1,6 +1,6 @@
 use Rattle.std.proofs.Common.{rules}
 use Rattle.std.proofs.lemmas.List.Sorted.{answers_always}
-use Rattle.cert_check.specs.Ground.{case_of}
+use Rattle.cert_check.specs.CertifiedPair.{case_of}
 use Rattle.cert_check.proofs.Binds.{symbol_in, exports_rise, owned_found, owned_missed}
 use Rattle.cert_check.proofs.bindings.is_owned.Goals as goal
 

@@ -15,18 +15,18 @@ pub returns-in-Err-check_rules : goal.returns-in-Err-check_rules
 unfolding places
 returns-in-Err-check_rules c = group_told (asked c.args.old.now c.args.new.now c.args.marks.now c.args.cert.now) (heads ∷ binding_places ∷ []) (each Rules (length c.args.old.now.exports)) ((each AlikeOld (length c.args.cert.now.alike_old)) ∷ (each AlikeNew (length c.args.cert.now.alike_new)) ∷ (each Root (length c.args.old.now.exports)) ∷ (pair_places (length c.args.cert.now.pairs)) ∷ []) c.in-Err-check_rules.refused (c.in_default.ensures, (c.in_default-check_bindings.ensures, tt)) c.in-Err-check_rules.ensures
 
-pub returns-in-Err-check_alike_old : goal.returns-in-Err-check_alike_old
+pub returns-in-Err-check_alike_lines_of_old : goal.returns-in-Err-check_alike_lines_of_old
 unfolding places
-returns-in-Err-check_alike_old c = group_told (asked c.args.old.now c.args.new.now c.args.marks.now c.args.cert.now) (heads ∷ binding_places ∷ (each Rules (length c.args.old.now.exports)) ∷ []) (each AlikeOld (length c.args.cert.now.alike_old)) ((each AlikeNew (length c.args.cert.now.alike_new)) ∷ (each Root (length c.args.old.now.exports)) ∷ (pair_places (length c.args.cert.now.pairs)) ∷ []) c.in-Err-check_alike_old.refused (c.in_default.ensures, (c.in_default-check_bindings.ensures, (c.in_default-check_rules.ensures, tt))) c.in-Err-check_alike_old.ensures
+returns-in-Err-check_alike_lines_of_old c = group_told (asked c.args.old.now c.args.new.now c.args.marks.now c.args.cert.now) (heads ∷ binding_places ∷ (each Rules (length c.args.old.now.exports)) ∷ []) (each AlikeOld (length c.args.cert.now.alike_old)) ((each AlikeNew (length c.args.cert.now.alike_new)) ∷ (each Root (length c.args.old.now.exports)) ∷ (pair_places (length c.args.cert.now.pairs)) ∷ []) c.in-Err-check_alike_lines_of_old.refused (c.in_default.ensures, (c.in_default-check_bindings.ensures, (c.in_default-check_rules.ensures, tt))) c.in-Err-check_alike_lines_of_old.ensures
 
-pub returns-in-Err-check_alike_new : goal.returns-in-Err-check_alike_new
+pub returns-in-Err-check_alike_lines_of_new : goal.returns-in-Err-check_alike_lines_of_new
 unfolding places
-returns-in-Err-check_alike_new c = group_told (asked c.args.old.now c.args.new.now c.args.marks.now c.args.cert.now) (heads ∷ binding_places ∷ (each Rules (length c.args.old.now.exports)) ∷ (each AlikeOld (length c.args.cert.now.alike_old)) ∷ []) (each AlikeNew (length c.args.cert.now.alike_new)) ((each Root (length c.args.old.now.exports)) ∷ (pair_places (length c.args.cert.now.pairs)) ∷ []) c.in-Err-check_alike_new.refused (c.in_default.ensures, (c.in_default-check_bindings.ensures, (c.in_default-check_rules.ensures, (c.in_default-check_alike_old.ensures, tt)))) c.in-Err-check_alike_new.ensures
+returns-in-Err-check_alike_lines_of_new c = group_told (asked c.args.old.now c.args.new.now c.args.marks.now c.args.cert.now) (heads ∷ binding_places ∷ (each Rules (length c.args.old.now.exports)) ∷ (each AlikeOld (length c.args.cert.now.alike_old)) ∷ []) (each AlikeNew (length c.args.cert.now.alike_new)) ((each Root (length c.args.old.now.exports)) ∷ (pair_places (length c.args.cert.now.pairs)) ∷ []) c.in-Err-check_alike_lines_of_new.refused (c.in_default.ensures, (c.in_default-check_bindings.ensures, (c.in_default-check_rules.ensures, (c.in_default-check_alike_lines_of_old.ensures, tt)))) c.in-Err-check_alike_lines_of_new.ensures
 
 pub returns-in-Err-check_roots : goal.returns-in-Err-check_roots
 unfolding places
-returns-in-Err-check_roots c = group_told (asked c.args.old.now c.args.new.now c.args.marks.now c.args.cert.now) (heads ∷ binding_places ∷ (each Rules (length c.args.old.now.exports)) ∷ (each AlikeOld (length c.args.cert.now.alike_old)) ∷ (each AlikeNew (length c.args.cert.now.alike_new)) ∷ []) (each Root (length c.args.old.now.exports)) ((pair_places (length c.args.cert.now.pairs)) ∷ []) c.in-Err-check_roots.refused (c.in_default.ensures, (c.in_default-check_bindings.ensures, (c.in_default-check_rules.ensures, (c.in_default-check_alike_old.ensures, (c.in_default-check_alike_new.ensures, tt))))) c.in-Err-check_roots.ensures
+returns-in-Err-check_roots c = group_told (asked c.args.old.now c.args.new.now c.args.marks.now c.args.cert.now) (heads ∷ binding_places ∷ (each Rules (length c.args.old.now.exports)) ∷ (each AlikeOld (length c.args.cert.now.alike_old)) ∷ (each AlikeNew (length c.args.cert.now.alike_new)) ∷ []) (each Root (length c.args.old.now.exports)) ((pair_places (length c.args.cert.now.pairs)) ∷ []) c.in-Err-check_roots.refused (c.in_default.ensures, (c.in_default-check_bindings.ensures, (c.in_default-check_rules.ensures, (c.in_default-check_alike_lines_of_old.ensures, (c.in_default-check_alike_lines_of_new.ensures, tt))))) c.in-Err-check_roots.ensures
 
 pub returns : goal.returns
 unfolding places
-returns c = settled_last (asked c.args.old.now c.args.new.now c.args.marks.now c.args.cert.now) (heads ∷ binding_places ∷ (each Rules (length c.args.old.now.exports)) ∷ (each AlikeOld (length c.args.cert.now.alike_old)) ∷ (each AlikeNew (length c.args.cert.now.alike_new)) ∷ (each Root (length c.args.old.now.exports)) ∷ []) (pair_places (length c.args.cert.now.pairs)) c.check_pairs.result (c.in_default.ensures, (c.in_default-check_bindings.ensures, (c.in_default-check_rules.ensures, (c.in_default-check_alike_old.ensures, (c.in_default-check_alike_new.ensures, (c.in_default-check_roots.ensures, tt)))))) c.check_pairs.ensures
+returns c = settled_last (asked c.args.old.now c.args.new.now c.args.marks.now c.args.cert.now) (heads ∷ binding_places ∷ (each Rules (length c.args.old.now.exports)) ∷ (each AlikeOld (length c.args.cert.now.alike_old)) ∷ (each AlikeNew (length c.args.cert.now.alike_new)) ∷ (each Root (length c.args.old.now.exports)) ∷ []) (pair_places (length c.args.cert.now.pairs)) c.check_pairs.result (c.in_default.ensures, (c.in_default-check_bindings.ensures, (c.in_default-check_rules.ensures, (c.in_default-check_alike_lines_of_old.ensures, (c.in_default-check_alike_lines_of_new.ensures, (c.in_default-check_roots.ensures, tt)))))) c.check_pairs.ensures

@@ -2,7 +2,7 @@ use Rattle.std.proofs.Common.{ap, ℕ}
 use Rattle.cert_check.specs.declared.refused.Refused.{Refused}
 use Rattle.cert_check.specs.declared.refused.RefusedKind.TheVariants as kind
 use Rattle.cert_check.specs.Accepted.{Root as the_place}
-use Rattle.cert_check.specs.Ground.{case_of}
+use Rattle.cert_check.specs.CertifiedPair.{case_of}
 use Rattle.cert_check.proofs.FindLemmas.{each_kept, each_told}
 use Rattle.cert_check.proofs.exports.check_roots.Goals as goal
 

@@ -1,6 +1,6 @@
 use Rattle.std.proofs.Common.{below_more, refl}
 use Rattle.cert_check.specs.Accepted.{KeepsRules}
-use Rattle.cert_check.specs.Ground.{case_of}
+use Rattle.cert_check.specs.CertifiedPair.{case_of}
 use Rattle.cert_check.proofs.exports.first_broken.Goals as goal
 
 pub loop-k-preserved : goal.loop-k-preserved

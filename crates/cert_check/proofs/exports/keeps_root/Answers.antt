@@ -1,5 +1,5 @@
 use Rattle.std.proofs.Common.{sym}
-use Rattle.cert_check.specs.Ground.{case_of}
+use Rattle.cert_check.specs.CertifiedPair.{case_of}
 use Rattle.cert_check.proofs.ExportLemmas.{root_dropped, root_unbound, root_untyped_old, root_untyped_new, root_bound}
 use Rattle.cert_check.proofs.exports.keeps_root.Goals as goal
 

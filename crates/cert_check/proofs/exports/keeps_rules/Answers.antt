@@ -1,5 +1,5 @@
 use Rattle.std.proofs.Common.{sym}
-use Rattle.cert_check.specs.Ground.{case_of}
+use Rattle.cert_check.specs.CertifiedPair.{case_of}
 use Rattle.cert_check.proofs.ExportLemmas.{rules_dropped, rules_unbound, rules_bound}
 use Rattle.cert_check.proofs.exports.keeps_rules.Goals as goal
 

@@ -1,8 +1,8 @@
-use Rattle.elf_syms.specs.Symbols.{symbols_of}
-use Rattle.lib_graph.specs.Exports.{symbol_versions, typed_exports_of}
-use Rattle.lib_graph.specs.Libraries.{library_of}
-use Rattle.rule_text.specs.Rules.{rules_of}
-use Rattle.rules.specs.Marks.{marks_of}
+use Rattle.elf.specs.symbols.Symbols.{symbols_of}
+use Rattle.library_read.specs.Exports.{symbol_versions, typed_exports_of}
+use Rattle.library_read.specs.Libraries.{library_of}
+use Rattle.suppression_text.specs.Rules.{rules_of}
+use Rattle.suppressions.specs.Marks.{marks_of}
 use Rattle.library_check.proofs.Itself.{no_export_fault, named_alike}
 use Rattle.library_check.proofs.laws.a_file_may_replace_itself.Goals as goal
 

@@ -1,5 +1,5 @@
-use Rattle.lib_graph.specs.Libraries.{library_of}
-use Rattle.rule_text.specs.Rules.{rules_of}
+use Rattle.library_read.specs.Libraries.{library_of}
+use Rattle.suppression_text.specs.Rules.{rules_of}
 use Rattle.library_check.specs.Checks.{sides_of}
 use Rattle.library_check.specs.Verifications.{case_for}
 use Rattle.library_check.proofs.Marked.{even_sides}

@@ -2,7 +2,7 @@
 use Rattle.std.proofs.Common.{◌<◌, arith, add-one}
 use Rattle.std.proofs.lemmas.Option.{slice_get_within}
 use Rattle.abi_types.specs.Graphs.{IsGraph}
-use Rattle.graph_alike.specs.Classes.{AreSound}
+use Rattle.type_classes.specs.Classes.{AreSound}
 use Rattle.pair_explorer.specs.Scopes.{Scope, IsScope, scope}
 use Rattle.pair_explorer.specs.Explorations.{most_triples}
 use Rattle.pair_explorer.proofs.Bounds.{length-visited-le}

@@ -4,7 +4,7 @@ use Rattle.std.specs.Prelude.{IfOk}
 use Rattle.std.proofs.Common.{◌≡◌, true, false, ◌<◌, ◌++◌, ◌∷◌, [], Some, None, length, sym, ◌∙◌, subst, arith}
 use Rattle.abi_types.specs.declared.place.CallShape.{CallShape}
 use Rattle.abi_types.specs.Graphs.{view_at, part_at, param_of}
-use Rattle.psabi.specs.Results.{taken_by_result}
+use Rattle.psabi.specs.Results.{registers_of_result}
 use Rattle.psabi.proofs.CallLemmas.{param-named, params-none, placed-params, placed-taken, placed-stack, passed-stack, call-none, call-whole, result-takes, places-none, taken-none}
 use Rattle.psabi.proofs.calling.shape_with.Goals as goal
 use Rattle.psabi.proofs.calling.shape_with.Goals.{in-Some+in_ok-push, in_default}
@@ -12,12 +12,12 @@ use Rattle.psabi.proofs.calling.shape_with.Goals.{in-Some+in_ok-push, in_default
 pub loop-k-init : goal.loop-k-init
 loop-k-init g c =
     let o = c.outcome-outcome.result in
-    let e = c.taken_by_result-taken.ensures in
+    let e = c.registers_of_result-taken.ensures in
     let few = result-takes o in
     record {
       right = c.outcome-outcome.ensures.right;
-      params = c.new-params.ensures ∙ sym (places-none c.args.graph.now (taken_by_result o));
-      taken = e ∙ sym (taken-none c.args.graph.now (taken_by_result o));
+      params = c.new-params.ensures ∙ sym (places-none c.args.graph.now (registers_of_result o));
+      taken = e ∙ sym (taken-none c.args.graph.now (registers_of_result o));
       general = rw e few.0;
       vector = rw e few.1;
       stack = rw e few.2;
@@ -34,7 +34,7 @@ pub loop-k-preserved : goal.loop-k-preserved
 loop-k-preserved g c =
     let v = c.view-view.result.now in
     let nodes = c.args.graph.now in
-    let start = taken_by_result c.outcome-outcome.result in
+    let start = registers_of_result c.outcome-outcome.result in
     let lt : c.loop-k.k < length v.parts = omega arith in
     elim c.match-param.branch [
       | in-Some+in_ok-push w ↦

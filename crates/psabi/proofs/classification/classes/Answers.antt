@@ -28,7 +28,7 @@ returns-then-view-gt-OBJECT_LIMIT g c =
     let leaf : is_leaf (view_at c.args.graph.now i).kind ≡ false = rw (← c.view-view.ensures, ← c.view.view_is) (cc) in
     let whole : is_aggregate (view_at c.args.graph.now i).kind ≡ true = rw (← c.view-view.ensures, ← c.view.view_is) (cc) in
     let lt : 64 < (view_at c.args.graph.now i).size = rw (← c.view-view.ensures, ← c.view.view_is) (omega arith) in
-    rw (classes-large c.args.graph.now i leaf whole lt) c.all_memory.ensures
+    rw (classes-large c.args.graph.now i leaf whole lt) c.all_memory_class.ensures
 
 pub returns-then-ends_past : goal.returns-then-ends_past
 returns-then-ends_past g c =
@@ -36,7 +36,7 @@ returns-then-ends_past g c =
     let leaf : is_leaf (view_at c.args.graph.now i).kind ≡ false = rw (← c.view-view.ensures, ← c.view.view_is) (cc) in
     let whole : is_aggregate (view_at c.args.graph.now i).kind ≡ true = rw (← c.view-view.ensures, ← c.view.view_is) (cc) in
     let past : ends_past c.args.graph.now i ≡ true = cc in
-    rw (classes-past c.args.graph.now i leaf whole past) c.all_memory-then-ends_past.ensures
+    rw (classes-past c.args.graph.now i leaf whole past) c.all_memory_class-then-ends_past.ensures
 
 pub returns-then-not-eightbytes : goal.returns-then-not-eightbytes
 returns-then-not-eightbytes g c =
@@ -44,7 +44,7 @@ returns-then-not-eightbytes g c =
     let leaf : is_leaf (view_at c.args.graph.now i).kind ≡ false = rw (← c.view-view.ensures, ← c.view.view_is) (cc) in
     let whole : is_aggregate (view_at c.args.graph.now i).kind ≡ true = rw (← c.view-view.ensures, ← c.view.view_is) (cc) in
     let odd : list_all is_aligned (leaves_of c.args.graph.now i 0 0) ≡ false = aligned-from_merging c.args.graph.now i c.new-eightbytes.result c.add_leaves.new.eightbytes c.new-eightbytes.ensures c.add_leaves.ensures ∙ c.if-not-eightbytes.true in
-    rw (classes-unaligned c.args.graph.now i leaf whole odd) c.all_memory-then-not-eightbytes.ensures
+    rw (classes-unaligned c.args.graph.now i leaf whole odd) c.all_memory_class-then-not-eightbytes.ensures
 
 pub returns : goal.returns
 returns g c =

@@ -17,5 +17,5 @@ loop-k-preserved c =
 pub returns : goal.returns
 returns c =
     let e = fill_by_all (grounded c.args.classes.now) c.loop-k.cleaned 8 NoClass c.loop-k.invariant.many (λ k lt. c.loop-k.invariant.below k (omega arith)) in
-    let kept = sym c.becomes_memory.ensures ∙ c.if-becomes_memory.false in
+    let kept = sym c.becomes_memory_class.ensures ∙ c.if-becomes_memory_class.false in
     rw kept e

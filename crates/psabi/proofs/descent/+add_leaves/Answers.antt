@@ -4,7 +4,7 @@ use Rattle.abi_types.specs.Graphs.{view_at}
 use Rattle.abi_types.specs.Forms.{is_aggregate, is_leaf}
 use Rattle.abi_types.specs.Inside.{count_inside}
 use Rattle.psabi.specs.Past.{extent}
-use Rattle.psabi.specs.Inner.{plain_inner}
+use Rattle.psabi.specs.InnerObject.{plain_inner}
 use Rattle.psabi.proofs.Named.{to_from_inner}
 use Rattle.psabi.proofs.LeafLemmas.{inside-kept, extent-whole, merges-zero, merges-leaf, merges-whole, merges-more, merges-skip}
 use Rattle.psabi.proofs.descent.+add_leaves.Goals as goal

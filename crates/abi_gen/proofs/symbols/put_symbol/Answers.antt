@@ -1,8 +1,0 @@
-use Rattle.std.proofs.Common.{append_assoc, rules}
-use Rattle.std.proofs.lemmas.Result.{IfOk-equal}
-use Rattle.abi_gen.specs.Symbols.{symbol}
-use Rattle.abi_gen.proofs.symbols.put_symbol.Goals as goal
-
-pub returns : goal.returns
-unfolding symbol
-returns c = search (rules, IfOk-equal, append_assoc)

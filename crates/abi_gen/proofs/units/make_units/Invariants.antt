@@ -1,7 +1,0 @@
-use Rattle.std.proofs.Common.{◌≡◌}
-use Rattle.std.specs.List.{flat_map, range_with_len}
-use Rattle.abi_gen.specs.Units.{unit}
-use Rattle.abi_gen.proofs.units.make_units.Given as goal
-
-abbrev pub invariant-loop-unit : goal.invariant-loop-unit
-invariant-loop-unit l = l.info.items ≡ flat_map (unit l.n l.ring) (range_with_len 0 l.unit)

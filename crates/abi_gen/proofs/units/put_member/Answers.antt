@@ -1,8 +1,0 @@
-use Rattle.std.proofs.Common.{append_assoc, rules}
-use Rattle.std.proofs.lemmas.Result.{IfOk-equal}
-use Rattle.abi_gen.specs.Units.{member}
-use Rattle.abi_gen.proofs.units.put_member.Goals as goal
-
-pub returns : goal.returns
-unfolding member
-returns c = search (rules, IfOk-equal, append_assoc)

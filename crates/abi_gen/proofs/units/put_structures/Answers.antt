@@ -1,6 +1,0 @@
-use Rattle.std.proofs.Common.{rules}
-use Rattle.abi_gen.proofs.Ranges.{pieces_more}
-use Rattle.abi_gen.proofs.units.put_structures.Goals as goal
-
-pub loop-number-preserved : goal.loop-number-preserved
-loop-number-preserved c = search (rules, pieces_more)

@@ -1,7 +1,0 @@
-use Rattle.std.proofs.Common.{◌≡◌, ◌++◌}
-use Rattle.std.specs.List.{flat_map, range_with_len}
-use Rattle.abi_gen.specs.Units.{structure}
-use Rattle.abi_gen.proofs.units.put_structures.Given as goal
-
-abbrev pub invariant-loop-number : goal.invariant-loop-number
-invariant-loop-number l = l.body.items ≡ l.initial.body.items ++ flat_map (structure l.ring) (range_with_len 0 l.number)

@@ -1,0 +1,49 @@
+-- The answers of a call whose words ask for something are the replies of its command.
+use Rattle.std.proofs.Common.{◌≡◌, ◌≢◌, ◌⊎◌, ℕ, List, [], ◌∷◌, Option, Some, None, refl, sym, ◌∙◌, ap, subst, inl, inr, IfSome}
+use Rattle.abi_base.specs.declared.remark.Remark.{Remark}
+use Rattle.abi_top.specs.Answer.{Answers, Asks, Call, row_of}
+use Rattle.cli_args.specs.ParsedArguments.{PlainRequest, PlainArguments, request, usage, help, arguments_by}
+use Rattle.commands.specs.Replies.{Replies}
+use Rattle.commands.specs.Served.{AreServed, IsVerdict}
+use Rattle.commands.specs.declared.outcome.Outcome.{Outcome}
+use Rattle.commands.specs.declared.outcome.Outcome.TheVariants.{Judged, Unreadable, ReadFault, Help, Usage, NoMemory, WriteFault}
+use Rattle.commands.proofs.lemmas.Single.{served_verdict, verdict_with}
+
+pub asks_this : (call : Call) (asked : PlainRequest) (P : PlainRequest → Type 0) → arguments_by call.words ≡ request asked → Asks call P → P asked
+asks_this call asked P is (other, is', holds) = let same : other ≡ asked = cc in subst P same holds
+
+pub asks_usage : (call : Call) (asked : PlainRequest) → arguments_by call.words ≡ request asked → arguments_by call.words ≡ usage → ⊥
+asks_usage call asked is none = cc
+
+pub asks_help : (call : Call) (asked : PlainRequest) → arguments_by call.words ≡ request asked → arguments_by call.words ≡ help → ⊥
+asks_help call asked is none = cc
+
+module _ (call : Call) (asked : PlainRequest) (is : arguments_by call.words ≡ request asked) where
+  this : (outcome : Outcome) (text : List ℕ) → Asks call (λ a. Replies call.reading (row_of call a).inputs (row_of call a).says outcome text)
+      → Replies call.reading (row_of call asked).inputs (row_of call asked).says outcome text
+  this outcome text answer = asks_this call asked (λ a. Replies call.reading (row_of call a).inputs (row_of call a).says outcome text) is answer
+
+  pub reply_of : (outcome : Outcome) (text : List ℕ) → Answers call outcome text → Replies call.reading (row_of call asked).inputs (row_of call asked).says outcome text
+  reply_of Usage text answer = absurd (asks_usage call asked is answer.0)
+  reply_of Help text answer = absurd (asks_help call asked is answer.0)
+  reply_of (Judged v untyped) text answer = this (Judged v untyped) text answer
+  reply_of (Unreadable which fault) text answer = this (Unreadable which fault) text answer
+  reply_of (ReadFault which) text answer = this (ReadFault which) text answer
+  reply_of NoMemory text answer = this NoMemory text answer
+  reply_of WriteFault text answer = this WriteFault text answer
+
+  pub answer_of_reply : (outcome : Outcome) (text : List ℕ) → Replies call.reading (row_of call asked).inputs (row_of call asked).says outcome text → Answers call outcome text
+  answer_of_reply Usage text reply = absurd reply
+  answer_of_reply Help text reply = absurd reply
+  answer_of_reply (Judged v untyped) text reply = (asked, is, reply)
+  answer_of_reply (Unreadable which fault) text reply = (asked, is, reply)
+  answer_of_reply (ReadFault which) text reply = (asked, is, reply)
+  answer_of_reply NoMemory text reply = (asked, is, reply)
+  answer_of_reply WriteFault text reply = (asked, is, reply)
+
+  -- where all inputs are served, the answer is a verdict, with a text of which a fact is known
+  pub complete_says : (all : List (List ℕ)) → AreServed call.reading (row_of call asked).inputs all → (outcome : Outcome) (text : List ℕ) (P : List ℕ → Type 0)
+      → Answers call outcome text → P text → IsVerdict (row_of call asked).says all outcome P
+  complete_says all served outcome text P answer holds =
+      verdict_with (row_of call asked).says all outcome text P
+      (served_verdict call.reading (row_of call asked).inputs (row_of call asked).says all served outcome text (reply_of outcome text answer)) holds

@@ -1,0 +1,64 @@
+-- What each command says of the readable bytes of its inputs.
+use Rattle.std.specs.Prelude.{◌≡◌, ℕ, List, [], ◌∷◌, Option, Some, None}
+use Rattle.abi_base.specs.declared.remark.Remark.{Remark}
+use Rattle.abi_top.specs.Text.{accepted_text, refused_text}
+use Rattle.report.specs.declared.style.Style.{Style}
+use Rattle.cert_check.specs.declared.refused.Refused.{Refused as Refusal}
+use Rattle.commands.specs.declared.verdict.Verdict.{Verdict}
+use Rattle.commands.specs.declared.verdict.Verdict.TheVariants.{Yes, No, Refused, Done}
+use Rattle.listings.specs.entries.EntryLines.{listing_of}
+use Rattle.listings.specs.exports.ExportLines.{exports_text}
+use Rattle.library_read.specs.Libraries.{library_of}
+use Rattle.library_check.specs.Checks.{Compatible, IsCertificateText, IsReportText}
+use Rattle.library_check.specs.Remarks.{remark_on}
+use Rattle.library_check.specs.Verifications.{IsAcceptedText, IsRefusedText}
+use Rattle.library_check.specs.trial.Trials.{IsTrialText}
+
+-- ---- check: yes with the certificate, or no with the report that listeners of these styles make
+
+abbrev pub CheckSays : List Style → List ℕ → List ℕ → List ℕ → Verdict → List ℕ → Type 0
+CheckSays styles old new rules Yes text = Compatible old new rules × IsCertificateText old new rules text
+CheckSays styles old new rules No text = (Compatible old new rules → ⊥) × IsReportText styles old new rules text
+CheckSays styles old new rules Refused text = ⊥
+CheckSays styles old new rules Done text = ⊥
+
+abbrev pub check_says : List Style → List (List ℕ) → Verdict → Option Remark → List ℕ → Type 0
+check_says styles (old ∷ new ∷ rules ∷ []) v untyped text = CheckSays styles old new rules v text × (untyped ≡ Some (remark_on old new))
+check_says styles all v untyped text = ⊥
+
+-- ---- verify: yes where the certificate is accepted, or refused with the first condition that it does not meet
+
+abbrev pub VerifySays : List ℕ → List ℕ → List ℕ → List ℕ → Verdict → List ℕ → Type 0
+VerifySays old new rules certificate Yes text = Compatible old new rules × IsAcceptedText old new rules certificate × (text ≡ accepted_text)
+VerifySays old new rules certificate Refused text = (refusal : Refusal) × IsRefusedText old new rules certificate refusal × (text ≡ refused_text refusal)
+VerifySays old new rules certificate No text = ⊥
+VerifySays old new rules certificate Done text = ⊥
+
+abbrev pub verify_says : List (List ℕ) → Verdict → Option Remark → List ℕ → Type 0
+verify_says (old ∷ new ∷ rules ∷ certificate ∷ []) v untyped text = VerifySays old new rules certificate v text × (untyped ≡ None)
+verify_says all v untyped text = ⊥
+
+-- ---- entries and exports: a listing
+
+pub record IsListed (listing : List ℕ) (v : Verdict) (untyped : Option Remark) (text : List ℕ) : Type 0 where
+  pub done : v ≡ Done
+  pub none : untyped ≡ None
+  pub is : text ≡ listing
+
+abbrev pub entries_says : List (List ℕ) → Verdict → Option Remark → List ℕ → Type 0
+entries_says (library ∷ []) v untyped text = IsListed (listing_of library) v untyped text
+entries_says all v untyped text = ⊥
+
+abbrev pub exports_says : List (List ℕ) → Verdict → Option Remark → List ℕ → Type 0
+exports_says (library ∷ []) v untyped text = IsListed (exports_text (library_of library)) v untyped text
+exports_says all v untyped text = ⊥
+
+-- ---- trial: the lines of a trial of so many functions
+
+pub record IsTried (styles : List Style) (count : ℕ) (v : Verdict) (untyped : Option Remark) (text : List ℕ) : Type 0 where
+  pub done : v ≡ Done
+  pub none : untyped ≡ None
+  pub lines : IsTrialText styles count text
+
+abbrev pub trial_says : List Style → ℕ → List (List ℕ) → Verdict → Option Remark → List ℕ → Type 0
+trial_says styles count all v untyped text = IsTried styles count v untyped text

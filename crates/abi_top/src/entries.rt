@@ -1,0 +1,49 @@
+// `entries`: the debugging information entries of a library.
+ghost use Rattle.std.specs.Prelude.{◌≡◌, ◌≤◌, List, [], ◌∷◌, map, IfOk};
+ghost use Rattle.commands.specs.Commands.{places_of, plain_place};
+ghost use Rattle.abi_top.specs.Rows.{entries_inputs};
+ghost use Rattle.abi_top.specs.Says.{entries_says};
+
+use abi_base::NoMemory;
+use commands::{Command, Input, Judgement, Place, Stop, Verdict, one, stop_at};
+use listings::entries::entry_lines;
+use report::Listener;
+use std::alloc::Global;
+
+/// `entries` of a library: a line for each debugging information entry, in order of offset. Only the faults of the header, the
+/// sections, the units and the entries are asked.
+#[derive(Clone, Copy)]
+pub struct Entries<'a> {
+    pub library: &'a str,
+}
+
+impl<'a> Entries<'a> {
+    /// Where its inputs stand. It fails only when memory runs out.
+    pub fn places(&self, alloc: Global) -> Result<Vec<Place<'a>>, NoMemory>
+        ensures { IfOk result (λ places. map plain_place places.items ≡ places_of (entries_inputs self.now.library.now)) }
+    {
+        Ok(vec![in alloc; Place::named(Input::Library, self.library)]?)
+    }
+}
+
+impl Command for Entries<'_> {
+    ghost inputs = { λ c. entries_inputs c.library.now };
+
+    ghost says = { λ c styles. entries_says };
+
+    fn judge(
+        self,
+        alloc: Global,
+        all: &[Vec<u8>],
+        _listeners: Vec<Box<dyn Listener>>,
+    ) -> Result<Judgement, Stop> {
+        match entry_lines(alloc, one(all)) {
+            Ok(lines) => Ok(Judgement {
+                verdict: Verdict::Done,
+                untyped: None,
+                text: lines.into_bytes(),
+            }),
+            Err(refusal) => Err(stop_at(Input::Library, refusal)),
+        }
+    }
+}

@@ -1,0 +1,67 @@
+// `exports`: the exports of a library.
+ghost use Rattle.std.specs.Prelude.{◌≡◌, ◌≤◌, List, [], ◌∷◌, IfOk, length, string_bytes, map};
+ghost use Rattle.abi_base.specs.Limits.{input_limit};
+ghost use Rattle.abi_base.specs.Outcome.{Judges};
+ghost use Rattle.commands.specs.Commands.{places_of, plain_place};
+ghost use Rattle.abi_top.specs.Rows.{exports_inputs};
+ghost use Rattle.abi_top.specs.Says.{exports_says};
+ghost use Rattle.listings.specs.exports.ExportLines.{exports_text};
+ghost use Rattle.library_read.specs.Faults.{library_fault};
+ghost use Rattle.library_read.specs.Libraries.{library_of};
+
+use abi_base::{NoMemory, Refusal};
+use abi_types::{Library, OldIx};
+use commands::{Command, Input, Judgement, Place, Stop, Verdict, one, stop_at};
+use library_read::read_library;
+use listings::exports::export_lines;
+use report::Listener;
+use std::alloc::Global;
+
+/// `exports` of a library: a line for each export, in order of their symbols, with the places of its arguments and of its result.
+/// All faults of a library are asked.
+#[derive(Clone, Copy)]
+pub struct Exports<'a> {
+    pub library: &'a str,
+}
+
+impl<'a> Exports<'a> {
+    /// Where its inputs stand. It fails only when memory runs out.
+    pub fn places(&self, alloc: Global) -> Result<Vec<Place<'a>>, NoMemory>
+        ensures { IfOk result (λ places. map plain_place places.items ≡ places_of (exports_inputs self.now.library.now)) }
+    {
+        Ok(vec![in alloc; Place::named(Input::Library, self.library)]?)
+    }
+}
+
+impl Command for Exports<'_> {
+    ghost inputs = { λ c. exports_inputs c.library.now };
+
+    ghost says = { λ c styles. exports_says };
+
+    fn judge(
+        self,
+        alloc: Global,
+        all: &[Vec<u8>],
+        _listeners: Vec<Box<dyn Listener>>,
+    ) -> Result<Judgement, Stop> {
+        match exports_of(alloc, one(all)) {
+            Ok(lines) => Ok(Judgement {
+                verdict: Verdict::Done,
+                untyped: None,
+                text: lines.into_bytes(),
+            }),
+            Err(refusal) => Err(stop_at(Input::Library, refusal)),
+        }
+    }
+}
+
+// The lines of the exports of a library.
+fn exports_of(alloc: Global, bytes: &[u8]) -> Result<String, Refusal>
+    requires { length bytes.now ≤ input_limit }
+    ensures judged { Judges result (library_fault bytes.now) }
+    ensures lines { IfOk result (λ text. string_bytes text ≡ exports_text (library_of bytes.now)) }
+{
+    let library: Library<OldIx> = read_library(alloc, bytes)?;
+    let text = export_lines(alloc, &library)?;
+    Ok(text)
+}

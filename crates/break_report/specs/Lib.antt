@@ -1,6 +1,0 @@
-pub mod Details
-pub mod Listening
-pub mod Places
-pub mod Render
-pub mod Steps
-pub mod Words

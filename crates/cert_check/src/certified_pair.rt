@@ -1,0 +1,140 @@
+// What is checked, and what is read of it.
+ghost use Rattle.std.specs.Prelude.{◌≡◌, ◌<◌, not, length, false, slice_index_or, slice_get, Some, None, IfSome, MatchOption};
+ghost use Rattle.std.specs.Option.{option_map};
+ghost use Rattle.abi_types.specs.Graphs.{view_at, node_of};
+ghost use Rattle.abi_types.specs.Plain.{plain_export};
+ghost use Rattle.pair_rules.specs.Steps.{is_marked as the_node_is_marked};
+ghost use Rattle.cert_text.specs.Certs.{Ascend, first_cmp};
+ghost use Rattle.cert_check.specs.Compatible.{task_of, bound};
+ghost use Rattle.cert_check.specs.Accepted.{symbol_of};
+ghost use Rattle.cert_check.specs.CertifiedPair.{case_of, NamesNodes};
+
+use abi_types::{Export, Index, Library, Marks, NewIx, OldIx, View, Way};
+use cert_text::Cert;
+use elf_bind::bind_in;
+
+/// What is checked.
+#[derive(Clone, Copy)]
+pub struct CertifiedPair<'x, 'o, 'n> {
+    pub old: &'x Library<'o, OldIx>,
+    pub new: &'x Library<'n, NewIx>,
+    pub marks: &'x Marks,
+    pub cert: &'x Cert,
+}
+
+/// Whether an old node is marked at a way.
+pub fn is_marked(ground: &CertifiedPair, node: OldIx, way: Way) -> bool
+    ensures { result ≡ the_node_is_marked (task_of (case_of ground.now).sides) node way }
+{
+    let flags = match way {
+        Way::Direct => ground.marks.direct.as_slice(),
+        Way::Pointer => ground.marks.pointer.as_slice(),
+    };
+    match flags.get(node.number()) {
+        Some(mark) => *mark,
+        None => false,
+    }
+}
+
+/// The node of an entry.
+pub fn find<Ix: Index>(library: &Library<Ix>, entry: u64) -> Option<Ix>
+    ensures node { option_map Ix.number_of result ≡ node_of library.now.graph entry }
+    ensures inside { IfSome result (λ ix. Ix.number_of ix < length library.now.graph) }
+{
+    library.graph().find(entry)
+}
+
+/// What a node looks like.
+pub fn view_of<'x, 'a, Ix: Index>(library: &'x Library<'a, Ix>, ix: Ix) -> &'x View<'a, Ix>
+    requires { Ix.number_of ix < length library.now.graph }
+    ensures view { result.now ≡ view_at library.now.graph (Ix.number_of ix) }
+    ensures named { NamesNodes library.now.graph result.now }
+{
+    let graph = library.graph();
+    graph.known();
+    graph.view(ix)
+}
+
+/// The bind lines of a certificate.
+pub fn binds_of(cert: &Cert) -> &[(u32, u32)]
+    ensures value { result.now ≡ cert.now.binds }
+    ensures ascend { Ascend first_cmp result.now }
+{
+    cert.known();
+    cert.binds.as_slice()
+}
+
+/// The alike lines of the old library.
+pub fn alike_old_of(cert: &Cert) -> &[(u64, u64)]
+    ensures value { result.now ≡ cert.now.alike_old }
+    ensures ascend { Ascend first_cmp result.now }
+{
+    cert.known();
+    cert.alike_old.as_slice()
+}
+
+/// The alike lines of the new library.
+pub fn alike_new_of(cert: &Cert) -> &[(u64, u64)]
+    ensures value { result.now ≡ cert.now.alike_new }
+    ensures ascend { Ascend first_cmp result.now }
+{
+    cert.known();
+    cert.alike_new.as_slice()
+}
+
+/// Whether the old export at a position is compared: no rule drops it.
+pub fn is_compared(ground: &CertifiedPair, k: usize) -> bool
+    ensures { result ≡ not (slice_index_or ground.now.marks.now.exports k false) }
+{
+    match ground.marks.exports.as_slice().get(k) {
+        Some(dropped) => !*dropped,
+        None => true,
+    }
+}
+
+/// How many exports the old library has.
+pub fn export_count(ground: &CertifiedPair) -> usize
+    ensures { result ≡ length ground.now.old.now.exports }
+{
+    ground.old.exports().len()
+}
+
+/// The old export at a position.
+#[tactic(auto, using(crate::proofs::ExportLemmas::export_read))]
+pub fn export_at<'x, 'o>(ground: &CertifiedPair<'x, 'o, '_>, k: usize) -> &'x Export<'o>
+    requires { k < length ground.now.old.now.exports }
+    ensures { slice_get ground.now.old.now.exports k ≡ Some (plain_export result.now) }
+{
+    let exports = ground.old.exports();
+    &exports[k]
+}
+
+/// The number of the symbol of the old export at a position.
+pub fn symbol_at(ground: &CertifiedPair, k: usize) -> u64
+    requires { k < length ground.now.old.now.exports }
+    ensures { result ≡ symbol_of (slice_get ground.now.old.now.exports k) }
+{
+    u64::from(export_at(ground, k).symbol)
+}
+
+// The new export at a position, where there is one.
+#[tactic(auto, using(crate::proofs::ExportLemmas::new_read))]
+fn new_export_at<'x, 'n>(ground: &CertifiedPair<'x, '_, 'n>, place: usize) -> Option<&'x Export<'n>>
+    ensures { MatchOption result (slice_get ground.now.new.now.exports place ≡ None) (λ export. slice_get ground.now.new.now.exports place ≡ Some (plain_export export.now)) }
+{
+    ground.new.exports().get(place)
+}
+
+/// The new export that an old one binds to.
+#[tactic(auto, using(crate::proofs::ExportLemmas::bound_none, crate::proofs::ExportLemmas::bound_at))]
+pub fn bound_to<'x, 'n>(
+    ground: &CertifiedPair<'x, '_, 'n>,
+    export: &Export,
+) -> Option<&'x Export<'n>>
+    ensures { MatchOption result (bound (case_of ground.now).sides (plain_export export.now) ≡ None) (λ partner. bound (case_of ground.now).sides (plain_export export.now) ≡ Some (plain_export partner.now)) }
+{
+    match bind_in(export, ground.new) {
+        None => None,
+        Some(place) => new_export_at(ground, place),
+    }
+}

@@ -1,0 +1,5 @@
+use Rattle.cli_args.proofs.Commands.{entries_asks}
+use Rattle.cli_args.proofs.laws.entries_takes_one_file.Goals as goal
+
+pub returns : goal.returns
+returns c = entries_asks

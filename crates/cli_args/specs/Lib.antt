@@ -1,0 +1,6 @@
+pub mod Words
+pub mod Line
+pub mod Trials
+pub mod ParsedArguments
+pub mod Requests
+pub mod PlainLines

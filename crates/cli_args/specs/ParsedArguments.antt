@@ -1,0 +1,89 @@
+-- What the words of a command line ask for.
+use Rattle.std.specs.Prelude.{ℕ, List, [], ◌∷◌, Option, Some, None, codes, if◌then◌else◌, option_map, option_and_then}
+use Rattle.std.specs.Str.{bytes_eq}
+use Rattle.clap.specs.Words.{Kinds, Row, fault_of, matches_of}
+use Rattle.clap.specs.declared.error.kind.ErrorKind.TheVariants.{DisplayHelp}
+use Rattle.report.specs.declared.styles.report_option.ReportStyle.{ReportStyle}
+use Rattle.report.specs.declared.styles.report_option.ReportStyle.TheVariants.{Text, Table, Counts, First, Own}
+use Rattle.cli_args.specs.Line.{PlainLine, line_app, line_in}
+use Rattle.cli_args.specs.Trials.{trial_count_of}
+use Rattle.cli_args.specs.declared.judge.CommandName.{CommandName}
+use Rattle.cli_args.specs.declared.judge.CommandName.TheVariants.{Check, Verify, Entries, Exports, Trial}
+
+-- a request, with the names of its inputs, the style of its report and how many functions its trial makes
+pub data PlainRequest : Type 0 where
+  check : (rules : Option (List ℕ)) (report : ReportStyle) (old new : List ℕ) → PlainRequest
+  verify : (rules : Option (List ℕ)) (old new certificate : List ℕ) → PlainRequest
+  entries : (library : List ℕ) → PlainRequest
+  exports : (library : List ℕ) → PlainRequest
+  trial : (count : ℕ) → PlainRequest
+
+-- what words ask for: a request, the help, or nothing that is right, which the usage answers
+pub data PlainArguments : Type 0 where
+  request : PlainRequest → PlainArguments
+  help : PlainArguments
+  usage : PlainArguments
+
+-- the command of that name
+unfoldable pub command_named : List ℕ → Option CommandName
+command_named word = if bytes_eq word (codes "check") then Some Check
+    else (if bytes_eq word (codes "verify") then Some Verify
+    else (if bytes_eq word (codes "entries") then Some Entries
+    else (if bytes_eq word (codes "exports") then Some Exports
+    else (if bytes_eq word (codes "trial") then Some Trial else None))))
+
+-- the style of that name
+unfoldable pub report_style_named : List ℕ → Option ReportStyle
+report_style_named word = if bytes_eq word (codes "text") then Some Text
+    else (if bytes_eq word (codes "table") then Some Table
+    else (if bytes_eq word (codes "counts") then Some Counts
+    else (if bytes_eq word (codes "first") then Some First
+    else (if bytes_eq word (codes "own") then Some Own else None))))
+
+-- the style that is asked for, `text` where none is named
+abbrev pub style_of : Option (List ℕ) → Option ReportStyle
+style_of None = Some Text
+style_of (Some word) = report_style_named word
+
+-- `check` with these files and options: OLD NEW, and both options
+abbrev pub check_of : (files : List (List ℕ)) (rules report : Option (List ℕ)) → Option PlainRequest
+check_of (old ∷ new ∷ []) rules report = option_map (λ style. check rules style old new) (style_of report)
+check_of files rules report = None
+
+-- `verify` with these files and options: OLD NEW CERT, and `--rules` alone
+abbrev pub verify_of : (files : List (List ℕ)) (rules report : Option (List ℕ)) → Option PlainRequest
+verify_of (old ∷ new ∷ certificate ∷ []) rules None = Some (verify rules old new certificate)
+verify_of files rules report = None
+
+-- the one word of a command that has no option
+abbrev pub lone_word : (files : List (List ℕ)) (rules report : Option (List ℕ)) → Option (List ℕ)
+lone_word (word ∷ []) None None = Some word
+lone_word files rules report = None
+
+-- the request of a command with these files and options
+abbrev pub request_of : CommandName → (files : List (List ℕ)) (rules report : Option (List ℕ)) → Option PlainRequest
+request_of Check files rules report = check_of files rules report
+request_of Verify files rules report = verify_of files rules report
+request_of Entries files rules report = option_map entries (lone_word files rules report)
+request_of Exports files rules report = option_map exports (lone_word files rules report)
+request_of Trial files rules report = option_map trial (option_and_then trial_count_of (lone_word files rules report))
+
+-- the request of a line that `clap` takes
+abbrev pub request_on : PlainLine → Option PlainRequest
+request_on line = option_and_then (λ name. request_of name line.files line.rules line.report) (option_and_then command_named line.command)
+
+abbrev pub request_or_usage : Option PlainRequest → PlainArguments
+request_or_usage (Some asked) = request asked
+request_or_usage None = usage
+
+-- what words ask for in which `clap` finds a fault of these kinds, or, where it finds none, these rows
+abbrev pub judged_by : Kinds → List Row → PlainArguments
+judged_by [] rows = request_or_usage (request_on (line_in rows))
+judged_by (DisplayHelp ∷ rest) rows = help
+judged_by (kind ∷ rest) rows = usage
+
+-- What the words ask for. It is the help exactly where `clap` answers the words with its help. It is the usage exactly where
+-- `clap` refuses them for another cause, or takes them and the command, the number of its files, its options, its style or its
+-- number is not right.
+unfoldable pub arguments_by : List (List ℕ) → PlainArguments
+arguments_by words = judged_by (fault_of line_app words) (matches_of line_app words)

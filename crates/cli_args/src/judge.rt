@@ -1,0 +1,204 @@
+// What a line that `clap` takes asks for: whether its command, the number of its files, its options and its style are right.
+ghost use Rattle.std.specs.Prelude.{◌≡◌, option_map};
+ghost use Rattle.std.specs.Char.{is_ascii_digit};
+ghost use Rattle.std.specs.List.{list_all};
+ghost use Rattle.clap.specs.Words.{rows_of, found_of};
+ghost use Rattle.cli_args.specs.Words.{texts};
+ghost use Rattle.cli_args.specs.Line.{line_in};
+ghost use Rattle.cli_args.specs.PlainLines.{plain_line};
+ghost use Rattle.cli_args.specs.Trials.{is_decimal as the_word_is_decimal, trial_count_of};
+ghost use Rattle.cli_args.specs.ParsedArguments.{command_named as the_command_named, report_style_named as the_style_named, style_of as the_style_of, check_of, verify_of, lone_word, request_of, request_on, request_or_usage};
+ghost use Rattle.cli_args.specs.Requests.{plain_word, plain_request, plain_asked};
+
+use crate::line::{Line, line_of};
+use crate::parsed_arguments::{ParsedArguments, Request};
+use clap::ArgMatches;
+use report::styles::ReportStyle;
+
+// The fewest and the most functions of a trial.
+const LEAST_COUNT: u32 = 1;
+
+const MOST_COUNT: u32 = 50_000;
+
+/// The commands.
+#[derive(Clone, Copy, Debug, PartialEq, Eq)]
+pub(crate) enum CommandName {
+    Check,
+    Verify,
+    Entries,
+    Exports,
+    Trial,
+}
+
+/// What the line asks for in which `clap` found this.
+pub(crate) fn judged<'a>(matches: &ArgMatches<'a>) -> ParsedArguments<'a>
+    ensures { plain_asked result ≡ request_or_usage (request_on (line_in (rows_of (found_of matches.now)))) }
+{
+    match request_in(line_of(matches)) {
+        Some(request) => ParsedArguments::Request(request),
+        None => ParsedArguments::Usage,
+    }
+}
+
+// The request of a line.
+fn request_in<'a>(line: Line<'_, 'a>) -> Option<Request<'a>>
+    ensures { option_map plain_request result ≡ request_on (plain_line line.entry) }
+{
+    let name = command_named(line.command?)?;
+    requested(name, line.files.unwrap_or(&[]), line.rules, line.report)
+}
+
+// The request of a command with these files and options.
+fn requested<'a>(
+    name: CommandName,
+    files: &[&'a str],
+    rules: Option<&'a str>,
+    report: Option<&'a str>,
+) -> Option<Request<'a>>
+    ensures { option_map plain_request result ≡ request_of name (texts files.now) (plain_word rules.entry) (plain_word report.entry) }
+{
+    match name {
+        CommandName::Check => check(files, rules, report),
+        CommandName::Verify => verify(files, rules, report),
+        CommandName::Entries => {
+            let library = lone(files, rules, report)?;
+            Some(Request::Entries { library })
+        }
+        CommandName::Exports => {
+            let library = lone(files, rules, report)?;
+            Some(Request::Exports { library })
+        }
+        CommandName::Trial => {
+            let count = trial_count(lone(files, rules, report)?)?;
+            Some(Request::Trial { count })
+        }
+    }
+}
+
+// `check` with these files and options.
+fn check<'a>(
+    files: &[&'a str],
+    rules: Option<&'a str>,
+    report: Option<&'a str>,
+) -> Option<Request<'a>>
+    ensures { option_map plain_request result ≡ check_of (texts files.now) (plain_word rules.entry) (plain_word report.entry) }
+{
+    let [old, new] = files else {
+        return None;
+    };
+    Some(Request::Check {
+        rules,
+        report: style_of(report)?,
+        old,
+        new,
+    })
+}
+
+// `verify` with these files and options.
+fn verify<'a>(
+    files: &[&'a str],
+    rules: Option<&'a str>,
+    report: Option<&'a str>,
+) -> Option<Request<'a>>
+    ensures { option_map plain_request result ≡ verify_of (texts files.now) (plain_word rules.entry) (plain_word report.entry) }
+{
+    match (files, report) {
+        ([old, new, certificate], None) => Some(Request::Verify {
+            rules,
+            old,
+            new,
+            certificate,
+        }),
+        _ => None,
+    }
+}
+
+// The one word of a command that has no option.
+fn lone<'a>(files: &[&'a str], rules: Option<&'a str>, report: Option<&'a str>) -> Option<&'a str>
+    ensures { plain_word result ≡ lone_word (texts files.now) (plain_word rules.entry) (plain_word report.entry) }
+{
+    match (files, rules, report) {
+        ([word], None, None) => Some(word),
+        _ => None,
+    }
+}
+
+// The command of that name.
+#[tactic(auto, unfolding(crate::specs::ParsedArguments::command_named))]
+fn command_named(word: &str) -> Option<CommandName>
+    ensures { result ≡ the_command_named word.now }
+{
+    if word == "check" {
+        Some(CommandName::Check)
+    } else if word == "verify" {
+        Some(CommandName::Verify)
+    } else if word == "entries" {
+        Some(CommandName::Entries)
+    } else if word == "exports" {
+        Some(CommandName::Exports)
+    } else if word == "trial" {
+        Some(CommandName::Trial)
+    } else {
+        None
+    }
+}
+
+// The style of that name.
+#[tactic(auto, unfolding(crate::specs::ParsedArguments::report_style_named))]
+fn report_style_named(word: &str) -> Option<ReportStyle>
+    ensures { result ≡ the_style_named word.now }
+{
+    if word == "text" {
+        Some(ReportStyle::Text)
+    } else if word == "table" {
+        Some(ReportStyle::Table)
+    } else if word == "counts" {
+        Some(ReportStyle::Counts)
+    } else if word == "first" {
+        Some(ReportStyle::First)
+    } else if word == "own" {
+        Some(ReportStyle::Own)
+    } else {
+        None
+    }
+}
+
+// The style that is asked for, `text` where none is named.
+fn style_of(report: Option<&str>) -> Option<ReportStyle>
+    ensures { result ≡ the_style_of (plain_word report.entry) }
+{
+    match report {
+        Some(word) => report_style_named(word),
+        None => Some(ReportStyle::Text),
+    }
+}
+
+// Whether the word is decimal digits alone.
+fn has_only_digits(word: &str) -> bool
+    ensures { result ≡ list_all is_ascii_digit word.now }
+{
+    word.bytes().all(|byte| byte.is_ascii_digit())
+}
+
+// Whether the word is a number in decimal without leading zeros.
+fn is_decimal(word: &str) -> bool
+    ensures { result ≡ the_word_is_decimal word.now }
+{
+    has_only_digits(word) && word.as_bytes().first() != Some(&b'0')
+}
+
+// The number that the word writes, where it is one that a trial may have.
+#[tactic(auto, unfolding(crate::specs::Trials::trial_count_of))]
+fn trial_count(word: &str) -> Option<u32>
+    ensures { result ≡ trial_count_of word.now }
+{
+    if !is_decimal(word) {
+        return None;
+    }
+    let count = word.parse::<u32>().ok()?;
+    if (LEAST_COUNT..=MOST_COUNT).contains(&count) {
+        Some(count)
+    } else {
+        None
+    }
+}

@@ -1,0 +1,67 @@
+//! What is so of all words. Each law is the contract of a function that does nothing.
+ghost use Rattle.std.specs.Prelude.{◌≡◌, ◌<◌, ◌≤◌, ◌^◌, ℕ, List, [], ◌∷◌, length, codes, Some, None, Option, IfSome};
+ghost use Rattle.std.specs.List.{All, Any};
+ghost use Rattle.std.specs.Fmt.{decimal};
+ghost use Rattle.clap.specs.Words.{fault_of};
+ghost use Rattle.report.specs.declared.styles.report_option.ReportStyle.TheVariants.{Text};
+ghost use Rattle.cli_args.specs.Words.{LooksForHelp, IsNoOption};
+ghost use Rattle.cli_args.specs.Line.{line_app, words_of};
+ghost use Rattle.cli_args.specs.Trials.{trial_count_of};
+ghost use Rattle.cli_args.specs.ParsedArguments.{arguments_by, request_on, request_or_usage, request, help, check, verify, entries, exports, trial};
+
+/// `clap` has at most one answer to words.
+pub fn one_answer()
+    ensures { (words : List (List ℕ)) → length (fault_of line_app words) ≤ 1 }
+{}
+
+/// Where words ask for the help, one of them begins with `--help`, or begins with one `-` that no second one follows and has
+/// an `h` in it.
+pub fn help_is_asked()
+    ensures { (words : List (List ℕ)) → arguments_by words ≡ help → Any LooksForHelp words }
+{}
+
+/// A trial is of 1 to 50,000 functions.
+pub fn a_trial_is_of_a_count()
+    ensures { (words : List (List ℕ)) (n : ℕ) → arguments_by words ≡ request (trial n) → (1 ≤ n) × (n ≤ 50000) }
+{}
+
+/// A line as the usage has it, COMMAND [--rules FILE] [--report STYLE] FILES.., asks for what stands in it, where none of its
+/// other words begins with `-`.
+pub fn a_line_as_the_usage_has_it_is_read()
+    ensures { (command : List ℕ) (rules report : Option (List ℕ)) (files : List (List ℕ)) → IsNoOption command
+        → IfSome rules IsNoOption → IfSome report IsNoOption → All IsNoOption files → length files < 2 ^ 64
+        → arguments_by (words_of command rules report files)
+        ≡ request_or_usage (request_on (record { command = Some command; files = files; rules = rules; report = report })) }
+{}
+
+/// `check` and the names of two files ask for their check, with no rules and a report in lines of text.
+pub fn check_takes_two_files()
+    ensures { (old new : List ℕ) → IsNoOption old → IsNoOption new
+        → arguments_by (codes "check" ∷ old ∷ new ∷ []) ≡ request (check None Text old new) }
+{}
+
+/// `verify` and the names of three files ask for the certificate in the third one, with no rules.
+pub fn verify_takes_three_files()
+    ensures { (old new certificate : List ℕ) → IsNoOption old → IsNoOption new → IsNoOption certificate
+        → arguments_by (codes "verify" ∷ old ∷ new ∷ certificate ∷ []) ≡ request (verify None old new certificate) }
+{}
+
+/// `entries` and the name of a file ask for its entries.
+pub fn entries_takes_one_file()
+    ensures { (library : List ℕ) → IsNoOption library → arguments_by (codes "entries" ∷ library ∷ []) ≡ request (entries library) }
+{}
+
+/// `exports` and the name of a file ask for its exports.
+pub fn exports_takes_one_file()
+    ensures { (library : List ℕ) → IsNoOption library → arguments_by (codes "exports" ∷ library ∷ []) ≡ request (exports library) }
+{}
+
+/// `trial` and a number from 1 to 50,000 in decimal ask for a trial of so many functions.
+pub fn trial_takes_a_number()
+    ensures { (n : ℕ) → 1 ≤ n → n ≤ 50000 → arguments_by (codes "trial" ∷ decimal n ∷ []) ≡ request (trial n) }
+{}
+
+/// A word that is read as the number of a trial is that number in decimal, without leading zeros or a sign.
+pub fn a_count_is_written_in_decimal()
+    ensures { (word : List ℕ) (n : ℕ) → trial_count_of word ≡ Some n → word ≡ decimal n }
+{}

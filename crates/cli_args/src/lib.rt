@@ -1,0 +1,10 @@
+//! The words of the command line, read with `clap` as one simple command. What they ask for is defined in `specs/ParsedArguments.antt`, on
+//! what the model of `clap` says that it answers.
+#![tactic(auto)]
+
+mod judge;
+pub mod laws;
+mod line;
+mod parsed_arguments;
+
+pub use parsed_arguments::{ParsedArguments, Request, parse_arguments};

@@ -1,0 +1,68 @@
+// What the words ask for.
+ghost use Rattle.std.specs.Prelude.{◌≡◌, IfOk};
+ghost use Rattle.cli_args.specs.Words.{texts};
+ghost use Rattle.cli_args.specs.ParsedArguments.{arguments_by};
+ghost use Rattle.cli_args.specs.Requests.{plain_asked};
+
+use crate::judge::judged;
+use crate::line::{Refused, matches_in};
+use abi_base::NoMemory;
+use report::styles::ReportStyle;
+use std::alloc::Global;
+
+/// What is asked for, with the names of the inputs as the words give them.
+#[derive(Clone, Copy, Debug, PartialEq, Eq)]
+pub enum Request<'a> {
+    /// Whether the new library may stand in the place of the old one, with a report in this style if not.
+    Check {
+        rules: Option<&'a str>,
+        report: ReportStyle,
+        old: &'a str,
+        new: &'a str,
+    },
+    /// Whether the certificate proves it.
+    Verify {
+        rules: Option<&'a str>,
+        old: &'a str,
+        new: &'a str,
+        certificate: &'a str,
+    },
+    /// The debug entries of a library.
+    Entries {
+        library: &'a str,
+    },
+    /// The exports of a library.
+    Exports {
+        library: &'a str,
+    },
+    /// The check of two generated libraries with so many functions, from 1 to 50,000.
+    Trial {
+        count: u32,
+    },
+}
+
+/// What words ask for.
+#[derive(Clone, Copy, Debug, PartialEq, Eq)]
+pub enum ParsedArguments<'a> {
+    /// A request.
+    Request(Request<'a>),
+    /// The help.
+    Help,
+    /// Nothing that is right: the usage answers.
+    Usage,
+}
+
+/// What the words after the program's name ask for. It fails only when memory runs out.
+pub fn parse_arguments<'a>(
+    alloc: Global,
+    words: &'a [&'a str],
+) -> Result<ParsedArguments<'a>, NoMemory>
+    ensures { IfOk result (λ asked. plain_asked asked ≡ arguments_by (texts words.entry.now)) }
+{
+    match matches_in(alloc, words) {
+        Ok(matches) => Ok(judged(&matches)),
+        Err(Refused::Help) => Ok(ParsedArguments::Help),
+        Err(Refused::Wrong) => Ok(ParsedArguments::Usage),
+        Err(Refused::NoMemory) => Err(NoMemory),
+    }
+}

@@ -1,5 +1,0 @@
-use Rattle.command_words.proofs.Commands.{usage_line_asks}
-use Rattle.command_words.proofs.laws.a_line_as_the_usage_has_it_is_read.Goals as goal
-
-pub returns : goal.returns
-returns c = usage_line_asks

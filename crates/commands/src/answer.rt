@@ -1,0 +1,72 @@
+// The answer of a command, built whole.
+ghost use Rattle.std.specs.Prelude.{◌≡◌, [], map, All, IfOk};
+ghost use Rattle.commands.specs.Commands.{files_of, places_of, plain_file, plain_place};
+ghost use Rattle.commands.specs.Outcomes.{IsStopReply};
+ghost use Rattle.commands.specs.Reading.{AreOwnShort, reading_of};
+ghost use Rattle.commands.specs.Replies.{Replies};
+
+use crate::command::Command;
+use crate::outcome::{Outcome, outcome_of};
+use crate::place::{File, Place, files_in};
+use crate::reading::read_all;
+use crate::stop::Stop;
+use crate::text;
+use abi_base::{Inputs, NoMemory};
+use report::Listener;
+use std::alloc::Global;
+
+/// An outcome and the text that goes with it.
+#[derive(Drop)]
+pub struct Answer<'a> {
+    pub outcome: Outcome,
+    /// The bytes of the text.
+    pub text: Vec<u8>,
+    /// The names of the inputs.
+    pub files: Vec<File<'a>>,
+}
+
+/// The answer of a command: its inputs are read whole, in order, and then it judges their bytes. It fails only when memory runs
+/// out.
+pub fn answer_with<'a, C: Command, I: Inputs>(
+    alloc: Global,
+    places: &[Place<'a>],
+    command: C,
+    inputs: &mut I,
+    listeners: Vec<Box<dyn Listener>>,
+) -> Result<Answer<'a>, NoMemory>
+    requires places { map plain_place places.now ≡ places_of (C.inputs command) }
+    requires short { AreOwnShort (places_of (C.inputs command)) }
+    requires unheard { All (λ listener. heard listener ≡ []) listeners.items }
+    ensures replies { IfOk result (λ a. Replies (reading_of I.told I.faults I.given inputs.old inputs.new) (C.inputs command) (C.says command (map asks listeners.items)) a.outcome a.text.items) }
+    ensures files { IfOk result (λ a. map plain_file a.files.items ≡ files_of (places_of (C.inputs command))) }
+{
+    let files = files_in(alloc, places)?;
+    match read_all(alloc, inputs, places) {
+        Err(stop) => stopped(alloc, stop, files),
+        Ok(all) => match command.judge(alloc, &all, listeners) {
+            Ok(said) => Ok(Answer {
+                outcome: Outcome::Judged(said.verdict, said.untyped),
+                text: said.text,
+                files,
+            }),
+            Err(stop) => stopped(alloc, stop, files),
+        },
+    }
+}
+
+// The answer where a command gives no verdict.
+fn stopped<'a>(alloc: Global, stop: Stop, files: Vec<File<'a>>) -> Result<Answer<'a>, NoMemory>
+    ensures reply { IfOk result (λ a. IsStopReply stop a.outcome a.text.items) }
+    ensures files { IfOk result (λ a. a.files ≡ files.entry) }
+{
+    let text = match stop {
+        Stop::NoMemory => return Err(NoMemory),
+        Stop::ReadFault(which) => text::read_fault(alloc, which)?,
+        Stop::Unreadable(which, fault) => text::unreadable(alloc, which, fault)?,
+    };
+    Ok(Answer {
+        outcome: outcome_of(stop),
+        text,
+        files,
+    })
+}

@@ -1,0 +1,60 @@
+// Reads inputs whole, in order.
+ghost use Rattle.std.specs.Prelude.{◌≡◌, ◌≤◌, List, ℕ, length, map, IfOk, IfErr, IfSome};
+ghost use Rattle.abi_base.specs.Causes.{NeverFall};
+ghost use Rattle.abi_base.specs.Limits.{input_limit};
+ghost use Rattle.commands.specs.Commands.{items_of, plain_place};
+ghost use Rattle.commands.specs.Faults.{AreShort};
+ghost use Rattle.commands.specs.Reading.{AreOwnShort, Gives, IsOwnShort, StopsOne, StopsReading, told_of};
+
+use crate::place::{Place, Source};
+use crate::stop::Stop;
+use abi_base::{Fault, FaultKind, INPUT_LIMIT, Inputs, Take, read_whole};
+use std::alloc::Global;
+
+// The bytes of an input, or why it cannot be read whole.
+fn read_one<I: Inputs>(alloc: Global, inputs: &mut I, place: &Place<'_>) -> Result<Vec<u8>, Stop>
+    requires { IsOwnShort (plain_place place.now).1 }
+    ensures told { (other : List ℕ) → I.told inputs.new other ≡ I.told inputs.old other }
+    ensures later { NeverFall (I.faults inputs.old) (I.faults inputs.new) }
+    ensures given { IfOk result (λ bytes. IfSome (told_of (I.told inputs.old) (plain_place place.now).1) (λ t. bytes.items ≡ t)) }
+    ensures short { IfOk result (λ bytes. length bytes.items ≤ input_limit) }
+    ensures unread { IfErr result (StopsOne (I.told inputs.old) (I.faults inputs.old) (I.faults inputs.new) (I.given inputs.new) (plain_place place.now)) }
+{
+    match &place.source {
+        Source::Own(bytes) => Ok(Vec::from_slice(alloc, bytes)?),
+        Source::Named(name) => match read_whole(alloc, inputs, name, INPUT_LIMIT) {
+            Ok(bytes) => Ok(bytes),
+            Err(Take::NoMemory) => Err(Stop::NoMemory),
+            Err(Take::Failed) => Err(Stop::ReadFault(place.which)),
+            Err(Take::TooLong) => {
+                let fault = Fault {
+                    kind: FaultKind::TooLong,
+                    at: INPUT_LIMIT as u64,
+                };
+                Err(Stop::Unreadable(place.which, fault))
+            }
+        },
+    }
+}
+
+/// The bytes of the inputs, or why the first that cannot be read whole cannot be.
+pub(crate) fn read_all<I: Inputs>(
+    alloc: Global,
+    inputs: &mut I,
+    places: &[Place<'_>],
+) -> Result<Vec<Vec<u8>>, Stop>
+    requires { AreOwnShort (map plain_place places.now) }
+    ensures told { (name : List ℕ) → I.told inputs.new name ≡ I.told inputs.old name }
+    ensures later { NeverFall (I.faults inputs.old) (I.faults inputs.new) }
+    ensures given { IfOk result (λ all. Gives (I.told inputs.old) (map plain_place places.now) (map items_of all.items)) }
+    ensures unread { IfErr result (StopsReading (I.told inputs.old) (I.faults inputs.old) (I.faults inputs.new) (I.given inputs.new) (map plain_place places.now)) }
+{
+    let mut all = Vec::new(alloc);
+    for place in places {
+        match read_one(alloc, inputs, place) {
+            Ok(bytes) => all.push(bytes)?,
+            Err(stop) => return Err(stop),
+        }
+    }
+    Ok(all)
+}

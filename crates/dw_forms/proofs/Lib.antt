@@ -1,3 +1,0 @@
-mod Cases
-mod FormLemmas
-pub mod lemmas

@@ -1,2 +1,0 @@
-pub mod RangeLists
-pub mod Seen

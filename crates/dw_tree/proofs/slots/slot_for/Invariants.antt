@@ -1,5 +1,0 @@
-use Rattle.dw_tree.specs.Keeping.{NoneBefore}
-use Rattle.dw_tree.proofs.slots.slot_for.Given as goal
-
-abbrev pub invariant-loop-place : goal.invariant-loop-place
-invariant-loop-place l = NoneBefore l.slots l.fn.shape.slots_from l.place l.name

@@ -1,9 +1,0 @@
-use Rattle.std.proofs.Common.{◌≡◌, drop}
-use Rattle.dw_forms.specs.Values.{place_after}
-use Rattle.dw_units.specs.Units.{values_at}
-use Rattle.dw_units.specs.Plain.{plain_unit}
-use Rattle.dw_units.proofs.values.values_end.Given as goal
-
-abbrev pub invariant-loop-spec : goal.invariant-loop-spec
-invariant-loop-spec l =
-    place_after (values_at (plain_unit l.unit) l.entry (drop l.spec-index l.specs) l.place) ≡ place_after (values_at (plain_unit l.unit) l.entry l.specs l.at)

@@ -1,0 +1,11 @@
+pub mod Addresses
+pub mod Chains
+pub mod Debug
+pub mod First
+pub mod Pass
+pub mod Places
+pub mod Rows
+pub mod FlagsAndBlocks
+pub mod Sound
+pub mod UnitContext
+pub mod Whole

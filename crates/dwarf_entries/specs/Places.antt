@@ -1,0 +1,23 @@
+-- Maps from numbers to the first place of each.
+use Rattle.std.specs.Prelude.{◌≡◌, ℕ, Option, nat_eq, position}
+use Rattle.std.specs.HashMap.{HashMap, get}
+use Rattle.std.specs.declared.hash.FoldHasher.{FoldHasher}
+use Rattle.std.specs.declared.hash.BuildHasherDefault.{BuildHasherDefault}
+use Rattle.dwarf_tree.specs.Trees.{PlainTree}
+use Rattle.dwarf_entries.specs.Debug.{PlainDwarf}
+use Rattle.dwarf_entries.specs.Chains.{has_signature}
+use Rattle.dwarf_entries.specs.Addresses.{typed_of}
+
+abbrev pub Places : Type 0
+Places = HashMap ℕ ℕ (BuildHasherDefault FoldHasher)
+
+abbrev pub place_under : Places → ℕ → Option ℕ
+place_under places number = get nat_eq places number
+
+-- Under each signature stands the first unit that has it.
+pub record HoldUnits (places : Places) (t : PlainTree) : Type 0 where
+  pub first : (signature : ℕ) → place_under places signature ≡ position (has_signature signature) t.units
+
+-- Under each address stands the first entry that stands for it.
+pub record HoldEntries (places : Places) (d : PlainDwarf) : Type 0 where
+  pub first : (address : ℕ) → place_under places address ≡ typed_of d address

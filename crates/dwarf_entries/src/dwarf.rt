@@ -1,0 +1,246 @@
+// The debug information of a file.
+ghost use Rattle.std.specs.Prelude.{◌≡◌, ◌<◌, None, filter, length, All, Contains, IfOk, IfSome};
+ghost use Rattle.std.specs.Option.{option_copied, option_map_or, ForSome};
+ghost use Rattle.abi_base.specs.Outcome.{Judges};
+ghost use Rattle.dwarf_tree.specs.Trees.{entry_at, own_of, entry_of, children_of, next_child_of, IsOrdered, is_tagged};
+ghost use Rattle.dwarf_entries.specs.Debug.{plain_sections, dwarf_of};
+ghost use Rattle.dwarf_entries.specs.Chains.{attribute_along, origin_of, name_of as the_name_of, signed_of, target_of};
+ghost use Rattle.dwarf_entries.specs.Addresses.{entry_address_of, is_declared_only as only_declares, typed_of};
+ghost use Rattle.dwarf_entries.specs.Pass.{dwarf_fault};
+ghost use Rattle.dwarf_entries.specs.FlagsAndBlocks.{block_of, flag_value_along};
+ghost use Rattle.dwarf_entries.specs.Sound.{AreFaultless};
+
+use crate::addresses::{entry_address, is_declared_only, is_true, part};
+use crate::names::name;
+use crate::pass::own_fault;
+use crate::places::place_of;
+use crate::source::Source;
+use crate::typed::entries_by_address;
+use abi_base::{NoMemory, Refusal};
+use dwarf_forms::{Sections, Value};
+use dwarf_tree::laws::children_stand_one_deeper;
+use dwarf_tree::read_tree;
+use std::alloc::Global;
+use std::collections::HashMap;
+use std::marker::Model;
+
+/// The debug information of a file, in which no entry has a fault. Contracts see it as a `PlainDwarf`. A position counts the
+/// entries from 0, and is below `len`.
+#[derive(Drop)]
+pub struct Dwarf<'a> {
+    source: Source<'a>,
+    // the first entry that stands for each address
+    typed: HashMap<u64, usize>,
+}
+
+impl<'a> Model for Dwarf<'a> {
+    ghost use Rattle.dwarf_entries.specs.Debug.{PlainDwarf};
+
+    ghost Value = { PlainDwarf };
+
+    ghost use Rattle.dwarf_entries.specs.Whole.{IsWhole};
+
+    ghost view = { λ d. d.source };
+
+    ghost invariant = { λ d. IsWhole d.typed d.source };
+}
+
+/// The debug information of a file: all entries of all units, in order of offset. The fault is the first one of units and
+/// entries, as they are read, and then of what entries say, in order of offset.
+#[tactic(auto, unfolding(crate::specs::Pass::dwarf_fault))]
+pub fn tree<'a>(alloc: Global, sections: Sections<'a>) -> Result<Dwarf<'a>, Refusal>
+    ensures judged { Judges result (dwarf_fault (plain_sections sections.entry)) }
+    ensures read { IfOk result (λ d. d ≡ dwarf_of (plain_sections sections.entry)) }
+{
+    let entries = match read_tree(alloc, &sections) {
+        Ok(entries) => entries,
+        Err(refused) => return Err(refused),
+    };
+    let source = Source::of(alloc, sections, entries)?;
+    match own_fault(&source) {
+        Some(fault) => return Err(Refusal::Fault(fault)),
+        None => {}
+    }
+    let typed = entries_by_address(alloc, &source)?;
+    Ok(Dwarf { source, typed })
+}
+
+impl<'a> Dwarf<'a> {
+    /// How many entries there are.
+    pub fn len(&self) -> usize
+        ensures { result ≡ length self.now.tree.entries }
+    {
+        self.source.len()
+    }
+
+    /// Where an entry begins in `.debug_info`.
+    pub fn offset(&self, e: usize) -> u64
+        requires { e < length self.now.tree.entries }
+        ensures { result ≡ (entry_at self.now.tree e).offset }
+    {
+        self.source.tree().offset(e)
+    }
+
+    /// What an entry is, `DW_TAG_..`.
+    pub fn tag(&self, e: usize) -> u64
+        requires { e < length self.now.tree.entries }
+        ensures { result ≡ (entry_at self.now.tree e).tag }
+    {
+        self.source.tree().tag(e)
+    }
+
+    /// The first child of an entry, or the first one after a position. None exactly where there is no other.
+    pub fn next_child(&self, e: usize, after: Option<usize>) -> Option<usize>
+        requires { e < length self.now.tree.entries }
+        ensures next { result ≡ next_child_of self.now.tree e after }
+        ensures child { IfSome result (λ next. Contains (children_of self.now.tree e) next) }
+        ensures inside { IfSome result (λ next. next < length self.now.tree.entries) }
+        ensures later { IfSome result (λ next. ForSome after (λ child. child < next)) }
+    {
+        self.source.tree().next_child(e, after)
+    }
+
+    /// The children of an entry that have a tag, in order.
+    pub fn tagged(&self, alloc: Global, e: usize, tag: u64) -> Result<Vec<usize>, NoMemory>
+        requires { e < length self.now.tree.entries }
+        ensures children { IfOk result (λ list. list.items ≡ filter (is_tagged self.now.tree tag) (children_of self.now.tree e)) }
+        ensures inside { IfOk result (λ list. All (λ child. child < length self.now.tree.entries) list.items) }
+    {
+        children_stand_one_deeper();
+        self.source.tree().tagged(alloc, e, tag)
+    }
+
+    /// Does nothing. It tells what holds of all debug information that was read: its sections have no fault, and it is what
+    /// they say; its entries stand in order, none at 0, they are fewer than 2^32, and none has a fault.
+    pub fn known(&self)
+        ensures faultless { dwarf_fault self.now.sections ≡ None }
+        ensures read { self.now ≡ dwarf_of self.now.sections }
+        ensures ordered { IsOrdered self.now.tree }
+        ensures entries { AreFaultless self.now }
+    {
+        self.source.tree().known();
+    }
+
+    /// The first value that an entry itself has of an attribute, and none where it has none.
+    pub fn own(&self, e: usize, name: u64) -> Option<Value>
+        requires { e < length self.now.tree.entries }
+        ensures { result ≡ own_of self.now.tree e name }
+    {
+        self.source.tree().own(e, name)
+    }
+
+    /// The position of the entry that begins at an offset. None exactly where no entry begins there.
+    pub fn find(&self, offset: u64) -> Option<usize>
+        ensures found { result ≡ entry_of self.now.tree offset }
+        ensures inside { IfSome result (λ e. e < length self.now.tree.entries) }
+    {
+        self.source.tree().find(offset)
+    }
+
+    /// The entry that a value refers to: the one that begins at its place, or the one of the type of the first type unit that
+    /// has its signature. None exactly where there is no such entry, and where the value is no reference.
+    pub fn target(&self, value: &Value) -> Option<usize>
+        ensures found { result ≡ target_of self.now.tree value.now }
+        ensures inside { IfSome result (λ e. e < length self.now.tree.entries) }
+    {
+        self.source.links().target(value)
+    }
+
+    /// The value that an entry has of an attribute, itself or along the chain of entries that it stands for: by
+    /// `DW_AT_abstract_origin`, else by `DW_AT_specification`. `DW_AT_low_pc`, `DW_AT_ranges`, `DW_AT_entry_pc`,
+    /// `DW_AT_location` and `DW_AT_declaration` speak of the entry itself, and are not looked for along the chain.
+    #[inline(always)]
+    pub fn attr(&self, e: usize, name: u64) -> Option<Value>
+        requires { e < length self.now.tree.entries }
+        ensures { result ≡ attribute_along self.now.tree e name }
+    {
+        self.source.links().attr(e, name)
+    }
+
+    /// The entry that the value of an attribute refers to: `target` of the value that `attr` gives, in less time than both. None
+    /// exactly where there is no such value, and where it refers to no entry.
+    pub fn attr_target(&self, e: usize, name: u64) -> Option<usize>
+        requires { e < length self.now.tree.entries }
+        ensures found { result ≡ option_map_or (target_of self.now.tree) (attribute_along self.now.tree e name) None }
+        ensures inside { IfSome result (λ f. f < length self.now.tree.entries) }
+    {
+        self.source.links().attr_target(e, name)
+    }
+
+    /// Whether an entry has a flag that holds, itself or along the chain. A value of another class counts as none.
+    pub fn flag_value(&self, e: usize, name: u64) -> bool
+        requires { e < length self.now.tree.entries }
+        ensures { result ≡ flag_value_along self.now.tree e name }
+    {
+        is_true(self.attr(e, name))
+    }
+
+    /// Whether an entry says of itself that it is a declaration. A value that is no flag counts as none.
+    pub fn is_declaration(&self, e: usize) -> bool
+        requires { e < length self.now.tree.entries }
+        ensures { result ≡ only_declares self.now.tree e }
+    {
+        is_declared_only(self.source.tree(), e)
+    }
+
+    /// The bytes of a block or an expression, which are a part of the file. None exactly where the value is neither.
+    pub fn block(&self, value: &Value) -> Option<&'a [u8]>
+        ensures { option_copied result ≡ block_of self.now.sections.info value.now }
+    {
+        match *value {
+            Value::Block { from, to } => Some(part(self.info(), from, to)),
+            _ => None,
+        }
+    }
+
+    /// The last entry of the chain of an entry, which is the entry itself where it has none.
+    pub fn origin(&self, e: usize) -> usize
+        requires { e < length self.now.tree.entries }
+        ensures found { result ≡ origin_of self.now.tree e }
+        ensures inside { result < length self.now.tree.entries }
+    {
+        self.source.links().origin(e)
+    }
+
+    /// The name of an entry, itself or along the chain, which is a part of the file without its 0 byte. None exactly where no
+    /// entry of the chain has a name, and where the first name is that of an entry whose tag is not read and is no text.
+    pub fn name_of(&self, e: usize) -> Option<&'a [u8]>
+        requires { e < length self.now.tree.entries }
+        ensures { option_copied result ≡ the_name_of self.now e }
+    {
+        name(&self.source, e)
+    }
+
+    /// The address at which a function is entered, or of a variable, by what the entry itself says. None exactly where it says
+    /// none that can be read.
+    pub fn entry_address(&self, e: usize) -> Option<u64>
+        requires { e < length self.now.tree.entries }
+        ensures { result ≡ entry_address_of self.now e }
+    {
+        entry_address(&self.source, e)
+    }
+
+    /// What `.debug_info` holds.
+    pub fn info(&self) -> &'a [u8]
+        ensures { result.now ≡ self.now.sections.info }
+    {
+        self.source.sections().info
+    }
+
+    /// The first entry that stands for an address: a function or a variable of its unit itself, which is no declaration, in a
+    /// unit that is not written in assembler.
+    pub fn typed(&self, address: u64) -> Option<usize>
+        ensures found { result ≡ typed_of self.now address }
+        ensures inside { IfSome result (λ e. e < length self.now.tree.entries) }
+    {
+        place_of(&self.typed, address)
+    }
+
+    /// The entry of the type of the first type unit that has a signature. None exactly where no unit has it.
+    pub fn by_signature(&self, signature: u64) -> Option<usize>
+        ensures found { result ≡ signed_of self.now.tree signature }
+        ensures inside { IfSome result (λ e. e < length self.now.tree.entries) }
+    {
+        self.source.links().by_signature(signature)
+    }
+}

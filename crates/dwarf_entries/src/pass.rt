@@ -1,0 +1,374 @@
+// The faults of what entries say.
+ghost use Rattle.std.specs.Prelude.{◌≡◌, ◌<◌, [], ◌∷◌, true, false, length, map, None};
+ghost use Rattle.std.specs.Option.{option_copied, option_or};
+ghost use Rattle.abi_base.specs.Outcome.{first};
+ghost use Rattle.abi_base.specs.declared.fault.FaultKind.TheVariants as kind;
+ghost use Rattle.dwarf_entries.specs.Pass.{of_kind as if_of_kind, name_fault as fault_of_name, entry_pc_address as address_of_entry_pc, ranges_fault as fault_of_ranges, address_faults, function_faults, refers_nowhere as leads_nowhere, is_signed as has_signature, lacks_unit as has_no_unit, has_bad_reference as refers_badly, entry_rows, entry_fault as fault_of_entry, own_fault as fault_of_entries};
+ghost use Rattle.dwarf_text.specs.Texts.{fault_of as the_fault_of};
+ghost use Rattle.dwarf_entries.specs.Chains.{link_by};
+ghost use Rattle.dwarf_tree.specs.Trees.{own_of};
+ghost use Rattle.dwarf_entries.specs.Rows.{are_addresses_asked, name_rows, reference_rows, rows_behind_name};
+ghost use Rattle.abi_base.specs.Dwarf.{dw_at_abstract_origin, dw_at_specification, dw_at_type};
+
+use crate::addresses::{address_where_there, first_range, is_defined, low_pc, variable_address};
+use crate::constants::ROOT;
+use crate::link::Link;
+use crate::links::Links;
+use crate::source::Source;
+use crate::tags::is_read_tag;
+use abi_base::dwarf::{
+    DW_AT_abstract_origin, DW_AT_entry_pc, DW_AT_low_pc, DW_AT_name, DW_AT_signature,
+    DW_AT_specification, DW_AT_type, DW_TAG_enumeration_type, DW_TAG_structure_type,
+    DW_TAG_subprogram, DW_TAG_union_type,
+};
+use abi_base::{Fault, FaultKind};
+use dwarf_forms::Value;
+use dwarf_tree::Tree;
+
+// The first faults of addresses, of each kind that they may have.
+#[derive(Clone, Copy)]
+struct AddressFaults {
+    index: Option<Fault>,
+    ranges: Option<Fault>,
+}
+
+// The fault of what was read, where it has one.
+fn fault_of(read: Result<Option<u64>, Fault>) -> Option<Fault>
+    ensures { result ≡ the_fault_of read }
+{
+    match read {
+        Ok(_) => None,
+        Err(fault) => Some(fault),
+    }
+}
+
+// The fault, where it is of a kind.
+fn of_kind(kind: FaultKind, fault: Option<Fault>) -> Option<Fault>
+    ensures { result ≡ if_of_kind kind fault }
+{
+    match fault {
+        Some(fault) => {
+            if fault.kind.number() == kind.number() {
+                Some(fault)
+            } else {
+                None
+            }
+        }
+        None => None,
+    }
+}
+
+// Whether an entry's own name is a text of `.debug_str`, as most are.
+#[inline(always)]
+#[tactic(auto, using(crate::proofs::TextLemmas::short_sound))]
+fn has_short_name(source: &Source, e: usize) -> bool
+    requires { e < length source.now.tree.entries }
+    ensures { result ≡ true → fault_of_name source.now e ≡ None }
+{
+    match source.tree().short_text(e, DW_AT_name) {
+        Some(place) => source.has_str_text(place),
+        None => false,
+    }
+}
+
+// The fault of an entry's own name.
+fn name_fault(source: &Source, e: usize) -> Option<Fault>
+    requires { e < length source.now.tree.entries }
+    ensures { result ≡ fault_of_name source.now e }
+{
+    match source.tree().own(e, DW_AT_name) {
+        Some(value) => source.text_fault(e, &value),
+        None => None,
+    }
+}
+
+// The same, where it is of a text or of an index: the first of the rows of an entry's name.
+fn name_row(source: &Source, e: usize) -> Option<Fault>
+    requires { e < length source.now.tree.entries }
+    ensures { result ≡ first (name_rows source.now e) }
+{
+    if has_short_name(source, e) {
+        return None;
+    }
+    let name = name_fault(source, e);
+    if name.is_none() {
+        return None;
+    }
+    of_kind(FaultKind::Text, name).or(of_kind(FaultKind::Index, name))
+}
+
+// The value of `DW_AT_entry_pc`, where it is an address.
+fn entry_pc_address(value: Option<Value>) -> Option<Value>
+    ensures { result ≡ address_of_entry_pc value }
+{
+    match value {
+        Some(Value::Address(_)) => value,
+        Some(Value::AddressIndex(_)) => value,
+        _ => None,
+    }
+}
+
+// The ranges are asked only where there is no `DW_AT_low_pc`.
+fn ranges_fault(source: &Source, e: usize) -> Option<Fault>
+    requires { e < length source.now.tree.entries }
+    ensures { result ≡ fault_of_ranges source.now e }
+{
+    if source.tree().own(e, DW_AT_low_pc).is_some() {
+        return None;
+    }
+    fault_of(first_range(source, e))
+}
+
+// Addresses without a fault.
+const NO_FAULTS: AddressFaults = AddressFaults {
+    index: None,
+    ranges: None,
+};
+
+impl AddressFaults {
+    // These, and then one more.
+    fn with(self, fault: Option<Fault>) -> AddressFaults
+        ensures index { result.index ≡ option_or self.index (if_of_kind kind.Index fault) }
+        ensures ranges { result.ranges ≡ option_or self.ranges (if_of_kind kind.Ranges fault) }
+    {
+        AddressFaults {
+            index: self.index.or(of_kind(FaultKind::Index, fault)),
+            ranges: self.ranges.or(of_kind(FaultKind::Ranges, fault)),
+        }
+    }
+}
+
+// The faults of all from which the address of a function is made.
+#[tactic(auto, using(crate::proofs::PassLemmas::first_three))]
+fn faults_of_function(source: &Source, e: usize) -> AddressFaults
+    requires { e < length source.now.tree.entries }
+    ensures index { result.index ≡ first (map (if_of_kind kind.Index) (function_faults source.now e)) }
+    ensures ranges { result.ranges ≡ first (map (if_of_kind kind.Ranges) (function_faults source.now e)) }
+{
+    let low = fault_of(low_pc(source, e));
+    let ranges = ranges_fault(source, e);
+    let entry_pc = entry_pc_address(source.tree().own(e, DW_AT_entry_pc));
+    let entry = fault_of(address_where_there(source, e, entry_pc));
+    NO_FAULTS.with(low).with(ranges).with(entry)
+}
+
+// Whether addresses are asked of an entry. Of most entries none are.
+fn has_addresses(tree: &Tree<'_>, e: usize) -> bool
+    requires { e < length tree.now.entries }
+    ensures { result ≡ are_addresses_asked tree.now e }
+{
+    tree.depth(e) == ROOT || is_defined(tree, e)
+}
+
+// The faults of the addresses that are asked of an entry.
+#[tactic(auto, unfolding(crate::specs::Pass::address_faults))]
+fn faults_of_addresses(source: &Source, e: usize) -> AddressFaults
+    requires inside { e < length source.now.tree.entries }
+    requires asked { are_addresses_asked source.now.tree e ≡ true }
+    ensures index { result.index ≡ first (map (if_of_kind kind.Index) (address_faults source.now e)) }
+    ensures ranges { result.ranges ≡ first (map (if_of_kind kind.Ranges) (address_faults source.now e)) }
+{
+    let tree = source.tree();
+    if tree.depth(e) == ROOT {
+        return NO_FAULTS.with(fault_of(low_pc(source, e)));
+    }
+    if tree.tag(e) == DW_TAG_subprogram {
+        return faults_of_function(source, e);
+    }
+    NO_FAULTS.with(fault_of(variable_address(source, e)))
+}
+
+// Whether an entry itself has an attribute, and it refers to no entry.
+#[inline(always)]
+fn refers_nowhere(links: &Links<'_>, e: usize, name: u64) -> bool
+    requires { e < length links.now.entries }
+    ensures { result ≡ leads_nowhere links.now (own_of links.now e name) }
+{
+    if let Some(offset) = links.tree().short_reference(e, name) {
+        return links.tree().find(offset).is_none();
+    }
+    match links.own(e, name) {
+        Some(value) => links.target(&value).is_none(),
+        None => false,
+    }
+}
+
+// Whether entries of a tag may stand in a type unit, by its signature.
+fn is_signed(tag: u64) -> bool
+    ensures { result ≡ has_signature tag }
+{
+    tag == DW_TAG_structure_type || tag == DW_TAG_union_type || tag == DW_TAG_enumeration_type
+}
+
+// Whether a value is a signature that no type unit has.
+fn lacks_unit(links: &Links<'_>, value: Option<Value>) -> bool
+    ensures { result ≡ has_no_unit links.now value }
+{
+    match value {
+        Some(Value::Signature(signature)) => links.by_signature(signature).is_none(),
+        _ => false,
+    }
+}
+
+// Whether an attribute of an entry refers to no entry, by where the entry's own two links lead.
+#[tactic(auto, unfolding(crate::specs::Pass::has_bad_reference), using(crate::proofs::PassLemmas::nowhere_by_link))]
+fn has_bad_reference(links: &Links<'_>, e: usize, origin: Link, specification: Link) -> bool
+    requires inside { e < length links.now.entries }
+    requires origin { origin ≡ link_by links.now e dw_at_abstract_origin }
+    requires specification { specification ≡ link_by links.now e dw_at_specification }
+    ensures { result ≡ refers_badly links.now e }
+{
+    if refers_nowhere(links, e, DW_AT_type) {
+        return true;
+    }
+    if origin.is_nowhere() {
+        return true;
+    }
+    if specification.is_nowhere() {
+        return true;
+    }
+    if !is_signed(links.tree().tag(e)) {
+        return false;
+    }
+    lacks_unit(links, links.own(e, DW_AT_signature))
+}
+
+// Whether an entry's own type is there, by a short reference, or it has none.
+#[inline(always)]
+fn has_plain_type(links: &Links<'_>, e: usize) -> bool
+    requires { e < length links.now.entries }
+    ensures { result ≡ true → leads_nowhere links.now (own_of links.now e dw_at_type) ≡ false }
+{
+    let tree = links.tree();
+    if !tree.may_have(e, DW_AT_type) {
+        return true;
+    }
+    match tree.short_reference(e, DW_AT_type) {
+        Some(offset) => tree.find(offset).is_some(),
+        None => false,
+    }
+}
+
+// Whether an entry has no link and no signature, and its type is there, as of most: then nothing that it refers to has a fault.
+#[inline(always)]
+#[tactic(auto, using(crate::proofs::PassLemmas::plain_rows))]
+fn refers_plainly(links: &Links<'_>, e: usize) -> bool
+    requires { e < length links.now.entries }
+    ensures { result ≡ true → first (reference_rows links.now e) ≡ None }
+{
+    let tree = links.tree();
+    if tree.may_have(e, DW_AT_abstract_origin) {
+        return false;
+    }
+    if tree.may_have(e, DW_AT_specification) {
+        return false;
+    }
+    if tree.may_have(e, DW_AT_signature) {
+        return false;
+    }
+    has_plain_type(links, e)
+}
+
+// The first of the rows of what an entry refers to, link by link.
+#[inline(never)]
+#[tactic(auto, using(crate::proofs::PassLemmas::deep_by_links))]
+fn linked_row(links: &Links<'_>, e: usize) -> Option<Fault>
+    requires { e < length links.now.entries }
+    ensures { result ≡ first (reference_rows links.now e) }
+{
+    let origin = links.link_by(e, DW_AT_abstract_origin);
+    let specification = links.link_by(e, DW_AT_specification);
+    if has_bad_reference(links, e, origin, specification) {
+        return Some(Fault {
+            kind: FaultKind::Reference,
+            at: links.tree().offset(e),
+        });
+    }
+    if links.is_too_deep(origin, specification) {
+        return Some(Fault {
+            kind: FaultKind::OriginTooDeep,
+            at: links.tree().offset(e),
+        });
+    }
+    None
+}
+
+// The first of the rows of what an entry refers to.
+#[inline(always)]
+fn reference_row(links: &Links<'_>, e: usize) -> Option<Fault>
+    requires { e < length links.now.entries }
+    ensures { result ≡ first (reference_rows links.now e) }
+{
+    if refers_plainly(links, e) {
+        return None;
+    }
+    linked_row(links, e)
+}
+
+// The first of the rows behind that of the name, where addresses are asked.
+fn row_with_addresses(source: &Source, e: usize) -> Option<Fault>
+    requires inside { e < length source.now.tree.entries }
+    requires asked { are_addresses_asked source.now.tree e ≡ true }
+    ensures { result ≡ first (rows_behind_name source.now e) }
+{
+    let addresses = faults_of_addresses(source, e);
+    if let Some(fault) = addresses.index {
+        return Some(fault);
+    }
+    if let Some(fault) = reference_row(source.links(), e) {
+        return Some(fault);
+    }
+    addresses.ranges
+}
+
+// The first of the rows behind that of the name.
+#[tactic(auto, using(crate::proofs::PassLemmas::without_addresses))]
+fn row_behind_name(source: &Source, e: usize) -> Option<Fault>
+    requires { e < length source.now.tree.entries }
+    ensures { result ≡ first (rows_behind_name source.now e) }
+{
+    if has_addresses(source.tree(), e) {
+        row_with_addresses(source, e)
+    } else {
+        reference_row(source.links(), e)
+    }
+}
+
+// The first of the rows of an entry whose tag is read.
+#[tactic(auto, using(crate::proofs::PassLemmas::name_sound))]
+fn first_row(source: &Source, e: usize) -> Option<Fault>
+    requires { e < length source.now.tree.entries }
+    ensures { result ≡ first (entry_rows source.now e) }
+{
+    match name_row(source, e) {
+        Some(fault) => Some(fault),
+        None => row_behind_name(source, e),
+    }
+}
+
+// An entry's own fault.
+#[tactic(auto, unfolding(crate::specs::Pass::entry_fault))]
+fn entry_fault(source: &Source, e: usize) -> Option<Fault>
+    requires { e < length source.now.tree.entries }
+    ensures { result ≡ fault_of_entry source.now e }
+{
+    if is_read_tag(source.tree().tag(e)) {
+        first_row(source, e)
+    } else {
+        None
+    }
+}
+
+// The first fault of entries.
+#[tactic(auto, unfolding(crate::specs::Pass::own_fault))]
+pub(crate) fn own_fault(source: &Source) -> Option<Fault>
+    ensures { result ≡ fault_of_entries source.now }
+{
+    for e in 0..source.len() {
+        match entry_fault(source, e) {
+            Some(fault) => return Some(fault),
+            None => {}
+        }
+    }
+    None
+}

@@ -1,0 +1,52 @@
+// The entries that stand for addresses.
+ghost use Rattle.std.specs.Prelude.{◌≡◌, ◌<◌, ℕ, length, IfOk};
+ghost use Rattle.dwarf_tree.specs.Trees.{entry_at};
+ghost use Rattle.dwarf_entries.specs.Debug.{is_assembler};
+ghost use Rattle.dwarf_entries.specs.Addresses.{is_some_number, is_typed_at};
+ghost use Rattle.dwarf_entries.specs.Places.{HoldEntries};
+
+use crate::addresses::{entry_address, is_defined};
+use crate::places::keep_first;
+use crate::source::Source;
+use abi_base::NoMemory;
+use std::alloc::Global;
+use std::collections::HashMap;
+
+// Whether an entry's unit is written in assembler.
+#[tactic(auto, unfolding(crate::specs::UnitContext::told_of))]
+fn is_of_assembler(source: &Source, e: usize) -> bool
+    requires { e < length source.now.tree.entries }
+    ensures { result ≡ is_assembler source.now.tree (entry_at source.now.tree e).unit }
+{
+    source.told(e).is_assembler
+}
+
+// The address that an entry stands for.
+#[tactic(auto, unfolding(crate::specs::Addresses::is_typed_at))]
+fn typed_address(source: &Source, e: usize) -> Option<u64>
+    requires { e < length source.now.tree.entries }
+    ensures { (address : ℕ) → is_some_number address result ≡ is_typed_at source.now address e }
+{
+    if !is_defined(source.tree(), e) {
+        return None;
+    }
+    if is_of_assembler(source, e) {
+        return None;
+    }
+    entry_address(source, e)
+}
+
+// The first entry that stands for each address.
+pub(crate) fn entries_by_address(
+    alloc: Global,
+    source: &Source,
+) -> Result<HashMap<u64, usize>, NoMemory>
+    ensures { IfOk result (λ places. HoldEntries places source.now) }
+{
+    let mut places = HashMap::new(alloc);
+    for e in 0..source.len() {
+        let address = typed_address(source, e);
+        keep_first(&mut places, address, e)?;
+    }
+    Ok(places)
+}

@@ -1,0 +1,121 @@
+// What the root of a unit says of the unit.
+ghost use Rattle.std.specs.Prelude.{◌≡◌, ◌<◌, length};
+ghost use Rattle.std.specs.Option.{option_copied};
+ghost use Rattle.dwarf_entries.specs.Debug.{plain_sections, root_own as the_root_own, section_offset as the_section_offset, base_of, address_or_zero as the_address_or_zero, low_of, is_number as the_number_is, is_assembler as the_unit_is_assembler, bases_of};
+ghost use Rattle.dwarf_entries.specs.UnitContext.{debug, told_of};
+ghost use Rattle.dwarf_text.specs.Texts.{address_of};
+
+use abi_base::dwarf::{
+    DW_AT_addr_base, DW_AT_language, DW_AT_low_pc, DW_AT_rnglists_base, DW_AT_str_offsets_base,
+    DW_LANG_Mips_Assembler,
+};
+use dwarf_forms::{Sections, Value};
+use dwarf_text::{Bases, address};
+use dwarf_tree::Tree;
+
+// What the root of a unit says that is asked of the unit's entries.
+#[derive(Clone, Copy)]
+pub(crate) struct UnitContext {
+    pub bases: Bases,
+    // whether the unit is written in assembler
+    pub is_assembler: bool,
+}
+
+// The first value that the root of a unit has of an attribute.
+fn root_own(tree: &Tree<'_>, unit: usize, name: u64) -> Option<Value>
+    requires { unit < length tree.now.units }
+    ensures { result ≡ the_root_own tree.now unit name }
+{
+    tree.own(tree.root(unit), name)
+}
+
+// The place in another section that a value is.
+fn section_offset(value: Option<Value>) -> Option<u64>
+    ensures { result ≡ the_section_offset value }
+{
+    match value {
+        Some(Value::SectionOffset(place)) => Some(place),
+        _ => None,
+    }
+}
+
+// Where the part of another section begins that belongs to a unit.
+fn base(tree: &Tree<'_>, unit: usize, name: u64) -> Option<u64>
+    requires { unit < length tree.now.units }
+    ensures { result ≡ base_of tree.now unit name }
+{
+    section_offset(root_own(tree, unit, name))
+}
+
+// The address that a value of a root stands for, or 0.
+fn address_or_zero(value: &Value, addr_base: Option<u64>, sections: &Sections) -> u64
+    ensures { result ≡ the_address_or_zero (address_of sections.now.addr.now addr_base 0 value.now) }
+{
+    let bases = Bases {
+        str_offsets: None,
+        addr: addr_base,
+        rnglists: None,
+        low: 0,
+    };
+    match address(value, &bases, sections, 0) {
+        Ok(address) => address,
+        Err(_) => 0,
+    }
+}
+
+// The address from which the ranges of a unit count.
+fn low(sections: &Sections, tree: &Tree<'_>, unit: usize) -> u64
+    requires { unit < length tree.now.units }
+    ensures { result ≡ low_of (debug (plain_sections sections.now) tree.now) unit }
+{
+    match root_own(tree, unit, DW_AT_low_pc) {
+        Some(value) => address_or_zero(&value, base(tree, unit, DW_AT_addr_base), sections),
+        None => 0,
+    }
+}
+
+// Where a unit's parts of other sections begin.
+#[tactic(auto, unfolding(crate::specs::Debug::bases_of))]
+fn bases(sections: &Sections, tree: &Tree<'_>, unit: usize) -> Bases
+    requires { unit < length tree.now.units }
+    ensures { result ≡ bases_of (debug (plain_sections sections.now) tree.now) unit }
+{
+    Bases {
+        str_offsets: base(tree, unit, DW_AT_str_offsets_base),
+        addr: base(tree, unit, DW_AT_addr_base),
+        rnglists: base(tree, unit, DW_AT_rnglists_base),
+        low: low(sections, tree, unit),
+    }
+}
+
+// Whether a value is a number.
+fn is_number(number: u64, value: Option<Value>) -> bool
+    ensures { result ≡ the_number_is number value }
+{
+    match value {
+        Some(Value::Unsigned(there)) => there == number,
+        Some(Value::Signed(there)) => there >= 0 && there as u64 == number,
+        _ => false,
+    }
+}
+
+// Whether a unit is written in assembler.
+#[tactic(auto, unfolding(crate::specs::Debug::is_assembler))]
+fn is_assembler(tree: &Tree<'_>, unit: usize) -> bool
+    requires { unit < length tree.now.units }
+    ensures { result ≡ the_unit_is_assembler tree.now unit }
+{
+    is_number(DW_LANG_Mips_Assembler, root_own(tree, unit, DW_AT_language))
+}
+
+// What the root of a unit says, by the number of the unit.
+#[tactic(auto, unfolding(crate::specs::UnitContext::told_of))]
+pub(crate) fn told_by_root(sections: &Sections, tree: &Tree<'_>, unit: usize) -> UnitContext
+    requires { unit < length tree.now.units }
+    ensures { result ≡ told_of (debug (plain_sections sections.now) tree.now) unit }
+{
+    UnitContext {
+        bases: bases(sections, tree, unit),
+        is_assembler: is_assembler(tree, unit),
+    }
+}

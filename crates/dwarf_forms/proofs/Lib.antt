@@ -1,0 +1,4 @@
+mod Cases
+mod FormLemmas
+pub mod lemmas
+mod abbreviations

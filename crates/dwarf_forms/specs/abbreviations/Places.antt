@@ -1,0 +1,31 @@
+-- Where the abbreviation of a code is looked for. Producers number the codes of a table 1, 2, 3, .., so a code c mostly
+-- stands at place c - 1. The standard lets codes be any numbers, so the places of the others are kept in a map.
+use Rattle.std.specs.Prelude.{◌≡◌, ℕ, ◌-◌, ◌<◌, ◌==◌, if◌then◌else◌, nat_eq, List, length, slice_get, Option, Some, None, option_and_then}
+use Rattle.std.specs.Option.{option_or}
+use Rattle.std.specs.HashMap.{HashMap, get}
+use Rattle.std.specs.declared.hash.FoldHasher.{FoldHasher}
+use Rattle.std.specs.declared.hash.BuildHasherDefault.{BuildHasherDefault}
+use Rattle.dwarf_forms.specs.declared.abbreviations.abbrev.Abbrev.{Abbrev}
+use Rattle.dwarf_forms.specs.abbreviations.Abbrevs.{abbrev_of}
+
+-- a map from codes to places
+abbrev pub Elsewhere : Type 0
+Elsewhere = HashMap ℕ ℕ (BuildHasherDefault FoldHasher)
+
+-- an abbreviation, where it is there and has this code
+abbrev pub if_of_code : ℕ → Option Abbrev → Option Abbrev
+if_of_code code None = None
+if_of_code code (Some a) = if a.code == code then Some a else None
+
+-- the abbreviation of a code at the place of the code
+abbrev pub at_own_place : List Abbrev → ℕ → Option Abbrev
+at_own_place abbrevs code = if_of_code code (slice_get abbrevs (code - 1))
+
+-- the abbreviation at the place that the map has for a code
+abbrev pub at_kept_place : List Abbrev → Elsewhere → ℕ → Option Abbrev
+at_kept_place abbrevs elsewhere code = option_and_then (slice_get abbrevs) (get nat_eq elsewhere code)
+
+-- Each code is found at one of the two, exactly where an abbreviation has it, and the map leads into the list.
+pub record Placed (abbrevs : List Abbrev) (elsewhere : Elsewhere) : Type 0 where
+  pub finds : (code : ℕ) → option_or (at_own_place abbrevs code) (at_kept_place abbrevs elsewhere code) ≡ abbrev_of abbrevs code
+  pub inside : (code place : ℕ) → get nat_eq elsewhere code ≡ Some place → place < length abbrevs

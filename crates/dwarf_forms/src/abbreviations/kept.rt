@@ -1,0 +1,107 @@
+// The abbreviations of a unit, by their codes.
+ghost use Rattle.std.specs.Prelude.{◌≡◌, ◌-◌, [], ◌∷◌, ◌++◌, None, OnOk};
+ghost use Rattle.std.specs.Option.{option_copied};
+ghost use Rattle.dwarf_forms.specs.abbreviations.Abbrevs.{abbrev_of};
+ghost use Rattle.dwarf_forms.specs.abbreviations.Places.{at_kept_place as the_kept_one, at_own_place as the_own_one, Placed};
+
+use crate::abbreviations::Abbrev;
+use abi_base::{List, NoMemory};
+use std::alloc::Global;
+use std::collections::HashMap;
+use std::marker::Model;
+
+/// An abbreviation table. Contracts see it as the list of its abbreviations, in the order of the bytes.
+#[derive(Drop)]
+pub struct Table {
+    abbrevs: List<Abbrev>,
+    // The places of the abbreviations whose code is not that of their place, by their codes. Producers number from 1 on,
+    // so it mostly stays empty and takes no memory.
+    elsewhere: HashMap<u64, usize>,
+}
+
+impl Model for Table {
+    ghost use Rattle.std.specs.Prelude.{List};
+    ghost use Rattle.dwarf_forms.specs.declared.abbreviations.abbrev.Abbrev.{Abbrev};
+    ghost use Rattle.dwarf_forms.specs.abbreviations.Places.{Placed};
+
+    ghost Value = { List Abbrev };
+
+    ghost view = { λ t. t.abbrevs };
+
+    ghost invariant = { λ t. Placed t.abbrevs t.elsewhere };
+}
+
+// The place of a code where the codes of a table are 1, 2, 3, ..
+fn own_place(code: u64) -> usize
+    ensures { result ≡ code - 1 }
+{
+    code.saturating_sub(1) as usize
+}
+
+// The abbreviation of a code, where it stands at the place of the code.
+fn at_own_place(abbrevs: &[Abbrev], code: u64) -> Option<&Abbrev>
+    ensures { option_copied result ≡ the_own_one abbrevs.now code }
+{
+    match abbrevs.get(own_place(code)) {
+        Some(made) if made.code == code => Some(made),
+        _ => None,
+    }
+}
+
+// The abbreviation of a code at the place that the map has for it.
+#[inline(never)]
+fn at_kept_place<'a>(
+    abbrevs: &'a [Abbrev],
+    elsewhere: &HashMap<u64, usize>,
+    code: u64,
+) -> Option<&'a Abbrev>
+    ensures { option_copied result ≡ the_kept_one abbrevs.now elsewhere.now code }
+{
+    match elsewhere.get(&code) {
+        Some(place) => abbrevs.get(*place),
+        None => None,
+    }
+}
+
+impl Table {
+    // The table without abbreviations, which takes no memory yet.
+    pub(crate) fn new(alloc: Global) -> Table
+        ensures { result ≡ [] }
+    {
+        Table {
+            abbrevs: List::new(alloc),
+            elsewhere: HashMap::new(alloc),
+        }
+    }
+
+    // Puts an abbreviation last, whose code is new in the table. After `NoMemory` the table is of no use.
+    pub(crate) fn push(&mut self, alloc: Global, made: Abbrev) -> Result<(), NoMemory>
+        requires { abbrev_of self.old made.code ≡ None }
+        ensures { OnOk result (self.new ≡ self.old ++ made ∷ []) }
+    {
+        let place = self.abbrevs.as_slice().len();
+        if own_place(made.code) != place {
+            self.elsewhere.insert(made.code, place)?;
+        }
+        match self.abbrevs.push(made) {
+            Ok(()) => Ok(()),
+            Err(refused) => {
+                // The map may lead to the place of the abbreviation that did not fit.
+                *self = Table::new(alloc);
+                Err(refused)
+            }
+        }
+    }
+
+    /// The abbreviation of a code, or none exactly where the table has no such code. It looks at two places at most.
+    #[inline]
+    pub fn find(&self, code: u64) -> Option<&Abbrev>
+        ensures { option_copied result ≡ abbrev_of self.now code }
+    {
+        let abbrevs = self.abbrevs.as_slice();
+        match at_own_place(abbrevs, code) {
+            Some(made) => Some(made),
+            None => at_kept_place(abbrevs, &self.elsewhere, code),
+        }
+    }
+}

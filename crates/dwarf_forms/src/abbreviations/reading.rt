@@ -1,0 +1,246 @@
+// Reading the table at a place.
+ghost use Rattle.std.specs.Prelude.{◌≡◌, ◌≤◌, ◌<◌, ◌+◌, [], length, IfOk, IfSome, IfNone, Ok, Some, slice_get, ◌==◌};
+ghost use Rattle.std.specs.List.{list_any};
+ghost use Rattle.std.specs.Option.{option_map};
+ghost use Rattle.abi_base.specs.Outcome.{Judges};
+ghost use Rattle.abi_base.specs.Runs.{put_front};
+ghost use Rattle.abi_base.specs.Leb.{uleb_at};
+ghost use Rattle.dwarf_forms.specs.abbreviations.Abbrevs.{plain_pair, short_number_of, short_pair_at, spec_step, specs_at, specs_run, abbrev_step, table_run, children_of, implicit_at, ReadsAbbrev};
+
+use crate::abbreviations::kept::Table;
+use crate::abbreviations::{Abbrev, ShortPair, Spec};
+use abi_base::dwarf::{DW_CHILDREN_no, DW_CHILDREN_yes, DW_FORM_implicit_const};
+use abi_base::{Fault, FaultKind, List, NoMemory, Refusal, sleb, uleb};
+use std::alloc::Global;
+
+// A byte from this one on has another one of its number after it.
+const MORE: u8 = 0x80;
+
+// Few abbreviations have more pairs.
+const USUAL_PAIRS: usize = 8;
+
+// The value after a form in an abbreviation, and the place after it.
+fn implicit_in(bytes: &[u8], form: u64, at: usize) -> Option<(i64, usize)>
+    requires { at ≤ length bytes.now }
+    ensures found { result ≡ implicit_at bytes.now form at }
+    ensures after { IfSome result (λ r. at ≤ r.1) }
+    ensures inside { IfSome result (λ r. r.1 ≤ length bytes.now) }
+{
+    if form == DW_FORM_implicit_const {
+        sleb(bytes, at)
+    } else {
+        Some((0, at))
+    }
+}
+
+// The next pair of attribute and form whatever its length, or the end of the list.
+#[inline(never)]
+#[tactic(auto, unfolding(crate::specs::abbreviations::Abbrevs::spec_step))]
+fn spec_of_any_length(bytes: &[u8], at: usize) -> Result<(Spec, usize), Option<usize>>
+    ensures found { result ≡ spec_step bytes.now at }
+    ensures after { IfOk result (λ r. at < r.1) }
+    ensures inside { IfOk result (λ r. r.1 ≤ length bytes.now) }
+{
+    let Some((attribute, after)) = uleb(bytes, at) else {
+        return Err(None);
+    };
+    let Some((form, after)) = uleb(bytes, after) else {
+        return Err(None);
+    };
+    if attribute == 0 && form == 0 {
+        return Err(Some(after));
+    }
+    if attribute == 0 || form == 0 {
+        return Err(None);
+    }
+    let Some((implicit, after)) = implicit_in(bytes, form, after) else {
+        return Err(None);
+    };
+    Ok((
+        Spec {
+            attribute,
+            form,
+            implicit,
+        },
+        after,
+    ))
+}
+
+// The number at a place, where it has one byte and is not 0.
+#[inline(always)]
+fn short_number(bytes: &[u8], at: usize) -> Option<u8>
+    ensures exact { result ≡ short_number_of (slice_get bytes.now at) }
+    ensures found { IfSome result (λ n. uleb_at bytes.now at ≡ Some (n, at + 1)) }
+    ensures some { IfSome result (λ n. 0 < n) }
+    ensures inside { IfSome result (λ n. at < length bytes.now) }
+{
+    match bytes.get(at) {
+        Some(byte) if 0 < *byte && *byte < MORE => Some(*byte),
+        _ => None,
+    }
+}
+
+/// The pair of attribute and form at a place of `.debug_abbrev`, where each of its numbers has one byte and no value stands
+/// behind them. The next pair begins two bytes on. None where the numbers are longer, a value stands there, or there is no
+/// pair: `next_spec` reads each of these.
+#[inline(always)]
+pub fn short_pair(bytes: &[u8], at: usize) -> Option<ShortPair>
+    ensures exact { option_map (λ p. (p.attribute, p.form)) result ≡ short_pair_at bytes.now at }
+    ensures found { IfSome result (λ p. specs_run bytes.now at ≡ put_front (plain_pair p.attribute p.form) (specs_run bytes.now (at + 2))) }
+    ensures step { IfSome result (λ p. spec_step bytes.now at ≡ Ok (plain_pair p.attribute p.form, at + 2)) }
+    ensures inside { IfSome result (λ p. at + 2 ≤ length bytes.now) }
+{
+    let Some(attribute) = short_number(bytes, at) else {
+        return None;
+    };
+    let Some(form) = short_number(bytes, at + 1) else {
+        return None;
+    };
+    if u64::from(form) == DW_FORM_implicit_const {
+        return None;
+    }
+    Some(ShortPair { attribute, form })
+}
+
+// The next pair of attribute and form, or the end of the list.
+#[inline(always)]
+fn spec_in(bytes: &[u8], at: usize) -> Result<(Spec, usize), Option<usize>>
+    ensures found { result ≡ spec_step bytes.now at }
+    ensures after { IfOk result (λ r. at < r.1) }
+    ensures inside { IfOk result (λ r. r.1 ≤ length bytes.now) }
+{
+    // Most pairs have two bytes.
+    match short_pair(bytes, at) {
+        Some(pair) => Ok((
+            Spec {
+                attribute: u64::from(pair.attribute),
+                form: u64::from(pair.form),
+                implicit: 0,
+            },
+            at + 2,
+        )),
+        None => spec_of_any_length(bytes, at),
+    }
+}
+
+/// The pair of attribute and form at a place of `.debug_abbrev`, and the place after it. None where the pairs end there, or
+/// none can be read.
+#[tactic(auto, using(crate::proofs::abbreviations::AbbrevsLemmas::specs_front, crate::proofs::abbreviations::AbbrevsLemmas::specs_over))]
+pub fn next_spec(bytes: &[u8], at: usize) -> Option<(Spec, usize)>
+    ensures found { IfSome result (λ r. specs_run bytes.now at ≡ put_front r.0 (specs_run bytes.now r.1)) }
+    ensures end { IfNone result ((specs_run bytes.now at).items ≡ []) }
+    ensures after { IfSome result (λ r. at < r.1) }
+    ensures inside { IfSome result (λ r. r.1 ≤ length bytes.now) }
+{
+    match spec_in(bytes, at) {
+        Ok((spec, after)) => Some((spec, after)),
+        Err(_) => None,
+    }
+}
+
+// The pairs of an abbreviation and the place after them, or none where they cannot be read.
+#[tactic(auto, using(crate::proofs::abbreviations::AbbrevsLemmas::specs_more, crate::proofs::abbreviations::AbbrevsLemmas::specs_end))]
+fn specs_in(alloc: Global, bytes: &[u8], at: usize) -> Result<Option<(List<Spec>, usize)>, NoMemory>
+    ensures { IfOk result (λ r. r ≡ specs_at bytes.now at) }
+{
+    let mut specs = List::of(Vec::with_capacity(alloc, USUAL_PAIRS)?);
+    let mut place = at;
+    loop {
+        match spec_in(bytes, place) {
+            Ok((spec, after)) => {
+                specs.push(spec)?;
+                place = after;
+            }
+            Err(Some(after)) => return Ok(Some((specs, after))),
+            Err(None) => return Ok(None),
+        }
+    }
+}
+
+// The byte that says whether entries have children.
+fn children_in(bytes: &[u8], at: usize) -> Option<bool>
+    ensures { result ≡ children_of (slice_get bytes.now at) }
+{
+    match bytes.get(at).copied() {
+        Some(DW_CHILDREN_no) => Some(false),
+        Some(DW_CHILDREN_yes) => Some(true),
+        _ => None,
+    }
+}
+
+// Whether an abbreviation that stood before has this code.
+fn has_code(seen: &Table, code: u64) -> bool
+    ensures { result ≡ list_any (λ a. a.code == code) seen.now }
+{
+    seen.find(code).is_some()
+}
+
+// The next abbreviation and the place after it, or none at the table's end.
+#[tactic(auto, unfolding(crate::specs::abbreviations::Abbrevs::abbrev_step))]
+fn next_abbrev(
+    alloc: Global,
+    bytes: &[u8],
+    at: usize,
+    seen: &Table,
+) -> Result<Option<(Abbrev, usize)>, Refusal>
+    ensures { ReadsAbbrev bytes.now at seen.now result }
+{
+    let fault = Refusal::Fault(Fault {
+        kind: FaultKind::Abbrev,
+        at: at as u64,
+    });
+    let Some((code, after)) = uleb(bytes, at) else {
+        return Err(fault);
+    };
+    if code == 0 {
+        return Ok(None);
+    }
+    if has_code(seen, code) {
+        return Err(fault);
+    }
+    let Some((tag, after)) = uleb(bytes, after) else {
+        return Err(fault);
+    };
+    let Some(children) = children_in(bytes, after) else {
+        return Err(fault);
+    };
+    let specs_from = after + 1;
+    let Some((specs, after)) = specs_in(alloc, bytes, specs_from)? else {
+        return Err(fault);
+    };
+    Ok(Some((
+        Abbrev {
+            code,
+            tag,
+            children,
+            specs_from: specs_from as u64,
+            specs,
+        },
+        after,
+    )))
+}
+
+/// The table at a place of `.debug_abbrev`: its abbreviations up to the code 0 that ends them (DWARF 5, section 7.5.3
+/// "Abbreviations Tables").
+///
+/// It has a fault, `FaultKind::Abbrev` at the byte where an abbreviation begins, where the bytes there are no whole
+/// abbreviation: a number or a byte is cut off or too large, the byte for children is neither 0 nor 1, one number of a
+/// pair alone is 0, or the code stood before.
+#[tactic(auto, using(crate::proofs::abbreviations::AbbrevsLemmas::table_more, crate::proofs::abbreviations::AbbrevsLemmas::table_end, crate::proofs::abbreviations::AbbrevsLemmas::abbrev_after, crate::proofs::abbreviations::AbbrevsLemmas::abbrev_is_new), unfolding(crate::specs::abbreviations::Abbrevs::table_run))]
+pub fn table(alloc: Global, bytes: &[u8], at: u64) -> Result<Table, Refusal>
+    ensures judged { Judges result (table_run bytes.now at).end }
+    ensures abbrevs { IfOk result (λ t. t ≡ (table_run bytes.now at).items) }
+{
+    let mut table = Table::new(alloc);
+    let mut place = at as usize;
+    loop {
+        match next_abbrev(alloc, bytes, place, &table) {
+            Ok(Some((made, after))) => {
+                table.push(alloc, made)?;
+                place = after;
+            }
+            Ok(None) => return Ok(table),
+            Err(refused) => return Err(refused),
+        }
+    }
+}

@@ -1,0 +1,14 @@
+//! Values of attributes: how each form spells one in `.debug_info`, where it ends, and the sections that values lead to.
+#![tactic(auto)]
+
+pub mod abbreviations;
+mod forms;
+pub mod laws;
+mod meaning;
+mod sections;
+mod source;
+mod values;
+
+pub use forms::{fixed_end, fixed_size, value, value_end};
+pub use sections::Sections;
+pub use values::Value;

@@ -1,0 +1,2 @@
+pub mod RangeLists
+pub mod EntrySteps

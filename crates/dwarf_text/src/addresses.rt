@@ -1,0 +1,34 @@
+// The addresses that values stand for.
+ghost use Rattle.std.specs.Prelude.{◌≡◌};
+ghost use Rattle.abi_base.specs.declared.fault.FaultKind.TheVariants as kind;
+ghost use Rattle.dwarf_forms.specs.Values.{fault};
+ghost use Rattle.dwarf_text.specs.Texts.{address_of as the_address_of};
+
+use crate::bases::Bases;
+use abi_base::{Fault, FaultKind, table_address};
+use dwarf_forms::{Sections, Value};
+
+fn no_address(entry: u64) -> Fault
+    ensures { result ≡ fault kind.Index entry }
+{
+    Fault {
+        kind: FaultKind::Index,
+        at: entry,
+    }
+}
+
+/// The address that a value of an attribute stands for (DWARF 5, sections 7.5.5 "Classes and Forms" and 7.27 "Address Table").
+/// The fault is `Index`, at the entry, where the value is an index and the unit has no base for it, or the index lies outside
+/// `.debug_addr`, and where the value is no address.
+pub fn address(value: &Value, bases: &Bases, sections: &Sections, entry: u64) -> Result<u64, Fault>
+    ensures { result ≡ the_address_of sections.now.addr.now bases.now.addr entry value.now }
+{
+    match *value {
+        Value::Address(address) => Ok(address),
+        Value::AddressIndex(index) => match table_address(sections.addr, bases.addr, index) {
+            Some(address) => Ok(address),
+            None => Err(no_address(entry)),
+        },
+        _ => Err(no_address(entry)),
+    }
+}

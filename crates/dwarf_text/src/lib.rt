@@ -1,0 +1,13 @@
+//! The texts and addresses that values of attributes lead to.
+#![tactic(auto)]
+
+mod addresses;
+mod bases;
+mod ends;
+pub mod ranges;
+mod texts;
+
+pub use addresses::address;
+pub use bases::Bases;
+pub use ends::texts_end;
+pub use texts::{text, text_fault};

@@ -1,0 +1,110 @@
+// The texts that values stand for.
+ghost use Rattle.std.specs.Prelude.{◌≡◌, ℕ, List};
+ghost use Rattle.std.specs.Result.{result_map_both};
+ghost use Rattle.abi_base.specs.declared.fault.FaultKind.TheVariants as kind;
+ghost use Rattle.dwarf_forms.specs.Values.{fault};
+ghost use Rattle.dwarf_text.specs.Texts.{TextsEnd, fault_of as the_fault_of, text_of, text_in as the_text_in};
+
+use crate::bases::Bases;
+use abi_base::{Fault, FaultKind, table_offset, text_at};
+use dwarf_forms::{Sections, Value};
+
+fn no_text(entry: u64) -> Fault
+    ensures { result ≡ fault kind.Text entry }
+{
+    Fault {
+        kind: FaultKind::Text,
+        at: entry,
+    }
+}
+
+// The text at a place of a section.
+fn text_in(section: &[u8], place: u64, entry: u64) -> Result<&[u8], Fault>
+    ensures { result_map_both (λ t. t.now) (λ f. f) result ≡ the_text_in section.now place entry }
+{
+    match text_at(section, place) {
+        Some(text) => Ok(text),
+        None => Err(no_text(entry)),
+    }
+}
+
+/// The text that a value of an attribute stands for, which is a part of the file, without its 0 byte (DWARF 5, sections 7.5.5
+/// "Classes and Forms" and 7.26 "String Offsets Table"). The fault is `Index` where the value is an index and the unit has no
+/// base for it, or the index lies outside `.debug_str_offsets`, and `Text` where the value is of no form of texts, or the
+/// text does not end inside its section; each is at the entry.
+pub fn text<'a>(
+    value: &Value,
+    bases: &Bases,
+    sections: &Sections<'a>,
+    entry: u64,
+) -> Result<&'a [u8], Fault>
+    ensures { result_map_both (λ t. t.now) (λ f. f) result ≡ text_of sections.now.info.now sections.now.str.now sections.now.line_str.now sections.now.str_offsets.now bases.now.str_offsets entry value.now }
+{
+    match *value {
+        Value::Inline { from } => text_in(sections.info, from, entry),
+        Value::StrOffset(place) => text_in(sections.str, place, entry),
+        Value::LineOffset(place) => text_in(sections.line_str, place, entry),
+        Value::StrIndex(index) => match table_offset(
+            sections.str_offsets,
+            bases.str_offsets,
+            index,
+        ) {
+            Some(place) => text_in(sections.str, u64::from(place), entry),
+            None => Err(Fault {
+                kind: FaultKind::Index,
+                at: entry,
+            }),
+        },
+        _ => Err(no_text(entry)),
+    }
+}
+
+// The fault of the text at a place of a section whose texts end at another one.
+fn fault_before(end: usize, place: u64, entry: u64) -> Option<Fault>
+    ensures { (section : List ℕ) → TextsEnd section end → result ≡ the_fault_of (the_text_in section place entry) }
+{
+    if place < end as u64 {
+        None
+    } else {
+        Some(no_text(entry))
+    }
+}
+
+// The fault of what was read.
+fn fault_of(read: Result<&[u8], Fault>) -> Option<Fault>
+    ensures { result ≡ the_fault_of (result_map_both (λ t. t.now) (λ f. f) read.entry) }
+{
+    match read {
+        Ok(_) => None,
+        Err(fault) => Some(fault),
+    }
+}
+
+/// The fault of the text that a value stands for, which `text` gives, too. `str_end` is where the texts of `.debug_str` end, so
+/// that the end of a text there need not be looked for.
+pub fn text_fault(
+    value: &Value,
+    bases: &Bases,
+    sections: &Sections<'_>,
+    str_end: usize,
+    entry: u64,
+) -> Option<Fault>
+    requires { TextsEnd sections.now.str.now str_end }
+    ensures { result ≡ the_fault_of (text_of sections.now.info.now sections.now.str.now sections.now.line_str.now sections.now.str_offsets.now bases.now.str_offsets entry value.now) }
+{
+    match *value {
+        Value::StrOffset(place) => fault_before(str_end, place, entry),
+        Value::StrIndex(index) => match table_offset(
+            sections.str_offsets,
+            bases.str_offsets,
+            index,
+        ) {
+            Some(place) => fault_before(str_end, u64::from(place), entry),
+            None => Some(Fault {
+                kind: FaultKind::Index,
+                at: entry,
+            }),
+        },
+        _ => fault_of(text(value, bases, sections, entry)),
+    }
+}

@@ -1,0 +1,258 @@
+// The value of an attribute, read from the bytes when it is asked.
+ghost use Rattle.std.specs.Prelude.{◌≡◌, ◌≢◌, ◌<◌, ◌≤◌, ◌^◌, ◌%◌, ◌/◌, ◌==◌, [], IfNone, IfSome, Some, length, map};
+ghost use Rattle.std.specs.Int.RustNames.{bit_or};
+ghost use Rattle.dwarf_forms.specs.Values.{place_after, value_at};
+ghost use Rattle.dwarf_forms.specs.declared.values.Value.TheVariants as value;
+ghost use Rattle.dwarf_units.specs.Units.{attribute_of};
+ghost use Rattle.abi_base.specs.Runs.{put_front};
+ghost use Rattle.dwarf_forms.specs.abbreviations.Abbrevs.{plain_pair, specs_run};
+ghost use Rattle.dwarf_tree.specs.Keeping.{FindSame, HaveNames, IsLayout, SpellsNumber, asked_value, name_bits, shaped as the_shaped_one, value_read, values_of};
+
+use crate::entry_records::{
+    AbbreviationLayout, EntryHead, EntryRecord, FORM_UNKNOWN, NAME_BITS, Slot, shaped,
+};
+use crate::head::Head;
+use crate::slots::slot_for;
+use abi_base::dwarf::{DW_FORM_ref4, DW_FORM_string, DW_FORM_strp};
+use abi_base::{Fault, text_at, u32_at, uleb};
+use dwarf_forms::abbreviations::{ShortPair, Spec, next_spec, short_pair};
+use dwarf_forms::laws::references_count_from_their_unit;
+use dwarf_forms::{Value, fixed_end, value, value_end};
+
+// What the attributes of an entry are asked of: the bytes, the slots of all shapes, and what is kept of the entry and of its unit.
+#[derive(Clone, Copy)]
+pub(crate) struct AttributeSource<'t> {
+    pub info: &'t [u8],
+    pub abbrevs: &'t [u8],
+    pub slots: &'t [Slot],
+    pub head: &'t Head,
+    pub shape: &'t AbbreviationLayout,
+    pub stored: EntryRecord,
+}
+
+// The bits with the one of an attribute.
+fn with_name(names: u64, name: u64) -> u64
+    ensures { result ≡ bit_or names (2 ^ (name % name_bits)) }
+{
+    names | (1 << (name % NAME_BITS) as u32)
+}
+
+// Whether the bit of an attribute is there.
+#[inline(always)]
+pub(crate) fn may_have(names: u64, name: u64) -> bool
+    ensures { result ≡ (names / 2 ^ (name % name_bits) % 2 == 1) }
+{
+    (names >> (name % NAME_BITS) as u32) % 2 == 1
+}
+
+// The bits of the attributes of these pairs of attribute and form.
+#[tactic(auto, using(crate::proofs::NameLemmas::names_more, crate::proofs::NameLemmas::names_none, crate::proofs::NameLemmas::names_end))]
+pub(crate) fn names_of(specs: &[Spec]) -> u64
+    ensures { HaveNames result (map (λ s. s.attribute) specs.now) }
+{
+    let mut names = 0;
+    for spec in specs {
+        names = with_name(names, spec.attribute);
+    }
+    names
+}
+
+// The value of one attribute of an entry that is kept, where it can be read.
+#[inline(always)]
+fn value_in(info: &[u8], head: Head, kept: EntryHead, spec: Spec, at: usize) -> Option<Value>
+    requires { head.end ≤ length info.now }
+    ensures { result ≡ value_read (value_at spec.form spec.implicit head.offset head.end kept.offset info.now at) }
+{
+    let entry = u64::from(kept.offset);
+    match value(
+        spec.form,
+        spec.implicit,
+        head.offset,
+        head.end,
+        entry,
+        info,
+        at,
+    ) {
+        Ok((found, _)) => Some(found),
+        Err(_) => None,
+    }
+}
+
+// The place after that value, which is not made. A text is passed over here, since most values of a size of their own are short
+// names.
+#[inline(always)]
+#[tactic(auto, using(crate::proofs::AskLemmas::text_passed))]
+fn end_in(info: &[u8], head: Head, kept: EntryHead, spec: Spec, at: usize) -> Result<usize, Fault>
+    requires { head.end ≤ length info.now }
+    ensures { result ≡ place_after (value_at spec.form spec.implicit head.offset head.end kept.offset info.now at) }
+{
+    if spec.form == DW_FORM_string {
+        if let Some(text) = text_at(&info[..head.end as usize], at as u64) {
+            return Ok(at + text.len() + 1);
+        }
+    }
+    value_end(spec.form, head.end, u64::from(kept.offset), info, at)
+}
+
+// The pair whose numbers have one byte each.
+#[inline(always)]
+fn plain(pair: ShortPair) -> Spec
+    ensures { result ≡ plain_pair pair.attribute pair.form }
+{
+    Spec {
+        attribute: u64::from(pair.attribute),
+        form: u64::from(pair.form),
+        implicit: 0,
+    }
+}
+
+// The pair at a place, and the place of the next. Most have two numbers of one byte each.
+#[inline(always)]
+#[tactic(auto, using(crate::proofs::AskLemmas::plain_front))]
+fn pair_at(abbrevs: &[u8], at: usize) -> Option<(Spec, usize)>
+    ensures found { IfSome result (λ r. specs_run abbrevs.now at ≡ put_front r.0 (specs_run abbrevs.now r.1)) }
+    ensures end { IfNone result ((specs_run abbrevs.now at).items ≡ []) }
+    ensures after { IfSome result (λ r. at < r.1) }
+    ensures inside { IfSome result (λ r. r.1 ≤ length abbrevs.now) }
+{
+    match short_pair(abbrevs, at) {
+        Some(pair) => Some((plain(pair), at + 2)),
+        None => next_spec(abbrevs, at),
+    }
+}
+
+// Passes over pairs before the attribute whose numbers have one byte each and whose values have a size that their forms fix, as
+// most have: the place of the next pair, and that of its value.
+fn pass_plain(abbrevs: &[u8], unit_end: u64, name: u64, first: usize, from: usize) -> (usize, usize)
+    ensures same { FindSame abbrevs.now unit_end name result (first, from) }
+    ensures after { first ≤ result.0 }
+{
+    let mut pairs = first;
+    let mut at = from;
+    'pairs: while let Some(pair) = short_pair(abbrevs, pairs) {
+        if u64::from(pair.attribute) == name {
+            return (pairs, at);
+        }
+        let Some(after) = fixed_end(u64::from(pair.form), unit_end, at) else {
+            return (pairs, at);
+        };
+        pairs += 2;
+        at = after;
+    }
+    (pairs, at)
+}
+
+// The first value of an attribute of an entry that is kept: the pairs of attribute and form are read beside the values, up
+// to the attribute. Values before it are passed over.
+#[tactic(auto, using(crate::proofs::AskLemmas::ask_more, crate::proofs::AskLemmas::ask_cut, crate::proofs::AskLemmas::ask_met, crate::proofs::AskLemmas::ask_end, crate::proofs::AskLemmas::ask_start, crate::proofs::AskLemmas::ask_nothing))]
+fn first_value(info: &[u8], abbrevs: &[u8], head: Head, kept: EntryHead, name: u64) -> Option<Value>
+    requires { head.end ≤ length info.now }
+    ensures { result ≡ attribute_of (values_of info.now abbrevs.now head kept) name }
+{
+    let Some((_, after)) = uleb(&info[..head.end as usize], kept.offset as usize) else {
+        return None;
+    };
+    let mut pairs = kept.specs_from as usize;
+    let mut at = after;
+    'pairs: loop {
+        let (first, from) = pass_plain(abbrevs, head.end, name, pairs, at);
+        let Some((spec, next)) = pair_at(abbrevs, first) else {
+            return None;
+        };
+        if spec.attribute == name {
+            return value_in(info, head, kept, spec, from);
+        }
+        match end_in(info, head, kept, spec, from) {
+            Ok(after) => {
+                pairs = next;
+                at = after;
+            }
+            Err(_) => return None,
+        }
+    }
+}
+
+// The same of an entry that is stored.
+#[inline(never)]
+fn walked(asked: &AttributeSource<'_>, name: u64) -> Option<Value>
+    requires { asked.now.head.now.end ≤ length asked.now.info.now }
+    ensures { result ≡ asked_value asked.now name }
+{
+    let kept = shaped(*asked.shape, asked.stored);
+    first_value(asked.info, asked.abbrevs, *asked.head, kept, name)
+}
+
+// The first value of an attribute of an entry that is stored. A slot of its shape tells where the value stands, where all before it
+// have sizes that their forms fix; another is looked for from the first pair on.
+#[tactic(auto, using(crate::proofs::AskLemmas::ask_nothing))]
+pub(crate) fn value_of(asked: &AttributeSource<'_>, name: u64) -> Option<Value>
+    requires inside { asked.now.head.now.end ≤ length asked.now.info.now }
+    requires shape { IsLayout asked.now.abbrevs.now asked.now.slots.now asked.now.shape.now }
+    ensures { result ≡ asked_value asked.now name }
+{
+    let head = *asked.head;
+    let Some(slot) = slot_for(asked.slots, *asked.shape, name) else {
+        return walked(asked, name);
+    };
+    let Some((_, after)) = uleb(
+        &asked.info[..head.end as usize],
+        asked.stored.offset as usize,
+    ) else {
+        return None;
+    };
+    let at = after + usize::from(slot.from);
+    if slot.form == FORM_UNKNOWN || at as u64 > head.end {
+        return walked(asked, name);
+    }
+    let pair = ShortPair {
+        attribute: slot.attribute,
+        form: slot.form,
+    };
+    let kept = shaped(*asked.shape, asked.stored);
+    value_in(asked.info, head, kept, plain(pair), at)
+}
+
+// The number of four bytes that spells the first value of an attribute of an entry that is stored, where a slot of its shape tells
+// where the value stands and that it has this form.
+#[inline(always)]
+fn short_number(asked: &AttributeSource<'_>, name: u64, form: u64) -> Option<u32>
+    requires inside { asked.now.head.now.end ≤ length asked.now.info.now }
+    requires shape { IsLayout asked.now.abbrevs.now asked.now.slots.now asked.now.shape.now }
+    requires told { form ≢ 0 }
+    ensures { IfSome result (SpellsNumber asked.now.info.now asked.now.abbrevs.now asked.now.head.now (the_shaped_one asked.now.shape.now asked.now.stored) name form) }
+{
+    let unit = &asked.info[..asked.head.end as usize];
+    let slot = slot_for(asked.slots, *asked.shape, name)?;
+    if u64::from(slot.form) != form {
+        return None;
+    }
+    let (_, after) = uleb(unit, asked.stored.offset as usize)?;
+    u32_at(unit, after + usize::from(slot.from))
+}
+
+// The place of the entry that an attribute of an entry that is stored refers to, where the attribute has the form `DW_FORM_ref4`
+// and a slot tells its place.
+#[inline(always)]
+#[tactic(auto, using(crate::proofs::ShortLemmas::refers_short))]
+pub(crate) fn short_reference_of(asked: &AttributeSource<'_>, name: u64) -> Option<u64>
+    requires inside { asked.now.head.now.end ≤ length asked.now.info.now }
+    requires shape { IsLayout asked.now.abbrevs.now asked.now.slots.now asked.now.shape.now }
+    ensures { IfSome result (λ offset. asked_value asked.now name ≡ Some (value.Reference offset)) }
+{
+    references_count_from_their_unit();
+    let number = short_number(asked, name, DW_FORM_ref4)?;
+    Some(u64::from(number).wrapping_add(asked.head.offset))
+}
+
+// The place of the text in `.debug_str` that an attribute of an entry that is stored is, where the attribute has the form
+// `DW_FORM_strp` and a slot tells its place.
+#[inline(always)]
+#[tactic(auto, using(crate::proofs::ShortLemmas::text_short))]
+pub(crate) fn short_text_of(asked: &AttributeSource<'_>, name: u64) -> Option<u64>
+    requires inside { asked.now.head.now.end ≤ length asked.now.info.now }
+    requires shape { IsLayout asked.now.abbrevs.now asked.now.slots.now asked.now.shape.now }
+    ensures { IfSome result (λ place. asked_value asked.now name ≡ Some (value.StrOffset place)) }
+{
+    let number = short_number(asked, name, DW_FORM_strp)?;
+    Some(u64::from(number))
+}

@@ -1,0 +1,43 @@
+// Where to look for the entry that begins at an offset. What is found does not depend on hints, since a search looks whether they
+// are right: they make it short.
+ghost use Rattle.std.specs.Prelude.{◌<◌, ◌^◌, length};
+
+use crate::entry_records::EntryRecord;
+use abi_base::NoMemory;
+use std::alloc::Global;
+
+// How many bytes of `.debug_info` share a hint.
+const HINT_BYTES: u32 = 32;
+
+// How many entries begin in that many bytes at most: each has one byte, at least.
+pub(crate) const MOST_BETWEEN: usize = 32;
+
+// For each so many bytes of `.debug_info` the place of the first entry that begins there, and 0 where none does.
+pub(crate) fn hints_of(alloc: Global, entries: &[EntryRecord]) -> Result<Vec<u32>, NoMemory>
+    requires { length entries.now < 2 ^ 32 }
+{
+    let Some(last) = entries.last() else {
+        return Ok(Vec::new(alloc));
+    };
+    let mut hints = vec![in alloc; 0; (last.offset / HINT_BYTES) as usize + 1]?;
+    let mut place = entries.len();
+    while place > 0 {
+        place -= 1;
+        let entry = entries[place];
+        if let Some(hint) = hints.get_mut((entry.offset / HINT_BYTES) as usize) {
+            *hint = place as u32;
+        }
+    }
+    Ok(hints)
+}
+
+// The hint for an offset.
+pub(crate) fn hint_for(hints: &[u32], offset: u64) -> usize {
+    let Ok(number) = usize::try_from(offset / u64::from(HINT_BYTES)) else {
+        return 0;
+    };
+    match hints.get(number) {
+        Some(hint) => *hint as usize,
+        None => 0,
+    }
+}

@@ -1,0 +1,19 @@
+//! The entries of all units of `.debug_info` as one tree, kept close together.
+#![tactic(auto)]
+
+mod attribute_source;
+mod ends;
+mod entry_records;
+mod head;
+mod hints;
+pub mod laws;
+mod reading;
+mod roots;
+mod searches;
+mod shapes;
+mod slots;
+mod tree;
+mod tree_builder;
+
+pub use head::Head;
+pub use tree::{Tree, read_tree};

@@ -1,0 +1,85 @@
+// Where the values of the entries of an abbreviation stand.
+ghost use Rattle.std.specs.Prelude.{◌<◌, ◌≤◌, ◌^◌, length, IfNone, IfSome, OnOk};
+ghost use Rattle.dwarf_tree.specs.Keeping.{AreSlots, Extends, IsSlotFor, IsSlotOf, NoneBefore};
+
+use crate::entry_records::{AbbreviationLayout, FORM_UNKNOWN, Slot};
+use abi_base::NoMemory;
+use dwarf_forms::abbreviations::{Spec, next_spec};
+use dwarf_forms::fixed_end;
+use dwarf_forms::laws::values_of_a_fixed_size_end_behind_it;
+
+// How many slots an abbreviation has at most.
+const MOST_SLOTS: usize = 255;
+
+// The slot of a pair whose value stands so many bytes behind the code. None where a number of the pair has more than one byte, as
+// those of extensions have.
+fn slot_of(spec: Spec, from: usize) -> Option<Slot>
+    requires { from < 2 ^ 16 }
+    ensures { IfSome result (IsSlotOf spec from) }
+{
+    let Ok(attribute) = u8::try_from(spec.attribute) else {
+        return None;
+    };
+    let Ok(form) = u8::try_from(spec.form) else {
+        return None;
+    };
+    Some(Slot {
+        attribute,
+        form: if spec.implicit == 0 {
+            form
+        } else {
+            FORM_UNKNOWN
+        },
+        from: from as u16,
+    })
+}
+
+// Appends the slots of the pairs from a place of `.debug_abbrev` on. All slots together are no more than that section has bytes,
+// whatever it holds.
+pub(crate) fn push_slots(
+    abbrevs: &[u8],
+    specs_from: usize,
+    slots: &mut Vec<Slot>,
+) -> Result<(), NoMemory>
+    requires { length slots.old.items < 2 ^ 32 }
+    ensures lead { OnOk result (AreSlots abbrevs.now specs_from slots.new.items (length slots.old.items) (length slots.new.items)) }
+    ensures extended { Extends slots.old.items slots.new.items }
+    ensures few { length slots.new.items < 2 ^ 32 }
+{
+    values_of_a_fixed_size_end_behind_it();
+    let most = abbrevs.len().min(u32::MAX as usize);
+    let last = slots.len().saturating_add(MOST_SLOTS).min(most);
+    let mut pairs = specs_from;
+    let mut from = 0;
+    'pairs: while slots.len() < last {
+        let Some((spec, next)) = next_spec(abbrevs, pairs) else {
+            return Ok(());
+        };
+        let Some(slot) = slot_of(spec, from) else {
+            return Ok(());
+        };
+        slots.push(slot)?;
+        let Some(after) = fixed_end(spec.form, u64::from(u16::MAX), from) else {
+            return Ok(());
+        };
+        pairs = next;
+        from = after;
+    }
+    Ok(())
+}
+
+// The first slot of a shape for an attribute.
+#[inline(always)]
+pub(crate) fn slot_for(slots: &[Slot], shape: AbbreviationLayout, name: u64) -> Option<Slot>
+    requires { shape.slots_to ≤ length slots.now }
+    ensures found { IfSome result (λ slot. IsSlotFor slots.now shape.slots_from shape.slots_to name slot) }
+    ensures none { IfNone result (NoneBefore slots.now shape.slots_from shape.slots_to name) }
+{
+    for place in shape.slots_from..shape.slots_to {
+        let slot = slots[place as usize];
+        if u64::from(slot.attribute) == name {
+            return Some(slot);
+        }
+    }
+    None
+}

@@ -1,0 +1,350 @@
+// The tree of entries.
+ghost use Rattle.std.specs.Prelude.{◌≡◌, ◌<◌, ◌≤◌, ℕ, [], ◌∷◌, ◌++◌, filter, length, Contains, IfOk, IfSome, None, OnOk, Some, false};
+ghost use Rattle.std.specs.Option.{ForSome};
+ghost use Rattle.abi_base.specs.Outcome.{Judges};
+ghost use Rattle.dwarf_forms.specs.declared.values.Value.TheVariants as value;
+ghost use Rattle.dwarf_units.specs.Sequence.{entries_fault};
+ghost use Rattle.dwarf_tree.specs.Keeping.{IsLayout, LooksFrom, asked_value, end_below};
+ghost use Rattle.dwarf_tree.specs.Trees.{IsOrdered, PlainTree, children_of, entry_at, entry_of, head_at, is_tagged, next_child_of, own_of, root_of, tree_of};
+
+use crate::attribute_source::{
+    AttributeSource, may_have, short_reference_of, short_text_of, value_of,
+};
+use crate::ends::ends_of;
+use crate::entry_records::{AbbreviationLayout, EntryRecord, Slot};
+use crate::head::Head;
+use crate::hints::{hint_for, hints_of};
+use crate::laws::a_section_is_in_order;
+use crate::reading::read_all;
+use crate::roots::roots_of;
+use crate::searches::place_near;
+use crate::tree_builder::TreeBuilder;
+use abi_base::{NoMemory, Refusal};
+use dwarf_forms::{Sections, Value};
+use std::alloc::Global;
+use std::marker::Model;
+
+/// The entries of all units of `.debug_info`, in order of offset. Contracts see it as a `PlainTree`. A position counts the
+/// entries from 0, and is below `len`. It keeps no value: values are read from the bytes when they are asked.
+#[derive(Drop)]
+pub struct Tree<'a> {
+    info: &'a [u8],
+    abbrevs: &'a [u8],
+    units: Vec<Head>,
+    // What is told of entries by their abbreviations.
+    shapes: Vec<AbbreviationLayout>,
+    slots: Vec<Slot>,
+    entries: Vec<EntryRecord>,
+    // For each entry the position where those below it end.
+    ends: Vec<u32>,
+    // For each unit the position of its root.
+    roots: Vec<u32>,
+    // Where to look for the entry that begins at an offset.
+    hints: Vec<u32>,
+}
+
+impl<'a> Model for Tree<'a> {
+    ghost use Rattle.dwarf_tree.specs.Trees.{PlainTree};
+
+    ghost Value = { PlainTree };
+
+    ghost use Rattle.dwarf_tree.specs.Keeping.{decoder, kept_tree, IsKept};
+
+    ghost view = { λ t. kept_tree t.units.items t.shapes.items (decoder t.info.now t.abbrevs.now t.units.items) t.entries.items };
+
+    ghost invariant = { λ t. IsKept t.info.now t.abbrevs.now t.units.items t.shapes.items t.slots.items t.entries.items t.ends.items t.roots.items };
+}
+
+// The tree that was read, in no more room than it takes.
+fn finished<'a>(alloc: Global, mut growing: TreeBuilder<'a>) -> Result<Tree<'a>, NoMemory>
+    requires { IsOrdered growing.tree }
+    ensures { IfOk result (λ t. t ≡ growing.entry.tree) }
+{
+    growing.shrink();
+    let ends = ends_of(alloc, &growing)?;
+    let roots = roots_of(alloc, &growing)?;
+    let hints = hints_of(alloc, &growing.entries)?;
+    let TreeBuilder {
+        info,
+        abbrevs,
+        units,
+        shapes,
+        entries,
+    } = growing;
+    let (shapes, slots) = shapes.into_lists();
+    Ok(Tree {
+        info,
+        abbrevs,
+        units,
+        shapes,
+        slots,
+        entries,
+        ends,
+        roots,
+        hints,
+    })
+}
+
+/// The tree of the entries of a file's units. The fault is the first one of units and entries.
+pub fn read_tree<'a>(alloc: Global, sections: &Sections<'a>) -> Result<Tree<'a>, Refusal>
+    ensures judged { Judges result (entries_fault sections.now.info.now sections.now.abbrev.now) }
+    ensures read { IfOk result (λ t. t ≡ tree_of sections.now.info.now sections.now.abbrev.now) }
+{
+    a_section_is_in_order();
+    match read_all(alloc, sections) {
+        Ok(growing) => Ok(finished(alloc, growing)?),
+        Err(refused) => Err(refused),
+    }
+}
+
+impl<'a> Tree<'a> {
+    /// How many entries there are.
+    pub fn len(&self) -> usize
+        ensures { result ≡ length self.now.entries }
+    {
+        self.entries.len()
+    }
+
+    /// Where an entry begins in `.debug_info`.
+    pub fn offset(&self, e: usize) -> u64
+        requires { e < length self.now.entries }
+        ensures { result ≡ (entry_at self.now e).offset }
+    {
+        let stored = self.entries[e];
+        u64::from(stored.offset)
+    }
+
+    /// How many entries an entry stands below. The root of a unit has 0.
+    pub fn depth(&self, e: usize) -> u32
+        requires { e < length self.now.entries }
+        ensures { result ≡ (entry_at self.now e).depth }
+    {
+        let stored = self.entries[e];
+        stored.depth
+    }
+
+    /// What an entry is, `DW_TAG_..`.
+    pub fn tag(&self, e: usize) -> u64
+        requires { e < length self.now.entries }
+        ensures { result ≡ (entry_at self.now e).tag }
+    {
+        let stored = self.entries[e];
+        self.shapes[stored.shape as usize].tag
+    }
+
+    /// The number of the unit in which an entry stands.
+    pub fn unit(&self, e: usize) -> usize
+        requires { e < length self.now.entries }
+        ensures { result ≡ (entry_at self.now e).unit }
+    {
+        let stored = self.entries[e];
+        self.shapes[stored.shape as usize].unit as usize
+    }
+
+    /// Whether an entry may have an attribute, by its abbreviation. Where it may not, it has none.
+    #[inline(always)]
+    pub fn may_have(&self, e: usize, name: u64) -> bool
+        requires { e < length self.now.entries }
+        ensures { result ≡ false → own_of self.now e name ≡ None }
+    {
+        let stored = self.entries[e];
+        may_have(self.shapes[stored.shape as usize].names, name)
+    }
+
+    // What the attributes of an entry are asked of.
+    #[inline(always)]
+    fn asked(&self, e: usize) -> AttributeSource<'_>
+        requires { e < length self.now.entries }
+        ensures inside { result.head.now.end ≤ length result.info.now }
+        ensures shape { IsLayout result.abbrevs.now result.slots.now result.shape.now }
+        ensures own { (name : ℕ) → asked_value result name ≡ own_of self.now e name }
+    {
+        let stored = self.entries[e];
+        let shape = &self.shapes[stored.shape as usize];
+        AttributeSource {
+            info: self.info,
+            abbrevs: self.abbrevs,
+            slots: self.slots.as_slice(),
+            head: &self.units[shape.unit as usize],
+            shape,
+            stored,
+        }
+    }
+
+    /// The first value that an entry itself has of an attribute, and none where it has none. It is read from the bytes.
+    #[inline(always)]
+    pub fn own(&self, e: usize, name: u64) -> Option<Value>
+        requires { e < length self.now.entries }
+        ensures { result ≡ own_of self.now e name }
+    {
+        if !self.may_have(e, name) {
+            return None;
+        }
+        self.read_own(e, name)
+    }
+
+    // The same, by what the bytes hold.
+    #[inline(never)]
+    fn read_own(&self, e: usize, name: u64) -> Option<Value>
+        requires { e < length self.now.entries }
+        ensures { result ≡ own_of self.now e name }
+    {
+        value_of(&self.asked(e), name)
+    }
+
+    /// The place of the entry that an attribute of an entry itself refers to, where the attribute has the form `DW_FORM_ref4` and
+    /// the entry's abbreviation tells where its value stands, as most references have: it takes less time than `own`. None says
+    /// nothing of the attribute.
+    #[inline(always)]
+    pub fn short_reference(&self, e: usize, name: u64) -> Option<u64>
+        requires { e < length self.now.entries }
+        ensures { IfSome result (λ offset. own_of self.now e name ≡ Some (value.Reference offset)) }
+    {
+        if !self.may_have(e, name) {
+            return None;
+        }
+        self.read_reference(e, name)
+    }
+
+    // The same, by what the bytes hold.
+    #[inline(never)]
+    fn read_reference(&self, e: usize, name: u64) -> Option<u64>
+        requires { e < length self.now.entries }
+        ensures { IfSome result (λ offset. own_of self.now e name ≡ Some (value.Reference offset)) }
+    {
+        short_reference_of(&self.asked(e), name)
+    }
+
+    /// The place of the text in `.debug_str` that an attribute of an entry itself is, where the attribute has the form
+    /// `DW_FORM_strp` and the entry's abbreviation tells where its value stands: it takes less time than `own`. None says nothing
+    /// of the attribute.
+    #[inline(always)]
+    pub fn short_text(&self, e: usize, name: u64) -> Option<u64>
+        requires { e < length self.now.entries }
+        ensures { IfSome result (λ place. own_of self.now e name ≡ Some (value.StrOffset place)) }
+    {
+        if !self.may_have(e, name) {
+            return None;
+        }
+        self.read_text(e, name)
+    }
+
+    // The same, by what the bytes hold.
+    #[inline(never)]
+    fn read_text(&self, e: usize, name: u64) -> Option<u64>
+        requires { e < length self.now.entries }
+        ensures { IfSome result (λ place. own_of self.now e name ≡ Some (value.StrOffset place)) }
+    {
+        short_text_of(&self.asked(e), name)
+    }
+
+    /// How many units there are.
+    pub fn units_len(&self) -> usize
+        ensures { result ≡ length self.now.units }
+    {
+        self.units.len()
+    }
+
+    /// What is kept of the header of a unit, by its number.
+    pub fn head(&self, unit: usize) -> Head
+        requires { unit < length self.now.units }
+        ensures { result ≡ head_at self.now unit }
+    {
+        self.units[unit]
+    }
+
+    /// The position of the root of a unit, by the unit's number.
+    pub fn root(&self, unit: usize) -> usize
+        requires { unit < length self.now.units }
+        ensures root { root_of self.now unit ≡ Some result }
+        ensures inside { result < length self.now.entries }
+    {
+        self.roots[unit] as usize
+    }
+
+    // The position where the entries below an entry end.
+    fn end(&self, e: usize) -> usize
+        requires { e < length self.now.entries }
+        ensures end { result ≡ end_below self.now e }
+        ensures ordered { IsOrdered self.now }
+    {
+        self.ends[e] as usize
+    }
+
+    // A place behind an entry, such that each child of it that comes after a position stands there or later.
+    fn start(&self, e: usize, after: Option<usize>) -> usize
+        requires { e < length self.now.entries }
+        ensures { LooksFrom self.now e after result }
+    {
+        let end = self.end(e);
+        let Some(place) = after else {
+            return e + 1;
+        };
+        if place >= end {
+            return end;
+        }
+        if place > e { self.end(place) } else { e + 1 }
+    }
+
+    /// The first child of an entry, or the next one after a position. None exactly where there is no other. After a child it
+    /// takes one step.
+    pub fn next_child(&self, e: usize, after: Option<usize>) -> Option<usize>
+        requires { e < length self.now.entries }
+        ensures next { result ≡ next_child_of self.now e after }
+        ensures child { IfSome result (λ next. Contains (children_of self.now e) next) }
+        ensures inside { IfSome result (λ next. next < length self.now.entries) }
+        ensures later { IfSome result (λ next. ForSome after (λ place. place < next)) }
+    {
+        let end = self.end(e);
+        let depth = self.depth(e);
+        let mut next = self.start(e, after);
+        'below: while next < end {
+            if self.depth(next) == depth + 1 {
+                return Some(next);
+            }
+            next = self.end(next);
+        }
+        None
+    }
+
+    /// The children of an entry that are of one tag, in order.
+    pub fn tagged(&self, alloc: Global, e: usize, tag: u64) -> Result<Vec<usize>, NoMemory>
+        requires { e < length self.now.entries }
+        ensures { IfOk result (λ list. list.items ≡ filter (is_tagged self.now tag) (children_of self.now e)) }
+    {
+        let mut list = Vec::new(alloc);
+        let mut next = self.next_child(e, None);
+        'children: while let Some(child) = next {
+            self.take_tagged(&mut list, child, tag)?;
+            next = self.next_child(e, Some(child));
+        }
+        Ok(list)
+    }
+
+    // Appends a child where it is of a tag.
+    fn take_tagged(&self, list: &mut Vec<usize>, child: usize, tag: u64) -> Result<(), NoMemory>
+        requires { child < length self.now.entries }
+        ensures { OnOk result (list.new.items ≡ list.old.items ++ filter (is_tagged self.now tag) (child ∷ [])) }
+    {
+        if self.tag(child) == tag {
+            list.push(child)?;
+        }
+        Ok(())
+    }
+
+    /// Does nothing. It tells what holds of each tree: how its entries stand, and how many there are at most.
+    pub fn known(&self)
+        ensures { IsOrdered self.now }
+    {
+        let _ = &self.entries;
+    }
+
+    /// The position of the entry that begins at an offset. None exactly where no entry begins there.
+    pub fn find(&self, offset: u64) -> Option<usize>
+        ensures found { result ≡ entry_of self.now offset }
+        ensures inside { IfSome result (λ e. e < length self.now.entries) }
+    {
+        let hint = hint_for(&self.hints, offset);
+        place_near(self.entries.as_slice(), offset, hint)
+    }
+}

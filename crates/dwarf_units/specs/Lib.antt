@@ -1,0 +1,11 @@
+pub mod Following
+pub mod Grammar
+pub mod HeaderRows
+pub mod KeptTables
+pub mod Outlines
+pub mod Plain
+pub mod Rows
+pub mod Sequence
+pub mod Sizes
+pub mod ValuePlaces
+pub mod Units

@@ -1,0 +1,139 @@
+-- The units of `.debug_info`, in order, and how they end (DWARF 5, section 7.5.1 "Unit Headers"; DWARF 4, section 7.5.1.1
+-- "Compilation Unit Header").
+use Rattle.std.specs.Prelude.{◌≡◌, ◌<◌, ◌≤◌, ℕ, suc, ◌+◌, ◌==◌, ◌||◌, ◌&&◌, not, nat_lt, nat_le, Bool, false, if◌then◌else◌, List, [], ◌∷◌, ◌++◌, flat_map, map, length, take, slice_index, Option, Some, None, Result, Ok, Err}
+use Rattle.std.specs.Option.{option_map, option_map_or}
+use Rattle.abi_base.specs.Dwarf.{dw_tag_partial_unit, dw_ut_compile, dw_ut_type, dw_ut_partial, dwarf_4, dwarf_5, length_size, dwarf64_length, reserved_length, header_size_4, version_at, debug_abbrev_offset_4_at, address_size_4_at, unit_type_at, address_size_at, debug_abbrev_offset_at, type_signature_at, type_offset_at, x86_64_address_size}
+use Rattle.abi_base.specs.declared.fault.Fault.{Fault}
+use Rattle.abi_base.specs.declared.fault.FaultKind.TheVariants as kind
+use Rattle.abi_base.specs.Leb.{uleb_at}
+use Rattle.abi_base.specs.Numbers.{number}
+use Rattle.abi_base.specs.Outcome.{fault_if, first}
+use Rattle.abi_base.specs.Runs.{Run, run}
+use Rattle.dwarf_forms.specs.declared.abbreviations.abbrev.Abbrev.{Abbrev}
+use Rattle.dwarf_forms.specs.abbreviations.Abbrevs.{abbrev_of, table_run}
+use Rattle.dwarf_units.specs.declared.entry.Entry.{Entry}
+use Rattle.dwarf_units.specs.Units.{PlainUnit, header_size_of, root_of, entries_of}
+
+-- the length of the unit at a place, behind its length field, and where the unit ends
+abbrev pub unit_length : List ℕ → ℕ → ℕ
+unit_length info at = number 4 info at
+
+abbrev pub unit_end : List ℕ → ℕ → ℕ
+unit_end info at = at + length_size + unit_length info at
+
+abbrev pub unit_version : List ℕ → ℕ → ℕ
+unit_version info at = number 2 info (at + version_at)
+
+-- in version 5 the type of the unit stands behind the version
+abbrev pub unit_type : List ℕ → ℕ → ℕ
+unit_type info at = slice_index info (at + unit_type_at)
+
+abbrev pub is_type_at : List ℕ → ℕ → Bool
+is_type_at info at = unit_version info at == dwarf_5 && unit_type info at == dw_ut_type
+
+-- in version 4 the address size stands behind the place of the abbreviations, in version 5 before it
+abbrev pub unit_address_size : List ℕ → ℕ → ℕ
+unit_address_size info at = slice_index info (if unit_version info at == dwarf_4 then at + address_size_4_at else at + address_size_at)
+
+abbrev pub unit_abbrevs : List ℕ → ℕ → ℕ
+unit_abbrevs info at = number 4 info (if unit_version info at == dwarf_4 then at + debug_abbrev_offset_4_at else at + debug_abbrev_offset_at)
+
+-- the size of the header that a unit of its version and type has
+abbrev pub header_size_at : List ℕ → ℕ → ℕ
+header_size_at info at = header_size_of (unit_version info at) (is_type_at info at)
+
+-- The length field or the unit does not lie inside, the length is reserved, or the unit is too short for its header: for
+-- the least one that there is, or for the one of its version and type.
+abbrev pub bad_length : List ℕ → ℕ → Bool
+bad_length info at =
+    nat_lt (length info) (at + length_size)
+    || (nat_lt (length info) (unit_end info at)
+    || (nat_le reserved_length (unit_length info at)
+    || (nat_lt (unit_end info at) (at + header_size_4) || nat_lt (unit_end info at) (at + header_size_at info at))))
+
+abbrev pub is_version : ℕ → Bool
+is_version version = version == dwarf_4 || version == dwarf_5
+
+abbrev pub is_read_type : ℕ → Bool
+is_read_type type = type == dw_ut_compile || (type == dw_ut_type || type == dw_ut_partial)
+
+-- the rows of a header that ask its length, and those that ask what it says
+abbrev pub length_rows : List ℕ → ℕ → List (Option Fault)
+length_rows info at =
+    fault_if (nat_le (at + length_size) (length info) && unit_length info at == dwarf64_length) kind.Dwarf64 at
+    ∷ fault_if (bad_length info at) kind.UnitHeader at
+    ∷ []
+
+abbrev pub kind_rows : List ℕ → ℕ → List (Option Fault)
+kind_rows info at =
+    fault_if (not (is_version (unit_version info at))) kind.DwarfVersion at
+    ∷ fault_if (unit_version info at == dwarf_5 && not (is_read_type (unit_type info at))) kind.UnitType at
+    ∷ fault_if (not (unit_address_size info at == x86_64_address_size)) kind.AddressSize at
+    ∷ []
+
+-- the fault of a unit's header: the first of its rows
+unfoldable pub header_fault : List ℕ → ℕ → Option Fault
+header_fault info at = first (length_rows info at ++ kind_rows info at)
+
+-- the fault of a unit: that of its header, else that of its table
+unfoldable pub unit_fault : List ℕ → List ℕ → ℕ → Option Fault
+unit_fault info abbrevs at = first (header_fault info at ∷ (table_run abbrevs (unit_abbrevs info at)).end ∷ [])
+
+-- the tag of the root, where its code can be read and the table has it
+unfoldable pub root_tag : List ℕ → ℕ → ℕ → List Abbrev → Option ℕ
+root_tag info end at table = option_map_or (λ code. option_map (λ a. a.tag) (abbrev_of table code.0)) (uleb_at (take end info) at) None
+
+-- whether the unit is a partial one: in version 5 its type says so, in version 4 the tag of its root
+abbrev pub is_partial : List ℕ → ℕ → List Abbrev → Bool
+is_partial info at table =
+    if unit_version info at == dwarf_4
+    then option_map_or (λ tag. tag == dw_tag_partial_unit) (root_tag info (unit_end info at) (at + header_size_4) table) false
+    else unit_type info at == dw_ut_partial
+
+-- the unit at a place
+unfoldable pub unit_of : List ℕ → List ℕ → ℕ → PlainUnit
+unit_of info abbrevs at =
+    let table = (table_run abbrevs (unit_abbrevs info at)).items in
+    record {
+      offset = at;
+      end = unit_end info at;
+      version = unit_version info at;
+      partial = is_partial info at table;
+      signature = (if is_type_at info at then Some (number 8 info (at + type_signature_at)) else None);
+      type_entry = (if is_type_at info at then at + number 4 info (at + type_offset_at) else 0);
+      table = table;
+      info = info;
+    }
+
+abbrev pub unit_or : Option Fault → PlainUnit → Result (PlainUnit × ℕ) (Option Fault)
+unit_or None u = Ok (u, u.end)
+unit_or (Some f) u = Err (Some f)
+
+-- the unit at a place, and the place after it; else how the section ends
+unfoldable pub unit_step : List ℕ → List ℕ → ℕ → Result (PlainUnit × ℕ) (Option Fault)
+unit_step info abbrevs at = if not (nat_lt at (length info)) then Err None else unit_or (unit_fault info abbrevs at) (unit_of info abbrevs at)
+
+-- the units from a place on, and the fault of a unit's header or table that they end with, if there is one
+unfoldable pub units_from : List ℕ → List ℕ → ℕ → Run PlainUnit (Option Fault)
+units_from info abbrevs at = run (unit_step info abbrevs) None (suc (length info)) at
+
+-- where a unit stands: its root behind the place where it begins, its end at the next one, and inside the section
+pub record UnitStands (info : List ℕ) (at : ℕ) (u : PlainUnit) (next : ℕ) : Type 0 where
+  pub root : at < root_of u
+  pub on : root_of u ≤ next
+  pub end : u.end ≡ next
+  pub inside : next ≤ length info
+
+-- all units of the section
+abbrev pub units_of : List ℕ → List ℕ → Run PlainUnit (Option Fault)
+units_of info abbrevs = units_from info abbrevs 0
+
+-- ---- the section as a whole
+
+-- the entries of all units up to the first fault, in order of offset
+unfoldable pub all_entries : List ℕ → List ℕ → List Entry
+all_entries info abbrevs = flat_map (λ u. (entries_of u).items) (units_of info abbrevs).items
+
+-- the first fault of units and entries: each unit, and then its entries, in order of offset
+unfoldable pub entries_fault : List ℕ → List ℕ → Option Fault
+entries_fault info abbrevs = first (map (λ u. (entries_of u).end) (units_of info abbrevs).items ++ (units_of info abbrevs).end ∷ [])

@@ -1,0 +1,18 @@
+// A debugging information entry.
+use abi_base::List;
+use dwarf_forms::Value;
+
+/// A debugging information entry (DWARF 5, section 2.1 "The Debugging Information Entry").
+#[derive(Drop)]
+pub struct Entry {
+    /// Where it begins in `.debug_info`.
+    pub offset: u64,
+    /// How many entries it stands below. The root of a unit has 0.
+    pub depth: u32,
+    /// What it is, `DW_TAG_..`.
+    pub tag: u64,
+    /// Where the pairs of attribute and form of its abbreviation begin in `.debug_abbrev`.
+    pub specs_from: u64,
+    /// The attributes, `DW_AT_..`, and their values, in their order.
+    pub attributes: List<(u64, Value)>,
+}

@@ -1,0 +1,182 @@
+// The header of a unit: its faults, and what it says.
+ghost use Rattle.std.specs.Prelude.{◌≡◌, ◌≤◌, ◌<◌, ◌+◌, ◌||◌, nat_lt, length, take, true, IfNone};
+ghost use Rattle.abi_base.specs.Dwarf.{header_size_4, length_size};
+ghost use Rattle.abi_base.specs.Outcome.{first};
+ghost use Rattle.dwarf_units.specs.Sequence.{header_fault, header_size_at, is_partial, is_read_type as the_type_is_read, is_type_at, is_version as the_version_is_read, kind_rows, length_rows, root_tag, unit_abbrevs, unit_end, unit_version};
+
+use crate::constants::{
+    ADDRESS_SIZE, ADDRESS_SIZE_4, DEBUG_ABBREV_OFFSET, DEBUG_ABBREV_OFFSET_4, DWARF_4, DWARF_5,
+    DWARF64_LENGTH, HEADER_SIZE, HEADER_SIZE_4, LENGTH_SIZE, RESERVED_LENGTH, TYPE_HEADER_SIZE,
+    UNIT_TYPE, VERSION, X86_64_ADDRESS_SIZE,
+};
+use crate::sizes::SizedTable;
+use abi_base::dwarf::{DW_TAG_partial_unit, DW_UT_compile, DW_UT_partial, DW_UT_type};
+use abi_base::{Fault, FaultKind, u16_in, u32_in, uleb};
+
+fn fault_at(kind: FaultKind, at: usize) -> Fault
+    ensures { result ≡ record { kind = kind; at = at } }
+{
+    Fault {
+        kind,
+        at: at as u64,
+    }
+}
+
+// The size of the header that a unit of its version and type has.
+fn header_size_in(info: &[u8], at: usize) -> u64
+    requires { at + header_size_4 ≤ length info.now }
+    ensures { result ≡ header_size_at info.now at }
+{
+    let version = u16_in(info, at + VERSION);
+    if version == DWARF_4 {
+        return HEADER_SIZE_4;
+    }
+    if version == DWARF_5 && info[at + UNIT_TYPE] == DW_UT_type {
+        TYPE_HEADER_SIZE
+    } else {
+        HEADER_SIZE
+    }
+}
+
+// Whether a unit that lies inside is too short for its header.
+fn is_short(info: &[u8], at: usize, rest: u64) -> bool
+    requires { at + length_size + rest ≤ length info.now }
+    ensures { result ≡ (nat_lt (at + length_size + rest) (at + header_size_4) || nat_lt (at + length_size + rest) (at + header_size_at info.now at)) }
+{
+    if LENGTH_SIZE + rest < HEADER_SIZE_4 {
+        return true;
+    }
+    LENGTH_SIZE + rest < header_size_in(info, at)
+}
+
+// The fault of a unit's length, where the unit begins inside.
+fn length_fault_in(info: &[u8], at: usize) -> Option<Fault>
+    requires { at < length info.now }
+    ensures fault { result ≡ first (length_rows info.now at) }
+    ensures inside { IfNone result (unit_end info.now at ≤ length info.now) }
+    ensures whole { IfNone result (at + header_size_at info.now at ≤ unit_end info.now at) }
+    ensures least { IfNone result (at + header_size_4 ≤ unit_end info.now at) }
+{
+    let left = (info.len() - at) as u64;
+    if left < LENGTH_SIZE {
+        return Some(fault_at(FaultKind::UnitHeader, at));
+    }
+    let length = u32_in(info, at);
+    if length == DWARF64_LENGTH {
+        return Some(fault_at(FaultKind::Dwarf64, at));
+    }
+    if u64::from(length) > left - LENGTH_SIZE {
+        return Some(fault_at(FaultKind::UnitHeader, at));
+    }
+    if length >= RESERVED_LENGTH {
+        return Some(fault_at(FaultKind::UnitHeader, at));
+    }
+    if is_short(info, at, u64::from(length)) {
+        return Some(fault_at(FaultKind::UnitHeader, at));
+    }
+    None
+}
+
+fn is_version(version: u16) -> bool
+    ensures { result ≡ the_version_is_read version }
+{
+    matches!(version, DWARF_4 | DWARF_5)
+}
+
+fn is_read_type(kind: u8) -> bool
+    ensures { result ≡ the_type_is_read kind }
+{
+    matches!(kind, DW_UT_compile | DW_UT_type | DW_UT_partial)
+}
+
+// The fault of what a header says, where the header lies inside.
+fn kind_fault_in(info: &[u8], at: usize) -> Option<Fault>
+    requires header { at + header_size_at info.now at ≤ length info.now }
+    requires least { at + header_size_4 ≤ length info.now }
+    ensures fault { result ≡ first (kind_rows info.now at) }
+    ensures version { IfNone result (the_version_is_read (unit_version info.now at) ≡ true) }
+{
+    let version = u16_in(info, at + VERSION);
+    if !is_version(version) {
+        return Some(fault_at(FaultKind::DwarfVersion, at));
+    }
+    if version == DWARF_5 && !is_read_type(info[at + UNIT_TYPE]) {
+        return Some(fault_at(FaultKind::UnitType, at));
+    }
+    let size = if version == DWARF_4 {
+        info[at + ADDRESS_SIZE_4]
+    } else {
+        info[at + ADDRESS_SIZE]
+    };
+    if size != X86_64_ADDRESS_SIZE {
+        return Some(fault_at(FaultKind::AddressSize, at));
+    }
+    None
+}
+
+/// The first fault of a unit's header, where the unit begins inside.
+#[tactic(auto, using(crate::proofs::UnitsLeft::header_fault_is))]
+pub fn header_fault_in(info: &[u8], at: usize) -> Option<Fault>
+    requires { at < length info.now }
+    ensures fault { result ≡ header_fault info.now at }
+    ensures inside { IfNone result (unit_end info.now at ≤ length info.now) }
+    ensures whole { IfNone result (at + header_size_at info.now at ≤ unit_end info.now at) }
+    ensures least { IfNone result (at + header_size_4 ≤ unit_end info.now at) }
+{
+    match length_fault_in(info, at) {
+        Some(fault) => Some(fault),
+        None => kind_fault_in(info, at),
+    }
+}
+
+/// The place of a unit's abbreviations.
+pub fn abbrevs_in(info: &[u8], at: usize) -> u64
+    requires { at + header_size_at info.now at ≤ length info.now }
+    ensures { result ≡ unit_abbrevs info.now at }
+{
+    let place = if u16_in(info, at + VERSION) == DWARF_4 {
+        at + DEBUG_ABBREV_OFFSET_4
+    } else {
+        at + DEBUG_ABBREV_OFFSET
+    };
+    u64::from(u32_in(info, place))
+}
+
+// The tag of the root at a place, where its code can be read and the table has it.
+#[tactic(auto, unfolding(crate::specs::Sequence::root_tag))]
+fn root_tag_in(info: &[u8], end: usize, at: usize, table: &SizedTable) -> Option<u64>
+    requires { end ≤ length info.now }
+    ensures { result ≡ root_tag info.now end at table.now }
+{
+    let Some((code, _)) = uleb(&info[..end], at) else {
+        return None;
+    };
+    match table.find(code) {
+        Some(abbrev) => Some(abbrev.tag),
+        None => None,
+    }
+}
+
+/// Whether a unit is a partial one.
+pub fn is_partial_in(info: &[u8], at: usize, end: usize, table: &SizedTable) -> bool
+    requires header { at + header_size_at info.now at ≤ length info.now }
+    requires end { end ≡ unit_end info.now at }
+    requires inside { end ≤ length info.now }
+    ensures { result ≡ is_partial info.now at table.now }
+{
+    if u16_in(info, at + VERSION) != DWARF_4 {
+        return info[at + UNIT_TYPE] == DW_UT_partial;
+    }
+    match root_tag_in(info, end, at + HEADER_SIZE_4 as usize, table) {
+        Some(tag) => tag == DW_TAG_partial_unit,
+        None => false,
+    }
+}
+
+/// Whether a unit is a type unit.
+pub fn is_type_in(info: &[u8], at: usize) -> bool
+    requires { at + header_size_4 ≤ length info.now }
+    ensures { result ≡ is_type_at info.now at }
+{
+    u16_in(info, at + VERSION) == DWARF_5 && info[at + UNIT_TYPE] == DW_UT_type
+}

@@ -1,0 +1,98 @@
+// An entry without its values.
+ghost use Rattle.std.specs.Prelude.{◌≡◌, IfOk, map};
+
+use crate::entry::Entry;
+use crate::unit::Unit;
+use crate::values::values_in;
+use abi_base::{NoMemory, Refusal};
+use dwarf_forms::abbreviations::{Abbrev, Spec};
+use std::alloc::Global;
+use std::marker::Model;
+
+/// An entry of a unit whose values were passed over: they are read when they are asked for. Contracts see it as the entry, with
+/// its values.
+#[derive(Drop)]
+pub struct Outline<'u, 'a> {
+    pub(crate) unit: &'u Unit<'a>,
+    // Its abbreviation.
+    pub(crate) form: &'u Abbrev,
+    pub(crate) offset: u64,
+    pub(crate) depth: u32,
+    // Where its values begin, behind its code.
+    pub(crate) values: usize,
+}
+
+impl<'u, 'a> Model for Outline<'u, 'a> {
+    ghost use Rattle.dwarf_units.specs.declared.entry.Entry.{Entry};
+
+    ghost Value = { Entry };
+
+    ghost use Rattle.std.specs.Prelude.{IsOk};
+    ghost use Rattle.dwarf_units.specs.Outlines.{outlined};
+    ghost use Rattle.dwarf_units.specs.Plain.{plain_unit};
+    ghost use Rattle.dwarf_units.specs.Units.{values_at};
+
+    ghost view = { λ o. outlined (plain_unit o.unit.now) o.form.now o.offset o.depth o.values };
+
+    ghost invariant = { λ o. IsOk (values_at (plain_unit o.unit.now) o.offset o.form.now.specs o.values) };
+}
+
+impl<'u, 'a> Outline<'u, 'a> {
+    /// Where it begins in `.debug_info`.
+    #[inline]
+    pub fn offset(&self) -> u64
+        ensures { result ≡ self.now.offset }
+    {
+        self.offset
+    }
+
+    /// How many entries it stands below. The root of a unit has 0.
+    #[inline]
+    pub fn depth(&self) -> u32
+        ensures { result ≡ self.now.depth }
+    {
+        self.depth
+    }
+
+    /// What it is, `DW_TAG_..`.
+    #[inline]
+    pub fn tag(&self) -> u64
+        ensures { result ≡ self.now.tag }
+    {
+        self.form.tag
+    }
+
+    /// Where the pairs of attribute and form of its abbreviation begin in `.debug_abbrev`.
+    #[inline]
+    pub fn specs_from(&self) -> u64
+        ensures { result ≡ self.now.specs_from }
+    {
+        self.form.specs_from
+    }
+
+    /// The pairs of attribute and form of its abbreviation: its attributes are theirs, in order.
+    #[inline]
+    pub fn specs(&self) -> &[Spec]
+        ensures { map (λ s. s.attribute) result.now ≡ map (λ a. a.0) self.now.attributes }
+    {
+        self.form.specs.as_slice()
+    }
+
+    /// The entry with its values, or `NoMemory`.
+    pub fn entry(&self, alloc: Global) -> Result<Entry, NoMemory>
+        ensures { IfOk result (λ e. e ≡ self.now) }
+    {
+        let specs = self.form.specs.as_slice();
+        match values_in(alloc, self.unit, self.offset, specs, self.values) {
+            Ok((attributes, _)) => Ok(Entry {
+                offset: self.offset,
+                depth: self.depth,
+                tag: self.form.tag,
+                specs_from: self.form.specs_from,
+                attributes,
+            }),
+            Err(Refusal::NoMemory) => Err(NoMemory),
+            Err(Refusal::Fault(_)) => unreachable!(),
+        }
+    }
+}

@@ -1,0 +1,145 @@
+// The entries of a unit, one at a time.
+ghost use Rattle.std.specs.Prelude.{◌≡◌, ◌≤◌, ◌||◌, ◌&&◌, not, is_some};
+ghost use Rattle.abi_base.specs.Outcome.{fault_if};
+ghost use Rattle.abi_base.specs.Runs.{NextIs};
+ghost use Rattle.abi_base.specs.declared.fault.FaultKind.TheVariants as kind;
+ghost use Rattle.dwarf_units.specs.Following.{ComesTo};
+ghost use Rattle.dwarf_units.specs.Plain.{plain_unit};
+ghost use Rattle.dwarf_units.specs.Units.{is_type_entry as the_type_entry, open_lists};
+
+use crate::outline::Outline;
+use crate::tokens::{Token, token_in};
+use crate::unit::Unit;
+use abi_base::{Fault, FaultKind, Refusal};
+use dwarf_forms::laws::reading_moves_on_inside_the_unit;
+use std::alloc::Global;
+use std::marker::Model;
+
+/// The entries of a unit that are left. Contracts see them as a list, and the fault that they end with, if there is one.
+#[derive(Drop)]
+pub struct Entries<'u, 'a> {
+    pub(crate) unit: &'u Unit<'a>,
+    pub(crate) at: usize,
+    // The number of open lists, or none before the root.
+    pub(crate) lists: Option<u32>,
+    // Whether the entry of the unit's type was given.
+    pub(crate) met: bool,
+}
+
+impl<'u, 'a> Model for Entries<'u, 'a> {
+    ghost use Rattle.std.specs.Prelude.{Option, ◌≤◌};
+    ghost use Rattle.abi_base.specs.declared.fault.Fault.{Fault};
+    ghost use Rattle.abi_base.specs.Runs.{Run};
+    ghost use Rattle.dwarf_units.specs.declared.entry.Entry.{Entry};
+    ghost use Rattle.dwarf_units.specs.Units.{entries_left, open_lists};
+    ghost use Rattle.dwarf_units.specs.Plain.{plain_unit};
+
+    ghost Value = { Run Entry (Option Fault) };
+
+    ghost view = { λ r. entries_left (plain_unit r.unit.now) (r.at, r.lists) r.met };
+
+    ghost invariant = { λ r. open_lists r.lists ≤ r.at };
+}
+
+// Whether an entry is the one that its unit is for, or was met before.
+#[inline]
+fn is_met(unit: &Unit<'_>, met: bool, entry: &Outline<'_, '_>) -> bool
+    ensures { result ≡ (met || the_type_entry (plain_unit unit.now) entry.now) }
+{
+    met || entry.offset() == unit.type_entry
+}
+
+// The fault of a type unit whose type's entry was not met.
+fn unmet(unit: &Unit<'_>, met: bool) -> Option<Fault>
+    ensures { result ≡ fault_if (is_some unit.now.signature && not met) kind.TypeOffset unit.now.offset }
+{
+    if unit.signature.is_some() && !met {
+        Some(Fault {
+            kind: FaultKind::TypeOffset,
+            at: unit.offset,
+        })
+    } else {
+        None
+    }
+}
+
+/// An entry, the place after it, and the number of lists that are open there.
+#[derive(Drop)]
+pub struct Following<'u, 'a> {
+    pub entry: Outline<'u, 'a>,
+    pub at: usize,
+    pub lists: u32,
+}
+
+// The next entry from a place on, inside so many lists, or none at the unit's end.
+#[inline]
+#[tactic(auto, using(crate::proofs::EntriesLeft::left_pass, crate::proofs::EntriesLeft::left_end, crate::proofs::TokenLaws::token_moves))]
+fn next_in<'u, 'a>(
+    alloc: Global,
+    unit: &'u Unit<'a>,
+    from: usize,
+    inside: Option<u32>,
+    met: bool,
+) -> Result<Option<Following<'u, 'a>>, Refusal>
+    requires { open_lists inside ≤ from }
+    ensures { ComesTo (plain_unit unit.now) (from, inside) met result }
+{
+    reading_moves_on_inside_the_unit();
+    let mut at = from;
+    let mut lists = inside;
+    'closing: loop {
+        match token_in(alloc, unit, at, lists) {
+            Ok(
+                Token::Given {
+                    entry,
+                    at: after,
+                    lists: opened,
+                },
+            ) => {
+                return Ok(Some(Following {
+                    entry,
+                    at: after,
+                    lists: opened,
+                }));
+            }
+            Ok(
+                Token::Closed {
+                    at: after,
+                    lists: opened,
+                },
+            ) => {
+                at = after;
+                lists = Some(opened);
+            }
+            Ok(Token::End) => {
+                return match unmet(unit, met) {
+                    Some(fault) => Err(Refusal::Fault(fault)),
+                    None => Ok(None),
+                };
+            }
+            Err(refused) => return Err(refused),
+        }
+    }
+}
+
+impl<'u, 'a> Entries<'u, 'a> {
+    /// The next entry, whose values are passed over, or none at the unit's end. Only for the root it takes memory. The faults
+    /// are `Cut`, `AbbrevCode`, `Form` and `Supplementary` at an entry, `Tree` at the place where the tree of entries breaks,
+    /// `Language` at the root, and at the end of a type unit `TypeOffset` at the unit. After a fault the same fault is answered
+    /// from then on; after `NoMemory` the reader is as before, and the call may be made again.
+    #[inline]
+    pub fn next_outline(&mut self, alloc: Global) -> Result<Option<Outline<'u, 'a>>, Refusal>
+        ensures { NextIs self.old result self.new }
+    {
+        match next_in(alloc, self.unit, self.at, self.lists, self.met) {
+            Ok(Some(Following { entry, at, lists })) => {
+                self.met = is_met(self.unit, self.met, &entry);
+                self.at = at;
+                self.lists = Some(lists);
+                Ok(Some(entry))
+            }
+            Ok(None) => Ok(None),
+            Err(refused) => Err(refused),
+        }
+    }
+}

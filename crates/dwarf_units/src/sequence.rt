@@ -1,0 +1,106 @@
+// The units of `.debug_info`, one at a time.
+ghost use Rattle.std.specs.Prelude.{◌≡◌, ◌≤◌, ◌<◌, length};
+ghost use Rattle.abi_base.specs.Limits.{input_limit};
+ghost use Rattle.dwarf_units.specs.KeptTables.{IsKept, IsUnit, NextIsBy};
+ghost use Rattle.dwarf_units.specs.Plain.{plain_unit};
+
+use crate::constants::{LENGTH_SIZE, TYPE_OFFSET, TYPE_SIGNATURE, VERSION};
+use crate::header::{abbrevs_in, header_fault_in, is_partial_in, is_type_in};
+use crate::table::{KeptTable, table_in};
+use crate::unit::Unit;
+use abi_base::{Refusal, u16_in, u32_in, u64_in};
+use std::alloc::Global;
+use std::marker::Model;
+
+/// The units that are left. Contracts see them as a list, and the fault that they end with, if there is one.
+#[derive(Drop)]
+pub struct Units<'a> {
+    pub(crate) info: &'a [u8],
+    pub(crate) abbrevs: &'a [u8],
+    pub(crate) at: usize,
+    // The table of the unit before.
+    pub(crate) last: Option<KeptTable>,
+}
+
+impl<'a> Model for Units<'a> {
+    ghost use Rattle.std.specs.Prelude.{Option, ◌≤◌, length};
+    ghost use Rattle.abi_base.specs.Limits.{input_limit};
+    ghost use Rattle.abi_base.specs.declared.fault.Fault.{Fault};
+    ghost use Rattle.abi_base.specs.Runs.{Run};
+    ghost use Rattle.dwarf_units.specs.Units.{PlainUnit};
+    ghost use Rattle.dwarf_units.specs.Sequence.{units_from};
+    ghost use Rattle.dwarf_units.specs.KeptTables.{IsKept};
+
+    ghost Value = { Run PlainUnit (Option Fault) };
+
+    ghost view = { λ r. units_from r.info.now r.abbrevs.now r.at };
+
+    ghost invariant = { λ r. (length r.info.now ≤ input_limit) × IsKept r.abbrevs.now r.last };
+}
+
+// The unit that begins at a place inside.
+#[tactic(auto, unfolding(crate::specs::Sequence::unit_of, crate::specs::Sequence::unit_fault, crate::specs::Sequence::unit_step))]
+fn unit_in<'a>(
+    alloc: Global,
+    info: &'a [u8],
+    abbrevs: &[u8],
+    at: usize,
+    last: &mut Option<KeptTable>,
+) -> Result<Unit<'a>, Refusal>
+    requires before { at < length info.now }
+    requires small { length info.now ≤ input_limit }
+    requires kept { IsKept abbrevs.now last.old }
+    ensures read { IsUnit info.now abbrevs.now at result }
+    ensures keeps { IsKept abbrevs.now last.new }
+{
+    match header_fault_in(info, at) {
+        Some(fault) => return Err(Refusal::Fault(fault)),
+        None => {}
+    }
+    let end = at as u64 + LENGTH_SIZE + u64::from(u32_in(info, at));
+    match table_in(alloc, abbrevs, abbrevs_in(info, at), last) {
+        Ok(table) => {
+            let is_type = is_type_in(info, at);
+            Ok(Unit {
+                offset: at as u64,
+                end,
+                version: u16_in(info, at + VERSION),
+                partial: is_partial_in(info, at, end as usize, &table),
+                signature: if is_type {
+                    Some(u64_in(info, at + TYPE_SIGNATURE))
+                } else {
+                    None
+                },
+                type_entry: if is_type {
+                    at as u64 + u64::from(u32_in(info, at + TYPE_OFFSET))
+                } else {
+                    0
+                },
+                table,
+                info,
+            })
+        },
+        Err(refused) => Err(refused),
+    }
+}
+
+impl<'a> Units<'a> {
+    /// The next unit, or none at the end of the section. The faults are `Dwarf64`, `UnitHeader`, `DwarfVersion`, `UnitType`
+    /// and `AddressSize` at the unit, and `Abbrev` at the abbreviation. After a fault the same fault is answered from then
+    /// on; after `NoMemory` the reader is as before, and the call may be made again.
+    #[tactic(auto, using(crate::proofs::UnitsLeft::units_give, crate::proofs::UnitsLeft::units_end, crate::proofs::UnitsLeft::units_done), unfolding(crate::specs::Sequence::unit_step))]
+    pub fn next_unit(&mut self, alloc: Global) -> Result<Option<Unit<'a>>, Refusal>
+        ensures { NextIsBy plain_unit self.old result self.new }
+    {
+        if self.at >= self.info.len() {
+            return Ok(None);
+        }
+        match unit_in(alloc, self.info, self.abbrevs, self.at, &mut self.last) {
+            Ok(unit) => {
+                self.at = unit.end as usize;
+                Ok(Some(unit))
+            }
+            Err(refused) => Err(refused),
+        }
+    }
+}

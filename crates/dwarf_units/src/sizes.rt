@@ -1,0 +1,102 @@
+// Abbreviations with the sizes of their entries' values.
+ghost use Rattle.std.specs.Prelude.{◌≡◌, IfOk, IfSome};
+ghost use Rattle.std.specs.Option.{option_copied};
+ghost use Rattle.dwarf_forms.specs.abbreviations.Abbrevs.{abbrev_of};
+ghost use Rattle.dwarf_units.specs.Sizes.{AreSizes, EndBehind, IsSizeIn};
+
+use abi_base::NoMemory;
+use dwarf_forms::abbreviations::{Abbrev, Spec, Table};
+use dwarf_forms::fixed_size;
+use dwarf_forms::laws::values_of_a_fixed_size_end_behind_it;
+use std::alloc::Global;
+use std::marker::Model;
+
+// Few units have more abbreviations.
+const USUAL_CODES: usize = 64;
+
+// From this code on sizes are not kept.
+const MOST_CODES: u64 = 0x10000;
+
+/// A table of abbreviations, and how many bytes the values of an entry have where its abbreviation says that alone. Contracts
+/// see it as the list of its abbreviations.
+#[derive(Drop)]
+pub struct SizedTable {
+    table: Table,
+    // The sizes by code. Producers number from 1 on, and those of codes behind the first that is left out are not kept.
+    sizes: Vec<Option<u16>>,
+}
+
+impl Model for SizedTable {
+    ghost use Rattle.std.specs.Prelude.{List};
+    ghost use Rattle.dwarf_forms.specs.declared.abbreviations.abbrev.Abbrev.{Abbrev};
+    ghost use Rattle.dwarf_units.specs.Sizes.{AreSizes};
+
+    ghost Value = { List Abbrev };
+
+    ghost view = { λ t. t.table };
+
+    ghost invariant = { λ t. AreSizes t.table t.sizes.items };
+}
+
+// How many bytes the values of these pairs have together, where the form of each fixes its size and they are not very many.
+fn whole_size(specs: &[Spec]) -> Option<u16>
+    ensures { IfSome result (EndBehind specs.now) }
+{
+    values_of_a_fixed_size_end_behind_it();
+    let mut size: u16 = 0;
+    for spec in specs {
+        let Some(more) = fixed_size(spec.form) else {
+            return None;
+        };
+        let Some(sum) = size.checked_add(more) else {
+            return None;
+        };
+        size = sum;
+    }
+    Some(size)
+}
+
+// The sizes of the codes of a table that follow one another from 1 on.
+fn sizes_of(alloc: Global, table: &Table) -> Result<Vec<Option<u16>>, NoMemory>
+    ensures { IfOk result (λ sizes. AreSizes table.now sizes.items) }
+{
+    let mut sizes = Vec::with_capacity(alloc, USUAL_CODES)?;
+    // No abbreviation has the code 0.
+    sizes.push(None)?;
+    for code in 1..MOST_CODES {
+        let Some(abbrev) = table.find(code) else {
+            return Ok(sizes);
+        };
+        sizes.push(whole_size(abbrev.specs.as_slice()))?;
+    }
+    Ok(sizes)
+}
+
+impl SizedTable {
+    /// The table with its sizes, or `NoMemory`.
+    pub fn of(alloc: Global, table: Table) -> Result<SizedTable, NoMemory>
+        ensures { IfOk result (λ sized. sized ≡ table) }
+    {
+        let sizes = sizes_of(alloc, &table)?;
+        Ok(SizedTable { table, sizes })
+    }
+
+    /// The abbreviation of a code, or none exactly where the table has no such code.
+    #[inline]
+    pub fn find(&self, code: u64) -> Option<&Abbrev>
+        ensures { option_copied result ≡ abbrev_of self.now code }
+    {
+        self.table.find(code)
+    }
+
+    /// How many bytes the values of an entry of a code have, where its abbreviation says that alone. None says nothing.
+    #[inline]
+    pub fn size(&self, code: u64) -> Option<u16>
+        ensures { IfSome result (IsSizeIn self.now code) }
+    {
+        match self.sizes.get(code as usize) {
+            Some(size) => *size,
+            None => None,
+        }
+    }
+}

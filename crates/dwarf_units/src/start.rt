@@ -1,0 +1,43 @@
+// Where the units of a section and the entries of a unit begin.
+ghost use Rattle.std.specs.Prelude.{◌≡◌, None};
+ghost use Rattle.dwarf_units.specs.Plain.{plain_unit};
+ghost use Rattle.dwarf_units.specs.Sequence.{units_of};
+ghost use Rattle.dwarf_units.specs.Units.{entries_of};
+
+use crate::constants::{DWARF_4, HEADER_SIZE, HEADER_SIZE_4, TYPE_HEADER_SIZE};
+use crate::reader::Entries;
+use crate::sequence::Units;
+use crate::unit::Unit;
+use dwarf_forms::Sections;
+
+/// All units of `.debug_info`, in order, each with its abbreviations.
+pub fn units<'a>(sections: &Sections<'a>) -> Units<'a>
+    ensures { result ≡ units_of sections.now.info.now sections.now.abbrev.now }
+{
+    Units {
+        info: sections.info,
+        abbrevs: sections.abbrev,
+        at: 0,
+        last: None,
+    }
+}
+
+/// All entries of a unit: the root first, and each entry before those below it.
+#[tactic(auto, unfolding(crate::specs::Units::entries_of))]
+pub fn entries<'u, 'a>(unit: &'u Unit<'a>) -> Entries<'u, 'a>
+    ensures { result ≡ entries_of (plain_unit unit.now) }
+{
+    let header = if unit.version == DWARF_4 {
+        HEADER_SIZE_4
+    } else if unit.signature.is_some() {
+        TYPE_HEADER_SIZE
+    } else {
+        HEADER_SIZE
+    };
+    Entries {
+        unit,
+        at: (unit.offset + header) as usize,
+        lists: None,
+        met: false,
+    }
+}

@@ -1,0 +1,4 @@
+mod file
+mod sections
+mod symbols
+mod versions

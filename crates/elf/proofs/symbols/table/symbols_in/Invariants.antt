@@ -1,0 +1,5 @@
+use Rattle.elf.proofs.symbols.Reading.{ReadBefore}
+use Rattle.elf.proofs.symbols.table.symbols_in.Given as goal
+
+abbrev pub invariant-loop-number : goal.invariant-loop-number
+invariant-loop-number l = ReadBefore l.table l.strings l.number l.count l.symbols.items

@@ -1,0 +1,4 @@
+pub mod file
+pub mod sections
+pub mod symbols
+pub mod versions

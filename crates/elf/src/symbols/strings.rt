@@ -1,0 +1,20 @@
+// The string table of a table.
+ghost use Rattle.std.specs.Prelude.{◌≡◌, ◌<◌, Some, IfSome, is_none};
+ghost use Rattle.elf.specs.file.Elf.{strings_of};
+ghost use Rattle.elf.specs.file.File.{viewed};
+ghost use Rattle.elf.specs.symbols.Tables.{is_table_bad};
+
+use crate::file::{ElfFile, Section};
+
+/// The string table of a table whose entries have so many bytes. None exactly where the table is malformed: its entries
+/// have another size, it is no whole number of them, or it has no string table.
+pub fn strings_for<'a>(file: &ElfFile<'a>, section: Section<'a>, size: usize) -> Option<&'a [u8]>
+    requires { 0 < size }
+    ensures bad { is_none result ≡ is_table_bad size file.now (viewed section.entry) }
+    ensures strings { IfSome result (λ s. strings_of file.now section.entry.link ≡ Some s.now) }
+{
+    if section.entsize != size as u64 || section.bytes.len() % size != 0 {
+        return None;
+    }
+    file.strings(section.link)
+}

@@ -1,0 +1,10 @@
+use Rattle.elf_bind.proofs.Among.{fault_here, fault_later}
+use Rattle.elf_bind.proofs.reading.version_fault.Goals as goal
+
+pub returns-in-Some : goal.returns-in-Some
+returns-in-Some c =
+    fault_here c.args.versions.now c.args.symbols.now c.loop-symbol.symbol-index _ c.in-Some.fault c.loop-symbol-test.true c.in-Some.ensures c.loop-symbol.invariant
+
+pub loop-symbol-preserved : goal.loop-symbol-preserved
+loop-symbol-preserved c =
+    fault_later c.args.versions.now c.args.symbols.now c.loop-symbol.symbol-index _ c.loop-symbol-test.true c.in_default.ensures c.loop-symbol.invariant

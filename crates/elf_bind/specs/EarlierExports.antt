@@ -1,0 +1,33 @@
+-- The names and versions of exports, as they are kept to find one that stood before.
+use Rattle.std.specs.Prelude.{◌≡◌, ℕ, Bool, ◌&&◌, List, Option, Some, None}
+use Rattle.std.specs.Borrow.{Bor}
+use Rattle.std.specs.List.{list_any}
+use Rattle.std.specs.Str.{bytes_eq}
+use Rattle.std.specs.HashSet.{HashSet, contains_by}
+use Rattle.std.specs.declared.hash.FoldHasher.{FoldHasher}
+use Rattle.std.specs.declared.hash.BuildHasherDefault.{BuildHasherDefault}
+use Rattle.abi_types.specs.Exports.{PlainExport}
+use Rattle.elf_bind.specs.Exports.{same_name}
+
+-- sets of names, and of names with versions
+abbrev pub Names : Type 0
+Names = HashSet (Bor (List ℕ)) (BuildHasherDefault FoldHasher)
+
+abbrev pub Versioned : Type 0
+Versioned = HashSet (Bor (List ℕ) × Bor (List ℕ)) (BuildHasherDefault FoldHasher)
+
+-- whether a name is in such a set, and a name with a version
+abbrev pub has_name : Names → List ℕ → Bool
+has_name names name = contains_by (λ k. bytes_eq name k.now) names
+
+abbrev pub has_version : Versioned → List ℕ → List ℕ → Bool
+has_version names name version = contains_by (λ k. bytes_eq name k.0.now && bytes_eq version k.1.now) names
+
+-- an export has this name and this version, or no version
+abbrev pub is_like : List ℕ → Option (List ℕ) → PlainExport → Bool
+is_like name version e = bytes_eq name e.name && same_name version e.version
+
+-- the sets hold exactly the names of some exports without versions, and those with their versions
+pub record EarlierExports (unversioned : Names) (versioned : Versioned) (before : List PlainExport) : Type 0 where
+  pub bare : (name : List ℕ) → has_name unversioned name ≡ list_any (is_like name None) before
+  pub paired : (name version : List ℕ) → has_version versioned name version ≡ list_any (is_like name (Some version)) before

@@ -1,0 +1,71 @@
+// The export that a symbol is.
+ghost use Rattle.std.specs.Prelude.{◌≡◌};
+ghost use Rattle.std.specs.Option.{option_map};
+ghost use Rattle.abi_types.specs.Plain.{plain_export};
+ghost use Rattle.elf.specs.symbols.Plain.{plain_symbol};
+ghost use Rattle.elf.specs.versions.Plain.{plain_version};
+ghost use Rattle.elf_bind.specs.Exports.{kind_of as the_kind_of, is_marker as the_symbol_is_marker, export_with as the_export_with, export_of as the_export_of};
+
+use crate::bind_one::same_name;
+use abi_types::{Export, SymbolKind};
+use elf::symbols::{SHN_ABS, STT_COMMON, STT_FUNC, STT_GNU_IFUNC, STT_OBJECT, STT_TLS, Symbol};
+use elf::versions::{VER_NDX_LOCAL, Version};
+
+// What a symbol is, by its type.
+fn kind_of(kind: u8) -> SymbolKind
+    ensures { result ≡ the_kind_of kind }
+{
+    match kind {
+        STT_OBJECT => SymbolKind::Object,
+        STT_FUNC => SymbolKind::Func,
+        STT_COMMON => SymbolKind::Common,
+        STT_TLS => SymbolKind::Tls,
+        STT_GNU_IFUNC => SymbolKind::Ifunc,
+        _ => SymbolKind::NoType,
+    }
+}
+
+// Whether a symbol stands for its version alone.
+fn is_marker(symbol: &Symbol, version: &Version) -> bool
+    ensures { result ≡ the_symbol_is_marker (plain_symbol symbol.now) (plain_version version.now) }
+{
+    symbol.section == SHN_ABS && same_name(Some(symbol.name), version.name)
+}
+
+// The export of a symbol and its version.
+fn export_with<'a>(symbol: &Symbol<'a>, version: &Version<'a>) -> Export<'a>
+    ensures { plain_export result ≡ the_export_with (plain_symbol symbol.now) (plain_version version.now) }
+{
+    Export {
+        symbol: symbol.number,
+        name: symbol.name,
+        version: version.name,
+        index: version.index,
+        hidden: version.hidden,
+        kind: kind_of(symbol.kind),
+        absolute: symbol.section == SHN_ABS,
+        value: symbol.value,
+        size: symbol.size,
+        declared: symbol.name,
+        entry: 0,
+    }
+}
+
+/// The export that a symbol of a version is, where it is one.
+pub fn export_of<'a>(symbol: &Symbol<'a>, version: Option<Version<'a>>) -> Option<Export<'a>>
+    ensures { option_map plain_export result ≡ the_export_of (plain_symbol symbol.now) (option_map plain_version version.entry) }
+{
+    match version {
+        None => None,
+        Some(version) => {
+            if symbol.is_exported()
+                && version.index != VER_NDX_LOCAL
+                && !is_marker(symbol, &version)
+            {
+                Some(export_with(symbol, &version))
+            } else {
+                None
+            }
+        }
+    }
+}

@@ -1,0 +1,89 @@
+// The exports of a library by their names and versions, and which of them an export binds to.
+ghost use Rattle.std.specs.Prelude.{◌≡◌, IfOk};
+ghost use Rattle.abi_types.specs.Plain.{plain_export, plain_exports};
+ghost use Rattle.elf_bind.specs.Places.{place_under, place_under_version, only_under, the_only};
+ghost use Rattle.elf_bind.specs.Offers.{IsOffers, bind_by, unversioned_by};
+
+use crate::places::{
+    places_of_default_versions, places_of_first_version, places_of_versions, places_without_version,
+};
+use abi_base::NoMemory;
+use abi_types::Export;
+use std::alloc::Global;
+use std::collections::HashMap;
+
+/// The places of the exports that a library offers.
+#[derive(Drop)]
+pub struct Offers<'a> {
+    /// The first place of each name and version.
+    pub versioned: HashMap<(&'a [u8], &'a [u8]), usize>,
+    /// The first place of each name among those without a version.
+    pub unversioned: HashMap<&'a [u8], usize>,
+    /// The first place of each name among those of the first version.
+    pub first_version: HashMap<&'a [u8], usize>,
+    /// The place of the only one of each name whose version is the default one, or that there are several.
+    pub defaults: HashMap<&'a [u8], Option<usize>>,
+}
+
+/// The places of the exports offered.
+pub fn offers_of<'a>(alloc: Global, offered: &[Export<'a>]) -> Result<Offers<'a>, NoMemory>
+    ensures { IfOk result (λ offers. IsOffers offers (plain_exports offered.now)) }
+{
+    let versioned = places_of_versions(alloc, offered)?;
+    let unversioned = places_without_version(alloc, offered)?;
+    let first_version = places_of_first_version(alloc, offered)?;
+    let defaults = places_of_default_versions(alloc, offered)?;
+    Ok(Offers {
+        versioned,
+        unversioned,
+        first_version,
+        defaults,
+    })
+}
+
+// The place under a name and a version.
+fn place_of_version(offers: &Offers, name: &[u8], version: &[u8]) -> Option<usize>
+    ensures { result ≡ place_under_version offers.now.versioned name.now version.now }
+{
+    offers.versioned.get(&(name, version)).copied()
+}
+
+// The place under a name.
+fn place_of(places: &HashMap<&[u8], usize>, name: &[u8]) -> Option<usize>
+    ensures { result ≡ place_under places.now name.now }
+{
+    places.get(&name).copied()
+}
+
+// The place of the only one under a name.
+fn only_place_of(places: &HashMap<&[u8], Option<usize>>, name: &[u8]) -> Option<usize>
+    ensures { result ≡ the_only (only_under places.now name.now) }
+{
+    match places.get(&name) {
+        Some(only) => *only,
+        None => None,
+    }
+}
+
+// The place that an export without a version binds to.
+fn unversioned_place(offers: &Offers, name: &[u8]) -> Option<usize>
+    ensures { result ≡ unversioned_by offers.now name.now }
+{
+    match place_of(&offers.unversioned, name) {
+        Some(place) => Some(place),
+        None => match place_of(&offers.first_version, name) {
+            Some(place) => Some(place),
+            None => only_place_of(&offers.defaults, name),
+        },
+    }
+}
+
+/// The place that an export binds to.
+pub fn offered_place(offers: &Offers, wanted: &Export) -> Option<usize>
+    ensures { result ≡ bind_by offers.now (plain_export wanted.now) }
+{
+    match wanted.version {
+        Some(version) => place_of_version(offers, wanted.name, version),
+        None => unversioned_place(offers, wanted.name),
+    }
+}

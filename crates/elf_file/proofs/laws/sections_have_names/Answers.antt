@@ -1,8 +1,0 @@
-use Rattle.elf_file.proofs.Faultless.{has_a_name, is_not_compressed}
-use Rattle.elf_file.proofs.laws.sections_have_names.Goals as goal
-
-pub returns-clause-named : goal.returns-clause-named
-returns-clause-named c = has_a_name
-
-pub returns-clause-plain : goal.returns-clause-plain
-returns-clause-plain c = is_not_compressed

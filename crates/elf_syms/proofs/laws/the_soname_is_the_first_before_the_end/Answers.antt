@@ -1,8 +1,0 @@
-use Rattle.elf_syms.proofs.FirstSoname.{first_soname, missing}
-use Rattle.elf_syms.proofs.laws.the_soname_is_the_first_before_the_end.Goals as goal
-
-pub returns-clause-found : goal.returns-clause-found
-returns-clause-found c = first_soname
-
-pub returns-clause-missing : goal.returns-clause-missing
-returns-clause-missing c = missing

@@ -1,5 +1,0 @@
-use Rattle.elf_vers.proofs.ReadBefore.{ReadBefore}
-use Rattle.elf_vers.proofs.definitions.names_in.Given as goal
-
-abbrev pub invariant-loop-number : goal.invariant-loop-number
-invariant-loop-number l = ReadBefore l.table l.strings l.count l.number l.at l.names

@@ -1,6 +1,0 @@
-//! The lines that `abi entries` prints: each debugging information entry of a library with its offset, its depth and its tag.
-#![tactic(auto)]
-
-mod lines;
-
-pub use lines::entry_lines;

@@ -1,8 +1,0 @@
--- The places so far.
-use Rattle.std.proofs.Common.{◌≡◌, ◌++◌, take, string_bytes}
-use Rattle.std.specs.List.{flat_map}
-use Rattle.export_list.specs.ExportLines.{place_behind}
-use Rattle.export_list.proofs.lines.push_behind.Given as goal
-
-abbrev pub invariant-loop-place : goal.invariant-loop-place
-invariant-loop-place l = string_bytes l.text ≡ string_bytes l.fn.text ++ flat_map place_behind (take l.place-index l.places)

@@ -1,9 +1,0 @@
--- The lines of the exports so far.
-use Rattle.std.proofs.Common.{◌≡◌, ◌++◌, take, string_bytes}
-use Rattle.std.specs.List.{flat_map}
-use Rattle.abi_types.specs.Plain.{plain_exports}
-use Rattle.export_list.specs.ExportLines.{export_line}
-use Rattle.export_list.proofs.lines.push_lines.Given as goal
-
-abbrev pub invariant-loop-export : goal.invariant-loop-export
-invariant-loop-export g l = string_bytes l.text ≡ string_bytes l.fn.text ++ flat_map (export_line l.graph) (plain_exports (take l.export-index l.exports))

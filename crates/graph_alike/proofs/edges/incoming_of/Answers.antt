@@ -1,9 +1,0 @@
--- All nodes are in.
-use Rattle.std.proofs.Common.{◌≡◌, length, arith}
-use Rattle.graph_alike.proofs.EdgeLemmas.{AreIncoming-all}
-use Rattle.graph_alike.proofs.edges.incoming_of.Goals as goal
-
-pub returns : goal.returns
-returns g c =
-    let all : c.nodes.node ≡ length c.args.graph.now = omega arith in
-    AreIncoming-all c.args.graph.now c.nodes.node (length c.args.graph.now) c.nodes.incoming all c.nodes.invariant

@@ -1,6 +1,0 @@
--- The parts of the nodes before this one are added.
-use Rattle.graph_alike.specs.Edges.{AreIncoming}
-use Rattle.graph_alike.proofs.edges.incoming_of.Given as goal
-
-abbrev pub invariant-nodes : goal.invariant-nodes
-invariant-nodes g l = AreIncoming l.graph l.node l.incoming

@@ -1,6 +1,0 @@
--- Their parts name alike nodes.
-use Rattle.graph_alike.proofs.LookLemmas.{alike_look}
-use Rattle.graph_alike.proofs.laws.alike_nodes_look_the_same.Goals as goal
-
-pub returns : goal.returns
-returns c = alike_look

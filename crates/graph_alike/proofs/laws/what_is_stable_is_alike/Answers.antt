@@ -1,6 +1,0 @@
--- The classes are a relation.
-use Rattle.graph_alike.proofs.AlikeLemmas.{alike_from_stable}
-use Rattle.graph_alike.proofs.laws.what_is_stable_is_alike.Goals as goal
-
-pub returns : goal.returns
-returns c = alike_from_stable

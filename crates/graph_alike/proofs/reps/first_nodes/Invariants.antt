@@ -1,7 +1,0 @@
--- The classes so far have a node.
-use Rattle.graph_alike.specs.Blocks.{len_of, class_in}
-use Rattle.graph_alike.specs.Reps.{AreOfClasses}
-use Rattle.graph_alike.proofs.reps.first_nodes.Given as goal
-
-abbrev pub invariant-classes : goal.invariant-classes
-invariant-classes l = AreOfClasses (len_of l.blocks) l.class (class_in l.blocks) l.list.items

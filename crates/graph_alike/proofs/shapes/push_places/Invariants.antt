@@ -1,8 +1,0 @@
--- What is before the position is spelled.
-use Rattle.std.proofs.Common.{◌≡◌, ◌++◌, ◌∷◌, length, take}
-use Rattle.std.specs.Prelude.{flat_map}
-use Rattle.graph_alike.specs.Shapes.{spelled_place}
-use Rattle.graph_alike.proofs.shapes.push_places.Given as goal
-
-abbrev pub invariant-places : goal.invariant-places
-invariant-places l = l.into.items ≡ l.fn.into.items ++ length l.places ∷ flat_map spelled_place (take l.i l.places)

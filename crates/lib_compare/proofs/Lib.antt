@@ -1,6 +1,0 @@
-mod Apart
-mod Pairs
-mod Itself
-mod Reading
-mod Scoping
-mod Judging

@@ -1,8 +1,0 @@
--- What is explored of two libraries.
-use Rattle.graph_alike.specs.Classes.{PlainClasses}
-use Rattle.pair_explorer.specs.Scopes.{Scope}
-use Rattle.cert_check.specs.Compatible.{Sides, task_of}
-
--- the types of all exports that are compared, with classes of their nodes
-abbrev pub scope_of : Sides → PlainClasses → PlainClasses → Scope
-scope_of s old new = record { task = task_of s; old = old; new = new }

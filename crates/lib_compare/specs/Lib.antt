@@ -1,5 +1,0 @@
-pub mod Distinct
-pub mod Marking
-pub mod Ground
-pub mod Explored
-pub mod Judged

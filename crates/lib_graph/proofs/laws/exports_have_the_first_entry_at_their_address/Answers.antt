@@ -1,9 +1,0 @@
-use Rattle.lib_graph.proofs.DebugLemmas.{debug-ordered}
-use Rattle.lib_graph.proofs.EntryLemmas.{file-entries}
-use Rattle.lib_graph.proofs.FaultLemmas.{without_fault}
-use Rattle.lib_graph.proofs.laws.exports_have_the_first_entry_at_their_address.Goals as goal
-
-pub returns : goal.returns
-returns c = λ f small none.
-    file-entries c.the_first_entry_stands_for_an_address.ensures.found c.the_first_entry_stands_for_an_address.ensures.none f
-    (debug-ordered c.a_section_is_in_order.ensures.ordered f small (without_fault f none).dwarf)

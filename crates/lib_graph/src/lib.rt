@@ -1,9 +1,0 @@
-//! The whole reader of one library: from the bytes of a shared object to its exports and the types that they have.
-#![tactic(auto)]
-
-pub mod laws;
-mod library;
-mod listing;
-mod typing;
-
-pub use library::read_library;

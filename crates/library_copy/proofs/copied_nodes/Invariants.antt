@@ -1,5 +1,0 @@
-use Rattle.std.proofs.Common.{◌≡◌, take}
-use Rattle.library_copy.proofs.copied_nodes.Given as goal
-
-abbrev pub invariant-nodes : goal.invariant-nodes
-invariant-nodes g l = l.nodes ≡ take l.number l.graph

@@ -1,0 +1,10 @@
+//! The whole reader of one library: from the bytes of a shared object to its exports and the types that they have.
+#![tactic(auto)]
+
+pub mod copy;
+pub mod laws;
+mod library;
+mod listing;
+mod typing;
+
+pub use library::read_library;

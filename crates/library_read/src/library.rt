@@ -1,0 +1,61 @@
+// A library, from its bytes.
+ghost use Rattle.std.specs.Prelude.{◌≡◌, ◌≤◌, length, IfOk, None};
+ghost use Rattle.std.specs.Option.{option_copied};
+ghost use Rattle.abi_base.specs.Limits.{input_limit};
+ghost use Rattle.abi_base.specs.Outcome.{Judges};
+ghost use Rattle.abi_types.specs.Plain.{plain_exports};
+ghost use Rattle.elf.specs.symbols.Dynamic.{soname_of};
+ghost use Rattle.library_read.specs.Exports.{typed_exports_of};
+ghost use Rattle.library_read.specs.Faults.{library_fault};
+ghost use Rattle.library_read.specs.Libraries.{library_of, uncalled_graph_of};
+
+use crate::laws::readable_files_are_libraries;
+use crate::listing::{Listing, read_listing};
+use crate::typing::{Typed, with_types};
+use abi_base::{NoMemory, Refusal};
+use abi_types::{Index, Library};
+use elf::file::read_elf;
+use psabi::call_shapes;
+use std::alloc::Global;
+
+// The library of a readable file, by what was read of it. Its functions get the places of their calls.
+fn library_with<'a, Ix: Index>(
+    alloc: Global,
+    bytes: &'a [u8],
+    soname: Option<&'a [u8]>,
+    typed: Typed<'a, Ix>,
+) -> Result<Library<'a, Ix>, NoMemory>
+    requires small { length bytes.now ≤ input_limit }
+    requires readable { library_fault bytes.now ≡ None }
+    requires soname { option_copied soname ≡ soname_of bytes.now }
+    requires exports { plain_exports typed.exports ≡ typed_exports_of bytes.now }
+    requires graph { typed.graph ≡ uncalled_graph_of bytes.now }
+    ensures { IfOk result (λ library. library ≡ library_of bytes.now) }
+{
+    readable_files_are_libraries();
+    let Typed { exports, graph } = typed;
+    let calls = call_shapes(alloc, &graph)?;
+    let graph = graph.with_calls(calls);
+    Library::new(alloc, bytes, soname, exports, graph)
+}
+
+/// The library that a file is. The fault is the first one of its header and sections, of its symbols, of its dynamic table, of
+/// its versions, of its exports, of its units and entries, and of the types that its exports reach. The library keeps names
+/// where they stand in the bytes, and nothing else of the debug information.
+pub fn read_library<'a, Ix: Index>(
+    alloc: Global,
+    bytes: &'a [u8],
+) -> Result<Library<'a, Ix>, Refusal>
+    requires { length bytes.now ≤ input_limit }
+    ensures judged { Judges result (library_fault bytes.now) }
+    ensures library { IfOk result (λ library. library ≡ library_of bytes.now) }
+{
+    let file = read_elf(bytes)?;
+    let Listing { soname, exports } = read_listing(alloc, &file)?;
+    let typed = match with_types(alloc, &file, exports) {
+        Ok(typed) => typed,
+        Err(refused) => return Err(refused),
+    };
+    let library = library_with(alloc, bytes, soname, typed)?;
+    Ok(library)
+}

@@ -1,0 +1,148 @@
+// The types of exports.
+ghost use Rattle.std.specs.Prelude.{◌≡◌, ◌<◌, length, map, All, IfOk, IfSome};
+ghost use Rattle.abi_base.specs.Outcome.{Judges};
+ghost use Rattle.abi_types.specs.Plain.{plain_export, plain_exports};
+ghost use Rattle.dwarf_entries.specs.Pass.{dwarf_fault};
+ghost use Rattle.type_reach.specs.Views.{offset_of as the_offset_of};
+ghost use Rattle.type_graph.specs.Nodes.{nodes_of};
+ghost use Rattle.library_read.specs.Debug.{debug_of, sections_in};
+ghost use Rattle.library_read.specs.Exports.{declared_by as the_name_declared_by, entry_for as the_entry_for, has_address as the_export_has_address, roots_among as the_roots_among, typed as the_export_typed};
+ghost use Rattle.library_read.specs.Faults.{debug_fault};
+
+use abi_base::{List, NoMemory, Refusal};
+use abi_types::{Export, Graph, Index, SymbolKind};
+use dwarf_entries::{Dwarf, tree};
+use elf::file::ElfFile;
+use elf::sections::debug_sections;
+use std::alloc::Global;
+use type_graph::raw_graph;
+
+/// Exports with their types.
+#[derive(Drop)]
+pub(crate) struct Typed<'a, Ix: Index> {
+    /// The exports, in the order of their symbols.
+    pub exports: List<Export<'a>>,
+    /// The types that they reach. Functions have no places of calls yet.
+    pub graph: Graph<'a, Ix>,
+}
+
+// Whether the value of an export's symbol is its own address.
+fn has_address(export: &Export) -> bool
+    ensures { result ≡ the_export_has_address (plain_export export.now) }
+{
+    match export.kind {
+        SymbolKind::Tls | SymbolKind::Ifunc => false,
+        _ => !export.absolute,
+    }
+}
+
+// The position of the entry that says what an export is, where there is one.
+#[tactic(auto, unfolding(crate::specs::Exports::entry_for))]
+fn entry_for(dwarf: &Dwarf, export: &Export) -> Option<usize>
+    ensures entry { result ≡ the_entry_for dwarf.now (plain_export export.now) }
+    ensures inside { IfSome result (λ e. e < length dwarf.now.tree.entries) }
+{
+    if has_address(export) {
+        dwarf.typed(export.value)
+    } else {
+        None
+    }
+}
+
+// The name under which an export is declared, by its entry, or else that of its symbol.
+fn declared_by<'a>(dwarf: &Dwarf<'a>, symbol: &'a [u8], entry: Option<usize>) -> &'a [u8]
+    requires { IfSome entry (λ e. e < length dwarf.now.tree.entries) }
+    ensures { result.now ≡ the_name_declared_by dwarf.now symbol.now entry }
+{
+    match entry {
+        Some(e) => match dwarf.name_of(e) {
+            Some(name) => name,
+            None => symbol,
+        },
+        None => symbol,
+    }
+}
+
+// The offset of an entry, and 0 where there is none.
+fn offset_of(dwarf: &Dwarf, entry: Option<usize>) -> u64
+    requires { IfSome entry (λ e. e < length dwarf.now.tree.entries) }
+    ensures { result ≡ the_offset_of dwarf.now.tree entry }
+{
+    match entry {
+        Some(e) => dwarf.offset(e),
+        None => 0,
+    }
+}
+
+// The export, with what its entry says.
+#[tactic(auto, unfolding(crate::specs::Exports::typed))]
+fn with_type<'a>(dwarf: &Dwarf<'a>, export: &Export<'a>) -> Export<'a>
+    ensures { plain_export result ≡ the_export_typed dwarf.now (plain_export export.now) }
+{
+    let entry = entry_for(dwarf, export);
+    Export {
+        declared: declared_by(dwarf, export.name, entry),
+        entry: offset_of(dwarf, entry),
+        ..*export
+    }
+}
+
+// The exports, each with what its entry says.
+fn typed_exports<'a>(dwarf: &Dwarf<'a>, mut exports: Vec<Export<'a>>) -> List<Export<'a>>
+    ensures { plain_exports result ≡ map (the_export_typed dwarf.now) (plain_exports exports.entry.items) }
+{
+    'exports: for k in 0..exports.len() {
+        let export = with_type(dwarf, &exports[k]);
+        exports[k] = export;
+    }
+    List::of(exports)
+}
+
+// The positions of the entries of exports, in the order of the exports.
+#[tactic(auto, unfolding(crate::specs::Exports::roots_among))]
+fn roots_among(alloc: Global, dwarf: &Dwarf, exports: &[Export]) -> Result<Vec<usize>, NoMemory>
+    ensures roots { IfOk result (λ roots. roots.items ≡ the_roots_among dwarf.now (plain_exports exports.now)) }
+    ensures inside { IfOk result (λ roots. All (λ root. root < length dwarf.now.tree.entries) roots.items) }
+{
+    let mut roots = Vec::new(alloc);
+    'exports: for k in 0..exports.len() {
+        if let Some(root) = entry_for(dwarf, &exports[k]) {
+            roots.push(root)?;
+        }
+    }
+    Ok(roots)
+}
+
+// The debug information of a file.
+#[tactic(auto, unfolding(crate::specs::Debug::debug_of), using(crate::proofs::DebugLemmas::sections_are))]
+fn debug_information<'a>(alloc: Global, file: &ElfFile<'a>) -> Result<Dwarf<'a>, Refusal>
+    ensures judged { Judges result (dwarf_fault (sections_in file.now)) }
+    ensures read { IfOk result (λ dwarf. dwarf ≡ debug_of file.now) }
+{
+    tree(alloc, debug_sections(file))
+}
+
+/// The exports of a file with their types. The fault is the first one of its units and entries, and then of the types that the
+/// exports reach. Nothing of the debug information is kept but the types, and names where they stand in the file.
+#[tactic(auto, unfolding(crate::specs::Faults::debug_fault))]
+pub(crate) fn with_types<'a, Ix: Index>(
+    alloc: Global,
+    file: &ElfFile<'a>,
+    exports: Vec<Export<'a>>,
+) -> Result<Typed<'a, Ix>, Refusal>
+    ensures judged { Judges result (debug_fault file.now (plain_exports exports.entry.items)) }
+    ensures exports { IfOk result (λ typed. plain_exports typed.exports ≡ map (the_export_typed (debug_of file.now)) (plain_exports exports.entry.items)) }
+    ensures graph { IfOk result (λ typed. typed.graph ≡ nodes_of (debug_of file.now) (the_roots_among (debug_of file.now) (plain_exports exports.entry.items))) }
+{
+    let dwarf = match debug_information(alloc, file) {
+        Ok(dwarf) => dwarf,
+        Err(refused) => return Err(refused),
+    };
+    let roots = roots_among(alloc, &dwarf, exports.as_slice())?;
+    let graph = match raw_graph(alloc, &dwarf, roots.as_slice()) {
+        Ok(graph) => graph,
+        Err(refused) => return Err(refused),
+    };
+    let exports = typed_exports(&dwarf, exports);
+    Ok(Typed { exports, graph })
+}

@@ -1,9 +1,0 @@
-//! What `abi trial` says: two libraries of so many functions are made and checked, and the answer is summed up in two lines. What
-//! it promises stands in `specs/Trials.antt`.
-#![tactic(auto)]
-
-pub mod laws;
-mod summary;
-mod trying;
-
-pub use trying::try_both;

@@ -1,0 +1,71 @@
+// The lines of entries.
+ghost use Rattle.std.specs.Prelude.{◌≡◌, ◌≤◌, ◌++◌, flat_map, length, OnOk, IfOk, string_bytes};
+ghost use Rattle.abi_base.specs.Limits.{input_limit};
+ghost use Rattle.abi_base.specs.Outcome.{Judges};
+ghost use Rattle.dwarf_units.specs.Plain.{plain_unit};
+ghost use Rattle.dwarf_units.specs.Sequence.{all_entries, entries_fault};
+ghost use Rattle.dwarf_units.specs.Units.{entries_of};
+ghost use Rattle.listings.specs.entries.EntryLines.{entry_line, line_of, listing_fault, listing_of};
+
+use abi_base::Refusal;
+use dwarf_forms::Sections;
+use dwarf_units::{Unit, entries, units};
+use elf::file::read_elf;
+use elf::sections::debug_sections;
+use std::alloc::{AllocError, Global};
+use std::fmt::Write;
+
+// Appends a line of an entry's offset and depth, and of its tag in hexadecimal.
+fn push_line(text: &mut String, offset: u64, depth: u32, tag: u64) -> Result<(), AllocError>
+    ensures { OnOk result (string_bytes text.new ≡ string_bytes text.old ++ line_of offset depth tag) }
+{
+    writeln!(text, "{offset} {depth} {tag:x}")
+}
+
+// Appends a line for each entry of a unit.
+fn push_unit(alloc: Global, text: &mut String, unit: &Unit<'_>) -> Result<(), Refusal>
+    ensures judged { Judges result (entries_of (plain_unit unit.now)).end }
+    ensures lines { OnOk result (string_bytes text.new ≡ string_bytes text.old ++ flat_map entry_line (entries_of (plain_unit unit.now)).items) }
+{
+    let mut left = entries(unit);
+    'list: loop {
+        match left.next_outline(alloc) {
+            Ok(Some(entry)) => push_line(text, entry.offset(), entry.depth(), entry.tag())?,
+            Ok(None) => return Ok(()),
+            Err(refused) => return Err(refused),
+        }
+    }
+}
+
+// A line for each entry of all units.
+#[tactic(auto, using(crate::proofs::entries::Listings::section_done, crate::proofs::entries::Listings::section_lines))]
+fn lines_of(alloc: Global, sections: &Sections<'_>) -> Result<String, Refusal>
+    ensures judged { Judges result (entries_fault sections.now.info.now sections.now.abbrev.now) }
+    ensures lines { IfOk result (λ text. string_bytes text ≡ flat_map entry_line (all_entries sections.now.info.now sections.now.abbrev.now)) }
+{
+    let mut text = String::new(alloc);
+    let mut left = units(sections);
+    'list: loop {
+        match left.next_unit(alloc) {
+            Ok(Some(unit)) => match push_unit(alloc, &mut text, &unit) {
+                Ok(()) => {}
+                Err(refused) => return Err(refused),
+            },
+            Ok(None) => return Ok(text),
+            Err(refused) => return Err(refused),
+        }
+    }
+}
+
+/// A line for each debugging information entry of a library, in order of offset: its offset, its depth, and its tag in
+/// hexadecimal. The fault is the first one of its header and its sections, and then of its units and entries; no other is asked.
+#[tactic(auto, unfolding(crate::specs::entries::EntryLines::listing_fault, crate::specs::entries::EntryLines::listing_of))]
+pub fn entry_lines(alloc: Global, library: &[u8]) -> Result<String, Refusal>
+    requires { length library.now ≤ input_limit }
+    ensures judged { Judges result (listing_fault library.now) }
+    ensures lines { IfOk result (λ text. string_bytes text ≡ listing_of library.now) }
+{
+    let file = read_elf(library)?;
+    let sections = debug_sections(&file);
+    lines_of(alloc, &sections)
+}

@@ -1,0 +1,5 @@
+//! The lines that `abi entries` prints: each debugging information entry of a library with its offset, its depth and its tag.
+
+mod lines;
+
+pub use lines::entry_lines;

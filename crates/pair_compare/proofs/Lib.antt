@@ -1,0 +1,8 @@
+mod Apart
+mod Pairs
+mod Itself
+mod Reading
+mod Scoping
+mod Judging
+mod certificates
+mod reports

@@ -1,0 +1,17 @@
+-- By what the export binds to.
+use Rattle.std.proofs.Common.{◌≡◌, ◌++◌, List, OnOk, subst}
+use Rattle.abi_types.specs.Plain.{plain_export}
+use Rattle.report.specs.declared.row.Row.{Row}
+use Rattle.pair_compare.specs.reports.LibraryPair.{sides_of}
+use Rattle.pair_compare.proofs.reports.ExportLemmas.{changed_for, gone_for}
+use Rattle.pair_compare.proofs.reports.exports.push_bound.Goals as goal
+
+pub returns-in-Some : goal.returns-in-Some
+returns-in-Some c =
+    subst (λ (rs : List Row). OnOk c.push_changed.result (c.push_changed.new.rows ≡ c.args.rows.now ++ rs))
+    (changed_for (sides_of c.args.ground.now) (plain_export c.args.export.now) c.args.place c.requires (plain_export c.in-Some.new.now) c.in-Some.ensures) c.push_changed.ensures
+
+pub returns-in-None : goal.returns-in-None
+returns-in-None c =
+    subst (λ (rs : List Row). OnOk c.push_gone.result (c.push_gone.new.rows ≡ c.args.rows.now ++ rs))
+    (gone_for (sides_of c.args.ground.now) (plain_export c.args.export.now) c.args.place c.requires c.is_named.result c.in-None.ensures c.is_named.ensures) c.push_gone.ensures

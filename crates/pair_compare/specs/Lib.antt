@@ -1,0 +1,7 @@
+pub mod Distinct
+pub mod Marking
+pub mod BoundPair
+pub mod Explored
+pub mod Judged
+pub mod certificates
+pub mod reports

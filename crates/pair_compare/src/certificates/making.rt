@@ -1,0 +1,95 @@
+// The certificate of two libraries.
+ghost use Rattle.std.specs.Prelude.{◌≡◌, ◌<◌, ◌+◌, ◌^◌, length, IfOk};
+ghost use Rattle.cert_text.specs.Certs.{IsDigest};
+ghost use Rattle.cert_check.specs.Compatible.{sides};
+ghost use Rattle.cert_check.specs.Accepted.{asked, IsAccepted};
+ghost use Rattle.pair_compare.specs.certificates.Certificates.{IsCertificateOf};
+ghost use Rattle.pair_compare.specs.certificates.Searches.{AreBound, IsUnbroken};
+
+use crate::certificates::alike::alike_lines;
+use crate::certificates::binds::bind_lines;
+use crate::certificates::laws::the_certificate_of_the_compatible_is_accepted;
+use crate::certificates::pairs::{pair_lines, visits_are_pair_lines};
+use abi_base::NoMemory;
+use abi_types::{Library, Marks, NewIx, OldIx, Way};
+use cert_check::digest_beside;
+use cert_check::laws::lines_stand_in_the_order_of_their_numbers;
+use cert_text::Cert;
+use pair_explorer::Visits;
+use pair_explorer::laws::no_break_is_compatible;
+use std::alloc::Global;
+use type_classes::Classes;
+
+// A SHA-256 is one.
+fn is_digest(digest: [u8; 32]) -> [u8; 32]
+    ensures value { result ≡ digest }
+    ensures is { IsDigest digest }
+{
+    digest
+}
+
+// The lines that fit in memory have numbers.
+fn lines_have_numbers(
+    binds: &[(u32, u32)],
+    alike_old: &[(u64, u64)],
+    alike_new: &[(u64, u64)],
+    pairs: &[(u64, u64, Way)],
+)
+    ensures { 5 + length binds.now + length alike_old.now + length alike_new.now + length pairs.now < 2 ^ 64 }
+{
+    let _ = binds;
+    let _ = alike_old;
+    let _ = alike_new;
+    let _ = pairs;
+}
+
+/// The certificate of two libraries of which a search found no break. It is accepted.
+pub fn make_cert(
+    alloc: Global,
+    old: &Library<OldIx>,
+    new: &Library<NewIx>,
+    marks: &Marks,
+    old_classes: &Classes<OldIx>,
+    new_classes: &Classes<NewIx>,
+    visits: &Visits,
+) -> Result<Cert, NoMemory>
+    requires exports { AreBound (sides old.now new.now marks.now) }
+    requires types { IsUnbroken (sides old.now new.now marks.now) old_classes.now new_classes.now visits.now }
+    ensures certificate { IfOk result (IsCertificateOf (sides old.now new.now marks.now)) }
+    ensures accepted { IfOk result (λ cert. IsAccepted (asked old.now new.now marks.now cert)) }
+{
+    the_certificate_of_the_compatible_is_accepted();
+    visits_are_pair_lines();
+    lines_stand_in_the_order_of_their_numbers();
+    no_break_is_compatible();
+    old.known();
+    new.known();
+    let old_graph = old.graph();
+    let new_graph = new.graph();
+    old_graph.known();
+    new_graph.known();
+    old_classes.known();
+    new_classes.known();
+    let old_digest = is_digest(old.digest());
+    let new_digest = is_digest(digest_beside(old, old_digest, new));
+    let rules_digest = is_digest(marks.digest);
+    let binds = bind_lines(alloc, old, new, marks)?;
+    let alike_old = alike_lines(alloc, old_graph, old_classes)?;
+    let alike_new = alike_lines(alloc, new_graph, new_classes)?;
+    let pairs = pair_lines(alloc, old_graph, new_graph, visits)?;
+    lines_have_numbers(
+        binds.as_slice(),
+        alike_old.as_slice(),
+        alike_new.as_slice(),
+        pairs.as_slice(),
+    );
+    Ok(Cert {
+        old_digest,
+        new_digest,
+        rules_digest,
+        binds,
+        alike_old,
+        alike_new,
+        pairs,
+    })
+}

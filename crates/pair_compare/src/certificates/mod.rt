@@ -1,0 +1,10 @@
+//! The certificate that a new library may stand in the place of an old one, made from a search that found no break.
+
+mod alike;
+mod binds;
+pub mod laws;
+mod lists;
+mod making;
+mod pairs;
+
+pub use making::make_cert;

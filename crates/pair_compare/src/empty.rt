@@ -1,0 +1,39 @@
+// The marks of an old library where no rule file is given.
+ghost use Rattle.std.specs.Prelude.{◌≡◌, false, [], length, replicate, IfOk};
+ghost use Rattle.sha2.specs.Sha256.{sha256};
+ghost use Rattle.pair_compare.specs.Marking.{no_marks};
+
+use abi_base::{List, NoMemory};
+use abi_types::{Library, Marks, OldIx};
+use sha2::{Digest, Sha256};
+use std::alloc::Global;
+
+// So many flags that are not set.
+fn no_flags(alloc: Global, count: usize) -> Result<List<bool>, NoMemory>
+    ensures { IfOk result (λ flags. flags ≡ replicate count false) }
+{
+    let flags = vec![in alloc; false; count]?;
+    Ok(List::of(flags))
+}
+
+// The SHA-256 of an empty rule file.
+fn empty_digest() -> [u8; 32]
+    ensures { result ≡ sha256 [] }
+{
+    let nothing: &[u8] = &[];
+    Sha256::digest(nothing)
+}
+
+/// The marks of an empty rule file: no export and no node of the old library is marked.
+#[tactic(auto, unfolding(crate::specs::Marking::no_marks))]
+pub fn unmarked(alloc: Global, old: &Library<OldIx>) -> Result<Marks, NoMemory>
+    ensures { IfOk result (λ marks. marks ≡ no_marks old.now) }
+{
+    let nodes = old.graph().len();
+    Ok(Marks {
+        digest: empty_digest(),
+        exports: no_flags(alloc, old.exports().len())?,
+        direct: no_flags(alloc, nodes)?,
+        pointer: no_flags(alloc, nodes)?,
+    })
+}

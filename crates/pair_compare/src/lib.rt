@@ -1,0 +1,15 @@
+//! Whether a new library may stand in the place of an old one: with a certificate where it may, and with the rows of a report
+//! where it may not.
+#![tactic(auto)]
+
+pub mod certificates;
+mod comparing;
+mod empty;
+mod exploring;
+pub mod laws;
+pub mod reports;
+mod typed;
+
+pub use comparing::{Comparison, compare};
+pub use empty::unmarked;
+pub use typed::roots;

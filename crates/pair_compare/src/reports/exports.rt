@@ -1,0 +1,155 @@
+// The rows on sonames and exports.
+ghost use Rattle.std.specs.Prelude.{◌≡◌, ◌<◌, ◌++◌, length, OnOk};
+ghost use Rattle.std.specs.List.{list_any};
+ghost use Rattle.std.specs.Option.{option_copied};
+ghost use Rattle.abi_types.specs.Plain.{plain_export};
+ghost use Rattle.elf_bind.specs.Binding.{bind_each, bind_to, is_named as the_export_is_named};
+ghost use Rattle.pair_compare.specs.reports.ExportRows.{changed_rows, export_row as the_export_row, export_rows as the_export_rows, gone_rows, row_if, rows_at, rows_for, rows_upto, soname_rows};
+ghost use Rattle.pair_compare.specs.reports.LibraryPair.{sides_of};
+
+use crate::reports::library_pair::{LibraryPair, export_at, is_compared, partner};
+use abi_base::{List, NoMemory};
+use abi_types::{Export, Library, NewIx, Rule};
+use elf_bind::same_name;
+use pair_rules::export_breaks;
+use report::{Row, export_row, soname_row};
+use std::alloc::Global;
+
+// Adds the row on sonames, where they differ.
+#[tactic(auto, unfolding(crate::specs::reports::ExportRows::soname_rows))]
+fn push_soname_rows(
+    alloc: Global,
+    rows: &mut List<Row>,
+    old: Option<&[u8]>,
+    new: Option<&[u8]>,
+) -> Result<(), NoMemory>
+    ensures { OnOk result (rows.new ≡ rows.old ++ soname_rows (option_copied old.entry) (option_copied new.entry)) }
+{
+    if same_name(old, new) {
+        return Ok(());
+    }
+    let row = soname_row(alloc, old, new)?;
+    rows.push(row)
+}
+
+// ---- one old export
+
+// Adds the row of an export that binds to none.
+#[tactic(auto, unfolding(crate::specs::reports::ExportRows::gone_rows))]
+fn push_gone(
+    alloc: Global,
+    rows: &mut List<Row>,
+    export: &Export,
+    is_named: bool,
+) -> Result<(), NoMemory>
+    ensures { OnOk result (rows.new ≡ rows.old ++ gone_rows is_named (plain_export export.now)) }
+{
+    let rule = if is_named {
+        Rule::ExportVersion
+    } else {
+        Rule::ExportPresence
+    };
+    let beside = *export;
+    let row = export_row(alloc, rule, export, &beside)?;
+    rows.push(row)
+}
+
+// Adds the row of a rule, where it is broken.
+fn push_if(
+    alloc: Global,
+    rows: &mut List<Row>,
+    is_broken: bool,
+    rule: Rule,
+    old: &Export,
+    new: &Export,
+) -> Result<(), NoMemory>
+    ensures { OnOk result (rows.new ≡ rows.old ++ row_if is_broken (the_export_row rule (plain_export old.now) (plain_export new.now))) }
+{
+    if !is_broken {
+        return Ok(());
+    }
+    let row = export_row(alloc, rule, old, new)?;
+    rows.push(row)
+}
+
+// Adds the rows of an export that binds to another.
+#[tactic(auto, unfolding(crate::specs::reports::ExportRows::changed_rows))]
+fn push_changed(
+    alloc: Global,
+    rows: &mut List<Row>,
+    old: &Export,
+    new: &Export,
+) -> Result<(), NoMemory>
+    ensures { OnOk result (rows.new ≡ rows.old ++ changed_rows (plain_export old.now) (plain_export new.now)) }
+{
+    let [kind_breaks, size_breaks, type_breaks] = export_breaks(old, new);
+    push_if(alloc, rows, kind_breaks, Rule::ExportKind, old, new)?;
+    push_if(alloc, rows, size_breaks, Rule::ExportSize, old, new)?;
+    push_if(alloc, rows, type_breaks, Rule::ExportType, old, new)
+}
+
+// Whether some export of a library has a name.
+fn is_named(library: &Library<NewIx>, name: &[u8]) -> bool
+    ensures { result ≡ list_any (the_export_is_named name.now) library.now.exports }
+{
+    !library.exports_named(name).is_empty()
+}
+
+// Adds the rows of an old export, by the place of the new one that it binds to.
+fn push_bound(
+    alloc: Global,
+    rows: &mut List<Row>,
+    ground: &LibraryPair,
+    export: &Export,
+    place: Option<usize>,
+) -> Result<(), NoMemory>
+    requires { place ≡ bind_to ground.now.new.now.exports (plain_export export.now) }
+    ensures { OnOk result (rows.new ≡ rows.old ++ rows_for (sides_of ground.now) (plain_export export.now)) }
+{
+    match partner(ground.new, place) {
+        Some(new) => push_changed(alloc, rows, export, new),
+        None => push_gone(alloc, rows, export, is_named(ground.new, export.name)),
+    }
+}
+
+// ---- all old exports
+
+// Adds the rows of the old export at a position.
+fn push_at(
+    alloc: Global,
+    rows: &mut List<Row>,
+    ground: &LibraryPair,
+    bound: &[Option<usize>],
+    k: usize,
+) -> Result<(), NoMemory>
+    requires inside { k < length ground.now.old.now.exports }
+    requires bound { bound.now ≡ bind_each ground.now.old.now.exports ground.now.new.now.exports }
+    ensures { OnOk result (rows.new ≡ rows.old ++ rows_at (sides_of ground.now) k) }
+{
+    if !is_compared(ground.marks, k) {
+        return Ok(());
+    }
+    match export_at(ground.old, k) {
+        None => Ok(()),
+        Some(export) => push_bound(alloc, rows, ground, export, bound[k]),
+    }
+}
+
+/// Adds the row on sonames, where they differ, and the rows of each old export that is compared, by what it binds to. It takes
+/// the time of two binary searches for an export that is gone.
+pub fn push_export_rows(
+    alloc: Global,
+    rows: &mut List<Row>,
+    ground: &LibraryPair,
+    bound: &[Option<usize>],
+) -> Result<(), NoMemory>
+    requires { bound.now ≡ bind_each ground.now.old.now.exports ground.now.new.now.exports }
+    ensures { OnOk result (rows.new ≡ rows.old ++ the_export_rows (sides_of ground.now)) }
+{
+    push_soname_rows(alloc, rows, ground.old.soname(), ground.new.soname())?;
+    let count = ground.old.exports().len();
+    'exports: for k in 0..count {
+        push_at(alloc, rows, ground, bound, k)?;
+    }
+    Ok(())
+}

@@ -1,0 +1,46 @@
+// What is reported on.
+ghost use Rattle.std.specs.Prelude.{◌≡◌, not, false, slice_get, slice_index_or, option_and_then, Some, None, MatchOption};
+ghost use Rattle.abi_types.specs.Plain.{plain_export};
+
+use abi_types::{Export, Index, Library, Marks, NewIx, OldIx};
+
+/// Two libraries, and what is not compared of the old one.
+#[derive(Clone, Copy)]
+pub struct LibraryPair<'x, 'o, 'n> {
+    pub old: &'x Library<'o, OldIx>,
+    pub new: &'x Library<'n, NewIx>,
+    pub marks: &'x Marks,
+}
+
+/// The export at a position, where there is one.
+pub fn export_at<'x, 'a, Ix: Index>(
+    library: &'x Library<'a, Ix>,
+    place: usize,
+) -> Option<&'x Export<'a>>
+    ensures { MatchOption result (slice_get library.now.exports place ≡ None) (λ export. slice_get library.now.exports place ≡ Some (plain_export export.now)) }
+{
+    library.exports().get(place)
+}
+
+/// The new export at a place, where there is one.
+pub fn partner<'x, 'n>(
+    library: &'x Library<'n, NewIx>,
+    place: Option<usize>,
+) -> Option<&'x Export<'n>>
+    ensures { MatchOption result (option_and_then (slice_get library.now.exports) place ≡ None) (λ export. option_and_then (slice_get library.now.exports) place ≡ Some (plain_export export.now)) }
+{
+    match place {
+        None => None,
+        Some(place) => export_at(library, place),
+    }
+}
+
+/// Whether the old export at a position is compared: no rule drops it.
+pub fn is_compared(marks: &Marks, k: usize) -> bool
+    ensures { result ≡ not (slice_index_or marks.now.exports k false) }
+{
+    match marks.exports.as_slice().get(k) {
+        Some(dropped) => !*dropped,
+        None => true,
+    }
+}

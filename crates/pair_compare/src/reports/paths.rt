@@ -1,0 +1,105 @@
+// The texts of paths.
+ghost use Rattle.std.specs.Prelude.{◌≡◌, ◌<◌, ◌++◌, length, IfOk, OnOk, string_bytes, unwrap_or};
+ghost use Rattle.abi_types.specs.Graphs.{part_at, to_of};
+ghost use Rattle.abi_types.specs.Plain.{plain_export};
+ghost use Rattle.abi_types.specs.Shown.{label};
+ghost use Rattle.report.specs.Steps.{step_text};
+ghost use Rattle.pair_explorer.specs.Routes.{path_of as the_path_of};
+ghost use Rattle.pair_compare.specs.reports.PathTexts.{between, label_at as the_label_at, steps_text as the_steps_text, type_of as the_type_of, IsWalk};
+
+use crate::reports::library_pair::export_at;
+use abi_base::NoMemory;
+use abi_types::{Export, Index, Library, OldIx, View, push_label};
+use pair_explorer::Route;
+use report::push_step;
+use std::alloc::{AllocError, Global};
+
+// The label of an export.
+fn label_of(alloc: Global, export: &Export) -> Result<String, NoMemory>
+    ensures { IfOk result (λ text. string_bytes text ≡ label (plain_export export.now)) }
+{
+    let mut text = String::new(alloc);
+    push_label(alloc, &mut text, export)?;
+    Ok(text)
+}
+
+/// The label of the old export at a position.
+pub fn label_at(alloc: Global, library: &Library<OldIx>, export: u32) -> Result<String, NoMemory>
+    ensures { IfOk result (λ text. string_bytes text ≡ the_label_at library.now export) }
+{
+    match export_at(library, export as usize) {
+        None => Ok(String::new(alloc)),
+        Some(export) => label_of(alloc, export),
+    }
+}
+
+// The type of the old export at a position; void where there is none.
+fn type_of(library: &Library<OldIx>, export: u32) -> OldIx
+    ensures { result ≡ the_type_of library.now export }
+{
+    match export_at(library, export as usize) {
+        None => OldIx::of(0),
+        Some(export) => match library.graph().find(export.entry) {
+            None => OldIx::of(0),
+            Some(node) => node,
+        },
+    }
+}
+
+// What a part names; void where it names nothing.
+fn next_node(view: &View<OldIx>, part: usize) -> OldIx
+    requires { part < length view.now.parts }
+    ensures { result ≡ unwrap_or (to_of (part_at view.now part)) 0 }
+{
+    match view.part(part).to() {
+        None => OldIx::of(0),
+        Some(to) => to,
+    }
+}
+
+// Appends the sign in front of a step with so many before it.
+fn push_between(text: &mut String, before: usize) -> Result<(), AllocError>
+    ensures { OnOk result (string_bytes text.new ≡ string_bytes text.old ++ between before) }
+{
+    if before == 0 {
+        return Ok(());
+    }
+    text.push_str(" / ")
+}
+
+// Appends a step with so many before it.
+fn push_one(
+    alloc: Global,
+    text: &mut String,
+    view: &View<OldIx>,
+    part: usize,
+    before: usize,
+) -> Result<(), AllocError>
+    requires { part < length view.now.parts }
+    ensures { OnOk result (string_bytes text.new ≡ string_bytes text.old ++ (between before ++ step_text view.now part)) }
+{
+    push_between(text, before)?;
+    push_step(alloc, text, view, part)
+}
+
+/// The text of the steps of a path in the old library. It goes over them once.
+pub fn steps_text(
+    alloc: Global,
+    library: &Library<OldIx>,
+    route: &Route,
+) -> Result<String, NoMemory>
+    requires { IsWalk library.now (the_path_of route.now.export route.now.parts) }
+    ensures { IfOk result (λ text. string_bytes text ≡ the_steps_text library.now (the_path_of route.now.export route.now.parts)) }
+{
+    let graph = library.graph();
+    let parts = route.parts.as_slice();
+    let mut node = type_of(library, route.export);
+    let mut text = String::new(alloc);
+    'walk: for k in 0..parts.len() {
+        let view = graph.view(node);
+        let part = parts[k];
+        push_one(alloc, &mut text, view, part, k)?;
+        node = next_node(view, part);
+    }
+    Ok(text)
+}

@@ -1,0 +1,135 @@
+// The breaks of an exploration that have a row, and these rows.
+ghost use Rattle.std.specs.Prelude.{◌≡◌, ◌<◌, ◌++◌, length, map, slice_get, Some, IfOk, OnOk};
+ghost use Rattle.abi_types.specs.Graphs.{view_at};
+ghost use Rattle.report.specs.Details.{type_detail as the_type_detail, IsInside};
+ghost use Rattle.cert_check.specs.Compatible.{task_of};
+ghost use Rattle.pair_compare.specs.reports.LibraryPair.{sides_of};
+ghost use Rattle.pair_compare.specs.reports.Keys.{plain_key, key_of};
+ghost use Rattle.pair_compare.specs.reports.Readable.{AreReadable, IsReadable};
+ghost use Rattle.pair_compare.specs.reports.Reports.{row_of};
+ghost use Rattle.pair_compare.specs.reports.TypeFindings.{finding_of, told_breaks, type_rows};
+ghost use Rattle.pair_explorer.specs.Visits.{AreEarlier};
+
+use crate::reports::library_pair::LibraryPair;
+use crate::reports::paths::{label_at, steps_text};
+use abi_base::{List, NoMemory};
+use abi_types::laws::rules_have_places_of_their_own;
+use abi_types::{Index, NewIx, OldIx, View};
+use indexmap::IndexSet;
+use pair_explorer::laws::parents_spell_paths;
+use pair_explorer::{Explored, Visits, route_to};
+use pair_rules::Broken;
+use report::{Row, type_row};
+use std::alloc::Global;
+
+// What a row says of a break of two types.
+fn detail_of(
+    alloc: Global,
+    broken: &Broken,
+    old: &View<OldIx>,
+    new: &View<NewIx>,
+) -> Result<Vec<u8>, NoMemory>
+    requires { IsInside old.now broken.now }
+    ensures { IfOk result (λ text. text.items ≡ the_type_detail broken.now.rule old.now new.now broken.now.part) }
+{
+    let row = type_row(
+        alloc,
+        broken,
+        String::new(alloc),
+        String::new(alloc),
+        (0, old),
+        (0, new),
+    )?;
+    Ok(row.detail.into_vec())
+}
+
+// What tells the row of a break at the visit of a number apart.
+fn key_at(
+    alloc: Global,
+    ground: &LibraryPair,
+    visits: &Visits,
+    number: usize,
+    broken: &Broken,
+) -> Result<(u8, usize, usize, Vec<u8>), NoMemory>
+    requires { IsReadable (sides_of ground.now) visits.now (number, broken.now) }
+    ensures { IfOk result (λ key. plain_key key ≡ key_of (task_of (sides_of ground.now)) (finding_of visits.now (number, broken.now))) }
+{
+    let visit = visits.visit(number);
+    let old = ground.old.graph().view(visit.old);
+    let new = ground.new.graph().view(visit.new);
+    let text = detail_of(alloc, broken, old, new)?;
+    let place = broken.rule.place();
+    Ok((place, visit.old.number(), visit.new.number(), text))
+}
+
+// The breaks of an exploration without those whose row an earlier one has.
+fn told(
+    alloc: Global,
+    ground: &LibraryPair,
+    explored: &Explored,
+) -> Result<List<(usize, Broken)>, NoMemory>
+    requires { AreReadable (sides_of ground.now) explored.now.visits explored.now.breaks }
+    ensures { IfOk result (λ told. told ≡ told_breaks (task_of (sides_of ground.now)) explored.now.visits explored.now.breaks) }
+{
+    let mut keys: IndexSet<(u8, usize, usize, Vec<u8>)> = IndexSet::new(alloc);
+    let mut told = List::new(alloc);
+    let breaks = explored.breaks.as_slice();
+    for found in breaks {
+        let key = key_at(alloc, ground, &explored.visits, found.0, &found.1)?;
+        let (_, is_new) = keys.insert_full(key)?;
+        if is_new {
+            told.push(*found)?;
+        }
+    }
+    Ok(told)
+}
+
+// The row of a break at the visit of a number.
+fn row_at(
+    alloc: Global,
+    ground: &LibraryPair,
+    visits: &Visits,
+    number: usize,
+    broken: &Broken,
+) -> Result<Row, NoMemory>
+    requires readable { IsReadable (sides_of ground.now) visits.now (number, broken.now) }
+    requires earlier { AreEarlier visits.now }
+    ensures { IfOk result (λ row. row ≡ row_of (sides_of ground.now) (finding_of visits.now (number, broken.now))) }
+{
+    parents_spell_paths();
+    let visit = visits.visit(number);
+    let route = route_to(alloc, visits, number)?;
+    let export = label_at(alloc, ground.old, route.export)?;
+    let path = steps_text(alloc, ground.old, &route)?;
+    let old = ground.old.graph();
+    let new = ground.new.graph();
+    type_row(
+        alloc,
+        broken,
+        export,
+        path,
+        (old.entry_of(visit.old), old.view(visit.old)),
+        (new.entry_of(visit.new), new.view(visit.new)),
+    )
+}
+
+/// Adds the rows on types: of the breaks that tell the same at the same types the first has one. A row's path is spelled only
+/// once its row is known to stand.
+pub fn push_type_rows(
+    alloc: Global,
+    rows: &mut List<Row>,
+    ground: &LibraryPair,
+    explored: &Explored,
+) -> Result<(), NoMemory>
+    requires { AreReadable (sides_of ground.now) explored.now.visits explored.now.breaks }
+    ensures { OnOk result (rows.new ≡ rows.old ++ type_rows (sides_of ground.now) explored.now.visits explored.now.breaks) }
+{
+    rules_have_places_of_their_own();
+    let told = told(alloc, ground, explored)?;
+    let breaks = told.as_slice();
+    for found in breaks {
+        let row = row_at(alloc, ground, &explored.visits, found.0, &found.1)?;
+        rows.push(row)?;
+    }
+    Ok(())
+}

@@ -1,0 +1,140 @@
+// Where the comparison of the types of two libraries begins.
+ghost use Rattle.std.specs.Prelude.{◌≡◌, ◌<◌, length, false, Some, None, IfOk, MatchOption, slice_get, slice_index_or};
+ghost use Rattle.abi_types.specs.Plain.{plain_export};
+ghost use Rattle.elf_bind.specs.Binding.{bind_each};
+ghost use Rattle.cert_check.specs.Compatible.{is_typed as the_export_is_typed, root_to, sides, typed_root, typed_roots};
+ghost use Rattle.pair_compare.specs.BoundPair.{IsBinding, partner, sides_of};
+
+use abi_base::NoMemory;
+use abi_types::{Export, Library, Marks, NewIx, OldIx};
+use pair_explorer::Root;
+use std::alloc::Global;
+
+// Two libraries, what is not compared of the old one, and what each old export binds to.
+#[derive(Clone, Copy)]
+struct BoundPair<'x, 'o, 'n> {
+    old: &'x Library<'o, OldIx>,
+    new: &'x Library<'n, NewIx>,
+    marks: &'x Marks,
+    bound: &'x [Option<usize>],
+}
+
+// Whether a rule drops the old export at a position.
+fn is_dropped(ground: &BoundPair, k: usize) -> bool
+    ensures { result ≡ slice_index_or ground.now.marks.now.exports k false }
+{
+    match ground.marks.exports.as_slice().get(k) {
+        Some(dropped) => *dropped,
+        None => false,
+    }
+}
+
+// The old export at a position.
+#[tactic(auto, using(crate::proofs::Reading::export_read))]
+fn export_at<'x, 'o>(ground: &BoundPair<'x, 'o, '_>, k: usize) -> &'x Export<'o>
+    requires { k < length ground.now.old.now.exports }
+    ensures { slice_get ground.now.old.now.exports k ≡ Some (plain_export result.now) }
+{
+    let exports = ground.old.exports();
+    &exports[k]
+}
+
+// The position of the new export that the old one at a position binds to.
+fn place_at(ground: &BoundPair, k: usize) -> Option<usize>
+    ensures { result ≡ slice_index_or ground.now.bound.now k None }
+{
+    match ground.bound.get(k) {
+        Some(place) => *place,
+        None => None,
+    }
+}
+
+// The new export at a position, where there is one.
+#[tactic(auto, using(crate::proofs::Reading::export_read, crate::proofs::Reading::none_read))]
+fn new_export_at<'x, 'n>(ground: &BoundPair<'x, '_, 'n>, place: usize) -> Option<&'x Export<'n>>
+    ensures { MatchOption result (slice_get ground.now.new.now.exports place ≡ None) (λ export. slice_get ground.now.new.now.exports place ≡ Some (plain_export export.now)) }
+{
+    ground.new.exports().get(place)
+}
+
+// The new export that the old one at a position binds to.
+fn partner_at<'x, 'n>(ground: &BoundPair<'x, '_, 'n>, k: usize) -> Option<&'x Export<'n>>
+    ensures { MatchOption result (partner ground.now k ≡ None) (λ export. partner ground.now k ≡ Some (plain_export export.now)) }
+{
+    match place_at(ground, k) {
+        None => None,
+        Some(place) => new_export_at(ground, place),
+    }
+}
+
+// Whether an export has a type.
+fn is_typed(export: &Export) -> bool
+    ensures { result ≡ the_export_is_typed (plain_export export.now) }
+{
+    export.entry != 0
+}
+
+// The types of two exports, where both have one.
+fn root_between(ground: &BoundPair, export: u32, old: &Export, new: &Export) -> Option<Root>
+    ensures { result ≡ root_to (sides_of ground.now) export (plain_export old.now) (Some (plain_export new.now)) }
+{
+    if !is_typed(old) {
+        return None;
+    }
+    if !is_typed(new) {
+        return None;
+    }
+    match (
+        ground.old.graph().find(old.entry),
+        ground.new.graph().find(new.entry),
+    ) {
+        (Some(old), Some(new)) => Some(Root { export, old, new }),
+        _ => None,
+    }
+}
+
+// The types of the old export at a position and of the one that it binds to, where it is compared and both have one.
+#[tactic(auto, unfolding(cert_check::specs::Compatible::typed_root))]
+fn root_at(ground: &BoundPair, k: usize) -> Option<Root>
+    requires inside { k < length ground.now.old.now.exports }
+    requires bound { IsBinding ground.now }
+    ensures { result ≡ typed_root (sides_of ground.now) k }
+{
+    if is_dropped(ground, k) {
+        return None;
+    }
+    let old = export_at(ground, k);
+    ground.old.known();
+    match partner_at(ground, k) {
+        None => None,
+        Some(new) => root_between(ground, k as u32, old, new),
+    }
+}
+
+/// The types of each old export that is compared and of the new one that it binds to, where both have one, in order of the old
+/// exports. `bound` says to which new export each old one binds, as `elf_bind::bind_all` does.
+pub fn roots(
+    alloc: Global,
+    old: &Library<OldIx>,
+    new: &Library<NewIx>,
+    marks: &Marks,
+    bound: &[Option<usize>],
+) -> Result<Vec<Root>, NoMemory>
+    requires { bound.now ≡ bind_each old.now.exports new.now.exports }
+    ensures { IfOk result (λ roots. roots.items ≡ typed_roots (sides old.now new.now marks.now)) }
+{
+    let ground = BoundPair {
+        old,
+        new,
+        marks,
+        bound,
+    };
+    let count = old.exports().len();
+    let mut roots = Vec::new(alloc);
+    'exports: for k in 0..count {
+        if let Some(root) = root_at(&ground, k) {
+            roots.push(root)?;
+        }
+    }
+    Ok(roots)
+}

@@ -1,9 +1,0 @@
--- What the parts before this one lead to is added.
-use Rattle.std.proofs.Common.{◌≡◌}
-use Rattle.pair_explorer.specs.Adding.{entered, next_visit}
-use Rattle.pair_explorer.specs.Grounds.{scope_of}
-use Rattle.pair_explorer.specs.Visits.{seen}
-use Rattle.pair_explorer.proofs.ground.add_partners.Given as goal
-
-abbrev pub invariant-loop-i : goal.invariant-loop-i
-invariant-loop-i l = l.visits ≡ entered (next_visit (scope_of l.ground) l.number (seen l.visit)) l.i l.fn.visits

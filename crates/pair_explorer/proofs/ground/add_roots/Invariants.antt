@@ -1,8 +1,0 @@
--- The roots before this one are added.
-use Rattle.std.proofs.Common.{◌≡◌}
-use Rattle.pair_explorer.specs.Adding.{entered, root_visit}
-use Rattle.pair_explorer.specs.Grounds.{scope_of}
-use Rattle.pair_explorer.proofs.ground.add_roots.Given as goal
-
-abbrev pub invariant-loop-k : goal.invariant-loop-k
-invariant-loop-k l = l.visits ≡ entered (root_visit (scope_of l.ground)) l.k l.fn.visits

@@ -1,0 +1,123 @@
+// What an exploration goes by, and how one triple leads to others.
+ghost use Rattle.std.specs.Prelude.{◌≡◌, ◌<◌, length, false, Some, OnOk};
+ghost use Rattle.abi_types.specs.Graphs.{view_at};
+ghost use Rattle.pair_rules.specs.Steps.{is_marked as the_node_is_marked};
+ghost use Rattle.pair_explorer.specs.Visits.{seen};
+ghost use Rattle.pair_explorer.specs.Adding.{entered, next_visit as the_next_visit, root_visit as the_root_visit};
+ghost use Rattle.pair_explorer.specs.GraphPairs.{scope_of};
+ghost use Rattle.pair_explorer.specs.Scopes.{HasNodes, AreGraphs};
+
+use crate::roots::Root;
+use crate::visits::{Parent, Visit, Visits};
+use abi_base::NoMemory;
+use abi_types::{Graph, Index, Marks, NewIx, OldIx, Way};
+use pair_rules::Comparison;
+use pair_rules::laws::steps_lead_to_nodes;
+use type_classes::Classes;
+
+/// What is compared, and the classes of its nodes. The lifetimes are those that a caller's graphs and classes bring along.
+#[derive(Clone, Copy)]
+pub struct GraphPair<'x, 'o, 'n, 'og, 'oc, 'ng, 'nc> {
+    pub old: &'x Graph<'o, OldIx>,
+    pub new: &'x Graph<'n, NewIx>,
+    pub roots: &'x [Root],
+    pub marks: &'x Marks,
+    pub old_classes: &'x Classes<'og, 'oc, OldIx>,
+    pub new_classes: &'x Classes<'ng, 'nc, NewIx>,
+}
+
+/// Whether an old node is marked at a way.
+pub fn is_marked(ground: &GraphPair, node: OldIx, way: Way) -> bool
+    ensures { result ≡ the_node_is_marked (scope_of ground.now).task node way }
+{
+    let flags = match way {
+        Way::Direct => ground.marks.direct.as_slice(),
+        Way::Pointer => ground.marks.pointer.as_slice(),
+    };
+    match flags.get(node.number()) {
+        Some(mark) => *mark,
+        None => false,
+    }
+}
+
+// The visit of a root.
+#[tactic(auto, unfolding(crate::specs::Adding::root_visit))]
+fn root_visit(ground: &GraphPair, k: usize) -> Visit
+    requires inside { k < length ground.now.roots.now }
+    requires nodes { HasNodes (scope_of ground.now) }
+    ensures { Some result ≡ the_root_visit (scope_of ground.now) k }
+{
+    let root = ground.roots[k];
+    Visit {
+        old: ground.old_classes.rep(root.old),
+        new: ground.new_classes.rep(root.new),
+        way: Way::Direct,
+        parent: Parent::Root {
+            export: root.export,
+        },
+    }
+}
+
+/// Adds the visits of the roots.
+pub fn add_roots(ground: &GraphPair, visits: &mut Visits) -> Result<(), NoMemory>
+    requires { HasNodes (scope_of ground.now) }
+    ensures { OnOk result (visits.new ≡ entered (the_root_visit (scope_of ground.now)) (length ground.now.roots.now) visits.old) }
+{
+    for k in 0..ground.roots.len() {
+        let visit = root_visit(ground, k);
+        visits.add(&visit)?;
+    }
+    Ok(())
+}
+
+// The visit to which the old part `i` leads from the visit of a number, whose old node is unmarked at its way.
+fn next_visit(
+    ground: &GraphPair,
+    number: usize,
+    visit: &Visit,
+    comparison: &Comparison,
+    i: usize,
+) -> Option<Visit>
+    requires nodes { HasNodes (scope_of ground.now) }
+    requires graphs { AreGraphs (scope_of ground.now) }
+    requires unmarked { the_node_is_marked (scope_of ground.now).task visit.now.old visit.now.way ≡ false }
+    requires old { comparison.now.old ≡ view_at ground.now.old.now visit.now.old }
+    requires new { comparison.now.new ≡ view_at ground.now.new.now visit.now.new }
+    requires inside { i < length comparison.now.old.parts }
+    ensures { result ≡ the_next_visit (scope_of ground.now) number (seen visit.now) i }
+{
+    steps_lead_to_nodes();
+    let next = comparison.next(visit.way, i)?;
+    Some(Visit {
+        old: ground.old_classes.rep(next.old),
+        new: ground.new_classes.rep(next.new),
+        way: next.way,
+        parent: Parent::Step {
+            visit: number,
+            part: i,
+        },
+    })
+}
+
+/// Adds all to which the visit of a number leads. Its old node is unmarked at its way.
+pub fn add_partners(
+    ground: &GraphPair,
+    visits: &mut Visits,
+    number: usize,
+    visit: &Visit,
+    comparison: &Comparison,
+) -> Result<(), NoMemory>
+    requires nodes { HasNodes (scope_of ground.now) }
+    requires graphs { AreGraphs (scope_of ground.now) }
+    requires unmarked { the_node_is_marked (scope_of ground.now).task visit.now.old visit.now.way ≡ false }
+    requires old { comparison.now.old ≡ view_at ground.now.old.now visit.now.old }
+    requires new { comparison.now.new ≡ view_at ground.now.new.now visit.now.new }
+    ensures { OnOk result (visits.new ≡ entered (the_next_visit (scope_of ground.now) number (seen visit.now)) (length comparison.now.old.parts) visits.old) }
+{
+    for i in 0..comparison.parts_len() {
+        if let Some(next) = next_visit(ground, number, visit, comparison, i) {
+            visits.add(&next)?;
+        }
+    }
+    Ok(())
+}

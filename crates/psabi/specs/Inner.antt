@@ -1,7 +1,0 @@
--- What the code finds inside an aggregate, as plain data.
-use Rattle.std.specs.Prelude.{ℕ}
-use Rattle.abi_types.specs.Inside.{Inside}
-use Rattle.psabi.specs.declared.inside.Inner.{Inner}
-
-abbrev pub plain_inner : {Ix : Type 0} → (Ix → ℕ) → Inner Ix → Inside
-plain_inner number_of x = record { bit = x.bit; width = x.width; to = number_of x.to }

@@ -1,0 +1,4 @@
+mod SeenLemmas
+mod Telling
+mod TextLemmas
+mod styles

@@ -1,0 +1,7 @@
+pub mod Details
+pub mod Listening
+pub mod Places
+pub mod Render
+pub mod Steps
+pub mod Words
+pub mod styles

@@ -1,0 +1,48 @@
+-- What listeners hear, and the texts that they make of it.
+use Rattle.std.specs.Prelude.{◌≡◌, ◌≤◌, ◌<◌, ℕ, max, List, [], ◌∷◌, take, Option, None, IfSome}
+use Rattle.report.specs.declared.row.Row.{Row}
+use Rattle.report.specs.declared.style.Style.{Style}
+use Rattle.report.specs.declared.style.Style.TheVariants.{Text, Table, Counts, First, Own}
+use Rattle.report.specs.declared.style.More.{More}
+use Rattle.report.specs.declared.style.More.TheVariants.{Go, Enough}
+use Rattle.report.specs.Render.{render}
+
+-- What a listener is asked for, and what it makes: its style, and the text that it makes of rows that it heard, where that is told.
+-- It stands still while the listener is told rows.
+pub record Voice : Type 0 where
+  pub style : Style
+  pub makes : List Row → Option (List ℕ)
+
+-- the voice of a listener of which the style says all
+abbrev pub styled : Style → Voice
+styled style = record { style = style; makes = λ rows. None }
+
+-- the text in a style, which is the listener's own matter where the style is `Own`
+abbrev pub InStyle : Style → List Row → List ℕ → Type 0
+InStyle Own rows text = Unit {0}
+InStyle style rows text = text ≡ render style rows
+
+-- the text of a listener that heard these rows: in its style, and the one that it makes, where that is told
+pub record IsText (voice : Voice) (rows : List Row) (text : List ℕ) : Type 0 where
+  pub styled : InStyle voice.style rows text
+  pub made : IfSome (voice.makes rows) (λ t. text ≡ t)
+
+-- Whether a listener of the style has enough once it has heard so many rows: exactly where it asks for the first n alone, and
+-- has heard as many.
+abbrev pub IsEnough : Style → ℕ → More → Type 0
+IsEnough (First n) heard Enough = n ≤ heard
+IsEnough (First n) heard Go = heard < n
+IsEnough style heard Enough = ⊥
+IsEnough style heard Go = Unit {0}
+
+-- the rows that a listener of the style hears: up to the first at which it has enough
+abbrev pub heard_of : Style → List Row → List Row
+heard_of (First n) rows = take (max n 1) rows
+heard_of style rows = rows
+
+-- the texts of listeners of these voices, each told the rows until it has enough
+abbrev pub Reports : List Voice → List Row → List (List ℕ) → Type 0
+Reports [] rows [] = Unit {0}
+Reports [] rows (text ∷ texts) = ⊥
+Reports (voice ∷ voices) rows [] = ⊥
+Reports (voice ∷ voices) rows (text ∷ texts) = IsText voice (heard_of voice.style rows) text × Reports voices rows texts

@@ -1,0 +1,355 @@
+// What a row says of a break.
+ghost use Rattle.std.specs.Prelude.{◌≡◌, ◌<◌, ◌∷◌, [], ◌+◌, length, IfOk, codes, decimal, string_bytes, unwrap_or};
+ghost use Rattle.std.specs.List.{concat};
+ghost use Rattle.std.specs.Option.{option_copied};
+ghost use Rattle.abi_types.specs.Graphs.{part_at};
+ghost use Rattle.abi_types.specs.Plain.{plain_export};
+ghost use Rattle.pair_rules.specs.Matching.{number_of};
+ghost use Rattle.pair_rules.specs.TypeRules.{bit_at as the_bit_at, matched, value_at as the_value_at, width_at as the_width_at};
+ghost use Rattle.report.specs.Details.{export_detail as the_export_detail, param_place as the_param_place, IsInside, part_change, places_change, shown_or_none, shown_soname, soname_detail as the_soname_detail, type_detail as the_type_detail};
+ghost use Rattle.report.specs.Places.{place_text as the_place_text};
+ghost use Rattle.report.specs.Steps.{part_name as the_part_name};
+ghost use Rattle.report.specs.Words.{changed as the_change};
+
+use crate::place::push_place;
+use crate::step::push_part_name;
+use crate::words::{group_word, kind_word, yes_or_no};
+use abi_types::{Export, Index, NewIx, OldIx, Part, Place, Rule, View, push_shown};
+use pair_rules::{
+    Broken, bit_at, match_of, number_of as like_before, params_of, value_at, width_at,
+};
+use std::alloc::{AllocError, Global};
+use std::fmt::Write;
+
+// What changed, what it was, and what it is now.
+fn changed(alloc: Global, what: &str, old: &str, new: &str) -> Result<String, AllocError>
+    ensures { IfOk result (λ text. string_bytes text ≡ the_change what.now old.now new.now) }
+{
+    format!(in alloc; "{what} {old}, now {new}")
+}
+
+// The same of two numbers.
+fn changed_number(alloc: Global, what: &str, old: u64, new: u64) -> Result<String, AllocError>
+    ensures { IfOk result (λ text. string_bytes text ≡ the_change what.now (decimal old) (decimal new)) }
+{
+    format!(in alloc; "{what} {old}, now {new}")
+}
+
+// ---- exports
+
+// The printed form of a soname.
+fn soname_text(alloc: Global, soname: Option<&[u8]>) -> Result<String, AllocError>
+    ensures { IfOk result (λ text. string_bytes text ≡ shown_soname (option_copied soname.entry)) }
+{
+    let mut text = String::new(alloc);
+    match soname {
+        None => text.push_str("none")?,
+        Some(name) => push_shown(alloc, &mut text, name)?,
+    }
+    Ok(text)
+}
+
+/// What a row says of two sonames.
+pub fn soname_detail(
+    alloc: Global,
+    old: Option<&[u8]>,
+    new: Option<&[u8]>,
+) -> Result<String, AllocError>
+    ensures { IfOk result (λ text. string_bytes text ≡ the_soname_detail (option_copied old.entry) (option_copied new.entry)) }
+{
+    let old = soname_text(alloc, old)?;
+    let new = soname_text(alloc, new)?;
+    changed(alloc, "SONAME", &old, &new)
+}
+
+/// What a row says of an old export that breaks a rule of exports. Of one that is gone the new one says nothing.
+pub fn export_detail(
+    alloc: Global,
+    rule: Rule,
+    old: &Export,
+    new: &Export,
+) -> Result<String, AllocError>
+    ensures { IfOk result (λ text. string_bytes text ≡ the_export_detail rule (plain_export old.now) (plain_export new.now)) }
+{
+    match rule {
+        Rule::ExportPresence => String::from_str(alloc, "gone"),
+        Rule::ExportVersion => String::from_str(alloc, "version gone"),
+        Rule::ExportKind => changed(alloc, "kind", old.kind.word(), new.kind.word()),
+        Rule::ExportSize => changed_number(alloc, "object size", old.size, new.size),
+        Rule::ExportType => String::from_str(alloc, "type gone"),
+        _ => Ok(String::new(alloc)),
+    }
+}
+
+// ---- types
+
+// The printed form of a tag.
+fn tag_text(alloc: Global, tag: &[u8]) -> Result<String, AllocError>
+    ensures { IfOk result (λ text. string_bytes text ≡ shown_or_none tag.now) }
+{
+    let mut text = String::new(alloc);
+    match tag {
+        [] => text.push_str("none")?,
+        _ => push_shown(alloc, &mut text, tag)?,
+    }
+    Ok(text)
+}
+
+// Two tags.
+fn changed_tag(alloc: Global, old: &[u8], new: &[u8]) -> Result<String, AllocError>
+    ensures { IfOk result (λ text. string_bytes text ≡ the_change (codes "tag") (shown_or_none old.now) (shown_or_none new.now)) }
+{
+    let old = tag_text(alloc, old)?;
+    let new = tag_text(alloc, new)?;
+    changed(alloc, "tag", &old, &new)
+}
+
+// The printed name of a part.
+fn part_name<Ix: Index>(alloc: Global, view: &View<Ix>, i: usize) -> Result<String, AllocError>
+    requires { i < length view.now.parts }
+    ensures { IfOk result (λ text. string_bytes text ≡ the_part_name view.now i) }
+{
+    let mut text = String::new(alloc);
+    push_part_name(alloc, &mut text, view, i)?;
+    Ok(text)
+}
+
+// A part that is gone.
+fn part_gone(alloc: Global, sort: &str, old: &View<OldIx>, i: usize) -> Result<String, AllocError>
+    requires { i < length old.now.parts }
+    ensures { IfOk result (λ text. string_bytes text ≡ concat (sort.now ∷ codes " " ∷ the_part_name old.now i ∷ codes " gone" ∷ [])) }
+{
+    let name = part_name(alloc, old, i)?;
+    format!(in alloc; "{sort} {name} gone")
+}
+
+// What the new type says of the match of old part `i`, or 0 where it has none.
+fn bit_of_match(old: &View<OldIx>, new: &View<NewIx>, i: usize) -> u64
+    requires { i < length old.now.parts }
+    ensures { result ≡ unwrap_or (matched the_bit_at old.now new.now i) 0 }
+{
+    match match_of(old, new, i) {
+        Some(j) => bit_at(new, j),
+        None => 0,
+    }
+}
+
+fn width_of_match(old: &View<OldIx>, new: &View<NewIx>, i: usize) -> u64
+    requires { i < length old.now.parts }
+    ensures { result ≡ unwrap_or (matched the_width_at old.now new.now i) 0 }
+{
+    match match_of(old, new, i) {
+        Some(j) => width_at(new, j),
+        None => 0,
+    }
+}
+
+fn value_of_match(old: &View<OldIx>, new: &View<NewIx>, i: usize) -> u64
+    requires { i < length old.now.parts }
+    ensures { result ≡ unwrap_or (matched the_value_at old.now new.now i) 0 }
+{
+    match match_of(old, new, i) {
+        Some(j) => value_at(new, j),
+        None => 0,
+    }
+}
+
+// A part by its sort and name, what is said of it, what that was, and what it is now.
+fn number_changed(
+    alloc: Global,
+    sort: &str,
+    name: &str,
+    said: &str,
+    old: u64,
+    new: u64,
+) -> Result<String, AllocError>
+    ensures { IfOk result (λ text. string_bytes text ≡ concat (sort.now ∷ name.now ∷ said.now ∷ decimal old ∷ codes ", now " ∷ decimal new ∷ [])) }
+{
+    format!(in alloc; "{sort}{name}{said}{old}, now {new}")
+}
+
+// A member that stands at another bit.
+fn bit_changed(
+    alloc: Global,
+    old: &View<OldIx>,
+    new: &View<NewIx>,
+    i: usize,
+) -> Result<String, AllocError>
+    requires { i < length old.now.parts }
+    ensures { IfOk result (λ text. string_bytes text ≡ part_change (codes "member ") (codes " at bit ") the_bit_at old.now new.now i) }
+{
+    let name = part_name(alloc, old, i)?;
+    number_changed(
+        alloc,
+        "member ",
+        &name,
+        " at bit ",
+        bit_at(old, i),
+        bit_of_match(old, new, i),
+    )
+}
+
+// A member that has another width.
+fn width_changed(
+    alloc: Global,
+    old: &View<OldIx>,
+    new: &View<NewIx>,
+    i: usize,
+) -> Result<String, AllocError>
+    requires { i < length old.now.parts }
+    ensures { IfOk result (λ text. string_bytes text ≡ part_change (codes "member ") (codes " width ") the_width_at old.now new.now i) }
+{
+    let name = part_name(alloc, old, i)?;
+    number_changed(
+        alloc,
+        "member ",
+        &name,
+        " width ",
+        width_at(old, i),
+        width_of_match(old, new, i),
+    )
+}
+
+// An enumerator that has another value.
+fn value_changed(
+    alloc: Global,
+    old: &View<OldIx>,
+    new: &View<NewIx>,
+    i: usize,
+) -> Result<String, AllocError>
+    requires { i < length old.now.parts }
+    ensures { IfOk result (λ text. string_bytes text ≡ part_change (codes "enumerator ") (codes " ") the_value_at old.now new.now i) }
+{
+    let name = part_name(alloc, old, i)?;
+    number_changed(
+        alloc,
+        "enumerator ",
+        &name,
+        " ",
+        value_at(old, i),
+        value_of_match(old, new, i),
+    )
+}
+
+// The place of the parameter of a number.
+fn param_place<Ix: Index>(view: &View<Ix>, number: usize) -> Place
+    ensures { result ≡ the_param_place view.now number }
+{
+    match view.call.params().get(number) {
+        Some(place) => *place,
+        None => Place::Nothing,
+    }
+}
+
+// The printed form of a place.
+fn place_text(alloc: Global, place: &Place) -> Result<String, AllocError>
+    ensures { IfOk result (λ text. string_bytes text ≡ the_place_text place.now) }
+{
+    let mut text = String::new(alloc);
+    push_place(&mut text, place)?;
+    Ok(text)
+}
+
+// Two places of the result.
+fn outcome_changed(
+    alloc: Global,
+    old: &View<OldIx>,
+    new: &View<NewIx>,
+) -> Result<String, AllocError>
+    ensures { IfOk result (λ text. string_bytes text ≡ the_change (codes "result in") (the_place_text old.now.call.outcome) (the_place_text new.now.call.outcome)) }
+{
+    let old = place_text(alloc, &old.call.outcome())?;
+    let new = place_text(alloc, &new.call.outcome())?;
+    changed(alloc, "result in", &old, &new)
+}
+
+// A parameter by its number, where it was, and where it is now.
+fn moved(alloc: Global, number: u128, old: &str, new: &str) -> Result<String, AllocError>
+    ensures { IfOk result (λ text. string_bytes text ≡ concat (codes "param " ∷ decimal number ∷ codes " in " ∷ old.now ∷ codes ", now " ∷ new.now ∷ [])) }
+{
+    format!(in alloc; "param {number} in {old}, now {new}")
+}
+
+// Two places of the parameter that stands behind so many.
+fn param_changed(
+    alloc: Global,
+    before: usize,
+    old: &Place,
+    new: &Place,
+) -> Result<String, AllocError>
+    ensures { IfOk result (λ text. string_bytes text ≡ concat (codes "param " ∷ decimal (before + 1) ∷ codes " in " ∷ the_place_text old.now ∷ codes ", now " ∷ the_place_text new.now ∷ [])) }
+{
+    let old = place_text(alloc, old)?;
+    let new = place_text(alloc, new)?;
+    moved(alloc, before as u128 + 1, &old, &new)
+}
+
+// The place of the result or of a parameter, which changed.
+fn place_changed(
+    alloc: Global,
+    old: &View<OldIx>,
+    new: &View<NewIx>,
+    i: usize,
+) -> Result<String, AllocError>
+    requires { i < length old.now.parts }
+    ensures { IfOk result (λ text. string_bytes text ≡ places_change (part_at old.now i) (number_of old.now i) old.now new.now) }
+{
+    match old.part(i) {
+        Part::Param { .. } => {
+            let number = like_before(old, i);
+            param_changed(
+                alloc,
+                number,
+                &param_place(old, number),
+                &param_place(new, number),
+            )
+        }
+        _ => outcome_changed(alloc, old, new),
+    }
+}
+
+/// What a row says of a rule that two types break, at the old part that it speaks of.
+#[tactic(auto, unfolding(crate::specs::Details::type_detail))]
+pub fn type_detail(
+    alloc: Global,
+    broken: &Broken,
+    old: &View<OldIx>,
+    new: &View<NewIx>,
+) -> Result<String, AllocError>
+    requires { IsInside old.now broken.now }
+    ensures { IfOk result (λ text. string_bytes text ≡ the_type_detail broken.now.rule old.now new.now broken.now.part) }
+{
+    let i = broken.part;
+    match broken.rule {
+        Rule::KindOfType => changed(alloc, "kind", kind_word(old.kind), kind_word(new.kind)),
+        Rule::TypeSize => changed_number(alloc, "size", old.size, new.size),
+        Rule::ScalarGroup => changed(
+            alloc,
+            "scalar",
+            group_word(old.group),
+            group_word(new.group),
+        ),
+        Rule::TypeAlignment => changed_number(alloc, "alignment", old.align, new.align),
+        Rule::DeclarationTag => changed_tag(alloc, old.tag, new.tag),
+        Rule::MemberPresence => part_gone(alloc, "member", old, i),
+        Rule::MemberOffset => bit_changed(alloc, old, new, i),
+        Rule::BitFieldWidth => width_changed(alloc, old, new, i),
+        Rule::EnumeratorPresence => part_gone(alloc, "enumerator", old, i),
+        Rule::EnumeratorValue => value_changed(alloc, old, new, i),
+        Rule::ElementCount => changed_number(alloc, "count", old.count, new.count),
+        Rule::ParameterCount => changed_number(
+            alloc,
+            "parameters",
+            params_of(old) as u64,
+            params_of(new) as u64,
+        ),
+        Rule::VariadicArguments => changed(
+            alloc,
+            "variadic",
+            yes_or_no(old.variadic),
+            yes_or_no(new.variadic),
+        ),
+        Rule::PassingPlace => place_changed(alloc, old, new, i),
+        _ => Ok(String::new(alloc)),
+    }
+}

@@ -1,0 +1,24 @@
+//! Reports of breaks: rows, the texts of their parts, and listeners that make a text of rows in a style. A row is made of a
+//! break and the two exports or types that it stands between; listeners are told rows one after another, and close with a
+//! text.
+#![tactic(auto)]
+
+mod detail;
+pub mod laws;
+mod listener;
+mod listeners;
+mod place;
+mod render;
+mod row;
+mod step;
+mod style;
+pub mod styles;
+mod words;
+
+pub use listener::{Listener, add_listener, tell_all};
+pub use listeners::{CountsListener, FirstListener, TableListener, TextListener};
+pub use place::push_place;
+pub use row::{Row, export_row, soname_row, type_row};
+pub use step::push_step;
+pub use style::{More, Style};
+pub use words::kind_word;

@@ -1,0 +1,222 @@
+// The text of rows in each style.
+ghost use Rattle.std.specs.Prelude.{◌≡◌, ◌++◌, ◌-◌, length, take, replicate, OnOk, IfOk, flat_map, codes, decimal};
+ghost use Rattle.abi_types.specs.Kinds.{rule_word};
+ghost use Rattle.report.specs.Render.{all_rules, at_left, at_right, columns, count_line, line_end, counts_text as the_counts_text, lines_text as the_lines_text, number_line, path_behind, path_or_dash, row_line, rows_of_rule as the_rows_of_rule, same_rule, table_line, table_text as the_table_text};
+
+use crate::row::Row;
+use abi_base::NoMemory;
+use abi_types::Rule;
+use std::alloc::Global;
+
+// The places that a rule takes in a line of columns.
+const RULE_PLACES: usize = 4;
+
+// The places that a label takes in a line of columns.
+const LABEL_PLACES: usize = 32;
+
+// The places that a count takes in a line of columns.
+const COUNT_PLACES: usize = 8;
+
+// Appends bytes.
+fn push(text: &mut Vec<u8>, bytes: &[u8]) -> Result<(), NoMemory>
+    ensures { OnOk result (text.new.items ≡ text.old.items ++ bytes.now) }
+{
+    text.extend_from_slice(bytes)?;
+    Ok(())
+}
+
+// Appends so many spaces.
+fn push_spaces(text: &mut Vec<u8>, count: usize) -> Result<(), NoMemory>
+    ensures { OnOk result (text.new.items ≡ text.old.items ++ replicate count 32) }
+{
+    for _space in 0..count {
+        text.push(b' ')?;
+    }
+    Ok(())
+}
+
+// Appends a word at the left of so many places, and longer ones whole.
+fn push_at_left(text: &mut Vec<u8>, places: usize, word: &[u8]) -> Result<(), NoMemory>
+    ensures { OnOk result (text.new.items ≡ text.old.items ++ at_left places word.now) }
+{
+    push(text, word)?;
+    push_spaces(text, places.saturating_sub(word.len()))
+}
+
+// Appends a word at the right of so many places, and longer ones whole.
+fn push_at_right(text: &mut Vec<u8>, places: usize, word: &[u8]) -> Result<(), NoMemory>
+    ensures { OnOk result (text.new.items ≡ text.old.items ++ at_right places word.now) }
+{
+    push_spaces(text, places.saturating_sub(word.len()))?;
+    push(text, word)
+}
+
+// Appends the path of a row behind a space, where it has one.
+fn push_path(text: &mut Vec<u8>, path: &[u8]) -> Result<(), NoMemory>
+    ensures { OnOk result (text.new.items ≡ text.old.items ++ path_behind path.now) }
+{
+    if path.is_empty() {
+        return Ok(());
+    }
+    push(text, b" ")?;
+    push(text, path)
+}
+
+// Appends what a line ends with: the detail of its row.
+fn push_end(text: &mut Vec<u8>, row: &Row) -> Result<(), NoMemory>
+    ensures { OnOk result (text.new.items ≡ text.old.items ++ line_end row.now) }
+{
+    push(text, b": ")?;
+    push(text, row.detail.as_slice())?;
+    push(text, b"\n")
+}
+
+// Appends a row as a line.
+#[tactic(auto, unfolding(crate::specs::Render::row_line))]
+fn push_line(text: &mut Vec<u8>, row: &Row) -> Result<(), NoMemory>
+    ensures { OnOk result (text.new.items ≡ text.old.items ++ row_line row.now) }
+{
+    push(text, row.rule.word().as_bytes())?;
+    push(text, b" ")?;
+    push(text, row.export.as_slice())?;
+    push_path(text, row.path.as_slice())?;
+    push_end(text, row)
+}
+
+// The path of a row in the table.
+fn path_in_table(path: &[u8]) -> &[u8]
+    ensures { result.now ≡ path_or_dash path.now }
+{
+    if path.is_empty() { b"-" } else { path }
+}
+
+// Appends the rule and the label of a row in their columns.
+fn push_columns(text: &mut Vec<u8>, row: &Row) -> Result<(), NoMemory>
+    ensures { OnOk result (text.new.items ≡ text.old.items ++ columns row.now) }
+{
+    push_at_left(text, RULE_PLACES, row.rule.word().as_bytes())?;
+    push(text, b" ")?;
+    push_at_left(text, LABEL_PLACES, row.export.as_slice())?;
+    push(text, b" ")
+}
+
+// Appends a row of the table.
+#[tactic(auto, unfolding(crate::specs::Render::table_line))]
+fn push_table_line(text: &mut Vec<u8>, row: &Row) -> Result<(), NoMemory>
+    ensures { OnOk result (text.new.items ≡ text.old.items ++ table_line row.now) }
+{
+    push_columns(text, row)?;
+    push(text, path_in_table(row.path.as_slice()))?;
+    push_end(text, row)
+}
+
+/// A line for each row.
+pub fn lines_text(alloc: Global, rows: &[Row]) -> Result<Vec<u8>, NoMemory>
+    ensures { IfOk result (λ text. text.items ≡ the_lines_text rows.now) }
+{
+    let mut text = Vec::new(alloc);
+    for row in rows {
+        push_line(&mut text, row)?;
+    }
+    Ok(text)
+}
+
+/// A line for each row, in columns.
+pub fn table_text(alloc: Global, rows: &[Row]) -> Result<Vec<u8>, NoMemory>
+    ensures { IfOk result (λ text. text.items ≡ the_table_text rows.now) }
+{
+    let mut text = Vec::new(alloc);
+    for row in rows {
+        push_table_line(&mut text, row)?;
+    }
+    Ok(text)
+}
+
+// ---- counts
+
+// The rules, in the order in which they are counted.
+static ALL_RULES: [Rule; 20] = [
+    Rule::LibrarySoname,
+    Rule::ExportPresence,
+    Rule::ExportVersion,
+    Rule::ExportKind,
+    Rule::ExportSize,
+    Rule::ExportType,
+    Rule::KindOfType,
+    Rule::TypeSize,
+    Rule::ScalarGroup,
+    Rule::TypeAlignment,
+    Rule::DeclarationTag,
+    Rule::MemberPresence,
+    Rule::MemberOffset,
+    Rule::BitFieldWidth,
+    Rule::EnumeratorPresence,
+    Rule::EnumeratorValue,
+    Rule::ElementCount,
+    Rule::ParameterCount,
+    Rule::VariadicArguments,
+    Rule::PassingPlace,
+];
+
+// All rules, in order.
+#[tactic(auto, unfolding(crate::specs::Render::all_rules))]
+fn rules() -> &'static [Rule]
+    ensures { result.now ≡ all_rules }
+{
+    &ALL_RULES
+}
+
+// How many rows there are of a rule.
+fn rows_of_rule(rows: &[Row], rule: Rule) -> usize
+    ensures { result ≡ the_rows_of_rule rows.now rule }
+{
+    rows.iter().filter(|row| row.rule == rule).count()
+}
+
+// Appends a word and a number in two columns.
+fn push_number_line(
+    alloc: Global,
+    text: &mut Vec<u8>,
+    word: &str,
+    number: usize,
+) -> Result<(), NoMemory>
+    ensures { OnOk result (text.new.items ≡ text.old.items ++ number_line word.now number) }
+{
+    let digits = format!(in alloc; "{number}")?;
+    push_at_left(text, RULE_PLACES, word.as_bytes())?;
+    push_at_right(text, COUNT_PLACES, digits.as_bytes())?;
+    push(text, b"\n")
+}
+
+// Appends the line of a rule, where it has rows.
+fn push_count(alloc: Global, text: &mut Vec<u8>, rows: &[Row], rule: Rule) -> Result<(), NoMemory>
+    ensures { OnOk result (text.new.items ≡ text.old.items ++ count_line rows.now rule) }
+{
+    let number = rows_of_rule(rows, rule);
+    if number == 0 {
+        return Ok(());
+    }
+    push_number_line(alloc, text, rule.word(), number)
+}
+
+// Appends the lines of all rules that have rows.
+fn push_counts(alloc: Global, text: &mut Vec<u8>, rows: &[Row]) -> Result<(), NoMemory>
+    ensures { OnOk result (text.new.items ≡ text.old.items ++ flat_map (count_line rows.now) all_rules) }
+{
+    let rules = rules();
+    for rule in rules {
+        push_count(alloc, text, rows, *rule)?;
+    }
+    Ok(())
+}
+
+/// How many rows there are of each rule that has some, in the order of the rules, and how many in all.
+#[tactic(auto, unfolding(crate::specs::Render::counts_text))]
+pub fn counts_text(alloc: Global, rows: &[Row]) -> Result<Vec<u8>, NoMemory>
+    ensures { IfOk result (λ text. text.items ≡ the_counts_text rows.now) }
+{
+    let mut text = Vec::new(alloc);
+    push_counts(alloc, &mut text, rows)?;
+    push_number_line(alloc, &mut text, "all", rows.len())?;
+    Ok(text)
+}

@@ -1,0 +1,65 @@
+// Which listeners are told.
+ghost use Rattle.std.specs.Prelude.{◌≡◌, [], List, map, filter, All, IfOk};
+ghost use Rattle.report.specs.styles.Wanted.{is_wanted as the_style_is_wanted, wanted_voices};
+
+use crate::{Listener, Style};
+use abi_base::NoMemory;
+use std::alloc::Global;
+
+/// How a report is asked for.
+#[derive(Clone, Copy, Debug, PartialEq, Eq)]
+pub enum ReportStyle {
+    /// A line for each row.
+    Text,
+    /// A line for each row, in columns.
+    Table,
+    /// How many rows there are of each rule.
+    Counts,
+    /// The first rows alone.
+    First,
+    /// What a listener of its own style likes.
+    Own,
+}
+
+// Whether a listener of the style is asked for.
+fn is_wanted(wanted: ReportStyle, style: Style) -> bool
+    ensures { result ≡ the_style_is_wanted wanted style }
+{
+    match (wanted, style) {
+        (ReportStyle::Text, Style::Text) => true,
+        (ReportStyle::Table, Style::Table) => true,
+        (ReportStyle::Counts, Style::Counts) => true,
+        (ReportStyle::First, Style::First(_)) => true,
+        (ReportStyle::Own, Style::Own) => true,
+        _ => false,
+    }
+}
+
+// The method's call, with its clause at a box.
+fn style(listener: &Box<dyn Listener>) -> Style
+    ensures { result ≡ (voice listener.now).style }
+{
+    listener.style()
+}
+
+/// The listeners of the style that is asked for, in their order. The others are dropped. It fails only when memory runs out.
+pub fn wanted_listeners(
+    alloc: Global,
+    listeners: Vec<Box<dyn Listener>>,
+    wanted: ReportStyle,
+) -> Result<Vec<Box<dyn Listener>>, NoMemory>
+    requires { All (λ listener. heard listener ≡ []) listeners.items }
+    ensures unheard { IfOk result (λ kept. All (λ listener. heard listener ≡ []) kept.items) }
+    ensures kept { IfOk result (λ kept. kept.items ≡ filter (λ listener. the_style_is_wanted wanted (voice listener).style) listeners.items) }
+    ensures voices { IfOk result (λ kept. map voice kept.items ≡ wanted_voices wanted (map voice listeners.items)) }
+{
+    let mut waiting = listeners;
+    let mut kept = Vec::new(alloc);
+    'listeners: while !waiting.is_empty() {
+        let listener = waiting.remove(0);
+        if is_wanted(wanted, style(&listener)) {
+            kept.push(listener)?;
+        }
+    }
+    Ok(kept)
+}

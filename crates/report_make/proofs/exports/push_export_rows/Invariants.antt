@@ -1,8 +1,0 @@
--- The rows on the sonames and on the first exports, behind those that were there.
-use Rattle.std.proofs.Common.{◌≡◌, ◌++◌}
-use Rattle.report_make.specs.ExportRows.{rows_upto, soname_rows}
-use Rattle.report_make.specs.Ground.{sides_of}
-use Rattle.report_make.proofs.exports.push_export_rows.Given as goal
-
-abbrev pub invariant-exports : goal.invariant-exports
-invariant-exports l = l.rows ≡ l.fn.rows ++ (soname_rows l.ground.old.now.soname l.ground.new.now.soname ++ rows_upto (sides_of l.ground) l.k)

@@ -1,8 +1,0 @@
--- The rows of the breaks before this one, behind those that were there.
-use Rattle.std.proofs.Common.{◌≡◌, take}
-use Rattle.report_make.specs.Ground.{sides_of}
-use Rattle.report_make.proofs.ToldLemmas.{rows_with}
-use Rattle.report_make.proofs.told.push_type_rows.Given as goal
-
-abbrev pub invariant-loop-found : goal.invariant-loop-found
-invariant-loop-found l = l.rows ≡ rows_with (sides_of l.ground) l.explored.visits l.fn.rows (take l.found-index l.breaks)

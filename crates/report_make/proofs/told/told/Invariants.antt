@@ -1,8 +1,0 @@
--- What is kept of the breaks before this one, and their keys.
-use Rattle.cert_check.specs.Compatible.{task_of}
-use Rattle.report_make.specs.Ground.{sides_of}
-use Rattle.report_make.proofs.ToldLemmas.{IsTelling}
-use Rattle.report_make.proofs.told.told.Given as goal
-
-abbrev pub invariant-loop-found : goal.invariant-loop-found
-invariant-loop-found l = IsTelling (task_of (sides_of l.ground)) l.explored.visits l.breaks l.found-index l.keys.keys l.told

@@ -1,8 +1,0 @@
-pub mod Findings
-pub mod PathTexts
-pub mod Reports
-pub mod ExportRows
-pub mod Told
-pub mod Keys
-pub mod Readable
-pub mod Ground

@@ -1,5 +1,0 @@
--- The counter is the call's own.
-use Rattle.report_rows.proofs.reports.told.Given as goal
-
-abbrev pub ghosts-explored : goal.ghosts-explored
-ghosts-explored g a = record { name = a.blank.name; parts = a.blank.parts }

@@ -1,5 +1,0 @@
-use Rattle.rule_text.proofs.FirstLemmas.{faultless}
-use Rattle.rule_text.proofs.laws.without_a_fault_nothing_is_wrong.Goals as goal
-
-pub returns : goal.returns
-returns c = faultless

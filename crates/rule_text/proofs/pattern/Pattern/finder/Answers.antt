@@ -1,4 +1,0 @@
-use Rattle.rule_text.proofs.pattern.Pattern.finder.Goals as goal
-
-pub invariant_of-result : goal.invariant_of-result
-invariant_of-result c = rw (c.text-text.ensures, c.in_ok-matcher.ensures.pattern, ← c.self.view_is) c.self.invariant

@@ -1,9 +1,0 @@
-use Rattle.std.proofs.Common.{◌≡◌, map, drop}
-use Rattle.std.specs.Option.{option_copied}
-use Rattle.abi_types.specs.Plain.{plain_label}
-use Rattle.rules.specs.Meaning.{marks_names}
-use Rattle.rules.proofs.marking.marks_labels.Given as goal
-
--- the names that are left decide
-abbrev pub invariant-loop-label : goal.invariant-loop-label
-invariant-loop-label l = (l.sections ≡ l.fn.sections) × (marks_names l.sections (option_copied l.soname) l.way (map plain_label (drop l.label-index l.labels)) ≡ marks_names l.sections (option_copied l.soname) l.way (map plain_label l.labels))

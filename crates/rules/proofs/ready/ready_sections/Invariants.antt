@@ -1,6 +1,0 @@
-use Rattle.std.proofs.Common.{◌≡◌, take}
-use Rattle.rules.proofs.ready.ready_sections.Given as goal
-
--- the sections so far
-abbrev pub invariant-loop-section : goal.invariant-loop-section
-invariant-loop-section l = l.ready.items ≡ take l.section-index l.rules.sections

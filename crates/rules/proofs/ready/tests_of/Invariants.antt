@@ -1,6 +1,0 @@
-use Rattle.std.proofs.Common.{◌≡◌, take}
-use Rattle.rules.proofs.ready.tests_of.Given as goal
-
--- the properties so far
-abbrev pub invariant-loop-property : goal.invariant-loop-property
-invariant-loop-property l = l.tests.items ≡ take l.property-index l.section.properties

@@ -1,0 +1,11 @@
+pub mod Keys
+pub mod Lines
+pub mod PlainLines
+pub mod Patterns
+pub mod Rules
+pub mod Values
+pub mod Probes
+pub mod Passing
+pub mod Faults
+pub mod Steps
+pub mod FirstFaults

@@ -1,0 +1,169 @@
+// What is wrong with the lines of a rule file, each in the section that it stands in.
+ghost use Rattle.std.specs.Prelude.{◌≡◌, ◌<◌, ◌≤◌, ◌+◌, ◌++◌, [], length, count_by, IfOk, OnOk};
+ghost use Rattle.abi_base.specs.declared.fault.FaultKind.TheVariants as kind;
+ghost use Rattle.abi_base.specs.Outcome.{Judges};
+ghost use Rattle.suppression_text.specs.Keys.{section_named as the_section_named, key_named as the_key_named};
+ghost use Rattle.suppression_text.specs.Lines.{is_feed};
+ghost use Rattle.suppression_text.specs.PlainLines.{plain_line};
+ghost use Rattle.suppression_text.specs.Rules.{plain_property, keyed, headed};
+ghost use Rattle.suppression_text.specs.Faults.{fault_at, line_at, last_of, has_brace as it_has_brace, text_fault as the_text_fault, checked_fault, key_fault, property_fault, head_fault, form_fault};
+ghost use Rattle.suppression_text.specs.Steps.{with_properties, with_form};
+
+use crate::key::{Key, has_pattern, key_named, may_be, may_have, section_named};
+use crate::line::Line;
+use crate::property::Property;
+use crate::section::Section;
+use abi_base::{Fault, FaultKind, Refusal};
+use std::alloc::Global;
+
+// How many bytes a pattern may have.
+const PATTERN_LIMIT: usize = 256;
+
+fn fault(kind: FaultKind, at: u64) -> Fault
+    ensures { result ≡ fault_at kind at }
+{
+    Fault { kind, at }
+}
+
+// How many line feeds a text has.
+fn feeds_in(text: &[u8]) -> usize
+    ensures count { result ≡ count_by is_feed text.now }
+    ensures few { result < length text.now + 1 }
+{
+    let mut count = 0;
+    for byte in text {
+        if *byte == b'\n' {
+            count += 1;
+        }
+    }
+    count
+}
+
+// The fault of a text that is no UTF-8 from a place on.
+fn fault_from(bytes: &[u8], at: usize) -> Fault
+    requires { at ≤ length bytes.now }
+    ensures { result ≡ fault_at kind.BadText (line_at bytes.now at) }
+{
+    fault(FaultKind::BadText, feeds_in(&bytes[..at]) as u64 + 1)
+}
+
+/// What is wrong with a text as a whole: it is no UTF-8.
+pub fn text_fault(bytes: &[u8]) -> Option<Fault>
+    ensures { result ≡ the_text_fault bytes.now }
+{
+    match str::from_utf8(bytes) {
+        Ok(_) => None,
+        Err(error) => Some(fault_from(bytes, error.valid_up_to())),
+    }
+}
+
+fn has_brace(value: &[u8]) -> bool
+    ensures { result ≡ it_has_brace value.now }
+{
+    value.iter().any(|byte| *byte == b'{')
+}
+
+// What is wrong with a property of a section, but for whether a pattern is one.
+#[tactic(auto, unfolding(crate::specs::Faults::checked_fault))]
+fn fault_before_pattern(number: u64, section: &Section, key: Key, value: &[u8]) -> Option<Fault>
+    ensures { result ≡ checked_fault number section.now key value.now }
+{
+    if !may_have(section.kind(), key) || !may_be(key, value) {
+        return Some(fault(FaultKind::Property, number));
+    }
+    if section.has(key) {
+        return Some(fault(FaultKind::Repeated, number));
+    }
+    if !has_pattern(key) {
+        return None;
+    }
+    if value.len() > PATTERN_LIMIT {
+        return Some(fault(FaultKind::LongPattern, number));
+    }
+    if has_brace(value) {
+        return Some(fault(FaultKind::Brace, number));
+    }
+    None
+}
+
+// A property of a section, which stands at a line of this number.
+#[tactic(auto, unfolding(crate::specs::Faults::key_fault))]
+fn read_property(
+    alloc: Global,
+    number: u64,
+    section: &Section,
+    key: Key,
+    value: &[u8],
+) -> Result<Property, Refusal>
+    ensures property { IfOk result (λ property. property ≡ plain_property key value.now) }
+    ensures fault { Judges result (key_fault number section.now key value.now) }
+{
+    if let Some(fault) = fault_before_pattern(number, section, key, value) {
+        return Err(Refusal::Fault(fault));
+    }
+    match Property::read(alloc, key, value)? {
+        None => Err(Refusal::Fault(fault(FaultKind::BadPattern, number))),
+        Some(property) => Ok(property),
+    }
+}
+
+// Reads a line that is a property, into the last of the sections.
+#[tactic(auto, unfolding(crate::specs::Faults::property_fault))]
+fn put_property(
+    alloc: Global,
+    sections: &mut Vec<Section>,
+    number: u64,
+    name: &[u8],
+    value: &[u8],
+) -> Result<(), Refusal>
+    ensures put { OnOk result (sections.new.items ≡ with_properties sections.old.items (last_of sections.old.items) (keyed (the_key_named name.now) value.now)) }
+    ensures fault { Judges result (property_fault number (last_of sections.old.items) name.now value.now) }
+{
+    if name.is_empty() || value.is_empty() || sections.is_empty() {
+        return Err(Refusal::Fault(fault(FaultKind::RuleLine, number)));
+    }
+    let last = sections.len() - 1;
+    let Some(key) = key_named(name) else {
+        return Err(Refusal::Fault(fault(FaultKind::Property, number)));
+    };
+    let property = read_property(alloc, number, &sections[last], key, value)?;
+    sections[last].push(property)?;
+    Ok(())
+}
+
+// Reads a line that begins a section.
+fn put_head(
+    alloc: Global,
+    sections: &mut Vec<Section>,
+    number: u64,
+    name: &[u8],
+) -> Result<(), Refusal>
+    ensures put { OnOk result (sections.new.items ≡ sections.old.items ++ headed number (the_section_named name.now) []) }
+    ensures fault { Judges result (head_fault number name.now) }
+{
+    match section_named(name) {
+        None => Err(Refusal::Fault(fault(FaultKind::Section, number))),
+        Some(kind) => {
+            sections.push(Section::new(alloc, number, kind))?;
+            Ok(())
+        }
+    }
+}
+
+/// Reads a line behind others, of which the sections are those of the lines before it.
+pub fn read_line(
+    alloc: Global,
+    sections: &mut Vec<Section>,
+    number: u64,
+    line: Line,
+) -> Result<(), Refusal>
+    ensures put { OnOk result (sections.new.items ≡ with_form number sections.old.items (plain_line line.entry)) }
+    ensures fault { Judges result (form_fault number (last_of sections.old.items) (plain_line line.entry)) }
+{
+    match line {
+        Line::Comment => Ok(()),
+        Line::Head { name } => put_head(alloc, sections, number, name),
+        Line::Property { name, value } => put_property(alloc, sections, number, name, value),
+        Line::Other => Err(Refusal::Fault(fault(FaultKind::RuleLine, number))),
+    }
+}

@@ -1,0 +1,186 @@
+// The lines of a rule file, and what each one is.
+ghost use Rattle.std.specs.Prelude.{◌≡◌, ◌<◌, ◌≤◌, ◌-◌, ◌∷◌, [], length, take, drop, position, Some, None, MatchOption};
+ghost use Rattle.std.specs.Str.Lines.{lines, strip_carriage_return};
+ghost use Rattle.suppression_text.specs.Lines.{is_blank as it_is_blank, is_feed, is_equals, without_front as the_rest_without_front, without_end as the_rest_without_end, trimmed as the_trimmed, is_comment as it_is_comment, is_head as it_is_head, inside as the_inside, property_form, form_of};
+ghost use Rattle.suppression_text.specs.PlainLines.{plain_line};
+
+/// What a line is.
+#[derive(Clone, Copy, Debug)]
+pub enum Line<'a> {
+    /// No bytes but blanks, or a comment.
+    Comment,
+    /// The first line of a section, with its name.
+    Head { name: &'a [u8] },
+    /// A property of a section, with its name and its value.
+    Property { name: &'a [u8], value: &'a [u8] },
+    /// None of these.
+    Other,
+}
+
+/// The first line of a text, and what stands behind it.
+#[derive(Clone, Copy)]
+pub struct FirstLine<'a> {
+    pub line: &'a [u8],
+    pub rest: &'a [u8],
+}
+
+// The bytes before a place, and from a place on.
+fn before(text: &[u8], at: usize) -> &[u8]
+    requires { at ≤ length text.now }
+    ensures { result.now ≡ take at text.now }
+{
+    &text[..at]
+}
+
+fn from(text: &[u8], at: usize) -> &[u8]
+    requires { at ≤ length text.now }
+    ensures { result.now ≡ drop at text.now }
+{
+    &text[at..]
+}
+
+// The place of the first line feed.
+fn feed_in(text: &[u8]) -> Option<usize>
+    ensures { result ≡ position is_feed text.now }
+{
+    text.iter().position(|byte| *byte == b'\n')
+}
+
+// The place of the first `=`.
+fn equals_in(text: &[u8]) -> Option<usize>
+    ensures { result ≡ position is_equals text.now }
+{
+    text.iter().position(|byte| *byte == b'=')
+}
+
+// A line without the carriage return that stands before its line feed.
+fn without_return(line: &[u8]) -> &[u8]
+    ensures { result.now ≡ strip_carriage_return line.now }
+{
+    let len = line.len();
+    if len > 0 && line[len - 1] == b'\r' {
+        before(line, len - 1)
+    } else {
+        line
+    }
+}
+
+/// The first line of a text, `None` where it has no line. Lines end with a line feed, before which one carriage return is no part
+/// of the line; the last line may lack its line feed.
+pub fn first_line(text: &[u8]) -> Option<FirstLine>
+    ensures lines { MatchOption result (lines text.now ≡ []) (λ first. lines text.now ≡ first.line.now ∷ lines first.rest.now) }
+    ensures shorter { MatchOption result (text.now ≡ []) (λ first. length first.rest.now < length text.now) }
+{
+    match feed_in(text) {
+        Some(at) => Some(FirstLine {
+            line: without_return(before(text, at)),
+            rest: from(text, at + 1),
+        }),
+        None => {
+            if text.is_empty() {
+                None
+            } else {
+                Some(FirstLine {
+                    line: text,
+                    rest: from(text, text.len()),
+                })
+            }
+        }
+    }
+}
+
+// Whether a byte is a space or a tab.
+fn is_blank(byte: u8) -> bool
+    ensures { result ≡ it_is_blank byte }
+{
+    byte == b' ' || byte == b'\t'
+}
+
+// A text without the blanks at its front.
+fn without_front(text: &[u8]) -> &[u8]
+    ensures { result.now ≡ the_rest_without_front text.now }
+{
+    let mut at = 0;
+    'blanks: while at < text.len() {
+        let byte = text[at];
+        if !is_blank(byte) {
+            return from(text, at);
+        }
+        at += 1;
+    }
+    from(text, at)
+}
+
+// A text without the blanks at its end.
+fn without_end(text: &[u8]) -> &[u8]
+    ensures { result.now ≡ the_rest_without_end text.now }
+{
+    let mut end = text.len();
+    'blanks: while end > 0 {
+        let byte = text[end - 1];
+        if !is_blank(byte) {
+            return before(text, end);
+        }
+        end -= 1;
+    }
+    before(text, end)
+}
+
+/// A text without the blanks at both its ends: spaces and tabs.
+pub fn trimmed(text: &[u8]) -> &[u8]
+    ensures { result.now ≡ the_trimmed text.now }
+{
+    without_end(without_front(text))
+}
+
+// Whether a line says nothing.
+fn is_comment(line: &[u8]) -> bool
+    ensures { result ≡ it_is_comment line.now }
+{
+    line.is_empty() || line[0] == b'#' || line[0] == b';'
+}
+
+// Whether a line begins a section.
+fn is_head(line: &[u8]) -> bool
+    ensures { result ≡ it_is_head line.now }
+{
+    line.len() > 1 && line[0] == b'[' && line[line.len() - 1] == b']'
+}
+
+// What stands between the first byte and the last one.
+fn inside(line: &[u8]) -> &[u8]
+    requires { 1 < length line.now }
+    ensures { result.now ≡ the_inside line.now }
+{
+    before(from(line, 1), line.len() - 2)
+}
+
+// What a line is that is no comment and no head.
+fn property_of(line: &[u8]) -> Line
+    ensures { plain_line result ≡ property_form line.now }
+{
+    match equals_in(line) {
+        None => Line::Other,
+        Some(at) => Line::Property {
+            name: trimmed(before(line, at)),
+            value: trimmed(from(line, at + 1)),
+        },
+    }
+}
+
+/// What a line is, of which the blanks at both ends do not count.
+#[tactic(auto, unfolding(crate::specs::Lines::form_of))]
+pub fn line_of(line: &[u8]) -> Line
+    ensures { plain_line result ≡ form_of line.now }
+{
+    let text = trimmed(line);
+    if is_comment(text) {
+        return Line::Comment;
+    }
+    if is_head(text) {
+        return Line::Head {
+            name: trimmed(inside(text)),
+        };
+    }
+    property_of(text)
+}

@@ -1,0 +1,127 @@
+// The sections of a rule file.
+ghost use Rattle.std.specs.Prelude.{◌≡◌, ◌∷◌, ◌++◌, [], map, OnOk, OnErr};
+ghost use Rattle.abi_base.specs.Outcome.{first};
+ghost use Rattle.suppression_text.specs.Keys.{same_key, is_label as it_is_label};
+ghost use Rattle.suppression_text.specs.Faults.{has as it_has, is_empty_rule, section_fault};
+
+use crate::key::{Key, SectionKind};
+use crate::property::Property;
+use abi_base::{Fault, FaultKind, NoMemory};
+use std::alloc::Global;
+use std::marker::Model;
+
+/// A section: what it speaks of, and its properties in order. Contracts see it as a `PlainSection`.
+#[derive(Drop)]
+pub struct Section {
+    // The number of its first line.
+    line: u64,
+    kind: SectionKind,
+    properties: Vec<Property>,
+}
+
+impl Model for Section {
+    ghost use Rattle.suppression_text.specs.Rules.{PlainSection};
+
+    ghost Value = { PlainSection };
+
+    ghost view = { λ s. record { line = s.line; kind = s.kind; properties = s.properties.items } };
+}
+
+// Whether two properties have one name.
+fn is_same(one: Key, other: Key) -> bool
+    ensures { result ≡ same_key one other }
+{
+    one as u8 == other as u8
+}
+
+// Whether a property selects nothing.
+fn is_label(key: Key) -> bool
+    ensures { result ≡ it_is_label key }
+{
+    match key {
+        Key::Label => true,
+        _ => false,
+    }
+}
+
+impl Section {
+    ghost use Rattle.suppression_text.specs.Rules.{headed_section, with_property};
+
+    /// A section without properties, which begins at a line.
+    pub fn new(alloc: Global, line: u64, kind: SectionKind) -> Section
+        ensures { result ≡ headed_section line kind [] }
+    {
+        Section {
+            line,
+            kind,
+            properties: Vec::new(alloc),
+        }
+    }
+
+    /// What it speaks of.
+    pub fn kind(&self) -> SectionKind
+        ensures { result ≡ self.now.kind }
+    {
+        self.kind
+    }
+
+    /// Its properties, in order.
+    pub fn properties(&self) -> &[Property]
+        ensures { result.now ≡ self.now.properties }
+    {
+        self.properties.as_slice()
+    }
+
+    /// Whether it has a property.
+    pub fn has(&self, key: Key) -> bool
+        ensures { result ≡ it_has key self.now }
+    {
+        self.properties
+            .iter()
+            .any(|property| is_same(key, property.key()))
+    }
+
+    /// Puts a property last. After `NoMemory` the section is as before.
+    pub fn push(&mut self, property: Property) -> Result<(), NoMemory>
+        ensures ok { OnOk result (self.new ≡ with_property self.old property) }
+        ensures err { OnErr result (self.new ≡ self.old) }
+    {
+        self.properties.push(property)?;
+        Ok(())
+    }
+
+    // Whether it has no property that selects.
+    fn is_empty(&self) -> bool
+        ensures { result ≡ is_empty_rule self.now }
+    {
+        self.properties
+            .iter()
+            .all(|property| is_label(property.key()))
+    }
+
+    // What is wrong with it as a whole.
+    fn fault(&self) -> Option<Fault>
+        ensures { result ≡ section_fault self.now }
+    {
+        if self.is_empty() {
+            Some(Fault {
+                kind: FaultKind::EmptyRule,
+                at: self.line,
+            })
+        } else {
+            None
+        }
+    }
+}
+
+/// What is wrong with the first section that is wrong as a whole.
+pub fn fault_of_sections(sections: &[Section]) -> Option<Fault>
+    ensures { result ≡ first (map section_fault sections.now) }
+{
+    for section in sections {
+        if let Some(fault) = section.fault() {
+            return Some(fault);
+        }
+    }
+    None
+}

@@ -1,0 +1,77 @@
+-- Names that were judged already.
+use Rattle.std.proofs.Common.{◌≡◌, ℕ, Bool, true, false, cond, List, Option, Some, None, refl, sym, ◌∙◌, ap, subst}
+use Rattle.std.specs.Prelude.{◌&&◌, ◌==◌}
+use Rattle.std.specs.Borrow.{Bor}
+use Rattle.std.specs.HashMap.{get_by}
+use Rattle.std.specs.Str.{bytes_eq}
+use Rattle.std.proofs.lemmas.Bool.{and_parts, eqb-true}
+use Rattle.std.proofs.lemmas.Slice.Eq.{bytes_eq-Decides}
+use Rattle.abi_types.specs.declared.kind.LabelKind.{LabelKind}
+use Rattle.abi_types.specs.declared.kind.LabelKind.TheVariants.{Structure, Union, Enumeration, Typedef, Builtin}
+use Rattle.abi_types.specs.Types.{PlainLabel}
+use Rattle.suppression_text.specs.Rules.{PlainSection}
+use Rattle.suppressions.specs.declared.accessed_through.MarkedByWay.{MarkedByWay}
+use Rattle.suppressions.specs.Known.{Known, kind_number, known_of, name_ways, IsKnown}
+
+abbrev key : LabelKind → List ℕ → ℕ × Bor (List ℕ)
+key kind name = (kind_number kind, record { ref_ptr = (0, 0); now = name })
+
+-- kinds of one number are one
+one_kind : (j k : LabelKind) → kind_number j ≡ kind_number k → j ≡ k
+one_kind Structure Structure e = refl
+one_kind Structure Union e = cc
+one_kind Structure Enumeration e = cc
+one_kind Structure Typedef e = cc
+one_kind Structure Builtin e = cc
+one_kind Union Structure e = cc
+one_kind Union Union e = refl
+one_kind Union Enumeration e = cc
+one_kind Union Typedef e = cc
+one_kind Union Builtin e = cc
+one_kind Enumeration Structure e = cc
+one_kind Enumeration Union e = cc
+one_kind Enumeration Enumeration e = refl
+one_kind Enumeration Typedef e = cc
+one_kind Enumeration Builtin e = cc
+one_kind Typedef Structure e = cc
+one_kind Typedef Union e = cc
+one_kind Typedef Enumeration e = cc
+one_kind Typedef Typedef e = refl
+one_kind Typedef Builtin e = cc
+one_kind Builtin Structure e = cc
+one_kind Builtin Union e = cc
+one_kind Builtin Enumeration e = cc
+one_kind Builtin Typedef e = cc
+one_kind Builtin Builtin e = refl
+
+one_label : (l m : PlainLabel) → l.kind ≡ m.kind → l.name ≡ m.name → l ≡ m
+one_label l m kinds names =
+    ap (λ (k : LabelKind). let x : PlainLabel = record { kind = k; name = l.name } in x) kinds ∙ ap (λ (n : List ℕ). let x : PlainLabel = record { kind = m.kind; name = n } in x) names
+
+same_some : (x y : MarkedByWay) → Some x ≡ Some y → x ≡ y
+same_some x y e = cc
+
+cases : {P : Type 0} (b : Bool) → (b ≡ true → P) → (b ≡ false → P) → P
+cases true here other = here refl
+cases false here other = other refl
+
+-- the pair is this number and this name
+abbrev names : ℕ → List ℕ → ℕ × Bor (List ℕ) → Bool
+names n name q = n == q.0 && bytes_eq name q.1.now
+
+-- what stands under the name of a pair
+abbrev under : Known → ℕ × Bor (List ℕ) → Option MarkedByWay
+under known q = get_by (λ k. q.0 == k.0 && bytes_eq q.1.now k.1.now) known
+
+-- what is known is right, with one more name that was judged
+pub known_more : (sections : List PlainSection) (soname : Option (List ℕ)) (old new : Known) (label : PlainLabel) (n : ℕ) (ways : MarkedByWay) → IsKnown sections soname old → n ≡ kind_number label.kind → ways ≡ name_ways sections soname label
+    → ((q : ℕ × Bor (List ℕ)) → under new q ≡ cond (names n label.name q) (Some ways) (under old q)) → IsKnown sections soname new
+known_more sections soname old new label n ways was number is adds l found held =
+    let q = key l.kind l.name in
+    cases (names n label.name q) (λ same.
+    let both = and_parts (n == kind_number l.kind) (bytes_eq label.name l.name) same in
+    let kinds : label.kind ≡ l.kind = one_kind label.kind l.kind (sym number ∙ eqb-true n (kind_number l.kind) both.0) in
+    let e : label ≡ l = one_label label l kinds ((bytes_eq-Decides label.name l.name).0 both.1) in
+    let now : found ≡ ways = same_some found ways (sym held ∙ adds q ∙ ap (λ (b : Bool). cond b (Some ways) (under old q)) same) in
+    now ∙ is ∙ ap (name_ways sections soname) e) (λ apart.
+    was l found (sym (adds q ∙ ap (λ (b : Bool). cond b (Some ways) (under old q)) apart) ∙ held))

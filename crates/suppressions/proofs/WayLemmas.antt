@@ -1,0 +1,62 @@
+-- Rules that ask for no way.
+use Rattle.std.proofs.Common.{◌≡◌, ℕ, Bool, true, false, List, [], ◌∷◌, Option, refl, sym, ◌∙◌, ap}
+use Rattle.std.specs.Prelude.{◌&&◌, ◌||◌, ◌==◌}
+use Rattle.std.specs.List.{list_all, list_any}
+use Rattle.abi_types.specs.declared.kind.Way.TheVariants.{Direct, Pointer}
+use Rattle.abi_types.specs.Types.{PlainLabel}
+use Rattle.suppression_text.specs.declared.key.Key.{Key}
+use Rattle.suppression_text.specs.declared.key.Key.TheVariants.{Label, Name, NameRegexp, NameNotRegexp, SymbolName, SymbolNameRegexp, SymbolVersion, SymbolVersionRegexp, SonameRegexp, TypeKind, AccessedThrough}
+use Rattle.suppression_text.specs.Keys.{same_key}
+use Rattle.suppression_text.specs.Faults.{has}
+use Rattle.suppression_text.specs.Rules.{PlainProperty, PlainSection, PlainRules, plain_property}
+use Rattle.suppressions.specs.Subjects.{PlainSubject, asked, label_subject}
+use Rattle.suppressions.specs.Meaning.{property_holds, speaks_of, section_holds, marks_name, marks_names, is_marked}
+use Rattle.suppressions.specs.Reasons.{HasNoWays}
+
+neither : (a b : Bool) → (a || b) ≡ false → (a ≡ false) × (b ≡ false)
+neither true b e = cc
+neither false b e = (refl, e)
+
+module _ (soname : Option (List ℕ)) (l : PlainLabel) where
+  -- the same bytes are asked but for the way
+  same_asked : (key : Key) → same_key AccessedThrough key ≡ false → asked (label_subject soname Direct l) key ≡ asked (label_subject soname Pointer l) key
+  same_asked Label other = refl
+  same_asked Name other = refl
+  same_asked NameRegexp other = refl
+  same_asked NameNotRegexp other = refl
+  same_asked SymbolName other = refl
+  same_asked SymbolNameRegexp other = refl
+  same_asked SymbolVersion other = refl
+  same_asked SymbolVersionRegexp other = refl
+  same_asked SonameRegexp other = refl
+  same_asked TypeKind other = refl
+  same_asked AccessedThrough other = cc
+
+  same_holds : (p : PlainProperty) → same_key AccessedThrough p.key ≡ false → property_holds (label_subject soname Direct l) p ≡ property_holds (label_subject soname Pointer l) p
+  unfolding property_holds
+  same_holds p other = rw (same_asked p.key other) refl
+
+  same_all : (ps : List PlainProperty) → list_any (λ (p : PlainProperty). same_key AccessedThrough p.key) ps ≡ false
+      → list_all (property_holds (label_subject soname Direct l)) ps ≡ list_all (property_holds (label_subject soname Pointer l)) ps
+  same_all [] none = refl
+  same_all (p ∷ ps) none =
+      let both = neither (same_key AccessedThrough p.key) (list_any (λ (q : PlainProperty). same_key AccessedThrough q.key) ps) none in
+      rw (same_holds p both.0, same_all ps both.1) refl
+
+  same_section : (s : PlainSection) → has AccessedThrough s ≡ false → section_holds (label_subject soname Direct l) s ≡ section_holds (label_subject soname Pointer l) s
+  unfolding section_holds
+  same_section s none = rw (same_all s.properties none) refl
+
+  same_sections : (ss : List PlainSection) → list_any (has AccessedThrough) ss ≡ false → marks_name ss soname Direct l ≡ marks_name ss soname Pointer l
+  same_sections [] none = refl
+  same_sections (s ∷ ss) none =
+      let both = neither (has AccessedThrough s) (list_any (has AccessedThrough) ss) none in
+      rw (same_section s both.0, same_sections ss both.1) refl
+
+pub same_ways : (sections : List PlainSection) (soname : Option (List ℕ)) (labels : List PlainLabel) → list_any (has AccessedThrough) sections ≡ false → marks_names sections soname Direct labels ≡ marks_names sections soname Pointer labels
+same_ways sections soname [] none = refl
+same_ways sections soname (l ∷ labels) none = rw (same_sections soname l sections none, same_ways sections soname labels none) refl
+
+pub see_no_way : (rules : PlainRules) (soname : Option (List ℕ)) (labels : List PlainLabel) → HasNoWays rules → is_marked rules soname labels Direct ≡ is_marked rules soname labels Pointer
+unfolding is_marked
+see_no_way rules soname labels none = same_ways rules.sections soname labels none

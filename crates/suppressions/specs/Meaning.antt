@@ -1,0 +1,59 @@
+-- What a rule file means: which exports it drops, and which types it marks.
+use Rattle.std.specs.Prelude.{◌==◌, ◌&&◌, ◌||◌, ℕ, Bool, false, List, Option}
+use Rattle.std.specs.List.{list_all, list_any}
+use Rattle.std.specs.Option.{option_map_or}
+use Rattle.abi_types.specs.declared.kind.Way.{Way}
+use Rattle.abi_types.specs.Exports.{PlainExport}
+use Rattle.abi_types.specs.Types.{PlainLabel}
+use Rattle.suppression_text.specs.declared.key.SectionKind.{SectionKind}
+use Rattle.suppression_text.specs.declared.key.SectionKind.TheVariants.{Functions, Variables, Types}
+use Rattle.suppression_text.specs.Keys.{is_label}
+use Rattle.suppression_text.specs.Passing.{passes}
+use Rattle.suppression_text.specs.Rules.{PlainProperty, PlainSection, PlainRules}
+use Rattle.suppressions.specs.Subjects.{PlainSubject, asked, export_subject, label_subject}
+
+-- bytes that are there pass
+abbrev pub passing : PlainProperty → Option (List ℕ) → Bool
+passing p bytes = option_map_or (passes p.key p.value) bytes false
+
+-- a label holds of anything, any other property where the bytes that it asks are there and pass
+unfoldable pub property_holds : PlainSubject → PlainProperty → Bool
+property_holds s p = is_label p.key || passing p (asked s p.key)
+
+abbrev pub kind_place : SectionKind → ℕ
+kind_place Functions = 0
+kind_place Variables = 1
+kind_place Types = 2
+
+abbrev pub speaks_of : PlainSection → PlainSubject → Bool
+speaks_of section s = kind_place section.kind == kind_place s.kind
+
+-- the section speaks of it, and all its properties hold
+unfoldable pub section_holds : PlainSubject → PlainSection → Bool
+section_holds s section = speaks_of section s && list_all (property_holds s) section.properties
+
+-- one section suffices
+abbrev pub some_section_holds : List PlainSection → PlainSubject → Bool
+some_section_holds sections s = list_any (section_holds s) sections
+
+-- sections drop an export of a library with a soname
+abbrev pub drops : List PlainSection → Option (List ℕ) → PlainExport → Bool
+drops sections soname e = some_section_holds sections (export_subject soname e)
+
+-- they mark a name of a type of a library with a soname, where the type is reached by a way
+abbrev pub marks_name : List PlainSection → Option (List ℕ) → Way → PlainLabel → Bool
+marks_name sections soname way l = some_section_holds sections (label_subject soname way l)
+
+-- a type may have several names, of which one suffices
+abbrev pub marks_names : List PlainSection → Option (List ℕ) → Way → List PlainLabel → Bool
+marks_names sections soname way labels = list_any (marks_name sections soname way) labels
+
+-- ---- rule files
+
+-- an export of a library with a soname is dropped
+unfoldable pub is_dropped : PlainRules → Option (List ℕ) → PlainExport → Bool
+is_dropped rules soname e = drops rules.sections soname e
+
+-- a type with these names, of a library with a soname, is marked where it is reached by a way
+unfoldable pub is_marked : PlainRules → Option (List ℕ) → List PlainLabel → Way → Bool
+is_marked rules soname labels way = marks_names rules.sections soname way labels

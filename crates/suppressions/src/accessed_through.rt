@@ -1,0 +1,91 @@
+// The names of types, each judged once.
+ghost use Rattle.std.specs.Prelude.{◌≡◌, IfOk, OnOk, map};
+ghost use Rattle.std.specs.Option.{option_copied};
+ghost use Rattle.abi_types.specs.Plain.{plain_label};
+ghost use Rattle.suppressions.specs.Known.{kind_number as the_kind_number, known_of, name_ways, names_ways, IsKnown};
+
+use crate::ready_section::{ReadySection, some_holds};
+use crate::subject::Subject;
+use abi_base::NoMemory;
+use abi_types::{Label, LabelKind, Way};
+use std::collections::HashMap;
+
+/// Whether a type is marked, by the way by which it is reached.
+#[derive(Clone, Copy, Debug)]
+pub struct MarkedByWay {
+    /// Where it is reached by value.
+    pub direct: bool,
+    /// Where it is reached through a pointer.
+    pub pointer: bool,
+}
+
+fn kind_number(kind: LabelKind) -> u8
+    ensures { result ≡ the_kind_number kind }
+{
+    match kind {
+        LabelKind::Structure => 0,
+        LabelKind::Union => 1,
+        LabelKind::Enumeration => 2,
+        LabelKind::Typedef => 3,
+        LabelKind::Builtin => 4,
+    }
+}
+
+// How sections mark a name.
+fn judge_name(sections: &mut [ReadySection], soname: Option<&[u8]>, label: &Label) -> MarkedByWay
+    ensures ways { result ≡ name_ways sections.old (option_copied soname.entry) (plain_label label.now) }
+    ensures same { sections.new ≡ sections.old }
+{
+    let direct = some_holds(sections, &Subject::of_label(soname, Way::Direct, label));
+    let pointer = some_holds(sections, &Subject::of_label(soname, Way::Pointer, label));
+    MarkedByWay { direct, pointer }
+}
+
+// What is known of a name.
+fn known_name(known: &HashMap<(u8, &[u8]), MarkedByWay>, label: &Label) -> Option<MarkedByWay>
+    ensures { result ≡ known_of known.now (plain_label label.now) }
+{
+    known.get(&(kind_number(label.kind), label.name)).copied()
+}
+
+// How sections mark a name, which is judged once.
+fn name_once<'x>(
+    sections: &mut [ReadySection],
+    known: &mut HashMap<(u8, &'x [u8]), MarkedByWay>,
+    soname: Option<&[u8]>,
+    label: &Label<'x>,
+) -> Result<MarkedByWay, NoMemory>
+    requires { IsKnown sections.old (option_copied soname) known.old }
+    ensures ways { IfOk result (λ ways. ways ≡ name_ways sections.old (option_copied soname.entry) (plain_label label.now)) }
+    ensures same { sections.new ≡ sections.old }
+    ensures known { OnOk result (IsKnown sections.old (option_copied soname.entry) known.new) }
+{
+    if let Some(ways) = known_name(known, label) {
+        return Ok(ways);
+    }
+    let ways = judge_name(sections, soname, label);
+    known.insert((kind_number(label.kind), label.name), ways)?;
+    Ok(ways)
+}
+
+/// How sections mark a type with these names. Each name is judged once, as long as what is known is handed on.
+pub fn names_once<'x>(
+    sections: &mut [ReadySection],
+    known: &mut HashMap<(u8, &'x [u8]), MarkedByWay>,
+    soname: Option<&[u8]>,
+    labels: &[Label<'x>],
+) -> Result<MarkedByWay, NoMemory>
+    requires { IsKnown sections.old (option_copied soname) known.old }
+    ensures ways { IfOk result (λ ways. ways ≡ names_ways sections.old (option_copied soname.entry) (map plain_label labels.now)) }
+    ensures same { sections.new ≡ sections.old }
+    ensures known { OnOk result (IsKnown sections.old (option_copied soname.entry) known.new) }
+{
+    let mut direct = false;
+    let mut pointer = false;
+    for label in labels {
+        let ways = name_once(sections, known, soname, label)?;
+        direct = direct || ways.direct;
+        pointer = pointer || ways.pointer;
+    }
+    Ok(MarkedByWay { direct, pointer })
+}

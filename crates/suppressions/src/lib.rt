@@ -1,0 +1,12 @@
+//! What a packager's rule file means: which exports of the old library are not compared, and which of its types, by the way by
+//! which they are reached.
+#![tactic(auto)]
+
+mod accessed_through;
+pub mod laws;
+mod marking;
+mod ready_section;
+mod subject;
+
+pub use marking::{drops_export, drops_labels, marks};
+pub use suppression_text::{RuleRefusal, Rules, read_rules};

@@ -1,0 +1,137 @@
+// Sections whose patterns are ready to be searched for.
+ghost use Rattle.std.specs.Prelude.{◌≡◌, IfOk};
+ghost use Rattle.std.specs.List.{list_all, list_any};
+ghost use Rattle.suppressions.specs.PlainSubjects.{plain_subject};
+ghost use Rattle.suppressions.specs.Meaning.{property_holds, kind_place as the_kind_place, speaks_of as it_speaks_of, section_holds, some_section_holds};
+
+use crate::subject::Subject;
+use abi_base::NoMemory;
+use std::alloc::Global;
+use std::marker::Model;
+use suppression_text::{Key, Rules, Section, SectionKind, Test};
+
+/// A section whose patterns are ready. Contracts see it as the section.
+#[derive(Drop)]
+pub struct ReadySection<'r> {
+    section: &'r Section,
+    tests: Vec<Test<'r>>,
+}
+
+impl<'r> Model for ReadySection<'r> {
+    ghost use Rattle.suppression_text.specs.Rules.{PlainSection};
+
+    ghost Value = { PlainSection };
+
+    ghost view = { λ r. record r.section.now { properties = r.tests.items } };
+}
+
+// The properties of a section, ready.
+fn tests_of<'r>(alloc: Global, section: &'r Section) -> Result<Vec<Test<'r>>, NoMemory>
+    ensures { IfOk result (λ tests. tests.items ≡ section.now.properties) }
+{
+    let mut tests = Vec::new(alloc);
+    for property in section.properties() {
+        tests.push(property.test(alloc)?)?;
+    }
+    Ok(tests)
+}
+
+// Whether a property holds of what it speaks of.
+#[tactic(auto, unfolding(crate::specs::Meaning::property_holds))]
+fn holds(test: &mut Test, subject: &Subject) -> bool
+    ensures holds { result ≡ property_holds (plain_subject subject.now) test.old }
+    ensures same { test.new ≡ test.old }
+{
+    let key = test.key();
+    match key {
+        Key::Label => true,
+        _ => match subject.asked(key) {
+            None => false,
+            Some(bytes) => test.passes(bytes),
+        },
+    }
+}
+
+// Whether all properties hold.
+fn all_hold(tests: &mut [Test], subject: &Subject) -> bool
+    ensures all { result ≡ list_all (property_holds (plain_subject subject.now)) tests.old }
+    ensures same { tests.new ≡ tests.old }
+{
+    let mut at = 0;
+    'tests: while at < tests.len() {
+        if !holds(&mut tests[at], subject) {
+            return false;
+        }
+        at += 1;
+    }
+    true
+}
+
+// The place of a kind among the kinds of sections.
+fn kind_place(kind: SectionKind) -> u8
+    ensures { result ≡ the_kind_place kind }
+{
+    match kind {
+        SectionKind::Functions => 0,
+        SectionKind::Variables => 1,
+        SectionKind::Types => 2,
+    }
+}
+
+impl<'r> ReadySection<'r> {
+    /// The section, ready.
+    pub fn of(alloc: Global, section: &'r Section) -> Result<ReadySection<'r>, NoMemory>
+        ensures { IfOk result (λ ready. ready ≡ section.now) }
+    {
+        let tests = tests_of(alloc, section)?;
+        Ok(ReadySection { section, tests })
+    }
+
+    // Whether it speaks of a subject.
+    fn speaks_of(&self, subject: &Subject) -> bool
+        ensures { result ≡ it_speaks_of self.now (plain_subject subject.now) }
+    {
+        kind_place(self.section.kind()) == kind_place(subject.kind)
+    }
+
+    /// Whether it speaks of a subject, and all its properties hold.
+    #[tactic(auto, unfolding(crate::specs::Meaning::section_holds))]
+    pub fn holds(&mut self, subject: &Subject) -> bool
+        ensures holds { result ≡ section_holds (plain_subject subject.now) self.old }
+        ensures same { self.new ≡ self.old }
+    {
+        if !self.speaks_of(subject) {
+            return false;
+        }
+        all_hold(self.tests.as_mut_slice(), subject)
+    }
+}
+
+/// The sections of a rule file, ready.
+pub fn ready_sections<'r>(
+    alloc: Global,
+    rules: &'r Rules,
+) -> Result<Vec<ReadySection<'r>>, NoMemory>
+    ensures { IfOk result (λ ready. ready.items ≡ rules.now.sections) }
+{
+    let mut ready = Vec::new(alloc);
+    for section in rules.sections() {
+        ready.push(ReadySection::of(alloc, section)?)?;
+    }
+    Ok(ready)
+}
+
+/// Whether some section speaks of a subject and all its properties hold.
+pub fn some_holds(sections: &mut [ReadySection], subject: &Subject) -> bool
+    ensures some { result ≡ some_section_holds sections.old (plain_subject subject.now) }
+    ensures same { sections.new ≡ sections.old }
+{
+    let mut at = 0;
+    'sections: while at < sections.len() {
+        if sections[at].holds(subject) {
+            return true;
+        }
+        at += 1;
+    }
+    false
+}

@@ -1,0 +1,107 @@
+// What the properties of a rule file speak of.
+ghost use Rattle.std.specs.Prelude.{◌≡◌};
+ghost use Rattle.std.specs.Option.{option_copied};
+ghost use Rattle.abi_types.specs.Plain.{plain_export, plain_label};
+ghost use Rattle.suppressions.specs.Subjects.{section_of_symbol as the_section_of_symbol, label_word as the_label_word, accessed_through_word as the_way_word, export_subject, label_subject};
+
+use abi_types::{Export, Label, LabelKind, SymbolKind, Way};
+use suppression_text::{Key, SectionKind};
+
+/// What the properties of a rule file speak of: an export, or a name of a type that is reached by a way.
+#[derive(Clone, Copy)]
+pub struct Subject<'x> {
+    /// The sections that speak of it.
+    pub kind: SectionKind,
+    /// The declared name of an export, or the name of a type.
+    pub name: &'x [u8],
+    /// The name of an export's symbol.
+    pub symbol: Option<&'x [u8]>,
+    /// The name of an export's version.
+    pub version: Option<&'x [u8]>,
+    /// The soname of the library.
+    pub soname: Option<&'x [u8]>,
+    /// The word for the kind of a type.
+    pub type_kind: Option<&'x [u8]>,
+    /// The word for the way by which a type is reached.
+    pub way: Option<&'x [u8]>,
+}
+
+fn section_of_symbol(kind: SymbolKind) -> SectionKind
+    ensures { result ≡ the_section_of_symbol kind }
+{
+    match kind {
+        SymbolKind::Func | SymbolKind::Ifunc | SymbolKind::NoType => SectionKind::Functions,
+        SymbolKind::Object | SymbolKind::Common | SymbolKind::Tls => SectionKind::Variables,
+    }
+}
+
+fn label_word(kind: LabelKind) -> &'static [u8]
+    ensures { result.now ≡ the_label_word kind }
+{
+    match kind {
+        LabelKind::Structure => b"struct",
+        LabelKind::Union => b"union",
+        LabelKind::Enumeration => b"enum",
+        LabelKind::Typedef => b"typedef",
+        LabelKind::Builtin => b"builtin",
+    }
+}
+
+fn accessed_through_word(way: Way) -> &'static [u8]
+    ensures { result.now ≡ the_way_word way }
+{
+    match way {
+        Way::Direct => b"direct",
+        Way::Pointer => b"pointer",
+    }
+}
+
+impl<'x> Subject<'x> {
+    ghost use Rattle.suppressions.specs.PlainSubjects.{plain_subject};
+    ghost use Rattle.suppressions.specs.Subjects.{asked as the_asked};
+
+    /// An export of a library with a soname.
+    pub fn of_export(soname: Option<&'x [u8]>, export: &Export<'x>) -> Subject<'x>
+        ensures { plain_subject result ≡ export_subject (option_copied soname.entry) (plain_export export.now) }
+    {
+        Subject {
+            kind: section_of_symbol(export.kind),
+            name: export.declared,
+            symbol: Some(export.name),
+            version: export.version,
+            soname,
+            type_kind: None,
+            way: None,
+        }
+    }
+
+    /// A name of a type of a library with a soname, where the type is reached by a way.
+    pub fn of_label(soname: Option<&'x [u8]>, way: Way, label: &Label<'x>) -> Subject<'x>
+        ensures { plain_subject result ≡ label_subject (option_copied soname.entry) way (plain_label label.now) }
+    {
+        Subject {
+            kind: SectionKind::Types,
+            name: label.name,
+            symbol: None,
+            version: None,
+            soname,
+            type_kind: Some(label_word(label.kind)),
+            way: Some(accessed_through_word(way)),
+        }
+    }
+
+    /// The bytes that a property asks, where there are any.
+    pub fn asked(&self, key: Key) -> Option<&'x [u8]>
+        ensures { option_copied result ≡ the_asked (plain_subject self.now) key }
+    {
+        match key {
+            Key::Label => None,
+            Key::Name | Key::NameRegexp | Key::NameNotRegexp => Some(self.name),
+            Key::SymbolName | Key::SymbolNameRegexp => self.symbol,
+            Key::SymbolVersion | Key::SymbolVersionRegexp => self.version,
+            Key::SonameRegexp => self.soname,
+            Key::TypeKind => self.type_kind,
+            Key::AccessedThrough => self.way,
+        }
+    }
+}

@@ -1,0 +1,182 @@
+// Words, and what they ask for.
+use cli_args::{ParsedArguments, Request, parse_arguments};
+use report::styles::ReportStyle;
+use std::alloc::Global;
+use std::process::Abort;
+use std::test::Fail;
+
+// A check of two libraries.
+const fn check<'a>(
+    rules: Option<&'a str>,
+    report: ReportStyle,
+    old: &'a str,
+) -> ParsedArguments<'a> {
+    ParsedArguments::Request(Request::Check {
+        rules,
+        report,
+        old,
+        new: "B",
+    })
+}
+
+#[test]
+fn words_are_taken_or_refused(rt: HostRuntime) -> Result<(), Fail> {
+    let text = ReportStyle::Text;
+    let rows: [(&[&str], ParsedArguments<'_>); 17] = [
+        (&[], ParsedArguments::Usage),
+        (&["check", "A", "B"], check(None, text, "A")),
+        (&["check", "--", "A", "B"], check(None, text, "A")),
+        (&["check", "--", "-A", "B"], check(None, text, "-A")),
+        (&["check", "-", "B"], check(None, text, "-")),
+        (&["check"], ParsedArguments::Usage),
+        (&["check", "A"], ParsedArguments::Usage),
+        (&["check", "A", "B", "C"], ParsedArguments::Usage),
+        (&["chek", "A", "B"], ParsedArguments::Usage),
+        (&["", "A", "B"], ParsedArguments::Usage),
+        (&["check", "A", "B", "--loud"], ParsedArguments::Usage),
+        (&["--loud", "-h"], ParsedArguments::Usage),
+        (&["--help=x"], ParsedArguments::Usage),
+        (&["--help"], ParsedArguments::Help),
+        (&["check", "--help"], ParsedArguments::Help),
+        (&["-h"], ParsedArguments::Help),
+        (&["check", "A", "-hx", "--loud"], ParsedArguments::Help),
+    ];
+    for (words, want) in rows {
+        assert_eq!(rt; parse_arguments(rt.alloc(), words)?, want, "{words:?}");
+    }
+    Ok(())
+}
+
+#[test]
+fn options_stand_anywhere(rt: HostRuntime) -> Result<(), Fail> {
+    let (text, table) = (ReportStyle::Text, ReportStyle::Table);
+    let rows: [(&[&str], ParsedArguments<'_>); 16] = [
+        (
+            &["check", "--rules", "F", "A", "B"],
+            check(Some("F"), text, "A"),
+        ),
+        (
+            &["check", "A", "B", "--rules", "F"],
+            check(Some("F"), text, "A"),
+        ),
+        (
+            &["--report=table", "check", "A", "--rules=F", "B"],
+            check(Some("F"), table, "A"),
+        ),
+        (&["check", "--rules=", "A", "B"], check(Some(""), text, "A")),
+        (&["check", "--rules", "F"], ParsedArguments::Usage),
+        (&["check", "--rules", "F", "A"], ParsedArguments::Usage),
+        (&["check", "--rules", "-h"], ParsedArguments::Usage),
+        (
+            &["check", "--rules", "F", "--rules", "F", "A", "B"],
+            ParsedArguments::Usage,
+        ),
+        (&["check", "A", "A", "--report"], ParsedArguments::Usage),
+        (
+            &["check", "--report", "text", "A", "B"],
+            check(None, text, "A"),
+        ),
+        (
+            &["check", "--report", "table", "A", "B"],
+            check(None, table, "A"),
+        ),
+        (
+            &["check", "--report", "counts", "A", "B"],
+            check(None, ReportStyle::Counts, "A"),
+        ),
+        (
+            &["check", "--report", "first", "A", "B"],
+            check(None, ReportStyle::First, "A"),
+        ),
+        (
+            &["check", "--report", "own", "A", "B"],
+            check(None, ReportStyle::Own, "A"),
+        ),
+        (
+            &["check", "--report", "loud", "A", "B"],
+            ParsedArguments::Usage,
+        ),
+        (
+            &["check", "--report", "Text", "A", "B"],
+            ParsedArguments::Usage,
+        ),
+    ];
+    for (words, want) in rows {
+        assert_eq!(rt; parse_arguments(rt.alloc(), words)?, want, "{words:?}");
+    }
+    Ok(())
+}
+
+// A verification against the certificate C.
+const fn verify<'a>(rules: Option<&'a str>) -> ParsedArguments<'a> {
+    ParsedArguments::Request(Request::Verify {
+        rules,
+        old: "A",
+        new: "B",
+        certificate: "C",
+    })
+}
+
+#[test]
+fn commands_have_their_files_and_options(rt: HostRuntime) -> Result<(), Fail> {
+    let entries = ParsedArguments::Request(Request::Entries { library: "A" });
+    let exports = ParsedArguments::Request(Request::Exports { library: "A" });
+    let rows: [(&[&str], ParsedArguments<'_>); 12] = [
+        (&["verify", "A", "B", "C"], verify(None)),
+        (
+            &["verify", "--rules", "F", "A", "B", "C"],
+            verify(Some("F")),
+        ),
+        (
+            &["verify", "--report", "text", "A", "B", "C"],
+            ParsedArguments::Usage,
+        ),
+        (&["verify", "A", "B"], ParsedArguments::Usage),
+        (&["entries", "A"], entries),
+        (&["entries", "--rules", "F", "A"], ParsedArguments::Usage),
+        (&["entries", "A", "B"], ParsedArguments::Usage),
+        (&["exports", "A"], exports),
+        (
+            &["exports", "--report", "text", "A"],
+            ParsedArguments::Usage,
+        ),
+        (&["exports"], ParsedArguments::Usage),
+        (&["trial", "--rules", "F", "1"], ParsedArguments::Usage),
+        (&["trial"], ParsedArguments::Usage),
+    ];
+    for (words, want) in rows {
+        assert_eq!(rt; parse_arguments(rt.alloc(), words)?, want, "{words:?}");
+    }
+    Ok(())
+}
+
+// The trial with this word asks for so many structures.
+fn trial_is(rt: &impl Abort, alloc: Global, word: &str, want: Option<u32>) -> Result<(), Fail> {
+    let asked = match want {
+        Some(count) => ParsedArguments::Request(Request::Trial { count }),
+        None => ParsedArguments::Usage,
+    };
+    assert_eq!(rt; parse_arguments(alloc, &["trial", word])?, asked, "{word}");
+    Ok(())
+}
+
+#[test]
+fn trials_are_counted_in_decimal(rt: HostRuntime) -> Result<(), Fail> {
+    let rows = [
+        ("1", Some(1)),
+        ("10", Some(10)),
+        ("50000", Some(50_000)),
+        ("50001", None),
+        ("0", None),
+        ("01", None),
+        ("+1", None),
+        ("", None),
+        ("1x", None),
+        ("4294967297", None),
+        ("99999999999999999999", None),
+    ];
+    for (word, want) in rows {
+        trial_is(&rt, rt.alloc(), word, want)?;
+    }
+    Ok(())
+}

@@ -1,0 +1,201 @@
+// The tests whether a list of nodes is a graph, and whether exports and a graph are those of a library.
+ghost use Rattle.std.specs.Prelude.{◌≡◌, ◌<◌, ◌≤◌, ◌↔◌, ℕ, length, map, count_by, All, IsSome, IsTrue, IfOk};
+ghost use Rattle.abi_base.specs.Limits.{depth_limit};
+ghost use Rattle.abi_types.specs.Exports.{PlainExport};
+ghost use Rattle.abi_types.specs.Forms.{is_param as the_part_is_param};
+ghost use Rattle.abi_types.specs.Graphs.{IsGraph, node_at, view_at, node_of};
+ghost use Rattle.abi_types.specs.Libraries.{AreNumbered, HasPlaces, IsLibrary};
+ghost use Rattle.abi_types.specs.Parts.{plain_part};
+ghost use Rattle.abi_types.specs.Plain.{plain_exports};
+ghost use Rattle.test_graphs.specs.Valid.{IsVoidFirst, NamesNode, NamesNodes, Keeps, KeepsNode};
+
+use crate::entries::have_own_entries;
+use crate::form::{has_form, is_param};
+use crate::limits::{is_whole, keeps_limits};
+use abi_base::NoMemory;
+use abi_types::{Export, Graph, Index, Kind, Node, Part, View};
+use std::alloc::Global;
+
+// The highest rank of a node.
+const RANK_LIMIT: u32 = 512;
+
+// Whether the first node is void.
+fn is_void_first<Ix: Index>(nodes: &[Node<Ix>]) -> bool
+    ensures { IsTrue result ↔ IsVoidFirst nodes.now }
+{
+    if nodes.is_empty() {
+        return false;
+    }
+    let first = &nodes[0];
+    let view = &first.view;
+    first.entry == 0 && view.kind == Kind::Void
+}
+
+// The rank of a node, 0 past the last one.
+fn rank_at<Ix: Index>(nodes: &[Node<Ix>], at: Ix) -> u32
+    ensures { result ≡ (node_at nodes.now (Ix.number_of at)).rank }
+{
+    let number = at.number();
+    if number >= nodes.len() {
+        return 0;
+    }
+    let node = &nodes[number];
+    node.rank
+}
+
+// Whether a part of a node of a rank names a node, and one of a lower rank where it names it by value.
+fn names_node<Ix: Index>(nodes: &[Node<Ix>], rank: u32, part: &Part<Ix>) -> bool
+    ensures { IsTrue result ↔ NamesNode nodes.now rank (plain_part Ix.number_of part.now) }
+{
+    if let Some(to) = part.to() {
+        if to.number() >= nodes.len() {
+            return false;
+        }
+    }
+    match part.inner() {
+        Some(inner) => rank_at(nodes, inner) < rank,
+        None => true,
+    }
+}
+
+// Whether all parts of a node of a rank and a view do so.
+fn names_nodes<Ix: Index>(nodes: &[Node<Ix>], rank: u32, view: &View<Ix>) -> bool
+    ensures { IsTrue result ↔ NamesNodes nodes.now rank view.now }
+{
+    for k in 0..view.parts_len() {
+        if !names_node(nodes, rank, view.part(k)) {
+            return false;
+        }
+    }
+    true
+}
+
+// Whether a node of a rank and a view keeps what those of a graph keep, each for itself.
+fn keeps<Ix: Index>(nodes: &[Node<Ix>], rank: u32, view: &View<Ix>) -> bool
+    ensures { IsTrue result ↔ Keeps nodes.now rank view.now }
+{
+    if rank > RANK_LIMIT {
+        return false;
+    }
+    if !names_nodes(nodes, rank, view) {
+        return false;
+    }
+    if !has_form(view) {
+        return false;
+    }
+    if !keeps_limits(nodes, view) {
+        return false;
+    }
+    is_whole(nodes, view)
+}
+
+// The same of the node of a number.
+fn keeps_node<Ix: Index>(nodes: &[Node<Ix>], i: usize) -> bool
+    requires { i < length nodes.now }
+    ensures { IsTrue result ↔ KeepsNode nodes.now i }
+{
+    let node = &nodes[i];
+    keeps(nodes, node.rank, &node.view)
+}
+
+// Whether all nodes keep what those of a graph keep, each for itself.
+fn keep_nodes<Ix: Index>(nodes: &[Node<Ix>]) -> bool
+    ensures { IsTrue result ↔ ((i : ℕ) → i < length nodes.now → KeepsNode nodes.now i) }
+{
+    for i in 0..nodes.len() {
+        if !keeps_node(nodes, i) {
+            return false;
+        }
+    }
+    true
+}
+
+/// Whether the nodes are a graph, so that `Graph::of_nodes` takes them. It sorts their entries, and goes over the nodes and
+/// their parts once.
+pub fn is_graph<Ix: Index>(alloc: Global, nodes: &[Node<Ix>]) -> Result<bool, NoMemory>
+    ensures { IfOk result (λ is. IsTrue is ↔ IsGraph nodes.now) }
+{
+    if !is_void_first(nodes) {
+        return Ok(false);
+    }
+    if !keep_nodes(nodes) {
+        return Ok(false);
+    }
+    have_own_entries(alloc, nodes)
+}
+
+// How many of the parts are parameters.
+fn count_params<Ix: Index>(parts: &[Part<Ix>]) -> usize
+    ensures { result ≡ count_by the_part_is_param (map (plain_part Ix.number_of) parts.now) }
+{
+    parts.iter().filter(|part| is_param(part)).count()
+}
+
+// Whether the call of a function has a place for each of its parameters.
+fn has_places<Ix: Index>(view: &View<Ix>) -> bool
+    ensures { IsTrue result ↔ HasPlaces view.now }
+{
+    match view.kind {
+        Kind::Function => view.call.params().len() == count_params(view.parts.as_slice()),
+        _ => true,
+    }
+}
+
+// Whether the calls of all functions have their places.
+fn have_places<Ix: Index>(graph: &Graph<Ix>) -> bool
+    ensures { IsTrue result ↔ ((i : ℕ) → HasPlaces (view_at graph.now i)) }
+{
+    for i in 0..graph.len() {
+        if !has_places(graph.view(Ix::of(i))) {
+            return false;
+        }
+    }
+    true
+}
+
+// Whether the entries of all exports are those of nodes.
+fn have_nodes<Ix: Index>(exports: &[Export], graph: &Graph<Ix>) -> bool
+    ensures { IsTrue result ↔ All (λ (e : PlainExport). IsSome (node_of graph.now e.entry)) (plain_exports exports.now) }
+{
+    for i in 0..exports.len() {
+        if graph.find(exports[i].entry).is_none() {
+            return false;
+        }
+    }
+    true
+}
+
+fn symbol_of(export: &Export) -> u32
+    ensures { result ≡ export.now.symbol }
+{
+    export.symbol
+}
+
+// Whether the exports stand in order of the numbers of their symbols.
+fn are_numbered(exports: &[Export]) -> bool
+    ensures { IsTrue result ↔ AreNumbered (plain_exports exports.now) }
+{
+    // The least number that the next symbol may have.
+    let mut least: u64 = 0;
+    for i in 0..exports.len() {
+        let symbol = u64::from(symbol_of(&exports[i]));
+        if symbol < least {
+            return false;
+        }
+        least = symbol + 1;
+    }
+    true
+}
+
+/// Whether the exports and the graph are those of a library, so that `Library::new` takes them.
+pub fn is_library<Ix: Index>(exports: &[Export], graph: &Graph<Ix>) -> bool
+    ensures { IsTrue result ↔ IsLibrary (plain_exports exports.now) graph.now }
+{
+    if !have_nodes(exports, graph) {
+        return false;
+    }
+    if !are_numbered(exports) {
+        return false;
+    }
+    have_places(graph)
+}

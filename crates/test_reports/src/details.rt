@@ -1,0 +1,304 @@
+// A row for each rule: what it says of the old side and of the new one.
+ghost use Rattle.std.specs.Prelude.{◌≡◌, false};
+ghost use Rattle.pair_rules.specs.TypeRules.{speaks_of_parts};
+
+use abi_base::{List, NoMemory};
+use abi_types::{
+    Call, CallShape, Export, Group, Index, Kind, NewIx, OldIx, Part, Parts, Place, Rule, Slot,
+    SymbolKind, View,
+};
+use pair_rules::Broken;
+use report::{Row, export_row, soname_row, type_row};
+use std::alloc::Global;
+use std::process::Abort;
+use std::test::Fail;
+
+// A type of four bytes, with these parts.
+fn made<'a, Ix: Index>(
+    alloc: Global,
+    kind: Kind,
+    tag: &'a [u8],
+    parts: Vec<Part<'a, Ix>>,
+) -> Result<View<'a, Ix>, NoMemory> {
+    Ok(View {
+        kind,
+        declared_only: false,
+        tag,
+        size: 4,
+        group: Group::Signed,
+        align: 0,
+        count: 2,
+        variadic: false,
+        parts: Parts::of(alloc, parts)?,
+        call: Call::none(),
+    })
+}
+
+// A scalar of four bytes.
+fn scalar<'a, Ix: Index>(alloc: Global, tag: &'a [u8]) -> Result<View<'a, Ix>, NoMemory> {
+    made(alloc, Kind::Scalar, tag, Vec::new(alloc))
+}
+
+// The row of a rule that two types break as a whole.
+fn whole(alloc: Global, rule: Rule, old: &View<OldIx>, new: &View<NewIx>) -> Result<Row, NoMemory>
+    requires { speaks_of_parts rule ≡ false }
+{
+    let broken = Broken { rule, part: 0 };
+    type_row(
+        alloc,
+        &broken,
+        String::new(alloc),
+        String::new(alloc),
+        (0, old),
+        (0, new),
+    )
+}
+
+// The row of a rule that two types break at a part of the old one.
+fn at_part(
+    rt: &impl Abort,
+    alloc: Global,
+    rule: Rule,
+    part: usize,
+    old: &View<OldIx>,
+    new: &View<NewIx>,
+) -> Result<Row, NoMemory> {
+    assert!(rt; part < old.parts_len());
+    let broken = Broken { rule, part };
+    type_row(
+        alloc,
+        &broken,
+        String::new(alloc),
+        String::new(alloc),
+        (0, old),
+        (0, new),
+    )
+}
+
+// What a row says is this.
+fn says(rt: &impl Abort, row: &Row, wanted: &str) {
+    assert_eq!(rt; row.detail.as_slice(), wanted.as_bytes());
+}
+
+// A structure that has nothing of what a scalar of four bytes without a name has.
+fn changed<'a, Ix: Index>(alloc: Global) -> Result<View<'a, Ix>, NoMemory> {
+    let mut view = scalar(alloc, b"a b")?;
+    view.kind = Kind::Structure;
+    view.size = 8;
+    view.group = Group::Unsigned;
+    view.align = 16;
+    view.count = 3;
+    view.variadic = true;
+    Ok(view)
+}
+
+// Of a scalar that became something else, the row of this rule says this.
+fn says_of_scalar(rt: &impl Abort, alloc: Global, rule: Rule, wanted: &str) -> Result<(), NoMemory>
+    requires { speaks_of_parts rule ≡ false }
+{
+    let old = scalar(alloc, b"")?;
+    let new = changed(alloc)?;
+    says(rt, &whole(alloc, rule, &old, &new)?, wanted);
+    Ok(())
+}
+
+#[test]
+fn whole_types(rt: HostRuntime) -> Result<(), Fail> {
+    let alloc = rt.alloc();
+    says_of_scalar(&rt, alloc, Rule::KindOfType, "kind scalar, now struct")?;
+    says_of_scalar(&rt, alloc, Rule::TypeSize, "size 4, now 8")?;
+    says_of_scalar(&rt, alloc, Rule::ScalarGroup, "scalar signed, now unsigned")?;
+    says_of_scalar(&rt, alloc, Rule::TypeAlignment, "alignment 0, now 16")?;
+    says_of_scalar(&rt, alloc, Rule::DeclarationTag, "tag none, now a\\x20b")?;
+    says_of_scalar(&rt, alloc, Rule::ElementCount, "count 2, now 3")?;
+    says_of_scalar(&rt, alloc, Rule::ParameterCount, "parameters 0, now 0")?;
+    says_of_scalar(&rt, alloc, Rule::VariadicArguments, "variadic no, now yes")?;
+    Ok(())
+}
+
+// A member of type 0.
+fn member<'a, Ix: Index>(name: &'a [u8], bit: u64, width: u64) -> Part<'a, Ix> {
+    Part::Member {
+        name,
+        bit,
+        width,
+        to: Ix::of(0),
+    }
+}
+
+// A structure with a member `v`, and another of this name at a bit and of a width.
+fn pair_of<'a, Ix: Index>(
+    alloc: Global,
+    name: &'a [u8],
+    bit: u64,
+    width: u64,
+) -> Result<View<'a, Ix>, NoMemory> {
+    let mut parts = Vec::new(alloc);
+    parts.push(member(name, 0, 0))?;
+    parts.push(member(name, bit, width))?;
+    made(alloc, Kind::Structure, name, parts)
+}
+
+// Of the second member `v`, which moved and became a bit field, or of the first one, the row of this rule says this.
+fn says_of_member(
+    rt: &impl Abort,
+    alloc: Global,
+    rule: Rule,
+    part: usize,
+    wanted: &str,
+) -> Result<(), NoMemory> {
+    let old = pair_of(alloc, b"v", 32, 0)?;
+    let new = pair_of(alloc, b"v", 40, 3)?;
+    says(rt, &at_part(rt, alloc, rule, part, &old, &new)?, wanted);
+    Ok(())
+}
+
+#[test]
+fn members(rt: HostRuntime) -> Result<(), Fail> {
+    let alloc = rt.alloc();
+    says_of_member(&rt, alloc, Rule::MemberPresence, 0, "member v gone")?;
+    says_of_member(&rt, alloc, Rule::MemberPresence, 1, "member v#2 gone")?;
+    says_of_member(
+        &rt,
+        alloc,
+        Rule::MemberOffset,
+        1,
+        "member v#2 at bit 32, now 40",
+    )?;
+    says_of_member(
+        &rt,
+        alloc,
+        Rule::BitFieldWidth,
+        1,
+        "member v#2 width 0, now 3",
+    )?;
+    Ok(())
+}
+
+// An enumeration of one enumerator, `A` of this value, in so many bytes.
+fn enumeration<'a, Ix: Index>(
+    alloc: Global,
+    name: &'a [u8],
+    size: u64,
+    value: u64,
+) -> Result<View<'a, Ix>, NoMemory> {
+    let mut parts = Vec::new(alloc);
+    parts.push(Part::Enumerator { name, value })?;
+    let mut view = made(alloc, Kind::Enumeration, name, parts)?;
+    view.size = size;
+    Ok(view)
+}
+
+// Of an enumerator of one byte whose value was the greatest one, the row of this rule says this.
+fn says_of_enumerator(
+    rt: &impl Abort,
+    alloc: Global,
+    rule: Rule,
+    wanted: &str,
+) -> Result<(), NoMemory> {
+    let old = enumeration(alloc, b"A", 1, u64::MAX)?;
+    let new = enumeration(alloc, b"A", 1, 258)?;
+    says(rt, &at_part(rt, alloc, rule, 0, &old, &new)?, wanted);
+    Ok(())
+}
+
+#[test]
+fn enumerators(rt: HostRuntime) -> Result<(), Fail> {
+    let alloc = rt.alloc();
+    says_of_enumerator(&rt, alloc, Rule::EnumeratorPresence, "enumerator A gone")?;
+    says_of_enumerator(&rt, alloc, Rule::EnumeratorValue, "enumerator A 255, now 2")?;
+    Ok(())
+}
+
+// The general register of a number.
+fn register(number: u8) -> Place {
+    let mut eightbytes = [Slot::Unused; 8];
+    eightbytes[0] = Slot::General(number);
+    Place::Registers { eightbytes }
+}
+
+// A function of one parameter, with these places.
+fn function<'a, Ix: Index>(
+    alloc: Global,
+    tag: &'a [u8],
+    outcome: Place,
+    param: Place,
+) -> Result<View<'a, Ix>, NoMemory> {
+    let mut parts = Vec::new(alloc);
+    parts.push(Part::Outcome { to: Ix::of(0) })?;
+    parts.push(Part::Param { to: Ix::of(0) })?;
+    let mut view = made(alloc, Kind::Function, tag, parts)?;
+    let mut params = List::new(alloc);
+    params.push(param)?;
+    view.call = Call::of(alloc, CallShape { outcome, params })?;
+    Ok(view)
+}
+
+// Of a function whose result went to memory and whose parameter went to the stack, the row says this of a part.
+fn says_of_place(
+    rt: &impl Abort,
+    alloc: Global,
+    part: usize,
+    wanted: &str,
+) -> Result<(), NoMemory> {
+    let old = function(alloc, b"", register(6), register(0))?;
+    let stack = Place::Stack {
+        offset: 0,
+        size: 24,
+    };
+    let new = function(alloc, b"", Place::Hidden, stack)?;
+    says(
+        rt,
+        &at_part(rt, alloc, Rule::PassingPlace, part, &old, &new)?,
+        wanted,
+    );
+    Ok(())
+}
+
+#[test]
+fn places(rt: HostRuntime) -> Result<(), Fail> {
+    let alloc = rt.alloc();
+    says_of_place(&rt, alloc, 0, "result in rax, now memory")?;
+    says_of_place(&rt, alloc, 1, "param 1 in rdi, now stack+0:24")?;
+    Ok(())
+}
+
+// An export of a version.
+fn export<'a>(name: &'a [u8], version: &'a [u8], kind: SymbolKind, size: u64) -> Export<'a> {
+    Export {
+        symbol: 1,
+        name,
+        version: Some(version),
+        index: 2,
+        hidden: true,
+        kind,
+        absolute: false,
+        value: 0,
+        size,
+        declared: name,
+        entry: 0,
+    }
+}
+
+#[test]
+fn exports(rt: HostRuntime) -> Result<(), Fail> {
+    let alloc = rt.alloc();
+    let old = export(b"f", b"V1", SymbolKind::Func, 4);
+    let new = export(b"f", b"V1", SymbolKind::Tls, 8);
+    let rows = [
+        (Rule::ExportPresence, "gone"),
+        (Rule::ExportVersion, "version gone"),
+        (Rule::ExportKind, "kind FUNC, now TLS"),
+        (Rule::ExportSize, "object size 4, now 8"),
+        (Rule::ExportType, "type gone"),
+    ];
+    for (rule, wanted) in &rows {
+        let row = export_row(alloc, *rule, &old, &new)?;
+        assert_eq!(rt; row.export.as_slice(), b"f@V1".as_slice());
+        says(&rt, &row, wanted);
+    }
+    let row = soname_row(alloc, Some(b"libx.so.1"), None)?;
+    assert_eq!(rt; row.export.as_slice(), b"-".as_slice());
+    says(&rt, &row, "SONAME libx.so.1, now none");
+    Ok(())
+}

@@ -1,0 +1,242 @@
+// Reports on small libraries, by hand.
+ghost use Rattle.std.specs.Prelude.{◌≡◌, ◌<◌, IfOk};
+ghost use Rattle.cert_check.specs.Compatible.{sides, task_of};
+ghost use Rattle.pair_compare.specs.reports.TypeFindings.{IsExplored};
+ghost use Rattle.elf_bind.specs.Binding.{bind_each};
+
+use crate::spelled::spelled_graph;
+use abi_base::{List, NoMemory};
+use abi_types::{Export, Graph, Index, Library, Marks, NewIx, OldIx, SymbolKind};
+use elf_bind::bind_all;
+use pair_compare::reports::laws::alike_types_are_explored;
+use pair_compare::reports::{compared_roots, report_rows};
+use pair_explorer::{Explored, explore, is_scope};
+use pair_rules::Steps;
+use report::Row;
+use std::alloc::Global;
+use std::fmt::Write;
+use std::marker::Brand;
+use std::process::Abort;
+use std::sync::ledger::{Blank, Ledger};
+use std::test::Fail;
+use test_graphs::is_library;
+use type_classes::alike;
+
+// Each line: what is compared | the old types | the new types | the old exports | the new exports | the rows.
+// Types are as `spelled_graph` takes them. An export is its name, its version, its kind, its size and its type, behind a minus where a
+// rule drops it. The soname stands before the exports.
+const ROWS: &str = "\
+a longer member|int:4;struct:16 n@0>3 v@64>1;ptr >2;fn >1=6 >3=0|int:4;struct:16 n@0>3 v@64>5;ptr >2;fn >1=6 >3=0;int:8|a.so len::f:0:4|a.so len::f:0:4|L2 len param 1 / target / member v: size 4, now 8
+a ring of two in the place of itself|int:4;ptr >3;struct:16 n@0>4 v@64>1;ptr >5;struct:16 n@0>2 v@64>1;fn >0=- >2=0|int:4;ptr >3;struct:16 n@0>4 v@64>1;ptr >5;struct:16 n@0>2 v@64>1;fn >0=- >2=0|a.so walk::f:0:6|a.so walk::f:0:6|
+a ring of three with a longer member in the third|int:4;ptr >3;struct:16 n@0>4 v@64>1;ptr >5;struct:16 n@0>2 v@64>1;fn >0=- >2=0|int:4;ptr >3;struct:16 n@0>4 v@64>1;ptr >5;struct:16 n@0>6 v@64>1;ptr >7;struct:16 n@0>2 v@64>9;fn >0=- >2=0;int:8|a.so walk::f:0:6|a.so walk::f:0:8|L2 walk param 1 / target / member n / target / member n / target / member v: size 4, now 8
+a union by value|int:8;union:8 d@0>1;fn >0=- >2=x0|int:8;union:8 d@0>1 l@0>1;fn >0=- >2=0|a.so g::f:0:3|a.so g::f:0:3|L14 g: param 1 in xmm0, now rdi
+by value and through a pointer|int:4;struct:8 x@0>1;ptr >2;fn >0=- >3=0 >2=1|int:4;struct:16 x@64>1;ptr >2;fn >0=- >3=0 >2=1|a.so f::f:0:4|a.so f::f:0:4|L2 f param 2: size 8, now 16; L7 f param 2: member x at bit 0, now 64
+the shorter path from a later export|int:4;struct:8 x@0>1;ptr >2;fn >0=- >3=0;fn >0=- >2=0|int:4;struct:16 x@0>1;ptr >2;fn >0=- >3=0;fn >0=- >2=0|a.so a::f:0:4 b::f:0:5|a.so a::f:0:4 b::f:0:5|L2 b param 1: size 8, now 16
+sonames and exports|int:4|int:4|a.so.1 gone::f:0:0 two:V1:f:0:0 kind::f:0:0 size::o:4:0 typed::o:4:1 -left::f:0:0|a.so.2 two:V2:f:0:0 kind::o:0:0 size::o:8:0 typed::o:4:0|X1 -: SONAME a.so.1, now a.so.2; X2 gone: gone; X3 two@@V1: version gone; X4 kind: kind FUNC, now OBJECT; X5 size: object size 4, now 8; X6 typed: type gone
+";
+
+// The graph of the types of a cell.
+fn graph<'a, Ix: Index>(
+    rt: &impl Abort,
+    alloc: Global,
+    cell: &'a str,
+) -> Result<Graph<'a, Ix>, NoMemory> {
+    match spelled_graph(alloc, cell)? {
+        Some(graph) => Ok(graph),
+        None => panic!(rt; "{cell}"),
+    }
+}
+
+fn symbol_kind(word: &str) -> SymbolKind {
+    match word {
+        "f" => SymbolKind::Func,
+        _ => SymbolKind::Object,
+    }
+}
+
+fn export<'a>(symbol: u32, word: &'a str) -> Export<'a> {
+    let mut cells = word.split(':');
+    let name = cells.next().unwrap_or("").as_bytes();
+    let version = cells.next().unwrap_or("").as_bytes();
+    let kind = symbol_kind(cells.next().unwrap_or(""));
+    let size = cells.next().unwrap_or("").parse().unwrap_or(0);
+    let entry: u64 = cells.next().unwrap_or("").parse().unwrap_or(0);
+    Export {
+        symbol,
+        name,
+        version: if version.is_empty() {
+            None
+        } else {
+            Some(version)
+        },
+        index: 1,
+        hidden: false,
+        kind,
+        absolute: false,
+        value: 0x1000,
+        size,
+        declared: name,
+        entry: entry.saturating_mul(10),
+    }
+}
+
+fn exports<'a>(alloc: Global, cell: &'a str) -> Result<List<Export<'a>>, NoMemory> {
+    let mut exports = List::new(alloc);
+    let mut symbol = 0u32;
+    for word in cell.split_whitespace().skip(1) {
+        symbol = symbol.saturating_add(1);
+        let name = word.strip_prefix('-').unwrap_or(word);
+        exports.push(export(symbol, name))?;
+    }
+    Ok(exports)
+}
+
+fn library<'a, Ix: Index>(
+    rt: &impl Abort,
+    alloc: Global,
+    types: &'a str,
+    cell: &'a str,
+) -> Result<Library<'a, Ix>, NoMemory> {
+    let graph = graph::<Ix>(rt, alloc, types)?;
+    let exports = exports(alloc, cell)?;
+    let is_made = is_library(exports.as_slice(), &graph);
+    assert!(rt; is_made, "{cell}");
+    let soname = cell.split_whitespace().next().unwrap_or("");
+    Library::new(alloc, b"", Some(soname.as_bytes()), exports, graph)
+}
+
+fn no_flags(alloc: Global, count: usize) -> Result<List<bool>, NoMemory> {
+    let mut flags = List::new(alloc);
+    for _ in 0..count {
+        flags.push(false)?;
+    }
+    Ok(flags)
+}
+
+fn marks(alloc: Global, cell: &str, nodes: usize) -> Result<Marks, NoMemory> {
+    let mut dropped = List::new(alloc);
+    for word in cell.split_whitespace().skip(1) {
+        dropped.push(word.starts_with('-'))?;
+    }
+    Ok(Marks {
+        digest: [0; 32],
+        exports: dropped,
+        direct: no_flags(alloc, nodes)?,
+        pointer: no_flags(alloc, nodes)?,
+    })
+}
+
+// What an exploration of the types over the classes of alike ones finds.
+fn explored<L: Ledger>(
+    rt: &impl Abort,
+    alloc: Global,
+    blank: Blank,
+    old: &Library<OldIx>,
+    new: &Library<NewIx>,
+    marks: &Marks,
+    bound: &[Option<usize>],
+) -> Result<Explored, NoMemory>
+    requires name { blank.name ≡ L.name }
+    requires parts { blank.parts ≡ L.parts }
+    requires some { 0 < blank.parts }
+    requires bound { bound.now ≡ bind_each old.now.exports new.now.exports }
+    ensures { IfOk result (λ e. IsExplored (task_of (sides old.now new.now marks.now)) e.visits e.breaks) }
+{
+    alike_types_are_explored();
+    let old_graph = old.graph();
+    let new_graph = new.graph();
+    old_graph.known();
+    new_graph.known();
+    let old_classes = alike(alloc, old_graph)?;
+    let new_classes = alike(alloc, new_graph)?;
+    old_classes.known();
+    new_classes.known();
+    let roots = compared_roots(alloc, old, new, marks, bound)?;
+    let roots = roots.as_slice();
+    assert!(rt;
+        is_scope(
+            old_graph,
+            new_graph,
+            roots,
+            marks,
+            &old_classes,
+            &new_classes
+        )
+    );
+    let mut steps = Steps::<L>::new(blank);
+    explore(
+        alloc,
+        old_graph,
+        new_graph,
+        roots,
+        marks,
+        &old_classes,
+        &new_classes,
+        &mut steps,
+    )
+}
+
+fn push_row(rt: &impl Abort, text: &mut String, row: &Row) -> Result<(), NoMemory> {
+    let between = if text.is_empty() { "" } else { "; " };
+    let rule = row.rule.word();
+    let utf8 = (
+        str::from_utf8(row.export.as_slice()),
+        str::from_utf8(row.path.as_slice()),
+        str::from_utf8(row.detail.as_slice()),
+    );
+    match utf8 {
+        (Ok(export), Ok(path), Ok(detail)) => {
+            let space = if path.is_empty() { "" } else { " " };
+            write!(text, "{between}{rule} {export}{space}{path}: {detail}")?;
+        }
+        _ => panic!(rt; "no text"),
+    }
+    Ok(())
+}
+
+// The rows between two libraries.
+fn told(
+    rt: &impl Abort,
+    alloc: Global,
+    old: &Library<OldIx>,
+    new: &Library<NewIx>,
+    marks: &Marks,
+) -> Result<String, NoMemory> {
+    let bound = bind_all(alloc, old.exports(), new.exports())?;
+    let bound = bound.as_slice();
+    let explored = explored::<Brand>(rt, alloc, Blank::new(1), old, new, marks, bound)?;
+    let rows = report_rows(alloc, old, new, marks, bound, &explored)?;
+    let mut text = String::new(alloc);
+    for row in rows.as_slice() {
+        push_row(rt, &mut text, row)?;
+    }
+    Ok(text)
+}
+
+// Checks a line.
+fn check(rt: &impl Abort, alloc: Global, line: &str) -> Result<(), NoMemory> {
+    let mut cells = line.split('|');
+    let what = cells.next().unwrap_or("");
+    let old_types = cells.next().unwrap_or("");
+    let new_types = cells.next().unwrap_or("");
+    let old_exports = cells.next().unwrap_or("");
+    let new_exports = cells.next().unwrap_or("");
+    let wanted = cells.next().unwrap_or("");
+    let old = library::<OldIx>(rt, alloc, old_types, old_exports)?;
+    let new = library::<NewIx>(rt, alloc, new_types, new_exports)?;
+    let marks = marks(alloc, old_exports, old.graph().len())?;
+    let text = told(rt, alloc, &old, &new, &marks)?;
+    assert_eq!(rt; text.as_str(), wanted, "{what}");
+    Ok(())
+}
+
+#[test]
+fn libraries_have_these_rows(rt: HostRuntime) -> Result<(), Fail> {
+    let mut count = 0u32;
+    for line in ROWS.lines() {
+        check(&rt, rt.alloc(), line)?;
+        count = count.saturating_add(1);
+    }
+    assert_eq!(rt; count, 7);
+    Ok(())
+}

@@ -1,0 +1,156 @@
+// Graphs that are spelled in words, for rows of tests.
+use abi_base::{List, NoMemory};
+use abi_types::{Call, CallShape, Graph, Group, Index, Kind, Node, Part, Parts, Place, Slot, View};
+use std::alloc::Global;
+use test_graphs::graph;
+
+// A number in decimal, and 0 where it is none.
+fn number(text: &str) -> usize {
+    text.parse().unwrap_or(0)
+}
+
+// The kind of a type, by the word that it begins with.
+fn kind(word: &str) -> Kind {
+    match word {
+        "int" => Kind::Scalar,
+        "ptr" => Kind::Pointer,
+        "struct" => Kind::Structure,
+        "union" => Kind::Union,
+        "fn" => Kind::Function,
+        _ => Kind::Void,
+    }
+}
+
+// A scalar is a signed number.
+fn group(kind: Kind) -> Group {
+    match kind {
+        Kind::Scalar => Group::Signed,
+        _ => Group::Bool,
+    }
+}
+
+// In bytes.
+fn size(kind: Kind, text: &str) -> u64 {
+    match kind {
+        Kind::Pointer => 8,
+        _ => text.parse().unwrap_or(0),
+    }
+}
+
+// No type here is by value in one of its own kind.
+fn rank(kind: Kind) -> u32 {
+    match kind {
+        Kind::Structure | Kind::Union => 1,
+        Kind::Function => 2,
+        _ => 0,
+    }
+}
+
+// What a word of a type of this kind leads to, as the part at this position.
+fn part<'a, Ix: Index>(kind: Kind, position: usize, word: &'a str) -> Part<'a, Ix> {
+    let (place, to) = word.split_once('>').unwrap_or((word, ""));
+    let (name, bit) = place.split_once('@').unwrap_or((place, ""));
+    let (to, _) = to.split_once('=').unwrap_or((to, ""));
+    let to = Ix::of(number(to));
+    match kind {
+        Kind::Structure | Kind::Union => Part::Member {
+            name: name.as_bytes(),
+            bit: bit.parse().unwrap_or(0),
+            width: 0,
+            to,
+        },
+        Kind::Pointer => Part::Target { to },
+        _ => {
+            if position == 0 {
+                Part::Outcome { to }
+            } else {
+                Part::Param { to }
+            }
+        }
+    }
+}
+
+// The register of a result or a parameter.
+fn place(word: &str) -> Place {
+    let (_, register) = word.split_once('=').unwrap_or((word, "-"));
+    let (vector, general) = register.split_once('x').unwrap_or(("-", register));
+    let mut eightbytes = [Slot::Unused; 8];
+    if general == "-" {
+        return Place::Nothing;
+    }
+    let number: u8 = general.parse().unwrap_or(0);
+    eightbytes[0] = if vector == "-" {
+        Slot::General(number)
+    } else {
+        Slot::Vector(number)
+    };
+    Place::Registers { eightbytes }
+}
+
+// The places of the parameters among some words, the first of which is of the result.
+fn params(alloc: Global, words: &str) -> Result<List<Place>, NoMemory> {
+    let mut params = List::new(alloc);
+    for word in words.split_whitespace().skip(2) {
+        params.push(place(word))?;
+    }
+    Ok(params)
+}
+
+// The node of a type.
+fn node<'a, Ix: Index>(alloc: Global, entry: u64, text: &'a str) -> Result<Node<'a, Ix>, NoMemory> {
+    let mut words = text.split_whitespace();
+    let first = words.next().unwrap_or("");
+    let (word, bytes) = first.split_once(':').unwrap_or((first, ""));
+    let kind = kind(word);
+    let mut parts = Vec::new(alloc);
+    for word in words {
+        let part = part(kind, parts.len(), word);
+        parts.push(part)?;
+    }
+    let outcome = match kind {
+        Kind::Function => place(text.split_whitespace().nth(1).unwrap_or("")),
+        _ => Place::Nothing,
+    };
+    let params = match kind {
+        Kind::Function => params(alloc, text)?,
+        _ => List::new(alloc),
+    };
+    Ok(Node {
+        entry,
+        rank: rank(kind),
+        view: View {
+            kind,
+            declared_only: false,
+            tag: &[],
+            size: size(kind, bytes),
+            group: group(kind),
+            align: 0,
+            count: 0,
+            variadic: false,
+            parts: Parts::of(alloc, parts)?,
+            call: Call::of(alloc, CallShape { outcome, params })?,
+        },
+        labels: List::new(alloc),
+    })
+}
+
+/// The graph that a line spells, or `None` where it spells none. Types stand behind one another with a semicolon between; the
+/// first has number 1, as 0 is void, and the entry of each is ten times its number. A type is its kind (`int`, `ptr`, `struct`,
+/// `union`, `fn`), a colon and its size in bytes, and its parts: a member as its name, `@` and its bit, `>` and the number of its
+/// type; a target as `>` and the number alone; the result of a function and then its parameters as `>` and the number, where
+/// wanted with `=` and the register, a vector one with `x`.
+pub(crate) fn spelled_graph<'a, Ix: Index>(
+    alloc: Global,
+    line: &'a str,
+) -> Result<Option<Graph<'a, Ix>>, NoMemory> {
+    let mut nodes = List::new(alloc);
+    let void = node(alloc, 0, "")?;
+    nodes.push(void)?;
+    let mut entry = 0u64;
+    for text in line.split(';') {
+        entry = entry.saturating_add(10);
+        let next = node(alloc, entry, text)?;
+        nodes.push(next)?;
+    }
+    graph(alloc, nodes)
+}

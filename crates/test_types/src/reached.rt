@@ -1,0 +1,126 @@
+use crate::sections::dwarf;
+use abi_base::{Fault, FaultKind, NoMemory, Refusal};
+use dwarf_entries::Dwarf;
+use std::alloc::Global;
+use std::test::*;
+use type_reach::*;
+
+// The abbreviations of a unit, of a base type, of a function, and of a typedef.
+const ABBREVS: &[u8] = b"\x01\x11\x01\x13\x05\x00\x00\x02\x24\x00\x0b\x0b\x3e\x0b\x03\x08\x00\x00\
+\x03\x2e\x00\x03\x08\x49\x13\x11\x01\x00\x00\x04\x16\x00\x03\x08\x49\x13\x00\x00\x00";
+
+// A function at 22 that gives an `int`, which stands at 15.
+const FUNCTION: &[u8] =
+    b"\x22\x00\x00\x00\x05\x00\x01\x08\x00\x00\x00\x00\x01\x0c\x00\x02\x04\x05int\x00\
+\x03f\x00\x0f\x00\x00\x00\x00\x10\x00\x00\x00\x00\x00\x00\x00";
+
+// The same with a typedef at 15 whose type it is itself.
+const CIRCLE: &[u8] =
+    b"\x22\x00\x00\x00\x05\x00\x01\x08\x00\x00\x00\x00\x01\x0c\x00\x04t\x00\x0f\x00\x00\x00\
+\x03f\x00\x0f\x00\x00\x00\x00\x10\x00\x00\x00\x00\x00\x00\x00";
+
+// The abbreviations of a unit, of a base type, of a structure, of a bit field by bit_offset, of a declared structure, of an
+// array, of a dimension by its count, of one by its upper bound, and of a typedef.
+const MORE_ABBREVS: &[u8] =
+    b"\x01\x11\x01\x13\x05\x00\x00\x02\x24\x00\x0b\x0b\x3e\x0b\x03\x08\x00\x00\
+\x03\x13\x01\x0b\x0b\x00\x00\x04\x0d\x00\x03\x08\x49\x13\x0d\x0b\x0c\x0b\x38\x0b\x00\x00\x05\x13\x00\x3c\x19\x00\x00\
+\x06\x01\x01\x49\x13\x00\x00\x07\x21\x00\x37\x07\x00\x00\x08\x21\x00\x2f\x0d\x00\x00\x09\x16\x00\x03\x08\x49\x13\x00\x00\x00";
+
+// `int` at 15; `struct { int a : 3; int b : 5; }` at 22, as version 3 spells it; a declared structure at 45; an array of it of
+// 2^32 times 2^32 at 46; `int [4]` at 70, by an upper bound of 3; and a typedef of that at 78.
+const TYPES: &[u8] =
+    b"\x52\x00\x00\x00\x05\x00\x01\x08\x00\x00\x00\x00\x01\x0c\x00\x02\x04\x05int\x00\
+\x03\x04\x04a\x00\x0f\x00\x00\x00\x03\x1d\x00\x04b\x00\x0f\x00\x00\x00\x05\x18\x00\x00\
+\x05\x06\x2d\x00\x00\x00\x07\x00\x00\x00\x00\x01\x00\x00\x00\x07\x00\x00\x00\x00\x01\x00\x00\x00\x00\
+\x06\x0f\x00\x00\x00\x08\x03\x00\x09t\x00\x46\x00\x00\x00\x00";
+
+// What is reached from the entry at an offset, in order of offset.
+fn listed(alloc: Global, dwarf: &Dwarf, offset: u64) -> Result<ReachedEntries, NoMemory> {
+    match dwarf.find(offset) {
+        Some(root) => reached(alloc, dwarf, &[root]),
+        None => reached(alloc, dwarf, &[]),
+    }
+}
+
+// The offsets of what was found.
+fn offsets(alloc: Global, dwarf: &Dwarf, found: &ReachedEntries) -> Result<Vec<u64>, NoMemory> {
+    let mut offsets = Vec::new(alloc);
+    for number in 0..found.len() {
+        let e = found.at(number);
+        if e < dwarf.len() {
+            offsets.push(dwarf.offset(e))?;
+        }
+    }
+    Ok(offsets)
+}
+
+// The facts of the entry at an offset.
+fn facts(alloc: Global, dwarf: &Dwarf, offset: u64) -> Result<Option<Facts>, Refusal> {
+    let Some(root) = dwarf.find(offset) else {
+        return Ok(None);
+    };
+    let found = reached(alloc, dwarf, &[root])?;
+    let leads = type_references_of(alloc, dwarf, &found)?;
+    let all = learn_all(alloc, dwarf, &found, &leads)?;
+    match found.number(root) {
+        Some(number) => Ok(all.get(number).copied()),
+        None => Ok(None),
+    }
+}
+
+#[test]
+fn a_function_leads_to_its_type(rt: HostRuntime) -> Result<(), Fail> {
+    let alloc = rt.alloc();
+    let dwarf = dwarf(alloc, ABBREVS, FUNCTION)?;
+    let found = listed(alloc, &dwarf, 22)?;
+    assert_eq!(rt;
+        offsets(alloc, &dwarf, &found)?.as_slice(),
+        [15, 22].as_slice()
+    );
+    Ok(())
+}
+
+#[test]
+fn a_typedef_of_itself_is_too_deep(rt: HostRuntime) -> Result<(), Fail> {
+    let alloc = rt.alloc();
+    let dwarf = dwarf(alloc, ABBREVS, CIRCLE)?;
+    match facts(alloc, &dwarf, 22) {
+        Err(Refusal::Fault(fault)) => {
+            assert_eq!(rt;
+                fault,
+                Fault {
+                    kind: FaultKind::TooDeep,
+                    at: 15
+                }
+            );
+        }
+        _ => assert!(rt; false),
+    }
+    Ok(())
+}
+
+#[test]
+fn facts_of_types(rt: HostRuntime) -> Result<(), Fail> {
+    let alloc = rt.alloc();
+    let dwarf = dwarf(alloc, MORE_ABBREVS, TYPES)?;
+    // offset, size, count, weight, rank
+    let rows: [(u64, u64, u64, u64, u32); 6] = [
+        (15, 4, 0, 1, 0),
+        (22, 4, 0, 3, 1),
+        (45, 0, 0, 1, 0),
+        (46, 0, u64::MAX, 2, 1),
+        (70, 16, 4, 2, 1),
+        (78, 16, 4, 3, 2),
+    ];
+    for (offset, size, count, weight, rank) in rows {
+        let one = facts(alloc, &dwarf, offset)?.ok_or("no facts")?;
+        assert_eq!(rt;
+            (one.size, one.count, one.weight, one.rank),
+            (size, count, weight, rank),
+            "at {offset}"
+        );
+    }
+    let bits = facts(alloc, &dwarf, 22)?.ok_or("no facts")?;
+    assert_eq!(rt; bits.span, Some(Span { low: 0, high: 3 }));
+    Ok(())
+}

@@ -1,0 +1,113 @@
+use crate::sections::dwarf;
+use abi_base::{Fault, FaultKind, NoMemory, Refusal};
+use abi_types::{Graph, Index, OldIx, Part};
+use dwarf_entries::Dwarf;
+use std::alloc::Global;
+use std::test::*;
+use type_graph::raw_graph;
+
+// The abbreviations of a unit, of a base type, of a structure, of a nameless one, of a member, of a nameless one, of a typedef,
+// and of a qualifier.
+const ABBREVS: &[u8] = b"\x01\x11\x01\x13\x05\x00\x00\x02\x24\x00\x0b\x0b\x3e\x0b\x03\x08\x00\x00\
+\x03\x13\x01\x03\x08\x0b\x0b\x00\x00\x04\x13\x01\x0b\x0b\x00\x00\x05\x0d\x00\x03\x08\x49\x13\x38\x0b\x00\x00\
+\x06\x0d\x00\x49\x13\x38\x0b\x00\x00\x07\x16\x00\x03\x08\x49\x13\x00\x00\x08\x26\x00\x49\x13\x00\x00\x00";
+
+// `int` at 15; `struct p { int a; struct { int b; }; }` at 22, with the inner structure at 34; `const struct p` at 52; and
+// `typedef const struct p t` at 57.
+const TYPES: &[u8] =
+    b"\x3d\x00\x00\x00\x05\x00\x01\x08\x00\x00\x00\x00\x01\x0c\x00\x02\x04\x05int\x00\
+\x03p\x00\x08\x05a\x00\x0f\x00\x00\x00\x00\x04\x04\x05b\x00\x0f\x00\x00\x00\x00\x00\x06\x22\x00\x00\x00\x04\x00\
+\x08\x16\x00\x00\x00\x07t\x00\x34\x00\x00\x00\x00";
+
+// The same with an encoding of `int` that is none.
+const NO_ENCODING: &[u8] =
+    b"\x3d\x00\x00\x00\x05\x00\x01\x08\x00\x00\x00\x00\x01\x0c\x00\x02\x04\x00int\x00\
+\x03p\x00\x08\x05a\x00\x0f\x00\x00\x00\x00\x04\x04\x05b\x00\x0f\x00\x00\x00\x00\x00\x06\x22\x00\x00\x00\x04\x00\
+\x08\x16\x00\x00\x00\x07t\x00\x34\x00\x00\x00\x00";
+
+// The graph of what is reached from the entry at an offset.
+fn graph<'a>(alloc: Global, dwarf: &Dwarf<'a>, offset: u64) -> Result<Graph<'a, OldIx>, Refusal> {
+    match dwarf.find(offset) {
+        Some(root) => raw_graph(alloc, dwarf, &[root]),
+        None => raw_graph(alloc, dwarf, &[]),
+    }
+}
+
+// The size, the rank, and how many labels and parts the node of an entry has.
+fn node(graph: &Graph<OldIx>, offset: u64) -> Option<(u64, u32, usize, usize)> {
+    let ix = graph.find(offset)?;
+    let view = graph.view(ix);
+    Some((
+        view.size,
+        graph.rank(ix),
+        graph.labels(ix).len(),
+        view.parts_len(),
+    ))
+}
+
+// Where the members of a type begin, and the entries of their types.
+fn members(alloc: Global, graph: &Graph<OldIx>, offset: u64) -> Result<Vec<(u64, u64)>, NoMemory> {
+    let mut members = Vec::new(alloc);
+    if let Some(ix) = graph.find(offset) {
+        let view = graph.view(ix);
+        for k in 0..view.parts_len() {
+            if let Part::Member { bit, to, .. } = view.part(k) {
+                members.push((*bit, entry(graph, *to)))?;
+            }
+        }
+    }
+    Ok(members)
+}
+
+// The entry of a node; 0 where there is no such node.
+fn entry(graph: &Graph<OldIx>, ix: OldIx) -> u64 {
+    if ix.number() < graph.len() {
+        graph.entry_of(ix)
+    } else {
+        0
+    }
+}
+
+#[test]
+fn a_graph_of_types(rt: HostRuntime) -> Result<(), Fail> {
+    let alloc = rt.alloc();
+    let dwarf = dwarf(alloc, ABBREVS, TYPES)?;
+    let graph = graph(alloc, &dwarf, 57)?;
+    // offset; size, rank, labels, parts
+    let rows: [(u64, (u64, u32, usize, usize)); 6] = [
+        (0, (0, 0, 0, 0)),
+        (15, (4, 0, 1, 0)),
+        (22, (8, 2, 1, 2)),
+        (34, (4, 1, 1, 1)),
+        (52, (8, 3, 1, 2)),
+        (57, (8, 4, 2, 2)),
+    ];
+    assert_eq!(rt; graph.len(), 6);
+    for (offset, row) in rows {
+        assert_eq!(rt; node(&graph, offset), Some(row), "at {offset}");
+    }
+    assert_eq!(rt;
+        members(alloc, &graph, 57)?.as_slice(),
+        [(0, 15), (32, 15)].as_slice()
+    );
+    Ok(())
+}
+
+#[test]
+fn a_base_type_wants_its_encoding(rt: HostRuntime) -> Result<(), Fail> {
+    let alloc = rt.alloc();
+    let dwarf = dwarf(alloc, ABBREVS, NO_ENCODING)?;
+    match graph(alloc, &dwarf, 57) {
+        Err(Refusal::Fault(fault)) => {
+            assert_eq!(rt;
+                fault,
+                Fault {
+                    kind: FaultKind::Shape,
+                    at: 15
+                }
+            );
+        }
+        _ => assert!(rt; false),
+    }
+    Ok(())
+}

@@ -1,0 +1,121 @@
+//! Prints the exports of a library and the graph of their types, so that `tests/typed_exports.sh` and `tests/typed_graphs.sh` can
+//! compare them with what readelf lists and with what a compiler says of the same types.
+//!
+//! The lines of an export and of a node are
+//!
+//!     export LABEL entry OFFSET named NAME
+//!     node OFFSET KIND size BYTES align BYTES count N [group GROUP] [declared] [variadic] tag TAG labels [KIND:NAME ..]
+//!
+//! in order of symbols and of nodes, and below that of a node stand those of its parts:
+//!
+//!     member NAME bit BIT width BITS to OFFSET
+//!     enumerator NAME VALUE
+//!     target OFFSET
+//!     element OFFSET
+//!     result OFFSET
+//!     param OFFSET
+//!
+//! An offset is that of an entry, and 0 is void; of an export it is 0 where it has no entry. The name of an export is that of its
+//! entry, or of its symbol where it has none. A name is in its printed form, and `-` where it is empty.
+//!
+//! usage: graph_lines LIBRARY
+#![tactic(auto)]
+
+ghost use Rattle.std.specs.Prelude.{◌≤◌, length};
+ghost use Rattle.abi_base.specs.declared.TheConstants.{INPUT_LIMIT};
+
+mod lines;
+mod words;
+
+use abi_base::{
+    Fault, FileInputs, INPUT_LIMIT, Refusal, Sink, StdSink, Take, WriteFailed, read_whole,
+    write_all,
+};
+use abi_types::{Library, OldIx};
+use library_read::read_library;
+use lines::{push_exports, push_graph};
+use std::alloc::{AllocError, Global};
+use std::process::ExitCode;
+use std::rt::{Env, Files};
+use std::{env, io};
+use thiserror::Error;
+
+// Why nothing is printed.
+#[derive(Debug, Drop, Error)]
+enum Stop {
+    #[error("usage: graph_lines LIBRARY")]
+    Words,
+    #[error("the library could not be taken in")]
+    Input,
+    #[error("unreadable {} {}", .0.kind.number(), .0.at)]
+    Fault(Fault),
+    #[error("out of memory")]
+    NoMemory,
+    #[error("the output failed")]
+    Output,
+}
+
+impl From<Refusal> for Stop {
+    fn from(refusal: Refusal) -> Stop {
+        match refusal {
+            Refusal::Fault(fault) => Stop::Fault(fault),
+            Refusal::NoMemory => Stop::NoMemory,
+        }
+    }
+}
+
+impl From<AllocError> for Stop {
+    fn from(_: AllocError) -> Stop {
+        Stop::NoMemory
+    }
+}
+
+// Prints the lines of a library.
+fn print_library<S: Sink>(alloc: Global, bytes: &[u8], sink: &mut S) -> Result<(), Stop>
+    requires { length bytes.now ≤ INPUT_LIMIT }
+{
+    let library: Library<'_, OldIx> = read_library(alloc, bytes)?;
+    let mut text = String::new(alloc);
+    push_exports(alloc, &mut text, library.exports())?;
+    push_graph(alloc, &mut text, library.graph())?;
+    match write_all(sink, text.as_bytes()) {
+        Ok(()) => Ok(()),
+        Err(WriteFailed) => Err(Stop::Output),
+    }
+}
+
+fn list<R: Files + Print + Env + AllocGlobal>(rt: &R) -> Result<(), Stop> {
+    let path = match library_word(rt) {
+        Ok(Some(path)) => path,
+        Ok(None) => return Err(Stop::Words),
+        Err(_) => return Err(Stop::Words),
+    };
+    let mut inputs = FileInputs::new(rt);
+    let bytes = match read_whole(rt.alloc(), &mut inputs, path.as_str(), INPUT_LIMIT) {
+        Ok(bytes) => bytes,
+        Err(Take::NoMemory) => return Err(Stop::NoMemory),
+        Err(_) => return Err(Stop::Input),
+    };
+    let mut sink = StdSink::new(rt);
+    print_library(rt.alloc(), &bytes, &mut sink)
+}
+
+// The one word that is given.
+fn library_word<R: Env + AllocGlobal>(rt: &R) -> io::Result<Option<String>> {
+    let mut words = env::args(rt)?.skip(1);
+    let library = words.next();
+    match words.next() {
+        None => Ok(library),
+        Some(_) => Ok(None),
+    }
+}
+
+fn main(rt: HostRuntime) -> ExitCode {
+    match list(&rt) {
+        Ok(()) => ExitCode::SUCCESS,
+        Err(stop) => {
+            let _ = println!(rt; "{stop}");
+            ExitCode::FAILURE
+        }
+    }
+}

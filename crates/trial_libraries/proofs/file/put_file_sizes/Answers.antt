@@ -1,0 +1,8 @@
+use Rattle.std.proofs.Common.{append_assoc, rules}
+use Rattle.std.proofs.lemmas.Result.{IfOk-equal}
+use Rattle.trial_libraries.specs.Libraries.{file_sizes}
+use Rattle.trial_libraries.proofs.file.put_file_sizes.Goals as goal
+
+pub returns : goal.returns
+unfolding file_sizes
+returns c = search (rules, IfOk-equal, append_assoc)

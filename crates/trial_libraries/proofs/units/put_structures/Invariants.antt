@@ -1,0 +1,7 @@
+use Rattle.std.proofs.Common.{◌≡◌, ◌++◌}
+use Rattle.std.specs.List.{flat_map, range_with_len}
+use Rattle.trial_libraries.specs.Units.{structure}
+use Rattle.trial_libraries.proofs.units.put_structures.Given as goal
+
+abbrev pub invariant-loop-number : goal.invariant-loop-number
+invariant-loop-number l = l.body.items ≡ l.initial.body.items ++ flat_map (structure l.ring) (range_with_len 0 l.number)

@@ -1,0 +1,27 @@
+//! What made libraries are. Each law is the contract of a function whose body does nothing.
+ghost use Rattle.std.specs.Prelude.{◌≡◌, ◌≤◌, ◌<◌, ℕ, length};
+ghost use Rattle.std.specs.List.{flat_map, range_with_len};
+ghost use Rattle.abi_base.specs.Limits.{input_limit};
+ghost use Rattle.trial_libraries.specs.declared.making.Side.{Side as AnySide};
+ghost use Rattle.trial_libraries.specs.Libraries.{library};
+ghost use Rattle.trial_libraries.specs.Units.{HasAt, functions_of, int, int_place, pointer, pointer_place, structure, structure_place, unit, unit_count};
+
+use crate::making::MOST_FUNCTIONS;
+
+/// A made library may be an input.
+pub fn made_libraries_are_no_longer_than_inputs()
+    ensures { (n : ℕ) (side : AnySide) → n ≤ MOST_FUNCTIONS → length (library n side) ≤ input_limit }
+{}
+
+/// The units of a made library have each of its functions once, in order.
+pub fn units_have_each_function_once()
+    ensures { (n : ℕ) → flat_map (functions_of n) (range_with_len 0 (unit_count n)) ≡ range_with_len 0 n }
+{}
+
+/// The places that references say are those where the entries stand: in each unit, `int`, each pointer of its ring and each
+/// structure.
+pub fn references_lead_to_entries()
+    ensures int { (n k u : ℕ) → HasAt (unit n k u) int_place int }
+    ensures pointers { (n k u j : ℕ) → j < k → HasAt (unit n k u) (pointer_place j) (pointer k j) }
+    ensures structures { (n k u j : ℕ) → j < k → HasAt (unit n k u) (structure_place k j) (structure k j) }
+{}

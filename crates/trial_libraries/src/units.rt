@@ -1,0 +1,253 @@
+// The debug units of a made library.
+ghost use Rattle.std.specs.Prelude.{◌≡◌, ◌≤◌, ◌<◌, ◌+◌, ◌^◌, ◌++◌, length, OnOk, IfOk};
+ghost use Rattle.std.specs.List.{flat_map, range_with_len};
+ghost use Rattle.trial_libraries.specs.Units.{entries, function, functions_of, int, member, parameter, parameters, pointer, pointer_place, ring_length, root, structure, structure_place, unit_count, unit_of, units};
+
+use crate::abbreviations::{BASE, FUNCTION, MEMBER, PARAMETER, POINTER, STRUCTURE, UNIT};
+use crate::bytes::{put_text, put_u16, put_u32, put_u64};
+use crate::making::{MOST_FUNCTIONS, Side};
+use crate::symbols::{address_of, put_name};
+use abi_base::dwarf::{DW_ATE_signed, DW_LANG_C99, DW_UT_compile};
+use std::alloc::{AllocError, Global};
+
+// How many functions a unit has, but for the last one.
+const UNIT_FUNCTIONS: u32 = 100;
+
+// Each function whose number is a multiple of this has a second parameter.
+const SECOND_PARAMETER: u32 = 7;
+
+// What a unit header says: its DWARF version, and the size of addresses. Its length counts the bytes behind the number.
+const DWARF_VERSION: u16 = 5;
+
+const ADDRESS_SIZE: u8 = 8;
+
+const HEADER_REST: usize = 8;
+
+// How many structures the rings of an old library have, and of a new one.
+const OLD_RING: u32 = 3;
+
+const NEW_RING: u32 = 2;
+
+const LONGEST_RING: u32 = 3;
+
+// Where entries stand in their unit, counted from its header on: `int`, the first pointer; and how many bytes a pointer has, and a
+// structure with its members.
+const INT_PLACE: u32 = 15;
+
+const POINTERS_PLACE: u32 = 22;
+
+const POINTER_BYTES: u32 = 6;
+
+const STRUCTURE_BYTES: u32 = 27;
+
+// The sizes that types say.
+const INT_SIZE: u8 = 4;
+
+const POINTER_SIZE: u8 = 8;
+
+const STRUCTURE_SIZE: u8 = 16;
+
+// Where members stand in a structure.
+const NEXT_PLACE: u8 = 0;
+
+const VALUE_PLACE: u8 = 8;
+
+// Ends a list of children.
+const NO_MORE: u8 = 0;
+
+// How many structures the rings of a side have.
+pub(crate) fn ring_of(side: Side) -> u32
+    ensures value { result ≡ ring_length side }
+    ensures some { 0 < result }
+    ensures few { result ≤ LONGEST_RING }
+{
+    match side {
+        Side::Old => OLD_RING,
+        Side::New => NEW_RING,
+    }
+}
+
+// Where a pointer of a ring stands in its unit.
+fn place_of_pointer(pointer: u32) -> u32
+    requires { pointer ≤ LONGEST_RING }
+    ensures { result ≡ pointer_place pointer }
+{
+    POINTERS_PLACE + POINTER_BYTES * pointer
+}
+
+// Where a structure of a ring of so many stands in its unit.
+fn place_of_structure(ring: u32, structure: u32) -> u32
+    requires few { ring ≤ LONGEST_RING }
+    requires among { structure < ring }
+    ensures { result ≡ structure_place ring structure }
+{
+    POINTERS_PLACE + POINTER_BYTES * ring + STRUCTURE_BYTES * structure
+}
+
+// Puts the root of a unit last, and `int`.
+fn put_root(body: &mut Vec<u8>) -> Result<(), AllocError>
+    ensures { OnOk result (body.new.items ≡ body.old.items ++ (root ++ int)) }
+{
+    body.push(UNIT)?;
+    put_u16(body, DW_LANG_C99 as u16)?;
+    body.extend_from_slice(&[BASE, INT_SIZE, DW_ATE_signed as u8])?;
+    put_text(body, "int")
+}
+
+// Puts a pointer of a ring of so many last.
+fn put_pointer(body: &mut Vec<u8>, ring: u32, number: u32) -> Result<(), AllocError>
+    requires few { ring ≤ LONGEST_RING }
+    requires among { number < ring }
+    ensures { OnOk result (body.new.items ≡ body.old.items ++ pointer ring number) }
+{
+    body.extend_from_slice(&[POINTER, POINTER_SIZE])?;
+    put_u32(body, place_of_structure(ring, number))
+}
+
+// Puts the pointers of a ring of so many last.
+fn put_pointers(body: &mut Vec<u8>, ring: u32) -> Result<(), AllocError>
+    requires { ring ≤ LONGEST_RING }
+    ensures { OnOk result (body.new.items ≡ body.old.items ++ flat_map (pointer ring) (range_with_len 0 ring)) }
+{
+    for number in 0..ring {
+        put_pointer(body, ring, number)?;
+    }
+    Ok(())
+}
+
+// Puts a member last, whose type stands at a place of the unit, and which stands at a place of its structure.
+fn put_member(body: &mut Vec<u8>, name: &str, type_place: u32, place: u8) -> Result<(), AllocError>
+    ensures { OnOk result (body.new.items ≡ body.old.items ++ member name.now type_place place) }
+{
+    body.push(MEMBER)?;
+    put_text(body, name)?;
+    put_u32(body, type_place)?;
+    body.push(place)?;
+    Ok(())
+}
+
+// Puts a structure of a ring of so many last.
+fn put_structure(body: &mut Vec<u8>, ring: u32, number: u32) -> Result<(), AllocError>
+    requires few { ring ≤ LONGEST_RING }
+    requires among { number < ring }
+    ensures { OnOk result (body.new.items ≡ body.old.items ++ structure ring number) }
+{
+    body.push(STRUCTURE)?;
+    put_text(body, "ring")?;
+    body.push(STRUCTURE_SIZE)?;
+    put_member(
+        body,
+        "next",
+        place_of_pointer((number + 1) % ring),
+        NEXT_PLACE,
+    )?;
+    put_member(body, "v", INT_PLACE, VALUE_PLACE)?;
+    body.push(NO_MORE)?;
+    Ok(())
+}
+
+// Puts the structures of a ring of so many last.
+fn put_structures(body: &mut Vec<u8>, ring: u32) -> Result<(), AllocError>
+    requires { ring ≤ LONGEST_RING }
+    ensures { OnOk result (body.new.items ≡ body.old.items ++ flat_map (structure ring) (range_with_len 0 ring)) }
+{
+    for number in 0..ring {
+        put_structure(body, ring, number)?;
+    }
+    Ok(())
+}
+
+// Puts a parameter last, whose type stands at a place of the unit.
+fn put_parameter(body: &mut Vec<u8>, type_place: u32) -> Result<(), AllocError>
+    ensures { OnOk result (body.new.items ≡ body.old.items ++ parameter type_place) }
+{
+    body.push(PARAMETER)?;
+    put_u32(body, type_place)
+}
+
+// Puts the parameters of a function last.
+fn put_parameters(body: &mut Vec<u8>, number: u32) -> Result<(), AllocError>
+    ensures { OnOk result (body.new.items ≡ body.old.items ++ parameters number) }
+{
+    put_parameter(body, POINTERS_PLACE)?;
+    if number % SECOND_PARAMETER == 0 {
+        put_parameter(body, INT_PLACE)?;
+    }
+    Ok(())
+}
+
+// Puts a function last.
+fn put_function(body: &mut Vec<u8>, number: u32) -> Result<(), AllocError>
+    ensures { OnOk result (body.new.items ≡ body.old.items ++ function number) }
+{
+    body.push(FUNCTION)?;
+    put_name(body, number)?;
+    put_u32(body, INT_PLACE)?;
+    put_u64(body, address_of(number))?;
+    put_parameters(body, number)?;
+    body.push(NO_MORE)?;
+    Ok(())
+}
+
+// Puts the functions of a unit last, which are those of n that are its own.
+fn put_functions(body: &mut Vec<u8>, n: u32, unit: u32) -> Result<(), AllocError>
+    requires few { n ≤ MOST_FUNCTIONS }
+    requires among { unit < unit_count n }
+    ensures { OnOk result (body.new.items ≡ body.old.items ++ flat_map function (functions_of n unit)) }
+{
+    let first = UNIT_FUNCTIONS * unit;
+    for number in first..n.min(first + UNIT_FUNCTIONS) {
+        put_function(body, number)?;
+    }
+    Ok(())
+}
+
+// The entries of a unit of a library of n functions.
+fn make_entries(alloc: Global, n: u32, ring: u32, unit: u32) -> Result<Vec<u8>, AllocError>
+    requires short { ring ≤ LONGEST_RING }
+    requires few { n ≤ MOST_FUNCTIONS }
+    requires among { unit < unit_count n }
+    ensures { IfOk result (λ body. body.items ≡ entries n ring unit) }
+{
+    let mut body = Vec::new(alloc);
+    put_root(&mut body)?;
+    put_pointers(&mut body, ring)?;
+    put_structures(&mut body, ring)?;
+    put_functions(&mut body, n, unit)?;
+    body.push(NO_MORE)?;
+    Ok(body)
+}
+
+// Puts the unit of these entries last.
+fn put_unit(info: &mut Vec<u8>, body: &[u8]) -> Result<(), AllocError>
+    requires { 8 + length body.now < 2 ^ 32 }
+    ensures { OnOk result (info.new.items ≡ info.old.items ++ unit_of body.now) }
+{
+    put_u32(info, (HEADER_REST + body.len()) as u32)?;
+    put_u16(info, DWARF_VERSION)?;
+    info.extend_from_slice(&[DW_UT_compile, ADDRESS_SIZE])?;
+    put_u32(info, 0)?;
+    info.extend_from_slice(body)
+}
+
+// How many units a library of n functions has.
+fn count_units(n: u32) -> u32
+    requires { n ≤ MOST_FUNCTIONS }
+    ensures { result ≡ unit_count n }
+{
+    n.div_ceil(UNIT_FUNCTIONS)
+}
+
+// The units of a library of n functions, whose rings have so many structures. It fails only when memory runs out.
+pub(crate) fn make_units(alloc: Global, n: u32, ring: u32) -> Result<Vec<u8>, AllocError>
+    requires short { ring ≤ LONGEST_RING }
+    requires few { n ≤ MOST_FUNCTIONS }
+    ensures { IfOk result (λ info. info.items ≡ units n ring) }
+{
+    let mut info = Vec::new(alloc);
+    for unit in 0..count_units(n) {
+        let body = make_entries(alloc, n, ring, unit)?;
+        put_unit(&mut info, body.as_slice())?;
+    }
+    Ok(info)
+}

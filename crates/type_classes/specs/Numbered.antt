@@ -1,0 +1,47 @@
+-- Shapes numbered by the first node of each.
+use Rattle.std.specs.Prelude.{◌≡◌, ◌<◌, ◌↔◌, ◌==◌, ◌&&◌, ℕ, Bool, List, [], ◌∷◌, length, Option, Contains}
+use Rattle.std.specs.Global.{Vec}
+use Rattle.std.specs.Cmp.Lexicographic.{pointwise}
+use Rattle.std.specs.Hash.{HashWrites}
+use Rattle.std.specs.HashMap.{HashMap, get_by}
+use Rattle.std.specs.declared.hash.FoldHasher.{FoldHasher}
+use Rattle.std.specs.declared.hash.BuildHasherDefault.{BuildHasherDefault}
+use Rattle.abi_types.specs.Types.{PlainNode}
+use Rattle.abi_types.specs.Graphs.{node_at}
+use Rattle.abi_types.specs.ClassLooks.{Look, shape_of}
+use Rattle.type_classes.specs.declared.shapes.Spelling.{Spelling}
+use Rattle.type_classes.specs.Shapes.{spelled, letters_of}
+
+-- the spelling is that of what is seen
+pub record IsSpellingOf (s : Spelling) (l : Look) : Type 0 where
+  pub numbers : s.numbers.items ≡ spelled l
+  pub letters : s.letters.items ≡ letters_of l
+
+-- two spellings have the same numbers and letters
+pub record AreOneSpelling (s t : Spelling) : Type 0 where
+  pub numbers : s.numbers.items ≡ t.numbers.items
+  pub letters : s.letters.items ≡ t.letters.items
+
+-- letters that are written to a hasher at once
+abbrev pub fed_text : List ℕ → HashWrites
+fed_text letters = letters ∷ []
+
+abbrev pub same_numbers : List ℕ → List ℕ → Bool
+same_numbers = pointwise (λ m n. m == n)
+
+abbrev pub same_spelling : Spelling → Spelling → Bool
+same_spelling s t = same_numbers s.numbers.items t.numbers.items && same_numbers s.letters.items t.letters.items
+
+-- numbers of spellings
+abbrev pub Numbers : Type 0
+Numbers = HashMap Spelling ℕ (BuildHasherDefault FoldHasher)
+
+-- what stands under a spelling
+abbrev pub number_in : Numbers → Spelling → Option ℕ
+number_in numbers s = get_by (same_spelling s) numbers
+
+-- the pairs are those of all nodes, and their numbers are equal exactly where the shapes are
+pub record IsNumbered (nodes : List PlainNode) (pairs : Vec (ℕ × ℕ)) : Type 0 where
+  pub of_nodes : (k x : ℕ) → Contains pairs.items (k, x) → x < length nodes
+  pub all_nodes : (x : ℕ) → x < length nodes → (k : ℕ) × Contains pairs.items (k, x)
+  pub shapes : (j k x y : ℕ) → Contains pairs.items (j, x) → Contains pairs.items (k, y) → (j ≡ k) ↔ (shape_of (node_at nodes x) ≡ shape_of (node_at nodes y))

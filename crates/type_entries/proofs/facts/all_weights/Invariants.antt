@@ -1,9 +1,0 @@
-use Rattle.std.proofs.Common.{◌≡◌, ◌≤◌, map, drop, length}
-use Rattle.type_entries.specs.Facts.{total, weight_in}
-use Rattle.type_entries.proofs.facts.all_weights.Given as goal
-
-abbrev pub invariant-down : goal.invariant-down
-invariant-down l = record { is : l.all ≡ total (map weight_in (drop l.k l.facts)); place : l.k ≤ length l.facts }
-
-abbrev pub decreases-down : goal.decreases-down
-decreases-down l = l.k

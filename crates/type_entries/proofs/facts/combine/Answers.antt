@@ -1,4 +1,0 @@
-use Rattle.type_entries.proofs.facts.combine.Goals as goal
-
-pub returns-clause-near : goal.returns-clause-near
-returns-clause-near c = record { low = c.flat_span.ensures.low; high = c.flat_span.ensures.high }

@@ -1,6 +1,0 @@
-use Rattle.std.proofs.Common.{◌≡◌}
-use Rattle.type_entries.proofs.MetLemmas.{places_before}
-use Rattle.type_entries.proofs.found.Found.marked.Given as goal
-
-abbrev pub invariant-marks : goal.invariant-marks
-invariant-marks l = l.entries.items ≡ places_before l.marks l.e

@@ -1,5 +1,0 @@
-use Rattle.type_entries.proofs.CoreLemmas.{core-found}
-use Rattle.type_entries.proofs.laws.cores_are_found.Goals as goal
-
-pub returns : goal.returns
-returns c = core-found

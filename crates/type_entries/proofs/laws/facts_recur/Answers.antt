@@ -1,5 +1,0 @@
-use Rattle.type_entries.proofs.FactLemmas.{facts_of-is}
-use Rattle.type_entries.proofs.laws.facts_recur.Goals as goal
-
-pub returns : goal.returns
-returns c = facts_of-is

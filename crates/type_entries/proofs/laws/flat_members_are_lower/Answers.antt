@@ -1,5 +1,0 @@
-use Rattle.type_entries.proofs.FlatLemmas.{flat-lower}
-use Rattle.type_entries.proofs.laws.flat_members_are_lower.Goals as goal
-
-pub returns : goal.returns
-returns c = flat-lower

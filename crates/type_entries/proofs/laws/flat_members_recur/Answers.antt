@@ -1,5 +1,0 @@
-use Rattle.type_entries.proofs.CoreLemmas.{flat_of-is}
-use Rattle.type_entries.proofs.laws.flat_members_recur.Goals as goal
-
-pub returns : goal.returns
-returns c = flat_of-is

@@ -1,5 +1,0 @@
-use Rattle.type_entries.proofs.CoreLemmas.{labels_of-is}
-use Rattle.type_entries.proofs.laws.labels_recur.Goals as goal
-
-pub returns : goal.returns
-returns c = labels_of-is

@@ -1,5 +1,0 @@
-use Rattle.type_entries.proofs.ReachedLemmas.{is_reached-is}
-use Rattle.type_entries.proofs.laws.reached_by_a_chain.Goals as goal
-
-pub returns : goal.returns
-returns c = is_reached-is

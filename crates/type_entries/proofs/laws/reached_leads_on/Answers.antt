@@ -1,5 +1,0 @@
-use Rattle.std.proofs.Common.{suc}
-use Rattle.type_entries.proofs.laws.reached_leads_on.Goals as goal
-
-pub returns : goal.returns
-returns c = λ t roots e f reached has. (suc reached.0, (e, reached.1, has))

@@ -1,6 +1,0 @@
-use Rattle.std.proofs.Common.{◌≡◌, ◌++◌, map, take}
-use Rattle.type_entries.specs.References.{type_of, own_types}
-use Rattle.type_entries.proofs.leads.fill_types.Given as goal
-
-abbrev pub invariant-parts : goal.invariant-parts
-invariant-parts l = l.types.items ≡ own_types l.dwarf.tree l.e ++ map (type_of l.dwarf.tree) (take l.k l.parts)

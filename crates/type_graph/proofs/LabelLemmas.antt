@@ -1,0 +1,55 @@
+-- From what is passed to its type, and from a core to the end.
+use Rattle.std.proofs.Common.{◌≡◌, ◌<◌, ◌++◌, ℕ, suc, Some, None, refl, sym, ◌∙◌, ap, subst, arith, inl, inr, ◌⊎◌}
+use Rattle.std.specs.Option.{option_map_or}
+use Rattle.std.proofs.lemmas.List.{append-nil}
+use Rattle.dwarf_entries.specs.Debug.{PlainDwarf}
+use Rattle.type_reach.specs.declared.role.Role.{Role}
+use Rattle.type_reach.specs.declared.role.Role.TheVariants as role
+use Rattle.type_reach.specs.References.{Type_, role_of, type_of}
+use Rattle.type_reach.specs.Facts.{facts_of}
+use Rattle.type_reach.specs.Flat.{own_label, labels_of}
+use Rattle.type_reach.specs.PeeledCores.{StandsForNone}
+use Rattle.type_reach.specs.TypeLaws.{IsShallow, TypeLaws}
+
+passed-or-not : (k : Role) → (k ≡ role.Wrapper) ⊎ (k ≡ role.Wrapper → ⊥)
+passed-or-not role.Wrapper = inl refl
+passed-or-not role.Aggregate = inr (λ h. (cc))
+passed-or-not role.Function = inr (λ h. (cc))
+passed-or-not role.Part = inr (λ h. (cc))
+passed-or-not role.Pointer = inr (λ h. (cc))
+passed-or-not role.Array = inr (λ h. (cc))
+passed-or-not role.Enumeration = inr (λ h. (cc))
+passed-or-not role.Base = inr (λ h. (cc))
+passed-or-not role.Unknown = inr (λ h. (cc))
+
+-- how many entries may still be passed, with the core
+abbrev pub left : PlainDwarf → Type_ → ℕ
+left d r = option_map_or (λ e. suc (facts_of d (Some e)).rank) r 0
+
+-- the type that an entry is passed to, or the end
+pub record IsNext (d : PlainDwarf) (e : ℕ) (next : Type_) : Type 0 where
+  pub labels : own_label d e ++ labels_of d next ≡ labels_of d (Some e)
+  pub shallow : IsShallow d next
+  pub fewer : left d next < left d (Some e)
+
+left-falls : (d : PlainDwarf) (n : ℕ) (r : Type_) → (facts_of d r).rank < n → left d r < suc n
+left-falls d n None lt = omega arith
+left-falls d n (Some e) lt = omega (arith, lt)
+
+pub is-next : (d : PlainDwarf) → TypeLaws d → (e : ℕ) (next : Type_) → IsShallow d (Some e) → (role_of d.tree e ≡ role.Wrapper → next ≡ type_of d.tree e) → (StandsForNone d e → next ≡ None) → IsNext d e next
+is-next d laws e next shallow passed last =
+    elim (passed-or-not (role_of d.tree e)) [
+      | inl is ↦
+          let ty : Type_ = type_of d.tree e in
+          let step = laws.passed_step e is in
+          subst (IsNext d e) (sym (passed is)) (record {
+            labels = sym (laws.labels_passed e shallow is);
+            shallow = laws.shallow (Some e) ty shallow step;
+            fewer = left-falls d (facts_of d (Some e)).rank ty (laws.falls (Some e) ty shallow step);
+          })
+      | inr other ↦ subst (IsNext d e) (sym (last other)) (record {
+        labels = ap (λ ls. own_label d e ++ ls) laws.labels_void ∙ append-nil (own_label d e) ∙ sym (laws.labels_last e shallow other);
+        shallow = laws.void_shallow;
+        fewer = omega arith;
+      })
+    ]

@@ -1,0 +1,38 @@
+use Rattle.std.proofs.Common.{◌++◌, ◌∙◌, map, ap, sym, subst}
+use Rattle.std.proofs.lemmas.List.{append_assoc}
+use Rattle.abi_types.specs.Plain.{plain_label}
+use Rattle.type_reach.specs.Flat.{own_label, labels_of}
+use Rattle.type_reach.specs.TypeLaws.{IsShallow}
+use Rattle.type_graph.proofs.LabelLemmas.{is-next}
+use Rattle.type_graph.proofs.labels.labels_of.Goals as goal
+
+pub passed-init : goal.passed-init
+passed-init c = record {
+  is = ap (λ xs. map plain_label xs ++ labels_of c.args.dwarf.now c.args.ty) c.new-labels.ensures.items;
+  shallow = c.requires.shallow;
+  inside = c.requires.inside;
+}
+
+pub passed-preserved : goal.passed-preserved
+passed-preserved c =
+    let d = c.args.dwarf.now in
+    let e = c.in-Some.e in
+    let was = c.passed.invariant in
+    let shallow = subst (IsShallow d) c.in-Some.is was.shallow in
+    let next = is-next d (c.laws_of_types.ensures d) e c.passed_to-next.result shallow c.passed_to-next.ensures.passed c.passed_to-next.ensures.last in
+    record {
+      is =
+          ap (λ xs. xs ++ labels_of d c.passed_to-next.result) c.in_ok-push_label.ensures
+          ∙ append_assoc (map plain_label c.passed.labels.items) (own_label d e) (labels_of d c.passed_to-next.result)
+          ∙ ap (λ ls. map plain_label c.passed.labels.items ++ ls) (next.labels ∙ ap (labels_of d) (sym c.in-Some.is))
+          ∙ was.is;
+      shallow = next.shallow;
+      inside = c.passed_to-next.ensures.inside;
+    }
+
+pub passed-smaller : goal.passed-smaller
+passed-smaller c =
+    let d = c.args.dwarf.now in
+    let shallow = subst (IsShallow d) c.in-Some.is c.passed.invariant.shallow in
+    let next = is-next d (c.laws_of_types.ensures d) c.in-Some.e c.passed_to-next.result shallow c.passed_to-next.ensures.passed c.passed_to-next.ensures.last in
+    rw c.in-Some.is next.fewer

@@ -1,0 +1,66 @@
+// The graph of what is reached.
+ghost use Rattle.std.specs.Prelude.{◌≡◌, ◌<◌, length, All, IfOk};
+ghost use Rattle.abi_base.specs.Outcome.{Judges};
+ghost use Rattle.type_reach.specs.Faults.{types_fault};
+ghost use Rattle.type_graph.specs.Nodes.{made_nodes, nodes_of};
+
+use crate::judging::{ask_shapes, ask_sizes};
+use crate::laws::the_nodes_are_a_graph;
+use crate::nodes::nodes;
+use abi_base::{List, Refusal};
+use abi_types::{Graph, Index, Node};
+use dwarf_entries::Dwarf;
+use std::alloc::Global;
+use type_reach::{learn_all, reached, summaries_of, type_references_of};
+
+// The nodes of what is reached from the roots. What was learnt of the types is let go with the call.
+fn reached_nodes<'a, Ix: Index>(
+    alloc: Global,
+    dwarf: &Dwarf<'a>,
+    roots: &[usize],
+) -> Result<List<Node<'a, Ix>>, Refusal>
+    requires { All (λ root. root < length dwarf.now.tree.entries) roots.now }
+    ensures judged { Judges result (types_fault dwarf.now roots.now) }
+    ensures nodes { IfOk result (λ nodes. nodes ≡ nodes_of dwarf.now roots.now) }
+{
+    let found = reached(alloc, dwarf, roots)?;
+    let leads = type_references_of(alloc, dwarf, &found)?;
+    match ask_shapes(alloc, dwarf, &found, &leads) {
+        Ok(()) => {}
+        Err(refused) => return Err(refused),
+    }
+    let facts = match learn_all(alloc, dwarf, &found, &leads) {
+        Ok(facts) => facts,
+        Err(refused) => return Err(refused),
+    };
+    match ask_sizes(dwarf, &found, facts.as_slice()) {
+        Ok(()) => {}
+        Err(fault) => return Err(Refusal::Fault(fault)),
+    }
+    let summaries = summaries_of(alloc, dwarf, &found, facts.as_slice())?;
+    drop(facts);
+    let nodes = nodes(alloc, dwarf, &found, &leads, summaries.as_slice())?;
+    Ok(nodes)
+}
+
+/// The types that are reached from the roots, as a graph: the node of void, and then one for each reached entry, in order of
+/// offset; its functions have no call places yet. The fault is the first one of their shapes, in order of offset, then of their
+/// depths, then of their sizes.
+pub fn raw_graph<'a, Ix: Index>(
+    alloc: Global,
+    dwarf: &Dwarf<'a>,
+    roots: &[usize],
+) -> Result<Graph<'a, Ix>, Refusal>
+    requires { All (λ root. root < length dwarf.now.tree.entries) roots.now }
+    ensures judged { Judges result (types_fault dwarf.now roots.now) }
+    ensures nodes { IfOk result (λ graph. graph ≡ nodes_of dwarf.now roots.now) }
+{
+    the_nodes_are_a_graph();
+    dwarf.known();
+    let nodes = match reached_nodes(alloc, dwarf, roots) {
+        Ok(nodes) => nodes,
+        Err(refused) => return Err(refused),
+    };
+    let graph = Graph::of_nodes(alloc, nodes)?;
+    Ok(graph)
+}

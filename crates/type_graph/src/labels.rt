@@ -1,0 +1,100 @@
+// The names by which types are spoken of.
+ghost use Rattle.std.specs.Prelude.{◌≡◌, ◌<◌, ◌++◌, length, map, IfOk, OnOk, IfSome, None};
+ghost use Rattle.abi_types.specs.Plain.{plain_label};
+ghost use Rattle.dwarf_entries.specs.Chains.{name_of};
+ghost use Rattle.type_reach.specs.declared.role.Role.TheVariants as role;
+ghost use Rattle.type_reach.specs.References.{role_of as the_role_of, type_of as the_type_of};
+ghost use Rattle.type_reach.specs.PeeledCores.{StandsForNone};
+ghost use Rattle.type_reach.specs.TypeLaws.{IsShallow};
+ghost use Rattle.type_reach.specs.Flat.{text_or_empty, label_kind as the_label_kind, own_label, labels_of as the_labels_of};
+
+use abi_base::dwarf::{
+    DW_TAG_base_type, DW_TAG_enumeration_type, DW_TAG_structure_type, DW_TAG_typedef,
+    DW_TAG_union_type,
+};
+use abi_base::{List, NoMemory};
+use abi_types::{Label, LabelKind};
+use dwarf_entries::Dwarf;
+use std::alloc::Global;
+use type_reach::laws::laws_of_types;
+use type_reach::{Role, is_signed, role_of, type_of};
+
+/// The name of an entry, or the empty one.
+pub(crate) fn name_or_empty<'a>(dwarf: &Dwarf<'a>, e: usize) -> &'a [u8]
+    requires { e < length dwarf.now.tree.entries }
+    ensures { result.now ≡ text_or_empty (name_of dwarf.now e) }
+{
+    match dwarf.name_of(e) {
+        Some(name) => name,
+        None => &[],
+    }
+}
+
+// What kind of name an entry of a tag is spoken of by.
+#[tactic(auto, unfolding(type_reach::specs::Flat::label_kind))]
+fn label_kind(tag: u64) -> Option<LabelKind>
+    ensures { result ≡ the_label_kind tag }
+{
+    match tag {
+        DW_TAG_typedef => Some(LabelKind::Typedef),
+        DW_TAG_structure_type => Some(LabelKind::Structure),
+        DW_TAG_union_type => Some(LabelKind::Union),
+        DW_TAG_enumeration_type => Some(LabelKind::Enumeration),
+        DW_TAG_base_type => Some(LabelKind::Builtin),
+        _ => None,
+    }
+}
+
+// Puts the name last that an entry gives itself.
+#[tactic(auto, unfolding(type_reach::specs::Flat::own_label))]
+fn push_label<'a>(dwarf: &Dwarf<'a>, labels: &mut Vec<Label<'a>>, e: usize) -> Result<(), NoMemory>
+    requires { e < length dwarf.now.tree.entries }
+    ensures { OnOk result (map plain_label labels.new.items ≡ map plain_label labels.old.items ++ own_label dwarf.now e) }
+{
+    if is_signed(dwarf, e) {
+        return Ok(());
+    }
+    match label_kind(dwarf.tag(e)) {
+        Some(kind) => {
+            let name = name_or_empty(dwarf, e);
+            // Most types have one name or none.
+            labels.reserve_exact(1)?;
+            labels.push(Label { kind, name })?;
+        }
+        None => {}
+    }
+    Ok(())
+}
+
+// The type that an entry stands for; none where it is a core.
+fn passed_to(dwarf: &Dwarf, e: usize) -> Option<usize>
+    requires { e < length dwarf.now.tree.entries }
+    ensures passed { the_role_of dwarf.now.tree e ≡ role.Wrapper → result ≡ the_type_of dwarf.now.tree e }
+    ensures last { StandsForNone dwarf.now e → result ≡ None }
+    ensures inside { IfSome result (λ f. f < length dwarf.now.tree.entries) }
+{
+    match role_of(dwarf, e) {
+        Role::Wrapper => type_of(dwarf, e),
+        _ => None,
+    }
+}
+
+/// The names of the typedefs on the way to the core of a type, and the core's own, in this order.
+pub(crate) fn labels_of<'a>(
+    alloc: Global,
+    dwarf: &Dwarf<'a>,
+    ty: Option<usize>,
+) -> Result<List<Label<'a>>, NoMemory>
+    requires shallow { IsShallow dwarf.now ty }
+    requires inside { IfSome ty (λ e. e < length dwarf.now.tree.entries) }
+    ensures { IfOk result (λ labels. map plain_label labels ≡ the_labels_of dwarf.now ty) }
+{
+    laws_of_types();
+    let mut labels = Vec::new(alloc);
+    let mut next = ty;
+    'passed: while let Some(e) = next {
+        push_label(dwarf, &mut labels, e)?;
+        next = passed_to(dwarf, e);
+    }
+    Ok(List::of(labels))
+}

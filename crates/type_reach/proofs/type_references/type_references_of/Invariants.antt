@@ -1,0 +1,12 @@
+use Rattle.std.proofs.Common.{◌≡◌, map, take}
+use Rattle.std.specs.Prelude.{All}
+use Rattle.type_reach.specs.References.{parts_of, types_of}
+use Rattle.type_reach.proofs.LeadLemmas.{ArePartsInside}
+use Rattle.type_reach.proofs.type_references.type_references_of.Given as goal
+
+abbrev pub invariant-found : goal.invariant-found
+invariant-found l = record {
+  parts : l.parts ≡ map (parts_of l.dwarf.tree) (take l.number l.found);
+  types : l.types ≡ map (types_of l.dwarf.tree) (take l.number l.found);
+  inside : All (ArePartsInside l.dwarf.tree) (take l.number l.found);
+}

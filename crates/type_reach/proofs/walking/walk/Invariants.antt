@@ -1,0 +1,12 @@
+use Rattle.std.proofs.Common.{◌≡◌, ◌-◌, length}
+use Rattle.type_reach.proofs.WalkLemmas.{IsWalking}
+use Rattle.type_reach.proofs.walking.walk.Given as goal
+
+abbrev pub invariant-walk : goal.invariant-walk
+invariant-walk l = record {
+  walking : IsWalking l.dwarf.tree l.roots l.met.entries l.number;
+  room : l.met.room ≡ length l.dwarf.tree.entries;
+}
+
+abbrev pub decreases-walk : goal.decreases-walk
+decreases-walk l = length l.dwarf.tree.entries - l.number

@@ -1,0 +1,49 @@
+// How many elements arrays have.
+ghost use Rattle.std.specs.Prelude.{◌≡◌, ◌<◌, length, map, All, IfOk};
+ghost use Rattle.type_reach.specs.Facts.{subrange_count as the_subrange_count, product as the_product, array_count as the_array_count};
+
+use crate::values::{counted_to, natural_of};
+use abi_base::NoMemory;
+use abi_base::dwarf::{DW_AT_count, DW_AT_upper_bound, DW_TAG_subrange_type};
+use dwarf_entries::Dwarf;
+use std::alloc::Global;
+
+// How many elements a dimension has.
+#[tactic(auto, unfolding(crate::specs::Facts::subrange_count))]
+fn subrange_count(dwarf: &Dwarf, subrange: usize) -> u64
+    requires { subrange < length dwarf.now.tree.entries }
+    ensures { result ≡ the_subrange_count dwarf.now.tree subrange }
+{
+    match natural_of(dwarf.attr(subrange, DW_AT_count)) {
+        Some(count) => count,
+        None => counted_to(dwarf.attr(subrange, DW_AT_upper_bound)).unwrap_or(0),
+    }
+}
+
+// How many elements dimensions have together.
+fn product(dwarf: &Dwarf, subranges: &[usize]) -> u64
+    requires { All (λ s. s < length dwarf.now.tree.entries) subranges.now }
+    ensures { result ≡ the_product (map (the_subrange_count dwarf.now.tree) subranges.now) }
+{
+    let mut all: u64 = 1;
+    let mut k = subranges.len();
+    'down: while k > 0 {
+        k -= 1;
+        let subrange = subranges[k];
+        all = subrange_count(dwarf, subrange).saturating_mul(all);
+    }
+    all
+}
+
+/// How many elements an array has, at most 2^64 - 1; without a dimension it has none.
+#[tactic(auto, unfolding(crate::specs::Facts::array_count, crate::specs::References::tagged_children))]
+pub(crate) fn array_count(alloc: Global, dwarf: &Dwarf, e: usize) -> Result<u64, NoMemory>
+    requires { e < length dwarf.now.tree.entries }
+    ensures { IfOk result (λ count. count ≡ the_array_count dwarf.now.tree e) }
+{
+    let subranges = dwarf.tagged(alloc, e, DW_TAG_subrange_type)?;
+    if subranges.is_empty() {
+        return Ok(0);
+    }
+    Ok(product(dwarf, subranges.as_slice()))
+}

@@ -1,0 +1,331 @@
+// What is made of a type from the same of the types that it holds by value.
+ghost use Rattle.std.specs.Prelude.{◌≡◌, ◌<◌, ◌≤◌, ◌+◌, length, map, drop, All, Some, IfOk, IfSome};
+ghost use Rattle.std.specs.List.{list_any};
+ghost use Rattle.abi_base.specs.Limits.{depth_limit};
+ghost use Rattle.type_reach.specs.References.{role_of as the_role_of, parts_of as the_parts_of};
+ghost use Rattle.type_reach.specs.Placement.{IsNear};
+ghost use Rattle.type_reach.specs.Facts.{above as the_above, total as the_total, rank_in, weight_in, room_of as the_room_of, first_of, own_size as the_own_size, size_for, count_for, weight_for, core_for, aggregate_for, rooms_for, align_from, members_with, member_align, member_beyond, most, own_span, span_for, beyond_for, facts_from, IsSpanNear};
+
+use crate::arrays::array_count;
+use crate::constants::{ALIGN_ROOM, POINTER_SIZE};
+use crate::member_totals::{member_totals_of, own_align, span_out_of_range};
+use crate::references::members_among;
+use crate::role::Role;
+use crate::values::number_at;
+use abi_base::NoMemory;
+use abi_base::dwarf::DW_AT_byte_size;
+use dwarf_entries::Dwarf;
+use std::alloc::Global;
+
+/// The least and the greatest bit at which something begins.
+#[derive(Clone, Copy, Debug, PartialEq, Eq)]
+pub struct Span {
+    /// The least one.
+    pub low: i128,
+    /// The greatest one.
+    pub high: i128,
+}
+
+/// What is known of a type. Numbers stop at 2^64 - 1, which is above every limit.
+#[derive(Clone, Copy, Debug, PartialEq, Eq)]
+pub struct Facts {
+    // Fields lie in this order: the small ones stand together.
+    /// The most steps by value that lead on from it.
+    pub rank: u32,
+    /// A member of its core begins at a bit out of range, as it stands or as a flat member.
+    pub beyond: bool,
+    /// Its core is a structure or a union.
+    pub aggregate: bool,
+    /// In bytes.
+    pub size: u64,
+    /// How many elements its core has, where that is an array.
+    pub count: u64,
+    /// One more than the weights of all that it holds by value; a function weighs 1.
+    pub weight: u64,
+    /// The explicit alignment in bytes; 0 where there is none.
+    pub align: u64,
+    /// What the parameters of its core ask for, where that is a function: for each its size, and room for its alignment.
+    pub rooms: u64,
+    /// Where the flat members of its core begin; none where it has none.
+    pub span: Option<Span>,
+    /// The entry that it comes to, none for void.
+    pub core: Option<usize>,
+}
+
+/// The facts of void.
+pub const VOID: Facts = Facts {
+    rank: 0,
+    size: 0,
+    count: 0,
+    weight: 1,
+    align: 0,
+    rooms: 0,
+    span: None,
+    beyond: false,
+    core: None,
+    aggregate: false,
+};
+
+// The number above all ranks.
+fn above(facts: &[Facts]) -> u32
+    requires { All (λ x. x.rank < depth_limit) facts.now }
+    ensures above { result ≡ the_above (map rank_in facts.now) }
+    ensures bound { result ≤ depth_limit }
+    ensures each { All (λ x. x.rank < result) facts.now }
+{
+    let mut most = 0;
+    let mut k = facts.len();
+    'down: while k > 0 {
+        k -= 1;
+        let one = facts[k];
+        if one.rank + 1 > most {
+            most = one.rank + 1;
+        }
+    }
+    most
+}
+
+// All weights together.
+fn all_weights(facts: &[Facts]) -> u64
+    ensures { result ≡ the_total (map weight_in facts.now) }
+{
+    let mut all: u64 = 0;
+    let mut k = facts.len();
+    'down: while k > 0 {
+        k -= 1;
+        let one = facts[k];
+        all = one.weight.saturating_add(all);
+    }
+    all
+}
+
+// The sizes of parameters together, with room for their alignments.
+fn all_rooms(params: &[Facts]) -> u64
+    ensures { result ≡ the_total (map the_room_of params.now) }
+{
+    let mut all: u64 = 0;
+    let mut k = params.len();
+    'down: while k > 0 {
+        k -= 1;
+        let one = params[k];
+        all = one.size.saturating_add(ALIGN_ROOM).saturating_add(all);
+    }
+    all
+}
+
+// The first one, if any.
+fn first(facts: &[Facts]) -> Facts
+    ensures { result ≡ first_of facts.now }
+{
+    match facts.first() {
+        Some(first) => *first,
+        None => Facts {
+            rank: 0,
+            size: 0,
+            count: 0,
+            weight: 0,
+            align: 0,
+            rooms: 0,
+            span: None,
+            beyond: false,
+            core: None,
+            aggregate: false,
+        },
+    }
+}
+
+// The size that an entry says, which a declaration does not have.
+#[tactic(auto, unfolding(crate::specs::Facts::own_size))]
+fn own_size(dwarf: &Dwarf, e: usize) -> u64
+    requires { e < length dwarf.now.tree.entries }
+    ensures { result ≡ the_own_size dwarf.now.tree e }
+{
+    if dwarf.is_declaration(e) {
+        0
+    } else {
+        number_at(dwarf, e, DW_AT_byte_size)
+    }
+}
+
+// The size of a type, whose core has so many elements if it is an array.
+fn size(dwarf: &Dwarf, e: usize, role: Role, facts: &[Facts], count: u64) -> u64
+    requires inside { e < length dwarf.now.tree.entries }
+    requires count { count ≡ count_for role dwarf.now.tree e facts.now }
+    ensures { result ≡ size_for role dwarf.now.tree e facts.now }
+{
+    let one = first(facts);
+    match role {
+        Role::Wrapper => one.size,
+        Role::Base => number_at(dwarf, e, DW_AT_byte_size),
+        Role::Pointer => POINTER_SIZE,
+        Role::Enumeration => own_size(dwarf, e),
+        Role::Aggregate => own_size(dwarf, e),
+        Role::Array => count.saturating_mul(one.size),
+        _ => 0,
+    }
+}
+
+// How many elements the core has.
+fn count(
+    alloc: Global,
+    dwarf: &Dwarf,
+    e: usize,
+    role: Role,
+    facts: &[Facts],
+) -> Result<u64, NoMemory>
+    requires { e < length dwarf.now.tree.entries }
+    ensures { IfOk result (λ count. count ≡ count_for role dwarf.now.tree e facts.now) }
+{
+    let one = first(facts);
+    match role {
+        Role::Wrapper => Ok(one.count),
+        Role::Array => array_count(alloc, dwarf, e),
+        _ => Ok(0),
+    }
+}
+
+// The weight of a type.
+fn weight(role: Role, facts: &[Facts]) -> u64
+    ensures { result ≡ weight_for role facts.now }
+{
+    match role {
+        Role::Function => 1,
+        _ => all_weights(facts).saturating_add(1),
+    }
+}
+
+// What the parameters of the core ask for.
+fn rooms(role: Role, facts: &[Facts]) -> u64
+    ensures { result ≡ rooms_for role facts.now }
+{
+    let one = first(facts);
+    match role {
+        Role::Wrapper => one.rooms,
+        Role::Function => match facts.split_first() {
+            Some((_result, params)) => all_rooms(params),
+            None => all_rooms(&[]),
+        },
+        _ => 0,
+    }
+}
+
+// The entry that a type comes to.
+fn core(e: usize, role: Role, facts: &[Facts]) -> Option<usize>
+    ensures { result ≡ core_for role e facts.now }
+{
+    let one = first(facts);
+    match role {
+        Role::Wrapper => one.core,
+        _ => Some(e),
+    }
+}
+
+// Whether the core is a structure or a union.
+fn aggregate(role: Role, facts: &[Facts]) -> bool
+    ensures { result ≡ aggregate_for role facts.now }
+{
+    let one = first(facts);
+    match role {
+        Role::Wrapper => one.aggregate,
+        Role::Aggregate => true,
+        _ => false,
+    }
+}
+
+// The explicit alignment.
+#[tactic(auto, unfolding(crate::specs::Facts::align_from))]
+fn align(dwarf: &Dwarf, e: usize, role: Role, facts: &[Facts], held: u64) -> u64
+    requires inside { e < length dwarf.now.tree.entries }
+    requires role { role ≡ the_role_of dwarf.now.tree e }
+    requires held { held ≡ most (map (member_align dwarf.now) (members_with dwarf.now.tree e facts.now)) }
+    ensures { result ≡ align_from dwarf.now e facts.now }
+{
+    let one = first(facts);
+    let passed = match role {
+        Role::Wrapper => one.align,
+        _ => 0,
+    };
+    own_align(dwarf, e).max(passed.max(held))
+}
+
+// Where the flat members of the core begin.
+fn flat_span(
+    dwarf: &Dwarf,
+    e: usize,
+    role: Role,
+    facts: &[Facts],
+    own: Option<Span>,
+    rank: u32,
+) -> Option<Span>
+    requires own { own ≡ own_span dwarf.now e facts.now }
+    requires low { IfSome own (λ s. IsNear (rank + 1) s.low) }
+    requires high { IfSome own (λ s. IsNear (rank + 1) s.high) }
+    requires near { All IsSpanNear facts.now }
+    requires ranks { All (λ x. x.rank < rank) facts.now }
+    ensures is { result ≡ span_for role dwarf.now e facts.now }
+    ensures low { IfSome result (λ s. IsNear (rank + 1) s.low) }
+    ensures high { IfSome result (λ s. IsNear (rank + 1) s.high) }
+{
+    let one = first(facts);
+    match role {
+        Role::Wrapper => one.span,
+        _ => own,
+    }
+}
+
+// Whether a member of the core begins out of range.
+fn beyond(
+    dwarf: &Dwarf,
+    e: usize,
+    role: Role,
+    facts: &[Facts],
+    held: bool,
+    own: Option<Span>,
+) -> bool
+    requires held { held ≡ list_any (member_beyond dwarf.now) (members_with dwarf.now.tree e facts.now) }
+    requires own { own ≡ own_span dwarf.now e facts.now }
+    ensures { result ≡ beyond_for role dwarf.now e facts.now }
+{
+    let one = first(facts);
+    match role {
+        Role::Wrapper => one.beyond,
+        _ => held || span_out_of_range(own),
+    }
+}
+
+// The facts of an entry from those of the types that it holds by value.
+#[tactic(auto, unfolding(crate::specs::Facts::facts_from, crate::specs::Facts::own_span))]
+pub(crate) fn combine(
+    alloc: Global,
+    dwarf: &Dwarf,
+    e: usize,
+    role: Role,
+    parts: &[u32],
+    facts: &[Facts],
+) -> Result<Facts, NoMemory>
+    requires inside { e < length dwarf.now.tree.entries }
+    requires role { role ≡ the_role_of dwarf.now.tree e }
+    requires parts { parts.now ≡ the_parts_of dwarf.now.tree e }
+    requires parts_inside { All (λ c. c < length dwarf.now.tree.entries) parts.now }
+    requires ranks { All (λ x. x.rank < depth_limit) facts.now }
+    requires near { All IsSpanNear facts.now }
+    ensures is { IfOk result (λ x. x ≡ facts_from dwarf.now (Some e) facts.now) }
+    ensures near { IfOk result IsSpanNear }
+{
+    let members = members_among(dwarf, e, role, parts);
+    let rank = above(facts);
+    let held = member_totals_of(dwarf, members, facts, rank);
+    let count = count(alloc, dwarf, e, role, facts)?;
+    Ok(Facts {
+        rank,
+        size: size(dwarf, e, role, facts, count),
+        count,
+        weight: weight(role, facts),
+        align: align(dwarf, e, role, facts, held.align),
+        rooms: rooms(role, facts),
+        span: flat_span(dwarf, e, role, facts, held.span, rank),
+        beyond: beyond(dwarf, e, role, facts, held.beyond, held.span),
+        core: core(e, role, facts),
+        aggregate: aggregate(role, facts),
+    })
+}

@@ -1,0 +1,35 @@
+//! Debugging information entries as types: which are reached from functions and variables, and what is made of a type from
+//! the types that it holds by value. Contracts speak of entries by their positions in the plain tree, and of no graph.
+#![tactic(auto)]
+
+mod arrays;
+pub mod constants;
+mod facts;
+pub mod laws;
+mod learning;
+mod member_totals;
+mod placement;
+mod reached_entries;
+mod references;
+mod role;
+mod rows;
+mod searches;
+mod summaries;
+mod type_references;
+mod values;
+mod visited_entries;
+mod walking;
+
+pub use facts::{Facts, Span, VOID};
+pub use learning::{facts_at, facts_by_number, in_order, learn_all};
+pub use placement::{bit_of, is_nameless, is_out_of_range, width_of};
+pub use reached_entries::ReachedEntries;
+pub use references::{body_of, members_among, type_of};
+pub use role::{Role, is_signed, role_of};
+pub use summaries::{Summary, summaries_of, summary_at, summary_by_number};
+pub use type_references::{
+    TypeReferences, member_type, own_type, part_type, parts_at, type_references_of, types_at,
+    widened,
+};
+pub use values::{counted_to, is_there, natural_of, number_at, place_of, wrapped_of};
+pub use walking::reached;

@@ -1,0 +1,174 @@
+// What the members of an aggregate come to, each beside the facts of its type.
+ghost use Rattle.std.specs.Prelude.{◌≡◌, ◌<◌, ◌≤◌, ◌+◌, ◌||◌, length, map, zip, All, IfSome, ◌+ℤ◌};
+ghost use Rattle.std.specs.List.{list_any};
+ghost use Rattle.type_reach.specs.Placement.{bit_of as the_bit_of, is_nameless as the_member_is_nameless, IsNear};
+ghost use Rattle.type_reach.specs.Facts.{own_align as the_own_align, member_align as the_member_align, most as the_most, moved_span as the_moved_span, joined as the_joined, member_span as the_member_span, spread as the_spread, span_out_of_range as the_span_is_beyond, member_beyond as the_member_is_beyond, IsSpanNear};
+
+use crate::facts::{Facts, Span};
+use crate::placement::{bit_of, is_nameless, is_out_of_range};
+use crate::values::number_at;
+use abi_base::dwarf::DW_AT_alignment;
+use dwarf_entries::Dwarf;
+
+// The explicit alignment that an entry says itself.
+#[tactic(auto, unfolding(crate::specs::Facts::own_align))]
+pub(crate) fn own_align(dwarf: &Dwarf, e: usize) -> u64
+    requires { e < length dwarf.now.tree.entries }
+    ensures { result ≡ the_own_align dwarf.now.tree e }
+{
+    number_at(dwarf, e, DW_AT_alignment)
+}
+
+// The explicit alignment that a member brings, which has a name or none.
+#[tactic(auto, unfolding(crate::specs::Facts::member_align, crate::specs::Facts::is_replaced))]
+fn member_align(dwarf: &Dwarf, m: usize, of_type: &Facts, nameless: bool) -> u64
+    requires inside { m < length dwarf.now.tree.entries }
+    requires nameless { nameless ≡ the_member_is_nameless dwarf.now m }
+    ensures { result ≡ the_member_align dwarf.now (m, of_type.now) }
+{
+    let own = own_align(dwarf, m);
+    if nameless && of_type.aggregate {
+        own.max(of_type.align)
+    } else {
+        own
+    }
+}
+
+// A bit so much later.
+fn later(by: i128, bit: i128, rank: u32) -> i128
+    requires by { IsNear 1 by }
+    requires bit { IsNear (rank + 1) bit }
+    requires rank { rank < 1000 }
+    ensures is { result ≡ by +ℤ bit }
+    ensures near { IsNear (rank + 2) result }
+{
+    by + bit
+}
+
+// Bits that begin so much later.
+fn moved_span(by: i128, span: Option<Span>, rank: u32) -> Option<Span>
+    requires by { IsNear 1 by }
+    requires low { IfSome span (λ s. IsNear (rank + 1) s.low) }
+    requires high { IfSome span (λ s. IsNear (rank + 1) s.high) }
+    requires rank { rank < 1000 }
+    ensures is { result ≡ the_moved_span by span }
+    ensures low { IfSome result (λ s. IsNear (rank + 2) s.low) }
+    ensures high { IfSome result (λ s. IsNear (rank + 2) s.high) }
+{
+    match span {
+        Some(span) => Some(Span {
+            low: later(by, span.low, rank),
+            high: later(by, span.high, rank),
+        }),
+        None => None,
+    }
+}
+
+// The bits of both.
+fn joined(a: Option<Span>, b: Option<Span>) -> Option<Span>
+    ensures { result ≡ the_joined a b }
+{
+    match a {
+        None => b,
+        Some(one) => match b {
+            None => Some(one),
+            Some(other) => Some(Span {
+                low: one.low.min(other.low),
+                high: one.high.max(other.high),
+            }),
+        },
+    }
+}
+
+// Where a member begins that stands at a bit, or the members that replace it.
+#[tactic(auto, unfolding(crate::specs::Facts::member_span))]
+fn member_span(dwarf: &Dwarf, m: usize, of_type: &Facts, bit: i128, nameless: bool) -> Option<Span>
+    requires bit { bit ≡ the_bit_of dwarf.now m of_type.now.size }
+    requires bit_near { IsNear 1 bit }
+    requires nameless { nameless ≡ the_member_is_nameless dwarf.now m }
+    requires near { IsSpanNear of_type.now }
+    requires rank { of_type.now.rank < 1000 }
+    ensures is { result ≡ the_member_span dwarf.now (m, of_type.now) }
+    ensures low { IfSome result (λ s. IsNear (of_type.now.rank + 2) s.low) }
+    ensures high { IfSome result (λ s. IsNear (of_type.now.rank + 2) s.high) }
+{
+    if !nameless {
+        return Some(Span {
+            low: bit,
+            high: bit,
+        });
+    }
+    if of_type.aggregate {
+        moved_span(bit, of_type.span, of_type.rank)
+    } else {
+        None
+    }
+}
+
+// Whether bits are out of range.
+pub(crate) fn span_out_of_range(span: Option<Span>) -> bool
+    ensures { result ≡ the_span_is_beyond span }
+{
+    match span {
+        Some(span) => is_out_of_range(span.low) || is_out_of_range(span.high),
+        None => false,
+    }
+}
+
+// Whether a member begins out of range that stands at a bit, or another one does.
+#[tactic(auto, unfolding(crate::specs::Facts::member_beyond))]
+fn either_out_of_range(dwarf: &Dwarf, m: usize, of_type: &Facts, bit: i128, other: bool) -> bool
+    requires { bit ≡ the_bit_of dwarf.now m of_type.now.size }
+    ensures { result ≡ (the_member_is_beyond dwarf.now (m, of_type.now) || other) }
+{
+    is_out_of_range(bit) || other
+}
+
+/// What members come to.
+#[derive(Drop)]
+pub(crate) struct MemberTotals {
+    /// The greatest explicit alignment that they bring.
+    pub(crate) align: u64,
+    /// Where they begin, or those that replace them.
+    pub(crate) span: Option<Span>,
+    /// One begins out of range, as it stands.
+    pub(crate) beyond: bool,
+}
+
+/// What members come to, each beside the facts of its type.
+pub(crate) fn member_totals_of(
+    dwarf: &Dwarf,
+    members: &[u32],
+    of_types: &[Facts],
+    rank: u32,
+) -> MemberTotals
+    requires inside { All (λ m. m < length dwarf.now.tree.entries) members.now }
+    requires near { All IsSpanNear of_types.now }
+    requires ranks { All (λ x. x.rank < rank) of_types.now }
+    requires rank { rank ≤ 1000 }
+    ensures align { result.align ≡ the_most (map (the_member_align dwarf.now) (zip members.now of_types.now)) }
+    ensures span { result.span ≡ the_spread (map (the_member_span dwarf.now) (zip members.now of_types.now)) }
+    ensures low { IfSome result.span (λ s. IsNear (rank + 1) s.low) }
+    ensures high { IfSome result.span (λ s. IsNear (rank + 1) s.high) }
+    ensures beyond { result.beyond ≡ list_any (the_member_is_beyond dwarf.now) (zip members.now of_types.now) }
+{
+    let mut align: u64 = 0;
+    let mut span = None;
+    let mut beyond = false;
+    let mut k = members.len().min(of_types.len());
+    'down: while k > 0 {
+        k -= 1;
+        let m = members[k] as usize;
+        let of_type = of_types[k];
+        let bit = bit_of(dwarf, m, of_type.size);
+        let nameless = is_nameless(dwarf, m);
+        align = member_align(dwarf, m, &of_type, nameless).max(align);
+        span = joined(member_span(dwarf, m, &of_type, bit, nameless), span);
+        beyond = either_out_of_range(dwarf, m, &of_type, bit, beyond);
+    }
+    MemberTotals {
+        align,
+        span,
+        beyond,
+    }
+}

@@ -1,0 +1,82 @@
+// Where members stand in their aggregates.
+ghost use Rattle.std.specs.Prelude.{◌≡◌, ◌<◌, length};
+ghost use Rattle.type_reach.specs.Placement.{byte_of as the_byte_of, storage_of as the_storage_of, width_of as the_width_of, bit_of as the_bit_of, is_out_of_range as the_bit_is_beyond, is_nameless as the_member_is_nameless, IsNear};
+
+use crate::constants::BIT_LIMIT;
+use crate::values::{is_there, number_at, place_of};
+use abi_base::dwarf::{
+    DW_AT_bit_offset, DW_AT_bit_size, DW_AT_byte_size, DW_AT_data_bit_offset,
+    DW_AT_data_member_location,
+};
+use dwarf_entries::Dwarf;
+
+// The byte at which a member begins.
+#[tactic(auto, unfolding(crate::specs::Placement::byte_of))]
+fn byte_of(dwarf: &Dwarf, m: usize) -> u64
+    requires { m < length dwarf.now.tree.entries }
+    ensures { result ≡ the_byte_of dwarf.now m }
+{
+    place_of(dwarf, dwarf.attr(m, DW_AT_data_member_location)).unwrap_or(0)
+}
+
+// The size of what a bit field is stored in, where its type has a size.
+#[tactic(auto, unfolding(crate::specs::Placement::storage_of))]
+fn storage_of(dwarf: &Dwarf, m: usize, size: u64) -> u64
+    requires { m < length dwarf.now.tree.entries }
+    ensures { result ≡ the_storage_of dwarf.now m size }
+{
+    if is_there(dwarf, m, DW_AT_byte_size) {
+        number_at(dwarf, m, DW_AT_byte_size)
+    } else {
+        size
+    }
+}
+
+/// How wide a member is as a bit field, in bits; 0 where it is none.
+#[tactic(auto, unfolding(crate::specs::Placement::width_of))]
+pub fn width_of(dwarf: &Dwarf, m: usize) -> u64
+    requires { m < length dwarf.now.tree.entries }
+    ensures { result ≡ the_width_of dwarf.now m }
+{
+    number_at(dwarf, m, DW_AT_bit_size)
+}
+
+/// The bit at which a member begins, counted from the begin of its aggregate, where its type has a size in bytes.
+#[tactic(auto, unfolding(crate::specs::Placement::bit_of))]
+pub fn bit_of(dwarf: &Dwarf, m: usize, size: u64) -> i128
+    requires { m < length dwarf.now.tree.entries }
+    ensures is { result ≡ the_bit_of dwarf.now m size }
+    ensures near { IsNear 1 result }
+{
+    if is_there(dwarf, m, DW_AT_data_bit_offset) {
+        return i128::from(number_at(dwarf, m, DW_AT_data_bit_offset));
+    }
+    let bit = 8 * i128::from(byte_of(dwarf, m));
+    if is_there(dwarf, m, DW_AT_bit_offset) {
+        let end = bit + 8 * i128::from(storage_of(dwarf, m, size));
+        let behind = i128::from(number_at(dwarf, m, DW_AT_bit_offset))
+            + i128::from(width_of(dwarf, m));
+        end - behind
+    } else {
+        bit
+    }
+}
+
+/// Whether a bit is not from 0 to 2^63 - 1.
+pub fn is_out_of_range(bit: i128) -> bool
+    ensures { result ≡ the_bit_is_beyond bit }
+{
+    bit < 0 || BIT_LIMIT <= bit
+}
+
+/// Whether a member has no name, itself or along its chain.
+#[tactic(auto, unfolding(crate::specs::Placement::is_nameless))]
+pub fn is_nameless(dwarf: &Dwarf, m: usize) -> bool
+    requires { m < length dwarf.now.tree.entries }
+    ensures { result ≡ the_member_is_nameless dwarf.now m }
+{
+    match dwarf.name_of(m) {
+        Some(_) => false,
+        None => true,
+    }
+}

@@ -1,0 +1,105 @@
+// Entries that were found, numbered in order of offset.
+ghost use Rattle.std.specs.Prelude.{◌≡◌, ◌<◌, ◌^◌, length, nat_eq, position, slice_get, Contains, Some, IfOk, IfSome, IfNone};
+ghost use Rattle.std.specs.List.{IsDistinct};
+ghost use Rattle.type_reach.specs.VisitedEntries.{marked_places};
+
+use crate::searches::{BETWEEN_HINTS, hint_for, place_near};
+use abi_base::NoMemory;
+use std::alloc::Global;
+use std::marker::Model;
+
+/// Entries, each once, in order of offset. Contracts see the list of their positions.
+#[derive(Drop)]
+pub struct ReachedEntries {
+    // Positions take 32 bits, since there are fewer than 2^32 entries.
+    entries: Vec<u32>,
+    // For each so many entries of the tree, how many that were found stand before them.
+    hints: Vec<u32>,
+}
+
+impl Model for ReachedEntries {
+    ghost use Rattle.std.specs.Prelude.{List, ℕ};
+    ghost use Rattle.std.specs.List.Sorted.{IsStrictlyIncreasing};
+
+    ghost Value = { List ℕ };
+
+    ghost view = { λ found. found.entries.items };
+
+    ghost invariant = { λ found. IsStrictlyIncreasing found.entries.items };
+}
+
+impl ReachedEntries {
+    // The entries that are marked, with room for so many.
+    pub(crate) fn marked(
+        alloc: Global,
+        marks: &[bool],
+        room: usize,
+    ) -> Result<ReachedEntries, NoMemory>
+        requires { length marks.now < 2 ^ 32 }
+        ensures { IfOk result (λ found. found ≡ marked_places marks.now) }
+    {
+        let mut entries = Vec::with_capacity(alloc, room)?;
+        let mut hints = Vec::with_capacity(alloc, marks.len() / BETWEEN_HINTS + 1)?;
+        'marks: for e in 0..marks.len() {
+            if e % BETWEEN_HINTS == 0 {
+                hints.push(entries.len() as u32)?;
+            }
+            if marks[e] {
+                entries.push(e as u32)?;
+            }
+        }
+        Ok(ReachedEntries { entries, hints })
+    }
+
+    /// How many there are.
+    pub fn len(&self) -> usize
+        ensures { result ≡ length self.now }
+    {
+        self.entries.len()
+    }
+
+    /// The entry of a number.
+    pub fn at(&self, number: usize) -> usize
+        requires { number < length self.now }
+        ensures { slice_get self.now number ≡ Some result }
+    {
+        self.entries[number] as usize
+    }
+
+    // Where an entry stands.
+    fn place(&self, e: usize) -> Option<usize>
+        ensures place { result ≡ position (nat_eq e) self.now }
+        ensures inside { IfSome result (λ i. i < length self.now) }
+    {
+        let hint = hint_for(self.hints.as_slice(), e);
+        place_near(self.entries.as_slice(), e, hint)
+    }
+
+    /// The number of an entry. None exactly where it was not found.
+    pub fn number(&self, e: usize) -> Option<usize>
+        ensures number { result ≡ position (nat_eq e) self.now }
+        ensures inside { IfSome result (λ i. i < length self.now) }
+        ensures at { IfSome result (λ i. slice_get self.now i ≡ Some e) }
+        ensures none { IfNone result (Contains self.now e → ⊥) }
+    {
+        self.place(e)
+    }
+
+    /// The number of an entry that was found.
+    pub fn number_of(&self, e: usize) -> usize
+        requires { Contains self.now e }
+        ensures { slice_get self.now result ≡ Some e }
+    {
+        match self.number(e) {
+            Some(number) => number,
+            None => unreachable!(),
+        }
+    }
+
+    /// No entry stands twice.
+    pub fn known(&self)
+        ensures { IsDistinct nat_eq self.now }
+    {
+        let _ = &self.entries;
+    }
+}

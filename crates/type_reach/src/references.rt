@@ -1,0 +1,87 @@
+// The types to which entries lead, and their parts.
+ghost use Rattle.std.specs.Prelude.{◌≡◌, ◌<◌, length, All, IfOk, IfSome};
+ghost use Rattle.type_reach.specs.References.{role_of as the_role_of, type_of as the_type_of, body_of as the_body_of, parts_of as the_parts_of, members_of as the_members_of, has_type as the_role_has_a_type, holds_none as the_role_holds_none};
+
+use crate::role::{Role, is_signed, role_of};
+use abi_base::NoMemory;
+use abi_base::dwarf::{
+    DW_AT_signature, DW_AT_type, DW_TAG_formal_parameter, DW_TAG_member, DW_TAG_subprogram,
+};
+use dwarf_entries::Dwarf;
+use std::alloc::Global;
+
+/// The type that an entry has, itself or along its chain; none for void.
+#[tactic(auto, unfolding(crate::specs::References::type_of))]
+pub fn type_of(dwarf: &Dwarf, e: usize) -> Option<usize>
+    requires { e < length dwarf.now.tree.entries }
+    ensures found { result ≡ the_type_of dwarf.now.tree e }
+    ensures inside { IfSome result (λ f. f < length dwarf.now.tree.entries) }
+{
+    let name = if is_signed(dwarf, e) {
+        DW_AT_signature
+    } else {
+        DW_AT_type
+    };
+    dwarf.attr_target(e, name)
+}
+
+/// The entry whose children are the parameters of a function: of a subprogram the last of its chain.
+#[tactic(auto, unfolding(crate::specs::References::body_of))]
+pub fn body_of(dwarf: &Dwarf, e: usize) -> usize
+    requires { e < length dwarf.now.tree.entries }
+    ensures found { result ≡ the_body_of dwarf.now.tree e }
+    ensures inside { result < length dwarf.now.tree.entries }
+{
+    if dwarf.tag(e) == DW_TAG_subprogram {
+        dwarf.origin(e)
+    } else {
+        e
+    }
+}
+
+/// The members of a structure or a union, those of a declaration too, or the parameters of a function, in their order.
+#[tactic(auto, unfolding(crate::specs::References::parts_of, crate::specs::References::tagged_children))]
+pub(crate) fn parts_of(alloc: Global, dwarf: &Dwarf, e: usize) -> Result<Vec<usize>, NoMemory>
+    requires { e < length dwarf.now.tree.entries }
+    ensures parts { IfOk result (λ list. list.items ≡ the_parts_of dwarf.now.tree e) }
+    ensures inside { IfOk result (λ list. All (λ c. c < length dwarf.now.tree.entries) list.items) }
+{
+    match role_of(dwarf, e) {
+        Role::Aggregate => dwarf.tagged(alloc, e, DW_TAG_member),
+        Role::Function => dwarf.tagged(alloc, body_of(dwarf, e), DW_TAG_formal_parameter),
+        _ => Ok(Vec::new(alloc)),
+    }
+}
+
+/// Those of an entry's parts that are its members, of which a declaration has none.
+#[tactic(auto, unfolding(crate::specs::References::members_of))]
+pub fn members_among<'p>(dwarf: &Dwarf, e: usize, role: Role, parts: &'p [u32]) -> &'p [u32]
+    requires inside { e < length dwarf.now.tree.entries }
+    requires role { role ≡ the_role_of dwarf.now.tree e }
+    requires parts { parts.now ≡ the_parts_of dwarf.now.tree e }
+    requires parts_inside { All (λ c. c < length dwarf.now.tree.entries) parts.now }
+    ensures members { result.now ≡ the_members_of dwarf.now.tree e }
+    ensures inside { All (λ c. c < length dwarf.now.tree.entries) result.now }
+{
+    match role {
+        Role::Aggregate => { if dwarf.is_declaration(e) { &[] } else { parts } }
+        _ => &[],
+    }
+}
+
+/// Whether an entry of a role has a type itself.
+pub(crate) fn has_type(role: Role) -> bool
+    ensures { result ≡ the_role_has_a_type role }
+{
+    matches!(
+        role,
+        Role::Wrapper | Role::Function | Role::Part | Role::Pointer | Role::Array
+    )
+}
+
+/// Whether an entry of a role holds none of its types by value.
+pub(crate) fn holds_none(role: Role) -> bool
+    ensures { result ≡ the_role_holds_none role }
+{
+    matches!(role, Role::Pointer | Role::Part)
+}

@@ -1,0 +1,215 @@
+// What the entries that were found lead to, kept once.
+ghost use Rattle.std.specs.Prelude.{◌≡◌, ◌<◌, ◌++◌, ◌^◌, true, length, slice_get, slice_index_or, All, Some, IfOk, OnOk, IfSome};
+ghost use Rattle.type_reach.specs.References.{role_of as the_role_of, type_of as the_type_of, parts_of as the_parts_of, members_of as the_members_of, has_type as the_role_has_a_type, own_types, types_of as the_types_of, steps_of as the_steps_of};
+ghost use Rattle.type_reach.specs.ByValue.{IsClosed};
+ghost use Rattle.type_reach.specs.TypeReferences.{AreTypeReferences};
+
+use crate::reached_entries::ReachedEntries;
+use crate::references::{has_type, holds_none, parts_of, type_of};
+use crate::role::{Role, role_of};
+use crate::rows::Rows;
+use abi_base::NoMemory;
+use dwarf_entries::Dwarf;
+use std::alloc::Global;
+
+/// What the entries that were found lead to: for each its parts and its types, in the order of the numbers. Positions take 32
+/// bits, since there are fewer than 2^32 entries.
+#[derive(Drop)]
+pub struct TypeReferences {
+    parts: Rows<u32>,
+    types: Rows<Option<u32>>,
+}
+
+// A type in 32 bits.
+#[inline]
+fn narrowed(dwarf: &Dwarf, ty: Option<usize>) -> Option<u32>
+    requires { IfSome ty (λ e. e < length dwarf.now.tree.entries) }
+    ensures { result ≡ ty }
+{
+    dwarf.known();
+    match ty {
+        Some(e) => Some(e as u32),
+        None => None,
+    }
+}
+
+/// A type that was kept in 32 bits.
+#[inline]
+pub fn widened(ty: Option<u32>) -> Option<usize>
+    ensures { result ≡ ty }
+{
+    match ty {
+        Some(e) => Some(e as usize),
+        None => None,
+    }
+}
+
+// Puts the parts of an entry in the place of what a list held.
+fn fill_parts(alloc: Global, dwarf: &Dwarf, list: &mut Vec<u32>, e: usize) -> Result<(), NoMemory>
+    requires { e < length dwarf.now.tree.entries }
+    ensures parts { OnOk result (list.new.items ≡ the_parts_of dwarf.now.tree e) }
+    ensures inside { OnOk result (All (λ c. c < length dwarf.now.tree.entries) list.new.items) }
+{
+    dwarf.known();
+    let parts = parts_of(alloc, dwarf, e)?;
+    list.clear();
+    'parts: for k in 0..parts.len() {
+        list.push(parts[k] as u32)?;
+    }
+    Ok(())
+}
+
+// Puts the type last that an entry has itself.
+#[tactic(auto, unfolding(crate::specs::References::own_types))]
+fn push_own(dwarf: &Dwarf, types: &mut Vec<Option<u32>>, e: usize) -> Result<(), NoMemory>
+    requires { e < length dwarf.now.tree.entries }
+    ensures { OnOk result (types.new.items ≡ types.old.items ++ own_types dwarf.now.tree e) }
+{
+    if has_type(role_of(dwarf, e)) {
+        types.push(narrowed(dwarf, type_of(dwarf, e)))?;
+    }
+    Ok(())
+}
+
+// Puts the types to which an entry leads in the place of what a list held.
+#[tactic(auto, unfolding(crate::specs::References::types_of))]
+fn fill_types(
+    dwarf: &Dwarf,
+    types: &mut Vec<Option<u32>>,
+    e: usize,
+    parts: &[u32],
+) -> Result<(), NoMemory>
+    requires inside { e < length dwarf.now.tree.entries }
+    requires parts { parts.now ≡ the_parts_of dwarf.now.tree e }
+    requires parts_inside { All (λ c. c < length dwarf.now.tree.entries) parts.now }
+    ensures { OnOk result (types.new.items ≡ the_types_of dwarf.now.tree e) }
+{
+    types.clear();
+    push_own(dwarf, types, e)?;
+    'parts: for k in 0..parts.len() {
+        types.push(narrowed(dwarf, type_of(dwarf, parts[k] as usize)))?;
+    }
+    Ok(())
+}
+
+/// What the entries that were found lead to.
+pub fn type_references_of(
+    alloc: Global,
+    dwarf: &Dwarf,
+    found: &ReachedEntries,
+) -> Result<TypeReferences, NoMemory>
+    requires { IsClosed dwarf.now.tree found.now }
+    ensures { IfOk result (λ leads. AreTypeReferences dwarf.now.tree found.now leads) }
+{
+    let mut parts = Rows::with_capacity(alloc, found.len())?;
+    let mut types = Rows::with_capacity(alloc, found.len())?;
+    let mut own_parts = Vec::new(alloc);
+    let mut own_types = Vec::new(alloc);
+    'found: for number in 0..found.len() {
+        let e = found.at(number);
+        fill_parts(alloc, dwarf, &mut own_parts, e)?;
+        fill_types(dwarf, &mut own_types, e, own_parts.as_slice())?;
+        parts.push(own_parts.as_slice())?;
+        types.push(own_types.as_slice())?;
+    }
+    parts.shrink_to_fit();
+    types.shrink_to_fit();
+    Ok(TypeReferences { parts, types })
+}
+
+/// The parts of an entry that was found, by its number: the members of a structure or a union, those of a declaration too, or
+/// the parameters of a function, in their order.
+pub fn parts_at<'l>(
+    dwarf: &Dwarf,
+    found: &ReachedEntries,
+    leads: &'l TypeReferences,
+    number: usize,
+    e: usize,
+) -> &'l [u32]
+    requires leads { AreTypeReferences dwarf.now.tree found.now leads.now }
+    requires at { slice_get found.now number ≡ Some e }
+    ensures parts { result.now ≡ the_parts_of dwarf.now.tree e }
+    ensures inside { All (λ c. c < length dwarf.now.tree.entries) result.now }
+{
+    leads.parts.row(number)
+}
+
+/// The types to which an entry leads that was found, by its number: its own, and those of its parts.
+pub fn types_at<'l>(
+    dwarf: &Dwarf,
+    found: &ReachedEntries,
+    leads: &'l TypeReferences,
+    number: usize,
+    e: usize,
+) -> &'l [Option<u32>]
+    requires leads { AreTypeReferences dwarf.now.tree found.now leads.now }
+    requires at { slice_get found.now number ≡ Some e }
+    ensures types { result.now ≡ the_types_of dwarf.now.tree e }
+    ensures inside { All (λ ty. IfSome ty (λ f. f < length dwarf.now.tree.entries)) result.now }
+{
+    leads.types.row(number)
+}
+
+/// The types that an entry of a role holds by value.
+#[tactic(auto, unfolding(crate::specs::References::steps_of))]
+pub(crate) fn steps_at<'l>(
+    dwarf: &Dwarf,
+    found: &ReachedEntries,
+    leads: &'l TypeReferences,
+    number: usize,
+    e: usize,
+    role: Role,
+) -> &'l [Option<u32>]
+    requires leads { AreTypeReferences dwarf.now.tree found.now leads.now }
+    requires at { slice_get found.now number ≡ Some e }
+    requires role { role ≡ the_role_of dwarf.now.tree e }
+    ensures { result.now ≡ the_steps_of dwarf.now.tree e }
+{
+    if holds_none(role) {
+        &[]
+    } else {
+        types_at(dwarf, found, leads, number, e)
+    }
+}
+
+/// The type that an entry has itself, of those to which it leads.
+pub fn own_type(dwarf: &Dwarf, e: usize, types: &[Option<u32>]) -> Option<usize>
+    requires types { types.now ≡ the_types_of dwarf.now.tree e }
+    requires own { the_role_has_a_type (the_role_of dwarf.now.tree e) ≡ true }
+    ensures { result ≡ the_type_of dwarf.now.tree e }
+{
+    widened(types[0])
+}
+
+/// The type of a part, of those to which its entry leads.
+pub fn part_type(
+    dwarf: &Dwarf,
+    e: usize,
+    parts: &[u32],
+    types: &[Option<u32>],
+    k: usize,
+) -> Option<usize>
+    requires parts { parts.now ≡ the_parts_of dwarf.now.tree e }
+    requires types { types.now ≡ the_types_of dwarf.now.tree e }
+    requires inside { k < length parts.now }
+    ensures { result ≡ the_type_of dwarf.now.tree (slice_index_or parts.now k 0) }
+{
+    let own = types.len() - parts.len();
+    widened(types[own + k])
+}
+
+/// The type of a member, of those to which its entry leads: a structure or a union has no type itself.
+pub fn member_type(
+    dwarf: &Dwarf,
+    e: usize,
+    members: &[u32],
+    types: &[Option<u32>],
+    k: usize,
+) -> Option<usize>
+    requires members { members.now ≡ the_members_of dwarf.now.tree e }
+    requires types { types.now ≡ the_types_of dwarf.now.tree e }
+    requires inside { k < length members.now }
+    ensures { result ≡ the_type_of dwarf.now.tree (slice_index_or members.now k 0) }
+{
+    widened(types[k])
+}

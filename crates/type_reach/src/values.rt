@@ -1,0 +1,89 @@
+// What attributes say as numbers.
+ghost use Rattle.std.specs.Prelude.{◌≡◌, ◌<◌, length};
+ghost use Rattle.type_reach.specs.Values.{natural_of as the_natural_of, wrapped_of as the_wrapped_of, counted_to as the_counted_to, added_by as the_added_by, place_of as the_place_of, is_there as the_value_is_there, number_at as the_number_at};
+
+use abi_base::dwarf::DW_OP_plus_uconst;
+use abi_base::uleb;
+use dwarf_entries::Dwarf;
+use dwarf_forms::Value;
+
+/// A constant that is not negative (DWARF 5, section 7.5.5 "Classes and Forms", class constant); none where there is no such value.
+pub fn natural_of(value: Option<Value>) -> Option<u64>
+    ensures { result ≡ the_natural_of value }
+{
+    match value {
+        Some(value) => value.number(),
+        None => None,
+    }
+}
+
+/// A constant, with a sign or without, modulo 2^64; none where there is no such value.
+pub fn wrapped_of(value: Option<Value>) -> Option<u64>
+    ensures { result ≡ the_wrapped_of value }
+{
+    match value {
+        Some(value) => value.word(),
+        None => None,
+    }
+}
+
+/// How many numbers there are from 0 up to a constant and with it, modulo 2^64; none where there is no such value.
+pub fn counted_to(value: Option<Value>) -> Option<u64>
+    ensures { result ≡ the_counted_to value }
+{
+    match value {
+        Some(value) => value.count_up_to(),
+        None => None,
+    }
+}
+
+// What an expression adds, which is one operation alone.
+fn added_by(bytes: &[u8]) -> Option<u64>
+    ensures { result ≡ the_added_by bytes.now }
+{
+    match bytes.first() {
+        Some(operation) if *operation == DW_OP_plus_uconst => {}
+        _ => return None,
+    }
+    match uleb(bytes, 1) {
+        Some((operand, after)) => {
+            if after == bytes.len() {
+                Some(operand)
+            } else {
+                None
+            }
+        }
+        None => None,
+    }
+}
+
+/// A place in bytes: a constant, or an expression that is one operation and adds one; none where there is no such value.
+pub fn place_of(dwarf: &Dwarf, value: Option<Value>) -> Option<u64>
+    ensures { result ≡ the_place_of dwarf.now.sections.info value }
+{
+    match value {
+        Some(value) => match dwarf.block(&value) {
+            Some(bytes) => added_by(bytes),
+            None => value.number(),
+        },
+        None => None,
+    }
+}
+
+/// Whether an entry has a value of an attribute, itself or along its chain.
+#[tactic(auto, unfolding(crate::specs::Values::is_there))]
+pub fn is_there(dwarf: &Dwarf, e: usize, name: u64) -> bool
+    requires { e < length dwarf.now.tree.entries }
+    ensures { result ≡ the_value_is_there dwarf.now.tree e name }
+{
+    dwarf.attr(e, name).is_some()
+}
+
+/// The number that an entry has of an attribute, itself or along its chain; 0 where it has none.
+#[tactic(auto, unfolding(crate::specs::Values::number_at))]
+pub fn number_at(dwarf: &Dwarf, e: usize, name: u64) -> u64
+    requires { e < length dwarf.now.tree.entries }
+    ensures { result ≡ the_number_at dwarf.now.tree e name }
+{
+    natural_of(dwarf.attr(e, name)).unwrap_or(0)
+}

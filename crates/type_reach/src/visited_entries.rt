@@ -1,0 +1,97 @@
+// The entries that a walk met.
+ghost use Rattle.std.specs.Prelude.{◌≡◌, ◌<◌, ◌^◌, [], length, nat_eq, slice_get, Some, IfOk, IfSome, OnOk};
+ghost use Rattle.std.specs.List.{IsDistinct};
+ghost use Rattle.type_reach.specs.Reached.{with_entry, with_type};
+ghost use Rattle.type_reach.specs.VisitedEntries.{by_offset};
+
+use crate::reached_entries::ReachedEntries;
+use abi_base::NoMemory;
+use std::alloc::Global;
+use std::marker::Model;
+
+/// The entries that a walk met so far, each once. Contracts see them in order of discovery, beside how many entries there are.
+#[derive(Drop)]
+pub(crate) struct VisitedEntries {
+    // A mark for each entry of the tree: whether it was met.
+    marks: Vec<bool>,
+    entries: Vec<u32>,
+}
+
+impl Model for VisitedEntries {
+    ghost use Rattle.std.specs.Prelude.{◌<◌, ◌^◌, length};
+    ghost use Rattle.type_reach.specs.VisitedEntries.{PlainVisited, AreMarked};
+
+    ghost Value = { PlainVisited };
+
+    ghost view = { λ met. record { entries = met.entries.items; room = length met.marks.items } };
+
+    ghost invariant = { λ met. AreMarked met.marks.items met.entries.items × (length met.marks.items < 2 ^ 32) };
+}
+
+impl VisitedEntries {
+    /// None yet, of so many.
+    pub fn new(alloc: Global, count: usize) -> Result<VisitedEntries, NoMemory>
+        requires { count < 2 ^ 32 }
+        ensures { IfOk result (λ met. met ≡ record { entries = []; room = count }) }
+    {
+        let marks = vec![in alloc; false; count]?;
+        Ok(VisitedEntries {
+            marks,
+            entries: Vec::new(alloc),
+        })
+    }
+
+    /// How many were met.
+    pub fn len(&self) -> usize
+        ensures { result ≡ length self.now.entries }
+    {
+        self.entries.len()
+    }
+
+    /// The entry that was met after so many others.
+    pub fn at(&self, number: usize) -> usize
+        requires { number < length self.now.entries }
+        ensures { slice_get self.now.entries number ≡ Some result }
+    {
+        self.entries[number] as usize
+    }
+
+    /// No entry stands twice.
+    pub fn known(&self)
+        ensures { IsDistinct nat_eq self.now.entries }
+    {
+        let _ = &self.entries;
+    }
+
+    /// Notes an entry, where it is new.
+    pub fn add(&mut self, e: usize) -> Result<(), NoMemory>
+        requires { e < self.old.room }
+        ensures entries { OnOk result (self.new.entries ≡ with_entry self.old.entries e) }
+        ensures room { OnOk result (self.new.room ≡ self.old.room) }
+    {
+        if !self.marks[e] {
+            self.entries.push(e as u32)?;
+            self.marks[e] = true;
+        }
+        Ok(())
+    }
+
+    /// Notes the entry of a type, where there is one and it is new.
+    pub fn add_type(&mut self, ty: Option<usize>) -> Result<(), NoMemory>
+        requires { IfSome ty (λ e. e < self.old.room) }
+        ensures entries { OnOk result (self.new.entries ≡ with_type self.old.entries ty) }
+        ensures room { OnOk result (self.new.room ≡ self.old.room) }
+    {
+        match ty {
+            Some(e) => self.add(e),
+            None => Ok(()),
+        }
+    }
+
+    /// The entries that were met, in order of offset.
+    pub fn by_offset(&self, alloc: Global) -> Result<ReachedEntries, NoMemory>
+        ensures { IfOk result (λ found. found ≡ by_offset self.now.entries self.now.room) }
+    {
+        ReachedEntries::marked(alloc, self.marks.as_slice(), self.entries.len())
+    }
+}

@@ -1,0 +1,89 @@
+// The walk over all that is reached.
+ghost use Rattle.std.specs.Prelude.{◌≡◌, ◌<◌, length, map, All, Some, IfOk, OnOk};
+ghost use Rattle.type_reach.specs.References.{own_types, types_of as the_types_of};
+ghost use Rattle.type_reach.specs.Reached.{with_types, IsWalk};
+ghost use Rattle.type_reach.specs.ReachedList.{reached_of};
+ghost use Rattle.type_reach.specs.ByValue.{IsClosed};
+
+use crate::laws::{the_list_holds_the_reached, walks_find_the_list};
+use crate::reached_entries::ReachedEntries;
+use crate::references::{has_type, parts_of, type_of};
+use crate::role::role_of;
+use crate::visited_entries::VisitedEntries;
+use abi_base::NoMemory;
+use dwarf_entries::Dwarf;
+use std::alloc::Global;
+
+// Adds the type that an entry has itself.
+#[tactic(auto, unfolding(crate::specs::References::own_types, crate::specs::Reached::with_types))]
+fn add_own(dwarf: &Dwarf, met: &mut VisitedEntries, e: usize) -> Result<(), NoMemory>
+    requires inside { e < length dwarf.now.tree.entries }
+    requires room { met.old.room ≡ length dwarf.now.tree.entries }
+    ensures entries { OnOk result (met.new.entries ≡ with_types met.old.entries (own_types dwarf.now.tree e)) }
+    ensures room { OnOk result (met.new.room ≡ met.old.room) }
+{
+    if has_type(role_of(dwarf, e)) {
+        met.add_type(type_of(dwarf, e))?;
+    }
+    Ok(())
+}
+
+// Adds all to which an entry leads.
+fn expand(alloc: Global, dwarf: &Dwarf, met: &mut VisitedEntries, e: usize) -> Result<(), NoMemory>
+    requires inside { e < length dwarf.now.tree.entries }
+    requires room { met.old.room ≡ length dwarf.now.tree.entries }
+    ensures entries { OnOk result (met.new.entries ≡ with_types met.old.entries (the_types_of dwarf.now.tree e)) }
+    ensures room { OnOk result (met.new.room ≡ met.old.room) }
+{
+    add_own(dwarf, met, e)?;
+    let parts = parts_of(alloc, dwarf, e)?;
+    'parts: for k in 0..parts.len() {
+        met.add_type(type_of(dwarf, parts[k]))?;
+    }
+    Ok(())
+}
+
+// Adds the roots.
+fn add_roots(met: &mut VisitedEntries, roots: &[usize]) -> Result<(), NoMemory>
+    requires { All (λ root. root < met.old.room) roots.now }
+    ensures entries { OnOk result (met.new.entries ≡ with_types met.old.entries (map (λ e. Some e) roots.now)) }
+    ensures room { OnOk result (met.new.room ≡ met.old.room) }
+{
+    'roots: for k in 0..roots.len() {
+        met.add(roots[k])?;
+    }
+    Ok(())
+}
+
+// Exactly the entries that are reached from the roots, in order of discovery.
+fn walk(alloc: Global, dwarf: &Dwarf, roots: &[usize]) -> Result<VisitedEntries, NoMemory>
+    requires { All (λ root. root < length dwarf.now.tree.entries) roots.now }
+    ensures walk { IfOk result (λ met. IsWalk dwarf.now.tree roots.now met.entries) }
+    ensures room { IfOk result (λ met. met.room ≡ length dwarf.now.tree.entries) }
+{
+    dwarf.known();
+    let mut met = VisitedEntries::new(alloc, dwarf.len())?;
+    add_roots(&mut met, roots)?;
+    let mut number = 0;
+    'walk: while number < met.len() {
+        met.known();
+        let e = met.at(number);
+        expand(alloc, dwarf, &mut met, e)?;
+        number += 1;
+    }
+    met.known();
+    Ok(met)
+}
+
+/// Exactly the entries that are reached from the roots, in order of offset.
+pub fn reached(alloc: Global, dwarf: &Dwarf, roots: &[usize]) -> Result<ReachedEntries, NoMemory>
+    requires { All (λ root. root < length dwarf.now.tree.entries) roots.now }
+    ensures list { IfOk result (λ found. found ≡ reached_of dwarf.now.tree roots.now) }
+    ensures walk { IfOk result (λ found. IsWalk dwarf.now.tree roots.now found) }
+    ensures closed { IfOk result (λ found. IsClosed dwarf.now.tree found) }
+{
+    walks_find_the_list();
+    the_list_holds_the_reached();
+    let met = walk(alloc, dwarf, roots)?;
+    met.by_offset(alloc)
+}

@@ -1,7 +1,0 @@
-use Rattle.std.proofs.Common.{◌≡◌, map, drop}
-use Rattle.abi_base.specs.Outcome.{first}
-use Rattle.type_entries.specs.Faults.{large_fault}
-use Rattle.type_views.proofs.judging.ask_sizes.Given as goal
-
-abbrev pub invariant-found : goal.invariant-found
-invariant-found l = first (map (large_fault l.dwarf) (drop l.number l.found)) ≡ first (map (large_fault l.dwarf) l.found)

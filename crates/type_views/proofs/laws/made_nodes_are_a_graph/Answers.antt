@@ -1,5 +1,0 @@
-use Rattle.type_views.proofs.LimitLemmas.{made-graph}
-use Rattle.type_views.proofs.laws.made_nodes_are_a_graph.Goals as goal
-
-pub returns : goal.returns
-returns c = made-graph

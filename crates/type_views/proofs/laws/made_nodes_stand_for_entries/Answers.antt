@@ -1,5 +1,0 @@
-use Rattle.type_views.proofs.ViewLemmas.{are-nodes}
-use Rattle.type_views.proofs.laws.made_nodes_stand_for_entries.Goals as goal
-
-pub returns : goal.returns
-returns c = are-nodes

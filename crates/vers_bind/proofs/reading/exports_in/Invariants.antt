@@ -1,8 +1,0 @@
-use Rattle.std.proofs.Common.{◌≡◌, take}
-use Rattle.abi_types.specs.Plain.{plain_exports}
-use Rattle.elf_syms.specs.Plain.{plain_symbols}
-use Rattle.vers_bind.specs.Exports.{exports_with}
-use Rattle.vers_bind.proofs.reading.exports_in.Given as goal
-
-abbrev pub invariant-loop-symbol : goal.invariant-loop-symbol
-invariant-loop-symbol l = plain_exports l.exports.items ≡ exports_with (take l.symbol-index (plain_symbols l.symbols)) l.versions
