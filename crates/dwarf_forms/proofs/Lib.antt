@@ -1,4 +1,4 @@
 mod Cases
 mod FormLemmas
 pub mod lemmas
-mod abbreviations
+mod abbreviations_lemmas

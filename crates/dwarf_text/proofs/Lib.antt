@@ -1,2 +1,2 @@
 mod EndLemmas
-mod ranges
+mod ranges_lemmas

@@ -1,4 +1,3 @@
-mod file
-mod sections
-mod symbols
-mod versions
+mod file_lemmas
+mod symbols_lemmas
+mod versions_lemmas

@@ -5,4 +5,4 @@ mod Settled
 mod Texts
 mod Verdicts
 mod Empty
-mod trial
+mod trial_lemmas

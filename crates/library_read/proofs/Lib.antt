@@ -6,4 +6,4 @@ mod LibraryLemmas
 mod NoDebugLemmas
 mod EntryLemmas
 mod LoopLemmas
-mod copy
+mod copy_lemmas

@@ -1,1 +1,1 @@
-mod entries
+mod entries_lemmas

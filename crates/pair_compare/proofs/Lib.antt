@@ -4,5 +4,5 @@ mod Itself
 mod Reading
 mod Scoping
 mod Judging
-mod certificates
-mod reports
+mod certificates_lemmas
+mod reports_lemmas

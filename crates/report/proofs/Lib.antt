@@ -1,4 +1,4 @@
 mod SeenLemmas
 mod Telling
 mod TextLemmas
-mod styles
+mod styles_lemmas

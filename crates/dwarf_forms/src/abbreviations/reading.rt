@@ -125,7 +125,7 @@ fn spec_in(bytes: &[u8], at: usize) -> Result<(Spec, usize), Option<usize>>
 
 /// The pair of attribute and form at a place of `.debug_abbrev`, and the place after it. None where the pairs end there, or
 /// none can be read.
-#[tactic(auto, using(crate::proofs::abbreviations::AbbrevsLemmas::specs_front, crate::proofs::abbreviations::AbbrevsLemmas::specs_over))]
+#[tactic(auto, using(crate::proofs::abbreviations_lemmas::AbbrevsLemmas::specs_front, crate::proofs::abbreviations_lemmas::AbbrevsLemmas::specs_over))]
 pub fn next_spec(bytes: &[u8], at: usize) -> Option<(Spec, usize)>
     ensures found { IfSome result (λ r. specs_run bytes.now at ≡ put_front r.0 (specs_run bytes.now r.1)) }
     ensures end { IfNone result ((specs_run bytes.now at).items ≡ []) }
@@ -139,7 +139,7 @@ pub fn next_spec(bytes: &[u8], at: usize) -> Option<(Spec, usize)>
 }
 
 // The pairs of an abbreviation and the place after them, or none where they cannot be read.
-#[tactic(auto, using(crate::proofs::abbreviations::AbbrevsLemmas::specs_more, crate::proofs::abbreviations::AbbrevsLemmas::specs_end))]
+#[tactic(auto, using(crate::proofs::abbreviations_lemmas::AbbrevsLemmas::specs_more, crate::proofs::abbreviations_lemmas::AbbrevsLemmas::specs_end))]
 fn specs_in(alloc: Global, bytes: &[u8], at: usize) -> Result<Option<(List<Spec>, usize)>, NoMemory>
     ensures { IfOk result (λ r. r ≡ specs_at bytes.now at) }
 {
@@ -226,7 +226,7 @@ fn next_abbrev(
 /// It has a fault, `FaultKind::Abbrev` at the byte where an abbreviation begins, where the bytes there are no whole
 /// abbreviation: a number or a byte is cut off or too large, the byte for children is neither 0 nor 1, one number of a
 /// pair alone is 0, or the code stood before.
-#[tactic(auto, using(crate::proofs::abbreviations::AbbrevsLemmas::table_more, crate::proofs::abbreviations::AbbrevsLemmas::table_end, crate::proofs::abbreviations::AbbrevsLemmas::abbrev_after, crate::proofs::abbreviations::AbbrevsLemmas::abbrev_is_new), unfolding(crate::specs::abbreviations::Abbrevs::table_run))]
+#[tactic(auto, using(crate::proofs::abbreviations_lemmas::AbbrevsLemmas::table_more, crate::proofs::abbreviations_lemmas::AbbrevsLemmas::table_end, crate::proofs::abbreviations_lemmas::AbbrevsLemmas::abbrev_after, crate::proofs::abbreviations_lemmas::AbbrevsLemmas::abbrev_is_new), unfolding(crate::specs::abbreviations::Abbrevs::table_run))]
 pub fn table(alloc: Global, bytes: &[u8], at: u64) -> Result<Table, Refusal>
     ensures judged { Judges result (table_run bytes.now at).end }
     ensures abbrevs { IfOk result (λ t. t ≡ (table_run bytes.now at).items) }

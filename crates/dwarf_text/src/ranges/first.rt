@@ -23,7 +23,7 @@ fn place_of(rnglists: &[u8], base: Option<u64>, index: u64) -> Option<u64>
 }
 
 // Where the first range begins of the list at a place of `.debug_rnglists`.
-#[tactic(auto, using(crate::proofs::ranges::ListLemmas::list_passes, crate::proofs::ranges::ListLemmas::list_gives, crate::proofs::ranges::ListLemmas::list_ends))]
+#[tactic(auto, using(crate::proofs::ranges_lemmas::ListLemmas::list_passes, crate::proofs::ranges_lemmas::ListLemmas::list_gives, crate::proofs::ranges_lemmas::ListLemmas::list_ends))]
 fn first_in_list(source: &Source, place: u64, low: u64) -> Result<Option<u64>, Fault>
     ensures { result ≡ first_start (list_run source.now.addr.now source.now.addr_base source.now.entry source.now.bytes.now (place, low)) }
 {
@@ -45,7 +45,7 @@ fn first_in_list(source: &Source, place: u64, low: u64) -> Result<Option<u64>, F
 }
 
 // Where the first range begins of the pairs from a place of `.debug_ranges` on.
-#[tactic(auto, using(crate::proofs::ranges::ListLemmas::pair_passes, crate::proofs::ranges::ListLemmas::pair_gives, crate::proofs::ranges::ListLemmas::pair_ends))]
+#[tactic(auto, using(crate::proofs::ranges_lemmas::ListLemmas::pair_passes, crate::proofs::ranges_lemmas::ListLemmas::pair_gives, crate::proofs::ranges_lemmas::ListLemmas::pair_ends))]
 fn first_in_pairs(source: &Source, place: u64, low: u64) -> Result<Option<u64>, Fault>
     ensures { result ≡ first_start (pair_run source.now.entry source.now.bytes.now (place, low)) }
 {

@@ -39,7 +39,7 @@ impl<'a> Model for ElfFile<'a> {
 /// Reads the header and the section table of a file. The fault is the first one of `ShortFile` to `Compressed`, kind by
 /// kind: that of an earlier kind comes first, wherever it stands, and of one kind that of the least section. It takes no
 /// memory. The answer keeps the bytes, and its look-ups read them anew.
-#[tactic(auto, using(crate::proofs::file::ElfLemmas::elf_fault_is))]
+#[tactic(auto, using(crate::proofs::file_lemmas::ElfLemmas::elf_fault_is))]
 pub fn read_elf<'a>(bytes: &'a [u8]) -> Result<ElfFile<'a>, Refusal>
     requires { length bytes.now ≤ input_limit }
     ensures judged { Judges result (elf_fault bytes.now) }

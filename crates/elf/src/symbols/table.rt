@@ -47,7 +47,7 @@ fn symbol_in<'a>(table: &[u8], strings: &'a [u8], number: u32) -> Result<Symbol<
 }
 
 // All symbols of a table, or the first fault of their names.
-#[tactic(auto, using(crate::proofs::symbols::Numbered::numbered))]
+#[tactic(auto, using(crate::proofs::symbols_lemmas::Numbered::numbered))]
 fn symbols_in<'a>(
     alloc: Global,
     table: &[u8],

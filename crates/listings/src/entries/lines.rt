@@ -38,7 +38,7 @@ fn push_unit(alloc: Global, text: &mut String, unit: &Unit<'_>) -> Result<(), Re
 }
 
 // A line for each entry of all units.
-#[tactic(auto, using(crate::proofs::entries::Listings::section_done, crate::proofs::entries::Listings::section_lines))]
+#[tactic(auto, using(crate::proofs::entries_lemmas::Listings::section_done, crate::proofs::entries_lemmas::Listings::section_lines))]
 fn lines_of(alloc: Global, sections: &Sections<'_>) -> Result<String, Refusal>
     ensures judged { Judges result (entries_fault sections.now.info.now sections.now.abbrev.now) }
     ensures lines { IfOk result (λ text. string_bytes text ≡ flat_map entry_line (all_entries sections.now.info.now sections.now.abbrev.now)) }

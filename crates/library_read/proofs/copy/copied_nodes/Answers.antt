@@ -1,5 +1,5 @@
 use Rattle.std.proofs.Common.{arith}
-use Rattle.library_read.proofs.copy.CopyLemmas.{copied_more}
+use Rattle.library_read.proofs.copy_lemmas.CopyLemmas.{copied_more}
 use Rattle.library_read.proofs.copy.copied_nodes.Goals as goal
 
 pub nodes-preserved : goal.nodes-preserved

@@ -1,4 +1,4 @@
-use Rattle.dwarf_forms.proofs.abbreviations.StandingLemmas.{fault_kind, fault_follows, fault_no_end, fault_no_abbrev}
+use Rattle.dwarf_forms.proofs.abbreviations_lemmas.StandingLemmas.{fault_kind, fault_follows, fault_no_end, fault_no_abbrev}
 use Rattle.dwarf_forms.proofs.abbreviations.laws.a_fault_is_where_none_stands.Goals as goal
 
 pub returns-clause-what : goal.returns-clause-what

@@ -1,5 +1,5 @@
-use Rattle.dwarf_forms.proofs.abbreviations.AbbrevsLemmas.{specs_chain}
-use Rattle.dwarf_forms.proofs.abbreviations.StandingLemmas.{table_chain}
+use Rattle.dwarf_forms.proofs.abbreviations_lemmas.AbbrevsLemmas.{specs_chain}
+use Rattle.dwarf_forms.proofs.abbreviations_lemmas.StandingLemmas.{table_chain}
 use Rattle.dwarf_forms.proofs.abbreviations.laws.one_after_another.Goals as goal
 
 pub returns-clause-abbrevs : goal.returns-clause-abbrevs

@@ -2,7 +2,7 @@ use Rattle.std.proofs.Common.{Option, ap}
 use Rattle.abi_base.specs.declared.fault.Fault.{Fault}
 use Rattle.abi_base.specs.Runs.{Run}
 use Rattle.dwarf_forms.specs.declared.abbreviations.abbrev.Abbrev.{Abbrev}
-use Rattle.dwarf_forms.proofs.abbreviations.StandingLemmas.{table_is}
+use Rattle.dwarf_forms.proofs.abbreviations_lemmas.StandingLemmas.{table_is}
 use Rattle.dwarf_forms.proofs.abbreviations.laws.what_stands_is_read.Goals as goal
 
 pub returns-clause-abbrevs : goal.returns-clause-abbrevs

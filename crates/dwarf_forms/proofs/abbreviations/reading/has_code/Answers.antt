@@ -1,6 +1,6 @@
 use Rattle.std.proofs.Common.{◌∙◌, ap}
 use Rattle.std.specs.Prelude.{is_some, ◌==◌}
-use Rattle.dwarf_forms.proofs.abbreviations.PlacesLemmas.{copied_is_some, any_found}
+use Rattle.dwarf_forms.proofs.abbreviations_lemmas.PlacesLemmas.{copied_is_some, any_found}
 use Rattle.dwarf_forms.proofs.abbreviations.reading.has_code.Goals as goal
 
 pub returns : goal.returns

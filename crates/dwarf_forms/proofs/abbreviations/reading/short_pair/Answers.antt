@@ -1,5 +1,5 @@
 use Rattle.std.proofs.Common.{◌∙◌}
-use Rattle.dwarf_forms.proofs.abbreviations.AbbrevsLemmas.{short_step, specs_front}
+use Rattle.dwarf_forms.proofs.abbreviations_lemmas.AbbrevsLemmas.{short_step, specs_front}
 use Rattle.dwarf_forms.specs.abbreviations.Abbrevs.{plain_pair}
 use Rattle.dwarf_forms.proofs.abbreviations.reading.short_pair.Goals as goal
 

@@ -1,7 +1,7 @@
 use Rattle.std.proofs.Common.{◌≡◌, ◌-◌, length}
 use Rattle.dwarf_forms.specs.abbreviations.Abbrevs.{table_run}
 use Rattle.abi_base.proofs.lemmas.Runs.{put_before}
-use Rattle.dwarf_forms.proofs.abbreviations.AbbrevsLemmas.{rest_of_table}
+use Rattle.dwarf_forms.proofs.abbreviations_lemmas.AbbrevsLemmas.{rest_of_table}
 use Rattle.dwarf_forms.proofs.abbreviations.reading.table.Given as goal
 
 abbrev pub invariant-loop-made : goal.invariant-loop-made

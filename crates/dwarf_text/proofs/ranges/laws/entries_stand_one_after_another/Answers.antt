@@ -1,4 +1,4 @@
-use Rattle.dwarf_text.proofs.ranges.ListLemmas.{list_chain, pair_chain}
+use Rattle.dwarf_text.proofs.ranges_lemmas.ListLemmas.{list_chain, pair_chain}
 use Rattle.dwarf_text.proofs.ranges.laws.entries_stand_one_after_another.Goals as goal
 
 pub returns-clause-lists : goal.returns-clause-lists

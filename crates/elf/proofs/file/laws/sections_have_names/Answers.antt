@@ -1,4 +1,4 @@
-use Rattle.elf.proofs.file.Faultless.{has_a_name, is_not_compressed}
+use Rattle.elf.proofs.file_lemmas.Faultless.{has_a_name, is_not_compressed}
 use Rattle.elf.proofs.file.laws.sections_have_names.Goals as goal
 
 pub returns-clause-named : goal.returns-clause-named

@@ -1,4 +1,4 @@
-use Rattle.elf.proofs.file.Faultless.{lies_inside, holds_its_size}
+use Rattle.elf.proofs.file_lemmas.Faultless.{lies_inside, holds_its_size}
 use Rattle.elf.proofs.file.laws.sections_lie_inside.Goals as goal
 
 pub returns-clause-inside : goal.returns-clause-inside

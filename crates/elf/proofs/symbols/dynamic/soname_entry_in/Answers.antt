@@ -1,7 +1,7 @@
 use Rattle.std.proofs.Common.{◌≡◌, true, false, sym, ◌∙◌, arith}
 use Rattle.std.proofs.lemmas.Bool.Decides.{nat_tests}
 use Rattle.elf.specs.symbols.Dynamic.{is_used, is_soname}
-use Rattle.elf.proofs.symbols.Entries.{not_here}
+use Rattle.elf.proofs.symbols_lemmas.Entries.{not_here}
 use Rattle.elf.proofs.symbols.dynamic.soname_entry_in.Goals as goal
 
 pub loop-number-preserved : goal.loop-number-preserved

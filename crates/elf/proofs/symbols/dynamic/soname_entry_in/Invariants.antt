@@ -1,6 +1,6 @@
 use Rattle.std.proofs.Common.{◌≡◌}
 use Rattle.elf.specs.symbols.Dynamic.{is_used, is_soname, soname_entry}
-use Rattle.elf.proofs.symbols.Entries.{find_before_end}
+use Rattle.elf.proofs.symbols_lemmas.Entries.{find_before_end}
 use Rattle.elf.proofs.symbols.dynamic.soname_entry_in.Given as goal
 
 abbrev pub invariant-loop-number : goal.invariant-loop-number

@@ -1,5 +1,5 @@
 use Rattle.elf.specs.symbols.Symbols.{symbols_of, symbol_table, symbol_strings}
-use Rattle.elf.proofs.symbols.Numbered.{numbered_in, whole, named}
+use Rattle.elf.proofs.symbols_lemmas.Numbered.{numbered_in, whole, named}
 use Rattle.elf.proofs.symbols.laws.symbols_fill_their_table.Goals as goal
 
 pub returns-clause-numbered : goal.returns-clause-numbered

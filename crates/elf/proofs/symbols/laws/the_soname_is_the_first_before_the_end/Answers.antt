@@ -1,4 +1,4 @@
-use Rattle.elf.proofs.symbols.FirstSoname.{first_soname, missing}
+use Rattle.elf.proofs.symbols_lemmas.FirstSoname.{first_soname, missing}
 use Rattle.elf.proofs.symbols.laws.the_soname_is_the_first_before_the_end.Goals as goal
 
 pub returns-clause-found : goal.returns-clause-found

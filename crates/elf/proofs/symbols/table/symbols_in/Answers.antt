@@ -1,8 +1,8 @@
 use Rattle.std.proofs.Common.{◌∙◌, sym, arith}
 use Rattle.elf.specs.symbols.Symbols.{symbol_name_fault}
 use Rattle.abi_base.proofs.lemmas.Outcomes.{first_from-here}
-use Rattle.elf.proofs.symbols.Numbered.{length_read}
-use Rattle.elf.proofs.symbols.Reading.{read_more}
+use Rattle.elf.proofs.symbols_lemmas.Numbered.{length_read}
+use Rattle.elf.proofs.symbols_lemmas.Reading.{read_more}
 use Rattle.elf.proofs.symbols.table.symbols_in.Goals as goal
 
 pub returns-in-Err-clause-judged : goal.returns-in-Err-clause-judged

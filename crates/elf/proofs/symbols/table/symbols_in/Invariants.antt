@@ -1,4 +1,4 @@
-use Rattle.elf.proofs.symbols.Reading.{ReadBefore}
+use Rattle.elf.proofs.symbols_lemmas.Reading.{ReadBefore}
 use Rattle.elf.proofs.symbols.table.symbols_in.Given as goal
 
 abbrev pub invariant-loop-number : goal.invariant-loop-number

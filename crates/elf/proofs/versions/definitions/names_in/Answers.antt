@@ -1,6 +1,6 @@
 use Rattle.std.proofs.Common.{◌∙◌, sym, ap}
 use Rattle.std.specs.Prelude.{is_some}
-use Rattle.elf.proofs.versions.ReadBefore.{read_none, read_more, malformed_fault, repeated_fault, was_there, refuses}
+use Rattle.elf.proofs.versions_lemmas.ReadBefore.{read_none, read_more, malformed_fault, repeated_fault, was_there, refuses}
 use Rattle.elf.proofs.versions.definitions.names_in.Goals as goal
 
 pub loop-number-init : goal.loop-number-init

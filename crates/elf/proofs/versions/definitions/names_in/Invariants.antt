@@ -1,4 +1,4 @@
-use Rattle.elf.proofs.versions.ReadBefore.{ReadBefore}
+use Rattle.elf.proofs.versions_lemmas.ReadBefore.{ReadBefore}
 use Rattle.elf.proofs.versions.definitions.names_in.Given as goal
 
 abbrev pub invariant-loop-number : goal.invariant-loop-number

@@ -2,7 +2,7 @@ use Rattle.std.proofs.Common.{◌∙◌, ap}
 use Rattle.std.specs.Option.{option_copied}
 use Rattle.elf.specs.versions.Names.{name_under}
 use Rattle.elf.specs.versions.Versions.{index_in, version_from}
-use Rattle.elf.proofs.versions.Versioned.{one_more}
+use Rattle.elf.proofs.versions_lemmas.Versioned.{one_more}
 use Rattle.elf.proofs.versions.indexes.versions_in.Goals as goal
 
 pub loop-symbol-preserved : goal.loop-symbol-preserved

@@ -1,4 +1,4 @@
-use Rattle.elf.proofs.versions.VersionLaws.{inside, named, apart, found}
+use Rattle.elf.proofs.versions_lemmas.VersionLaws.{inside, named, apart, found}
 use Rattle.elf.proofs.versions.laws.each_definition_names_its_index.Goals as goal
 
 pub returns-clause-inside : goal.returns-clause-inside

@@ -1,6 +1,6 @@
 use Rattle.std.proofs.Common.{◌∙◌}
 use Rattle.std.specs.Option.{option_copied}
-use Rattle.elf.proofs.versions.Versioned.{versions_read}
+use Rattle.elf.proofs.versions_lemmas.Versioned.{versions_read}
 use Rattle.elf.proofs.versions.reading.versions.Goals as goal
 
 pub returns-clause-read : goal.returns-clause-read

@@ -1,4 +1,4 @@
-use Rattle.listings.proofs.entries.Listings.{refused_unit, refused_entries}
+use Rattle.listings.proofs.entries_lemmas.Listings.{refused_unit, refused_entries}
 use Rattle.listings.proofs.entries.lines.lines_of.Goals as goal
 
 pub returns-in-Err-clause-judged : goal.returns-in-Err-clause-judged

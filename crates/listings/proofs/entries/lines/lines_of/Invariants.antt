@@ -1,6 +1,6 @@
 use Rattle.std.proofs.Common.{length, string_bytes}
 use Rattle.dwarf_units.specs.Sequence.{units_of}
-use Rattle.listings.proofs.entries.Listings.{AreListing}
+use Rattle.listings.proofs.entries_lemmas.Listings.{AreListing}
 use Rattle.listings.proofs.entries.lines.lines_of.Given as goal
 
 abbrev pub invariant-list : goal.invariant-list

@@ -1,7 +1,7 @@
 use Rattle.std.proofs.Common.{length, string_bytes}
 use Rattle.dwarf_units.specs.Plain.{plain_unit}
 use Rattle.dwarf_units.specs.Units.{entries_of}
-use Rattle.listings.proofs.entries.Listings.{IsListing}
+use Rattle.listings.proofs.entries_lemmas.Listings.{IsListing}
 use Rattle.listings.proofs.entries.lines.push_unit.Given as goal
 
 abbrev pub invariant-list : goal.invariant-list

@@ -1,7 +1,7 @@
 -- The sorted lines.
 use Rattle.std.proofs.Common.{◌∙◌, ◌^◌}
 use Rattle.cert_text.specs.Certs.{IsBelow}
-use Rattle.pair_compare.proofs.certificates.FoundLemmas.{alike_made, below_moved}
+use Rattle.pair_compare.proofs.certificates_lemmas.FoundLemmas.{alike_made, below_moved}
 use Rattle.pair_compare.proofs.certificates.alike.alike_lines.Goals as goal
 
 pub returns-clause-lines : goal.returns-clause-lines

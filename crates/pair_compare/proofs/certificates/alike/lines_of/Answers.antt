@@ -1,7 +1,7 @@
 -- A line more, where the node does not stand for its class.
 use Rattle.std.proofs.Common.{sym, ◌∙◌, ◌^◌}
 use Rattle.cert_text.specs.Certs.{IsBelow}
-use Rattle.pair_compare.proofs.certificates.FoundLemmas.{alike-zero, alike-more, below_none, below_pushed}
+use Rattle.pair_compare.proofs.certificates_lemmas.FoundLemmas.{alike-zero, alike-more, below_none, below_pushed}
 use Rattle.pair_compare.proofs.certificates.alike.lines_of.Goals as goal
 
 pub loop-number-init : goal.loop-number-init

@@ -2,7 +2,7 @@
 use Rattle.std.proofs.Common.{sym, ◌∙◌}
 use Rattle.abi_types.specs.Plain.{plain_export}
 use Rattle.cert_check.specs.Compatible.{sides}
-use Rattle.pair_compare.proofs.certificates.BindLemmas.{line_dropped, line_unbound, line_bound}
+use Rattle.pair_compare.proofs.certificates_lemmas.BindLemmas.{line_dropped, line_unbound, line_bound}
 use Rattle.pair_compare.proofs.certificates.binds.bind_line.Goals as goal
 
 pub returns-then-is_dropped : goal.returns-then-is_dropped

@@ -1,7 +1,7 @@
 -- A line more, where there is one.
 use Rattle.std.proofs.Common.{sym, ◌∙◌, arith}
 use Rattle.cert_check.specs.Compatible.{sides}
-use Rattle.pair_compare.proofs.certificates.BindLemmas.{binds-zero, binds-more, binds-all}
+use Rattle.pair_compare.proofs.certificates_lemmas.BindLemmas.{binds-zero, binds-more, binds-all}
 use Rattle.pair_compare.proofs.certificates.binds.bind_lines.Goals as goal
 
 pub loop-k-init : goal.loop-k-init

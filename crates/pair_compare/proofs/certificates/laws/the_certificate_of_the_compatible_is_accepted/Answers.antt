@@ -1,5 +1,5 @@
 -- All conditions hold.
-use Rattle.pair_compare.proofs.certificates.Accepting.{all_kept}
+use Rattle.pair_compare.proofs.certificates_lemmas.Accepting.{all_kept}
 use Rattle.pair_compare.proofs.certificates.laws.the_certificate_of_the_compatible_is_accepted.Goals as goal
 
 pub returns : goal.returns

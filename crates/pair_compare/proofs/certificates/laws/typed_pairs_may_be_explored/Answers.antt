@@ -1,4 +1,4 @@
-use Rattle.pair_compare.proofs.certificates.ScopeLemmas.{scope_is}
+use Rattle.pair_compare.proofs.certificates_lemmas.ScopeLemmas.{scope_is}
 use Rattle.pair_compare.proofs.certificates.laws.typed_pairs_may_be_explored.Goals as goal
 
 pub returns : goal.returns

@@ -5,7 +5,7 @@ use Rattle.cert_check.specs.Compatible.{Sides, sides}
 use Rattle.pair_explorer.specs.Scopes.{Scope}
 use Rattle.pair_compare.specs.certificates.Certificates.{AreLibraries, IsCertificateOf}
 use Rattle.pair_compare.specs.certificates.Searches.{scope_of}
-use Rattle.pair_compare.proofs.certificates.CertLemmas.{made_is, libraries_of, marked_alike, compatible_from, cert_kept}
+use Rattle.pair_compare.proofs.certificates_lemmas.CertLemmas.{made_is, libraries_of, marked_alike, compatible_from, cert_kept}
 use Rattle.pair_compare.proofs.certificates.making.make_cert.Goals as goal
 
 pub invariant_of-result : goal.invariant_of-result

@@ -4,7 +4,7 @@ use Rattle.std.proofs.lemmas.List.Elements.{All-push}
 use Rattle.std.specs.List.{All}
 use Rattle.std.proofs.Common.{subst, sym}
 use Rattle.cert_text.specs.Certs.{IsPairBelow}
-use Rattle.pair_compare.proofs.certificates.VisitLemmas.{lines_more}
+use Rattle.pair_compare.proofs.certificates_lemmas.VisitLemmas.{lines_more}
 use Rattle.pair_compare.proofs.certificates.pairs.lines_of.Goals as goal
 
 pub loop-number-preserved : goal.loop-number-preserved

@@ -1,5 +1,5 @@
 -- The lines of visits are those of reachable triples.
-use Rattle.pair_compare.proofs.certificates.VisitLemmas.{VisitLaws, visits_are}
+use Rattle.pair_compare.proofs.certificates_lemmas.VisitLemmas.{VisitLaws, visits_are}
 use Rattle.pair_compare.proofs.certificates.pairs.visits_are_pair_lines.Goals as goal
 
 pub returns : goal.returns

@@ -1,4 +1,4 @@
-use Rattle.pair_compare.proofs.reports.ExportLemmas.{names_there}
+use Rattle.pair_compare.proofs.reports_lemmas.ExportLemmas.{names_there}
 use Rattle.pair_compare.proofs.reports.exports.is_named.Goals as goal
 
 pub returns : goal.returns

@@ -3,7 +3,7 @@ use Rattle.std.proofs.Common.{◌≡◌, ◌∙◌, ◌++◌, List, OnOk, ap, sy
 use Rattle.abi_types.specs.Plain.{plain_export}
 use Rattle.report.specs.declared.row.Row.{Row}
 use Rattle.pair_compare.specs.reports.LibraryPair.{sides_of}
-use Rattle.pair_compare.proofs.reports.ExportLemmas.{bound_at, dropped_at, none_at, compared_at}
+use Rattle.pair_compare.proofs.reports_lemmas.ExportLemmas.{bound_at, dropped_at, none_at, compared_at}
 use Rattle.pair_compare.proofs.reports.exports.push_at.Goals as goal
 
 pub returns-then-not-is_compared : goal.returns-then-not-is_compared

@@ -1,6 +1,6 @@
 -- Export by export.
 use Rattle.pair_compare.specs.reports.LibraryPair.{sides_of}
-use Rattle.pair_compare.proofs.reports.ExportLemmas.{exports_none, exports_more, exports_all}
+use Rattle.pair_compare.proofs.reports_lemmas.ExportLemmas.{exports_none, exports_more, exports_all}
 use Rattle.pair_compare.proofs.reports.exports.push_export_rows.Goals as goal
 
 pub exports-init : goal.exports-init

@@ -1,6 +1,6 @@
 -- Ascending lists with the same members are one.
-use Rattle.pair_compare.proofs.reports.BelowLaws.{PathLaws}
-use Rattle.pair_compare.proofs.reports.OneReport.{AlikeLaws, one_report}
+use Rattle.pair_compare.proofs.reports_lemmas.BelowLaws.{PathLaws}
+use Rattle.pair_compare.proofs.reports_lemmas.OneReport.{AlikeLaws, one_report}
 use Rattle.pair_compare.proofs.reports.laws.a_right_report_is_one.Goals as goal
 
 pub returns : goal.returns

@@ -1,7 +1,7 @@
 -- Each part of a report is empty exactly where it finds nothing broken.
 use Rattle.pair_compare.specs.reports.TypeFindings.{type_rows}
-use Rattle.pair_compare.proofs.reports.NoneLemmas.{no_row}
-use Rattle.pair_compare.proofs.reports.RowLemmas.{no_type_row}
+use Rattle.pair_compare.proofs.reports_lemmas.NoneLemmas.{no_row}
+use Rattle.pair_compare.proofs.reports_lemmas.RowLemmas.{no_type_row}
 use Rattle.pair_compare.proofs.reports.laws.no_row_is_compatible.Goals as goal
 
 pub returns : goal.returns

@@ -1,6 +1,6 @@
 -- Step by step.
-use Rattle.pair_compare.proofs.reports.RootLemmas.{end_is}
-use Rattle.pair_compare.proofs.reports.WalkLemmas.{walk_of}
+use Rattle.pair_compare.proofs.reports_lemmas.RootLemmas.{end_is}
+use Rattle.pair_compare.proofs.reports_lemmas.WalkLemmas.{walk_of}
 use Rattle.pair_compare.proofs.reports.laws.paths_end_where_they_lead.Goals as goal
 
 pub returns-clause-ends : goal.returns-clause-ends

@@ -1,5 +1,5 @@
 -- The laws of the crates below, put together.
-use Rattle.pair_compare.proofs.reports.ReadableLemmas.{ReadingLaws, readable}
+use Rattle.pair_compare.proofs.reports_lemmas.ReadableLemmas.{ReadingLaws, readable}
 use Rattle.pair_compare.proofs.reports.laws.rows_can_be_read.Goals as goal
 
 pub returns : goal.returns

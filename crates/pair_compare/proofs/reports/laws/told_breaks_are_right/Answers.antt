@@ -1,6 +1,6 @@
 -- The laws of the crates below, put together.
-use Rattle.pair_compare.proofs.reports.BelowLaws.{PathLaws, ExplorationLaws, TextLaws}
-use Rattle.pair_compare.proofs.reports.Right.{are_right}
+use Rattle.pair_compare.proofs.reports_lemmas.BelowLaws.{PathLaws, ExplorationLaws, TextLaws}
+use Rattle.pair_compare.proofs.reports_lemmas.Right.{are_right}
 use Rattle.pair_compare.proofs.reports.laws.told_breaks_are_right.Goals as goal
 
 pub returns : goal.returns

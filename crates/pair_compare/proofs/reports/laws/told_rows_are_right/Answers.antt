@@ -1,6 +1,6 @@
 -- Right findings give right rows.
-use Rattle.pair_compare.proofs.reports.BelowLaws.{PathLaws, ExplorationLaws, TextLaws}
-use Rattle.pair_compare.proofs.reports.RowLemmas.{told_right}
+use Rattle.pair_compare.proofs.reports_lemmas.BelowLaws.{PathLaws, ExplorationLaws, TextLaws}
+use Rattle.pair_compare.proofs.reports_lemmas.RowLemmas.{told_right}
 use Rattle.pair_compare.proofs.reports.laws.told_rows_are_right.Goals as goal
 
 pub returns : goal.returns

@@ -1,6 +1,6 @@
 use Rattle.std.proofs.Common.{◌≡◌, ◌∙◌, ℕ, List, IfOk, string_bytes, subst}
 use Rattle.abi_types.specs.Plain.{plain_export}
-use Rattle.pair_compare.proofs.reports.ExportLemmas.{label_none, label_some}
+use Rattle.pair_compare.proofs.reports_lemmas.ExportLemmas.{label_none, label_some}
 use Rattle.pair_compare.proofs.reports.paths.label_at.Goals as goal
 
 pub returns-in-None : goal.returns-in-None

@@ -2,7 +2,7 @@
 use Rattle.std.proofs.Common.{◌<◌, ◌∙◌, ℕ, List, length, get_or, ap, string_bytes}
 use Rattle.abi_types.specs.Graphs.{view_at}
 use Rattle.abi_types.specs.Types.{PlainNode}
-use Rattle.pair_compare.proofs.reports.WalkLemmas.{IsSpelled-none, IsSpelled-more, node_there, part_there}
+use Rattle.pair_compare.proofs.reports_lemmas.WalkLemmas.{IsSpelled-none, IsSpelled-more, node_there, part_there}
 use Rattle.pair_compare.proofs.reports.paths.steps_text.Goals as goal
 
 pub walk-init : goal.walk-init

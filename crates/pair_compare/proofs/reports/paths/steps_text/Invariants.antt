@@ -1,6 +1,6 @@
 -- The node at which the first steps end, and their text.
 use Rattle.std.proofs.Common.{string_bytes}
-use Rattle.pair_compare.proofs.reports.WalkLemmas.{IsSpelled}
+use Rattle.pair_compare.proofs.reports_lemmas.WalkLemmas.{IsSpelled}
 use Rattle.pair_compare.proofs.reports.paths.steps_text.Given as goal
 
 abbrev pub invariant-walk : goal.invariant-walk

@@ -2,7 +2,7 @@ use Rattle.std.proofs.Common.{◌∙◌, sym, ap, List, Some, None}
 use Rattle.abi_types.specs.Graphs.{node_of}
 use Rattle.abi_types.specs.Types.{PlainNode}
 use Rattle.abi_types.specs.Plain.{plain_export}
-use Rattle.pair_compare.proofs.reports.ExportLemmas.{type_none, type_some}
+use Rattle.pair_compare.proofs.reports_lemmas.ExportLemmas.{type_none, type_some}
 use Rattle.pair_compare.proofs.reports.paths.type_of.Goals as goal
 
 pub returns-in-None : goal.returns-in-None

@@ -4,7 +4,7 @@ use Rattle.std.proofs.lemmas.List.{length-map}
 use Rattle.abi_types.specs.Exports.{PlainExport}
 use Rattle.abi_types.specs.Plain.{plain_export}
 use Rattle.cert_check.specs.Compatible.{sides}
-use Rattle.pair_compare.proofs.reports.TypedLemmas.{position_fits, roots_more, roots_all}
+use Rattle.pair_compare.proofs.reports_lemmas.TypedLemmas.{position_fits, roots_more, roots_all}
 use Rattle.pair_compare.proofs.reports.roots.compared_roots.Goals as goal
 
 pub root_at-root-requires-clause-fits : goal.root_at-root-requires-clause-fits

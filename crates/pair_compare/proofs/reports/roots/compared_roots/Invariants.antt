@@ -1,7 +1,7 @@
 -- The typed pairs of the first exports.
 use Rattle.std.proofs.Common.{◌≡◌}
 use Rattle.pair_compare.specs.reports.LibraryPair.{sides_of}
-use Rattle.pair_compare.proofs.reports.TypedLemmas.{roots_upto}
+use Rattle.pair_compare.proofs.reports_lemmas.TypedLemmas.{roots_upto}
 use Rattle.pair_compare.proofs.reports.roots.compared_roots.Given as goal
 
 abbrev pub invariant-exports : goal.invariant-exports

@@ -3,8 +3,8 @@ use Rattle.std.proofs.Common.{◌∙◌, ◌<◌, ◌^◌, Some, None, get_or, r
 use Rattle.abi_types.specs.Limits.{symbol_limit}
 use Rattle.abi_types.specs.Plain.{plain_export}
 use Rattle.pair_compare.specs.reports.LibraryPair.{sides_of}
-use Rattle.pair_compare.proofs.reports.ExportLemmas.{bound_at}
-use Rattle.pair_compare.proofs.reports.TypedLemmas.{root_dropped, root_missing, root_by}
+use Rattle.pair_compare.proofs.reports_lemmas.ExportLemmas.{bound_at}
+use Rattle.pair_compare.proofs.reports_lemmas.TypedLemmas.{root_dropped, root_missing, root_by}
 use Rattle.pair_compare.proofs.reports.roots.root_at.Goals as goal
 
 pub returns-then-not-is_compared : goal.returns-then-not-is_compared

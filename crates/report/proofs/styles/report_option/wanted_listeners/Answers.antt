@@ -1,7 +1,7 @@
 use Rattle.std.proofs.Common.{◌<◌, ◌∙◌, ◌≡◌, ap, sym, map, length, arith}
 use Rattle.std.proofs.lemmas.Bool.Decides.{nat_tests}
 use Rattle.report.specs.styles.Wanted.{is_wanted}
-use Rattle.report.proofs.styles.Choosing.{chooses_at, chooses_one, chosen, voices_of}
+use Rattle.report.proofs.styles_lemmas.Choosing.{chooses_at, chooses_one, chosen, voices_of}
 use Rattle.report.proofs.styles.report_option.wanted_listeners.Goals as goal
 
 pub listeners-preserved-in-Continue-1 : goal.listeners-preserved-in-Continue-1

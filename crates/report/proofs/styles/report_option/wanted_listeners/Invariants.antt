@@ -1,6 +1,6 @@
 -- The listeners that were chosen so far.
 use Rattle.std.proofs.Common.{vec_len}
-use Rattle.report.proofs.styles.Choosing.{Chooses}
+use Rattle.report.proofs.styles_lemmas.Choosing.{Chooses}
 use Rattle.report.proofs.styles.report_option.wanted_listeners.Given as goal
 
 abbrev pub invariant-listeners : goal.invariant-listeners

@@ -1,5 +1,5 @@
 use Rattle.std.proofs.Common.{◌∙◌, sym, ap, length}
-use Rattle.dwarf_forms.proofs.abbreviations.PlacesLemmas.{placed_own, placed_elsewhere}
+use Rattle.dwarf_forms.proofs.abbreviations_lemmas.PlacesLemmas.{placed_own, placed_elsewhere}
 use Rattle.dwarf_forms.proofs.abbreviations.kept.Table.push.Goals as goal
 use Rattle.dwarf_forms.proofs.abbreviations.kept.Table.push.Goals.{then-own_place-place+in_ok-insert, else-own_place-place}
 

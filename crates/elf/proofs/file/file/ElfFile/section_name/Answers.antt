@@ -1,4 +1,4 @@
-use Rattle.elf.proofs.file.Faultless.{no_name_outside}
+use Rattle.elf.proofs.file_lemmas.Faultless.{no_name_outside}
 use Rattle.elf.proofs.file.file.ElfFile.section_name.Goals as goal
 
 pub returns-clause-outside : goal.returns-clause-outside

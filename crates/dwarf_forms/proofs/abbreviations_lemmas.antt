@@ -1,0 +1,4 @@
+pub mod AbbrevsLemmas
+pub mod Cases
+pub mod PlacesLemmas
+pub mod StandingLemmas

@@ -1,2 +1,0 @@
-mod ElfLemmas
-mod Faultless

@@ -1,0 +1,2 @@
+pub mod ElfLemmas
+pub mod Faultless

@@ -1,4 +1,0 @@
-mod Entries
-mod FirstSoname
-mod Numbered
-mod Reading

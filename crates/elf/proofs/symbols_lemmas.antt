@@ -1,0 +1,4 @@
+pub mod Entries
+pub mod FirstSoname
+pub mod Numbered
+pub mod Reading

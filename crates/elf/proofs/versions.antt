@@ -1,3 +1,0 @@
-mod ReadBefore
-mod Versioned
-mod VersionLaws

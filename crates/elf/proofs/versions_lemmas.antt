@@ -1,0 +1,3 @@
+pub mod ReadBefore
+pub mod Versioned
+pub mod VersionLaws

@@ -1,0 +1,13 @@
+pub mod BindLemmas
+pub mod ListLemmas
+pub mod Orders
+pub mod OneList
+pub mod Leasts
+pub mod AlikeLemmas
+pub mod FoundLemmas
+pub mod VisitLemmas
+pub mod Leading
+pub mod BindLines
+pub mod Accepting
+pub mod ScopeLemmas
+pub mod CertLemmas
