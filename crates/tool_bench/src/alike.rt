@@ -1,15 +1,12 @@
-//! Puts the nodes of a graph into classes as often as it is told, so that `bench/alike.sh` can time it.
-//!
-//! usage: alike_bench rings|chain|wide|copies NODES ROUNDS
-#![tactic(auto)]
+// Classes of alike types: the nodes of a graph are put into classes as often as the words say, for `bench/alike.sh`.
 
 ghost use Rattle.std.specs.Prelude.{◌<◌};
 
+use crate::words::number;
 use abi_base::{List, NoMemory};
 use abi_types::{Graph, Index, Node, OldIx};
 use std::alloc::{AllocError, Global};
 use std::fmt::Write;
-use std::{env, io};
 use test_graphs::{graph, member, pointer, scalar, structure, void};
 use type_classes::alike;
 
@@ -205,28 +202,17 @@ fn pattern_of(word: &str) -> Option<Pattern> {
     }
 }
 
-fn number(word: Option<String>) -> u32 {
-    match word {
-        Some(word) => word.as_str().parse().unwrap_or(0),
-        None => 0,
-    }
-}
-
-fn main(rt: HostRuntime) -> io::Result<()> {
-    let mut words = env::args(&rt)?.skip(1);
-    let pattern = match words.next() {
-        Some(word) => pattern_of(word.as_str()),
+/// What `alike rings|chain|wide|copies NODES ROUNDS` prints: how many nodes the graph has, and how many classes over all rounds.
+pub fn line(alloc: Global, words: &[&str]) -> Result<String, NoMemory> {
+    let pattern = match words.first() {
+        Some(word) => pattern_of(word),
         None => None,
     };
-    let pattern = match pattern {
-        Some(pattern) => pattern,
-        None => return println!(rt; "usage: alike_bench rings|chain|wide|copies NODES ROUNDS"),
+    let Some(pattern) = pattern else {
+        return Ok("usage: tool_bench alike rings|chain|wide|copies NODES ROUNDS".to_string(alloc)?);
     };
-    let count = number(words.next()) as usize;
-    let rounds = number(words.next());
-    let names = names(rt.alloc(), WIDE as u32)?;
-    match measured(rt.alloc(), pattern, names.as_bytes(), count, rounds) {
-        Ok((nodes, classes)) => println!(rt; "{nodes} nodes, {classes} classes"),
-        Err(NoMemory) => println!(rt; "no memory"),
-    }
+    let names = names(alloc, WIDE as u32)?;
+    let count = number(words, 1) as usize;
+    let (nodes, classes) = measured(alloc, pattern, names.as_bytes(), count, number(words, 2))?;
+    Ok(format!(in alloc; "{nodes} nodes, {classes} classes")?)
 }

@@ -1,10 +1,8 @@
-//! Compares two structures of many members as often as it is told, so that `bench/rules.sh` can time it.
-//!
-//! usage: rules_bench MEMBERS ROUNDS
-#![tactic(auto)]
+// The rules of two types: two structures of many members are compared as often as the words say, for `bench/rules.sh`.
 
 ghost use Rattle.std.specs.Prelude.{◌≡◌, ◌<◌};
 
+use crate::words::number;
 use abi_base::NoMemory;
 use abi_types::{Index, Kind, NewIx, OldIx, View};
 use pair_rules::{Steps, breaks, partner, partner_at};
@@ -12,7 +10,6 @@ use std::alloc::{AllocError, Global};
 use std::fmt::Write;
 use std::marker::Brand;
 use std::sync::ledger::{Blank, Ledger};
-use std::{env, io};
 use test_graphs::{member, view};
 
 // How many bytes a name has.
@@ -76,20 +73,14 @@ fn count<L: Ledger>(
     Ok((broken, partners))
 }
 
-fn number(word: Option<String>) -> u32 {
-    match word {
-        Some(word) => word.as_str().parse().unwrap_or(0),
-        None => 0,
-    }
-}
-
-fn main(rt: HostRuntime) -> io::Result<()> {
-    let mut words = env::args(&rt)?.skip(1);
-    let members = number(words.next());
-    let rounds = number(words.next());
-    let names = names(rt.alloc(), members)?;
-    match count::<Brand>(rt.alloc(), Blank::new(1), names.as_bytes(), rounds) {
-        Ok((broken, partners)) => println!(rt; "{broken} broken, {partners} partners"),
-        Err(NoMemory) => println!(rt; "no memory"),
-    }
+/// What `rules MEMBERS ROUNDS` prints: how many rules the structures break and how many partners they have, over all rounds.
+pub fn line(alloc: Global, words: &[&str]) -> Result<String, NoMemory> {
+    let names = names(alloc, number(words, 0))?;
+    let (broken, partners) = count::<Brand>(
+        alloc,
+        Blank::new(1),
+        names.as_bytes(),
+        number(words, 1),
+    )?;
+    Ok(format!(in alloc; "{broken} broken, {partners} partners")?)
 }

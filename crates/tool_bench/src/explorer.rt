@@ -1,10 +1,8 @@
-//! Explores two rings of structures as often as it is told, so that `bench/explore.sh` can time it.
-//!
-//! usage: explorer_bench OLD NEW ROUNDS
-#![tactic(auto)]
+// The exploration: two rings of structures are explored as often as the words say, for `bench/explore.sh`.
 
 ghost use Rattle.std.specs.Prelude.{◌≡◌, ◌<◌};
 
+use crate::words::number;
 use abi_base::{List, NoMemory};
 use abi_types::{Graph, Index, NewIx, Node, OldIx};
 use pair_explorer::{Root, explore, is_scope};
@@ -12,7 +10,6 @@ use pair_rules::Steps;
 use std::alloc::Global;
 use std::marker::Brand;
 use std::sync::ledger::{Blank, Ledger};
-use std::{env, io};
 use test_graphs::{function, graph, member, no_marks, pointer, scalar, structure, void};
 use type_classes::plain;
 
@@ -152,20 +149,9 @@ fn count<L: Ledger>(
     explored::<L>(alloc, blank, &old, &new, rounds)
 }
 
-fn number(word: Option<String>) -> u32 {
-    match word {
-        Some(word) => word.as_str().parse().unwrap_or(0),
-        None => 0,
-    }
-}
-
-fn main(rt: HostRuntime) -> io::Result<()> {
-    let mut words = env::args(&rt)?.skip(1);
-    let old = number(words.next());
-    let new = number(words.next());
-    let rounds = number(words.next());
-    match count::<Brand>(rt.alloc(), Blank::new(1), old, new, rounds) {
-        Ok((triples, breaks)) => println!(rt; "{triples} triples, {breaks} breaks"),
-        Err(NoMemory) => println!(rt; "no memory"),
-    }
+/// What `explorer OLD NEW ROUNDS` prints: how many triples there are and how many breaks, over all rounds.
+pub fn line(alloc: Global, words: &[&str]) -> Result<String, NoMemory> {
+    let (old, new, rounds) = (number(words, 0), number(words, 1), number(words, 2));
+    let (triples, breaks) = count::<Brand>(alloc, Blank::new(1), old, new, rounds)?;
+    Ok(format!(in alloc; "{triples} triples, {breaks} breaks")?)
 }

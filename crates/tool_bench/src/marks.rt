@@ -1,13 +1,10 @@
-//! Finds what a made rule file says of a made library as often as it is told, so that `bench/marks.sh` can time it.
-//!
-//! usage: marks_bench mixed|functions|variables|types EXPORTS NODES SECTIONS ROUNDS
-#![tactic(auto)]
+// Marks: what a made rule file says of a made library is found as often as the words say, for `bench/marks.sh`.
 
+use crate::words::number;
 use abi_base::{List, NoMemory};
 use abi_types::{Export, Label, LabelKind, Library, Marks, Node, OldIx, SymbolKind};
 use std::alloc::{AllocError, Global};
 use std::fmt::Write;
-use std::{env, io};
 use suppressions::{RuleRefusal, Rules, marks, read_rules};
 use test_graphs::{graph, is_library, scalar, void};
 
@@ -199,37 +196,27 @@ fn total(alloc: Global, plan: Plan) -> Result<usize, Trouble> {
     Ok(total)
 }
 
-fn number(word: Option<String>) -> u32 {
-    match word {
-        Some(word) => word.as_str().parse().unwrap_or(0),
-        None => 0,
+fn named_pattern(words: &[&str]) -> Pattern {
+    match words.first() {
+        Some(&"functions") => Pattern::Functions,
+        Some(&"variables") => Pattern::Variables,
+        Some(&"types") => Pattern::Types,
+        _ => Pattern::Mixed,
     }
 }
 
-fn named_pattern(word: Option<String>) -> Pattern {
-    match word {
-        Some(word) => match word.as_str() {
-            "functions" => Pattern::Functions,
-            "variables" => Pattern::Variables,
-            "types" => Pattern::Types,
-            _ => Pattern::Mixed,
-        },
-        None => Pattern::Mixed,
-    }
-}
-
-fn main(rt: HostRuntime) -> io::Result<()> {
-    let mut words = env::args(&rt)?.skip(1);
+/// What `marks mixed|functions|variables|types EXPORTS NODES SECTIONS ROUNDS` prints: how many marks there are, over all rounds.
+pub fn line(alloc: Global, words: &[&str]) -> Result<String, NoMemory> {
     let plan = Plan {
-        pattern: named_pattern(words.next()),
-        exports: number(words.next()),
-        nodes: number(words.next()),
-        sections: number(words.next()),
-        rounds: number(words.next()),
+        pattern: named_pattern(words),
+        exports: number(words, 1),
+        nodes: number(words, 2),
+        sections: number(words, 3),
+        rounds: number(words, 4),
     };
-    match total(rt.alloc(), plan) {
-        Ok(total) => println!(rt; "{total} marks"),
-        Err(Trouble::NoMemory) => println!(rt; "no memory"),
-        Err(Trouble::Wrong) => println!(rt; "no library"),
+    match total(alloc, plan) {
+        Ok(total) => Ok(format!(in alloc; "{total} marks")?),
+        Err(Trouble::NoMemory) => Err(NoMemory),
+        Err(Trouble::Wrong) => Ok("no library".to_string(alloc)?),
     }
 }
