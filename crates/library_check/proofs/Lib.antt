@@ -1,8 +1,10 @@
 mod Itself
 mod Marked
+mod RelationLemmas
 mod RemarkLemmas
 mod Settled
 mod Texts
 mod Verdicts
+mod VoiceLemmas
 mod Empty
 mod trial_lemmas

@@ -1,7 +1,7 @@
 -- What `check` promises: when a new library may replace an old one, by their bytes and those of a rule file, and which text
 -- shows it.
 use Rattle.std.specs.Prelude.{◌≡◌, ℕ, List, Some, None}
-use Rattle.report.specs.declared.style.Style.{Style}
+use Rattle.report.specs.Listening.{Voice}
 use Rattle.cert_check.specs.Compatible.{Sides, IsCompatible}
 use Rattle.library_read.specs.Faults.{library_fault}
 use Rattle.library_read.specs.Libraries.{library_of}
@@ -26,14 +26,14 @@ Compatible old new rules = IsCompatible (sides_of old new rules)
 abbrev pub IsCertificateText : List ℕ → List ℕ → List ℕ → List ℕ → Type 0
 IsCertificateText old new rules text = IsCertificate (sides_of old new rules) text
 
--- the text of a no
-abbrev pub IsReportText : List Style → List ℕ → List ℕ → List ℕ → List ℕ → Type 0
-IsReportText styles old new rules text = IsRefusal styles (sides_of old new rules) text
+-- the text of a no, where listeners of these voices are told the rows
+abbrev pub IsReportText : List Voice → List ℕ → List ℕ → List ℕ → List ℕ → Type 0
+IsReportText voices old new rules text = IsRefusal voices (sides_of old new rules) text
 
 -- what `check` says of two readable libraries and a readable rule file: yes with the certificate where the new library may
 -- replace the old one, and no with the report where it may not
-abbrev pub IsChecked : List Style → List ℕ → List ℕ → List ℕ → Checked → Type 0
-IsChecked styles old new rules checked = IsJudged styles (library_of old) (library_of new) (rules_of rules) checked
+abbrev pub IsChecked : List Voice → List ℕ → List ℕ → List ℕ → Checked → Type 0
+IsChecked voices old new rules checked = IsJudged voices (library_of old) (library_of new) (rules_of rules) checked
 
 -- both libraries and the rule file are readable
 pub record AreReadable (old new rules : List ℕ) : Type 0 where

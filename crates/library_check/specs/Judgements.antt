@@ -3,8 +3,7 @@ use Rattle.std.specs.Prelude.{◌≡◌, ℕ, List, [], ◌∷◌, codes}
 use Rattle.std.specs.List.{concat}
 use Rattle.abi_types.specs.Libraries.{PlainLibrary}
 use Rattle.report.specs.declared.row.Row.{Row}
-use Rattle.report.specs.declared.style.Style.{Style}
-use Rattle.report.specs.Listening.{Reports}
+use Rattle.report.specs.Listening.{Reports, Voice}
 use Rattle.report.specs.Render.{newline}
 use Rattle.cert_check.specs.Compatible.{Sides, sides, IsCompatible}
 use Rattle.cert_text.specs.Certs.{PlainCert}
@@ -25,19 +24,19 @@ pub record IsCertificate (s : Sides) (text : List ℕ) : Type 0 where
   pub proved : IsProved s cert
   pub spelled : IsSpelled text cert
 
--- the line `no`, and then what listeners of these styles make of rows
-pub record IsReport (styles : List Style) (rows : List Row) (text : List ℕ) : Type 0 where
+-- the line `no`, and then what listeners of these voices make of rows
+pub record IsReport (voices : List Voice) (rows : List Row) (text : List ℕ) : Type 0 where
   pub texts : List (List ℕ)
-  pub heard : Reports styles rows texts
+  pub heard : Reports voices rows texts
   pub is : text ≡ concat (codes "no" ∷ newline ∷ concat texts ∷ [])
 
 -- The text of a no is the report of the rows of a right report, which has some.
-pub record IsRefusal (styles : List Style) (s : Sides) (text : List ℕ) : Type 0 where
+pub record IsRefusal (voices : List Voice) (s : Sides) (text : List ℕ) : Type 0 where
   pub rows : List Row
   pub refuted : IsRefuted s rows
-  pub report : IsReport styles rows text
+  pub report : IsReport voices rows text
 
--- what `check` says of two libraries and a rule file, where listeners of these styles are told the rows
-abbrev pub IsJudged : List Style → PlainLibrary → PlainLibrary → PlainRules → Checked → Type 0
-IsJudged styles old new rules (Yes text) = IsCompatible (ruled old new rules) × IsCertificate (ruled old new rules) text.items
-IsJudged styles old new rules (No text) = (IsCompatible (ruled old new rules) → ⊥) × IsRefusal styles (ruled old new rules) text.items
+-- what `check` says of two libraries and a rule file, where listeners of these voices are told the rows
+abbrev pub IsJudged : List Voice → PlainLibrary → PlainLibrary → PlainRules → Checked → Type 0
+IsJudged voices old new rules (Yes text) = IsCompatible (ruled old new rules) × IsCertificate (ruled old new rules) text.items
+IsJudged voices old new rules (No text) = (IsCompatible (ruled old new rules) → ⊥) × IsRefusal voices (ruled old new rules) text.items

@@ -6,9 +6,11 @@ ghost use Rattle.library_read.specs.Libraries.{library_of};
 ghost use Rattle.suppression_text.specs.Faults.{rule_fault};
 ghost use Rattle.suppression_text.specs.Rules.{rules_of};
 ghost use Rattle.library_check.specs.Checks.{AreReadable, IsChecked, IsUnchecked};
+ghost use Rattle.library_check.specs.Relations.{PrintsSuchRelation};
 ghost use Rattle.library_check.specs.Remarks.{remark_on};
 
 use crate::judging::{Checked, judge};
+use crate::laws::an_accepted_certificate_tells_such_a_relation;
 use crate::remarks::remark;
 use abi_base::{Fault, NoMemory, Refusal, Remark};
 use abi_types::{Library, NewIx, OldIx};
@@ -187,10 +189,12 @@ pub fn check(
     requires new_short { length new.now ≤ input_limit }
     requires unheard { All (λ listener. heard listener ≡ []) listeners.items }
     ensures readable { OnOk result (AreReadable old.now new.now rules.now) }
-    ensures judged { IfOk result (λ said. IsChecked (map asks listeners.items) old.now new.now rules.now said.checked) }
+    ensures judged { IfOk result (λ said. IsChecked (map voice listeners.items) old.now new.now rules.now said.checked) }
+    ensures relation { IfOk result (λ said. PrintsSuchRelation old.now new.now rules.now said.checked) }
     ensures remark { IfOk result (λ said. said.remark ≡ remark_on old.now new.now) }
     ensures unchecked { IfErr result (IsUnchecked old.now new.now rules.now) }
 {
+    an_accepted_certificate_tells_such_a_relation();
     let inputs = match read_inputs(alloc, old, new, rules) {
         Ok(inputs) => inputs,
         Err(unchecked) => return Err(unchecked),

@@ -41,7 +41,7 @@ fn report(
     rows: &[Row],
 ) -> Result<Vec<u8>, NoMemory>
     requires { All (λ listener. heard listener ≡ []) listeners.items }
-    ensures { IfOk result (λ text. IsReport (map asks listeners.items) rows.now text.items) }
+    ensures { IfOk result (λ text. IsReport (map voice listeners.items) rows.now text.items) }
 {
     let mut text = Vec::new(alloc);
     text.extend_from_slice(b"no\n")?;
@@ -59,7 +59,7 @@ pub fn judge(
     listeners: Vec<Box<dyn Listener>>,
 ) -> Result<Checked, NoMemory>
     requires { All (λ listener. heard listener ≡ []) listeners.items }
-    ensures { IfOk result (IsJudged (map asks listeners.items) old.now new.now rules.now) }
+    ensures { IfOk result (IsJudged (map voice listeners.items) old.now new.now rules.now) }
 {
     let marks = marks_by(alloc, rules, old)?;
     match compare(alloc, old, new, &marks)? {

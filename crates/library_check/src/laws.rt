@@ -1,8 +1,8 @@
 //! What `check` and `verify` come to. Each law is the contract of a function whose body only names the laws below it.
-ghost use Rattle.std.specs.Prelude.{◌≡◌, ◌≢◌, ◌≤◌, ℕ, List, [], None, length};
+ghost use Rattle.std.specs.Prelude.{◌≡◌, ◌≢◌, ◌≤◌, ℕ, List, [], None, length, All};
 ghost use Rattle.abi_base.specs.Limits.{input_limit};
 ghost use Rattle.abi_types.specs.Libraries.{PlainLibrary};
-ghost use Rattle.report.specs.declared.style.Style.{Style as AnyStyle};
+ghost use Rattle.report.specs.Listening.{Voice as AnyVoice};
 ghost use Rattle.pair_compare.specs.Marking.{no_marks};
 ghost use Rattle.library_read.specs.Faults.{library_fault};
 ghost use Rattle.suppression_text.specs.Faults.{rule_fault};
@@ -13,18 +13,21 @@ ghost use Rattle.library_check.specs.declared.verifying.Unverified.TheVariants.{
 ghost use Rattle.library_check.specs.declared.verifying.Verified.{Verified};
 ghost use Rattle.library_check.specs.declared.verifying.Verified.TheVariants.{Accepted};
 ghost use Rattle.library_check.specs.Checks.{AreReadable, Compatible, IsCertificateText, IsReportText};
+ghost use Rattle.library_check.specs.Relations.{IsRelationText};
 ghost use Rattle.library_check.specs.Verifications.{IsAcceptedText, IsUnverified, IsVerified, certificate_fault};
+ghost use Rattle.library_check.specs.Voices.{TellsItsText};
 ghost use Rattle.report.specs.declared.styles.report_option.ReportStyle.{ReportStyle as AnyWanted};
 ghost use Rattle.report.specs.declared.styles.report_option.ReportStyle.TheVariants.{Own};
-ghost use Rattle.report.specs.styles.Wanted.{wanted_styles};
+ghost use Rattle.report.specs.styles.Wanted.{wanted_voices};
 
-use cert_check::laws::one_place_fails_first;
+use cert_check::laws::{one_place_fails_first, the_relation_of_an_accepted_certificate_is_closed};
 use cert_text::laws::{a_text_is_of_one_certificate, what_is_spelled_has_no_fault};
 use library_read::laws::{nodes_stand_for_what_exports_reach, readable_files_are_libraries};
 use pair_compare::laws::{
     a_library_may_replace_itself, exports_without_a_fault_are_distinct,
     two_libraries_have_one_right_answer,
 };
+use suppressions::laws::a_rule_file_marks_equal_labels_alike;
 
 /// A readable file may replace itself, whatever a rule file leaves out.
 pub fn a_file_may_replace_itself()
@@ -34,17 +37,22 @@ pub fn a_file_may_replace_itself()
     a_library_may_replace_itself();
 }
 
-/// The certificate of two readable libraries and a readable rule file has one text, and so has the report of listeners of each
-/// style but their own.
+/// The certificate of two readable libraries and a readable rule file has one text, and so has the report of listeners whose
+/// texts the rows decide.
 pub fn a_check_has_one_text()
     ensures certificate { (old new rules text other : List ℕ) → length old ≤ input_limit → length new ≤ input_limit → AreReadable old new rules
         → IsCertificateText old new rules text → IsCertificateText old new rules other → text ≡ other }
-    ensures report { (wanted : AnyWanted) (styles : List AnyStyle) (old new rules text other : List ℕ) → wanted ≢ Own → length old ≤ input_limit → length new ≤ input_limit → AreReadable old new rules
-        → IsReportText (wanted_styles wanted styles) old new rules text → IsReportText (wanted_styles wanted styles) old new rules other → text ≡ other }
+    ensures report { (voices : List AnyVoice) (old new rules text other : List ℕ) → All TellsItsText voices → length old ≤ input_limit → length new ≤ input_limit → AreReadable old new rules
+        → IsReportText voices old new rules text → IsReportText voices old new rules other → text ≡ other }
 {
     two_libraries_have_one_right_answer();
     nodes_stand_for_what_exports_reach();
 }
+
+/// The rows decide the texts of listeners that are asked for in any style but their own.
+pub fn the_rows_decide_the_texts_of_a_style()
+    ensures { (wanted : AnyWanted) (voices : List AnyVoice) → wanted ≢ Own → All TellsItsText (wanted_voices wanted voices) }
+{}
 
 /// Of one certificate for the same inputs `verify` says one thing: it accepts none that it refuses, and it refuses for one
 /// condition.
@@ -77,6 +85,18 @@ pub fn an_accepted_certificate_is_a_proof()
     cert_check::laws::an_accepted_certificate_is_a_proof();
     nodes_stand_for_what_exports_reach();
     readable_files_are_libraries();
+    a_rule_file_marks_equal_labels_alike();
+}
+
+/// Such a text, which both a yes of `check` and an accepted certificate are, tells a relation that proves it: it is closed under
+/// the rules of types, and holds the types of all exports that are compared.
+pub fn an_accepted_certificate_tells_such_a_relation()
+    ensures { (old new rules certificate : List ℕ) → length old ≤ input_limit → length new ≤ input_limit → library_fault old ≡ None → library_fault new ≡ None
+        → IsAcceptedText old new rules certificate → IsRelationText old new rules certificate }
+{
+    the_relation_of_an_accepted_certificate_is_closed();
+    nodes_stand_for_what_exports_reach();
+    a_rule_file_marks_equal_labels_alike();
 }
 
 /// An empty rule file is readable, and leaves nothing out.

@@ -4,10 +4,12 @@ ghost use Rattle.abi_base.specs.Limits.{input_limit};
 ghost use Rattle.cert_text.specs.Grammar.{IsSpelled};
 ghost use Rattle.library_check.specs.Checks.{AreReadable, IsUnchecked};
 ghost use Rattle.library_check.specs.Judgements.{ruled};
+ghost use Rattle.library_check.specs.Relations.{AcceptsSuchRelation};
 ghost use Rattle.library_check.specs.Verifications.{AreVerifiable, IsSettled, IsUnverified, IsVerified, case_for, certificate_fault};
 
 use crate::checking::{Unchecked, read_inputs};
 use crate::judging::marks_by;
+use crate::laws::an_accepted_certificate_tells_such_a_relation;
 use abi_base::{Fault, NoMemory, Refusal};
 use abi_types::{Library, NewIx, OldIx};
 use cert_check::laws::an_accepted_certificate_is_a_proof;
@@ -99,8 +101,10 @@ pub fn verify(
     requires new_short { length new.now ≤ input_limit }
     ensures readable { OnOk result (AreVerifiable old.now new.now rules.now certificate.now) }
     ensures verified { IfOk result (IsVerified old.now new.now rules.now certificate.now) }
+    ensures relation { IfOk result (AcceptsSuchRelation old.now new.now rules.now certificate.now) }
     ensures unverified { IfErr result (IsUnverified old.now new.now rules.now certificate.now) }
 {
+    an_accepted_certificate_tells_such_a_relation();
     let inputs = match read_inputs(alloc, old, new, rules) {
         Ok(inputs) => inputs,
         Err(unread) => return Err(of_inputs(unread)),

@@ -8,19 +8,27 @@ use Rattle.abi_types.specs.declared.kind.Way.TheVariants.{Direct, Pointer}
 use Rattle.abi_types.specs.Exports.{PlainExport}
 use Rattle.abi_types.specs.Libraries.{PlainLibrary}
 use Rattle.suppression_text.specs.Rules.{PlainSection, PlainRules}
-use Rattle.suppressions.specs.Marks.{IsEven, marks_of}
+use Rattle.suppressions.specs.Marks.{IsEven, AreEvenMarks, marks_of}
 use Rattle.suppressions.specs.Meaning.{drops, marks_names, is_dropped, is_marked}
 
 abbrev pub marks_with : List ℕ → List Bool → List Bool → List Bool → Marks
 marks_with digest exports direct pointer = record { digest = digest; exports = exports; direct = direct; pointer = pointer }
 
-pub even : (f : List PlainLabel → Bool) (nodes : List PlainNode) (flags : List Bool) → flags ≡ map (λ (n : PlainNode). f n.labels) nodes → IsEven nodes flags
+even : (f : List PlainLabel → Bool) (nodes : List PlainNode) (flags : List Bool) → flags ≡ map (λ (n : PlainNode). f n.labels) nodes → IsEven nodes flags
 even f nodes flags is =
     let at = λ (a : ℕ) (lt : a < length nodes). ap (λ (bs : List Bool). get_or bs a false) is ∙ get_or-map (λ (n : PlainNode). f n.labels) nodes a void_node false lt in
     record {
       each = ap length is ∙ length-map nodes (λ (n : PlainNode). f n.labels);
       even = λ a b a_inside b_inside same. at a a_inside ∙ ap f same ∙ sym (at b b_inside);
     }
+
+pub marks_are_even : (rules : PlainRules) (library : PlainLibrary) → AreEvenMarks library (marks_of rules library)
+unfolding marks_of
+marks_are_even rules library = record {
+  exports = length-map library.exports (is_dropped rules library.soname);
+  direct = even (λ (labels : List PlainLabel). is_marked rules library.soname labels Direct) library.graph (marks_of rules library).direct refl;
+  pointer = even (λ (labels : List PlainLabel). is_marked rules library.soname labels Pointer) library.graph (marks_of rules library).pointer refl;
+}
 
 -- the flags of one more node
 pub flags_more : (f : List PlainLabel → Bool) (nodes : List PlainNode) (i : ℕ) (flags now : List Bool) (labels : List PlainLabel) (flag : Bool) → i < length nodes

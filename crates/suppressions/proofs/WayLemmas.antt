@@ -1,9 +1,10 @@
 -- Rules that ask for no way.
-use Rattle.std.proofs.Common.{◌≡◌, ℕ, Bool, true, false, List, [], ◌∷◌, Option, refl, sym, ◌∙◌, ap}
+use Rattle.std.proofs.Common.{◌≡◌, ℕ, Bool, true, false, List, [], ◌∷◌, map, Option, refl, sym}
 use Rattle.std.specs.Prelude.{◌&&◌, ◌||◌, ◌==◌}
 use Rattle.std.specs.List.{list_all, list_any}
 use Rattle.abi_types.specs.declared.kind.Way.TheVariants.{Direct, Pointer}
-use Rattle.abi_types.specs.Types.{PlainLabel}
+use Rattle.abi_types.specs.Libraries.{PlainLibrary}
+use Rattle.abi_types.specs.Types.{PlainLabel, PlainNode}
 use Rattle.suppression_text.specs.declared.key.Key.{Key}
 use Rattle.suppression_text.specs.declared.key.Key.TheVariants.{Label, Name, NameRegexp, NameNotRegexp, SymbolName, SymbolNameRegexp, SymbolVersion, SymbolVersionRegexp, SonameRegexp, TypeKind, AccessedThrough}
 use Rattle.suppression_text.specs.Keys.{same_key}
@@ -11,6 +12,7 @@ use Rattle.suppression_text.specs.Faults.{has}
 use Rattle.suppression_text.specs.Rules.{PlainProperty, PlainSection, PlainRules, plain_property}
 use Rattle.suppressions.specs.Subjects.{PlainSubject, asked, label_subject}
 use Rattle.suppressions.specs.Meaning.{property_holds, speaks_of, section_holds, marks_name, marks_names, is_marked}
+use Rattle.suppressions.specs.Marks.{AreAtBothWays, marks_of}
 use Rattle.suppressions.specs.Reasons.{HasNoWays}
 
 neither : (a b : Bool) → (a || b) ≡ false → (a ≡ false) × (b ≡ false)
@@ -60,3 +62,12 @@ same_ways sections soname (l ∷ labels) none = rw (same_sections soname l secti
 pub see_no_way : (rules : PlainRules) (soname : Option (List ℕ)) (labels : List PlainLabel) → HasNoWays rules → is_marked rules soname labels Direct ≡ is_marked rules soname labels Pointer
 unfolding is_marked
 see_no_way rules soname labels none = same_ways rules.sections soname labels none
+
+same_flags : (rules : PlainRules) (soname : Option (List ℕ)) (nodes : List PlainNode) → HasNoWays rules
+    → map (λ (n : PlainNode). is_marked rules soname n.labels Pointer) nodes ≡ map (λ (n : PlainNode). is_marked rules soname n.labels Direct) nodes
+same_flags rules soname [] none = refl
+same_flags rules soname (n ∷ nodes) none = let head = see_no_way rules soname n.labels none in let tail = same_flags rules soname nodes none in cc
+
+pub marks_at_both_ways : (rules : PlainRules) (library : PlainLibrary) → HasNoWays rules → AreAtBothWays (marks_of rules library)
+unfolding marks_of
+marks_at_both_ways rules library none = same_flags rules library.soname library.graph none

@@ -7,7 +7,7 @@ use Rattle.abi_types.specs.Exports.{PlainExport}
 use Rattle.abi_types.specs.Types.{PlainNode}
 use Rattle.abi_types.specs.Graphs.{node_at}
 use Rattle.abi_types.specs.Libraries.{PlainLibrary}
-use Rattle.suppression_text.specs.Rules.{PlainRules}
+use Rattle.suppression_text.specs.Rules.{PlainRules, rules_of}
 use Rattle.suppressions.specs.Meaning.{is_dropped, is_marked}
 
 -- for each node whether it is marked where it is reached by a way
@@ -25,7 +25,21 @@ marks_of rules old = record {
   pointer = way_flags rules old Pointer;
 }
 
+-- what the text of a rule file says of a library
+abbrev pub marks_of_text : List ℕ → PlainLibrary → Marks
+marks_of_text text library = marks_of (rules_of text) library
+
 -- each node has a flag, and nodes with equal labels have equal flags
 pub record IsEven (nodes : List PlainNode) (flags : List Bool) : Type 0 where
   pub each : length flags ≡ length nodes
   pub even : (a b : ℕ) → a < length nodes → b < length nodes → (node_at nodes a).labels ≡ (node_at nodes b).labels → slice_index_or flags a false ≡ slice_index_or flags b false
+
+-- each export and each node of the library has a mark, and nodes with equal labels have equal marks at each way
+pub record AreEvenMarks (library : PlainLibrary) (marks : Marks) : Type 0 where
+  pub exports : length marks.exports ≡ length library.exports
+  pub direct : IsEven library.graph marks.direct
+  pub pointer : IsEven library.graph marks.pointer
+
+-- each node is marked at both ways or at neither
+abbrev pub AreAtBothWays : Marks → Type 0
+AreAtBothWays marks = marks.pointer ≡ marks.direct

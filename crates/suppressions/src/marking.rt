@@ -3,7 +3,7 @@ ghost use Rattle.std.specs.Prelude.{◌≡◌, IfOk, map};
 ghost use Rattle.std.specs.Option.{option_copied};
 ghost use Rattle.abi_types.specs.Plain.{plain_export, plain_exports, plain_label};
 ghost use Rattle.abi_types.specs.Types.{PlainNode};
-ghost use Rattle.suppressions.specs.Marks.{marks_of, IsEven};
+ghost use Rattle.suppressions.specs.Marks.{marks_of, AreEvenMarks};
 ghost use Rattle.suppressions.specs.Meaning.{drops, marks_names, is_dropped, is_marked};
 
 use crate::accessed_through::names_once;
@@ -107,12 +107,11 @@ fn node_flags(
 }
 
 /// What a rule file says of a library: which exports it drops, and which nodes it marks, by the way by which they are reached.
-/// Nodes with equal labels are marked alike.
+/// Nodes with equal labels are marked alike. It fails only when memory runs out.
 #[tactic(auto, unfolding(crate::specs::Marks::marks_of, crate::specs::Meaning::is_dropped, crate::specs::Meaning::is_marked))]
 pub fn marks(alloc: Global, rules: &Rules, old: &Library<OldIx>) -> Result<Marks, NoMemory>
     ensures marks { IfOk result (λ marks. marks ≡ marks_of rules.now old.now) }
-    ensures direct { IfOk result (λ marks. IsEven old.now.graph marks.direct) }
-    ensures pointer { IfOk result (λ marks. IsEven old.now.graph marks.pointer) }
+    ensures even { IfOk result (AreEvenMarks old.now) }
 {
     let mut ready = ready_sections(alloc, rules)?;
     let sections = ready.as_mut_slice();

@@ -203,7 +203,7 @@ fn pattern_of(word: &str) -> Option<Pattern> {
 }
 
 /// What `alike rings|chain|wide|copies NODES ROUNDS` prints: how many nodes the graph has, and how many classes over all rounds.
-pub fn line(alloc: Global, words: &[&str]) -> Result<String, NoMemory> {
+pub(crate) fn line(alloc: Global, words: &[&str]) -> Result<String, NoMemory> {
     let pattern = match words.first() {
         Some(word) => pattern_of(word),
         None => None,

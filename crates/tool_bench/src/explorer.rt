@@ -150,7 +150,7 @@ fn count<L: Ledger>(
 }
 
 /// What `explorer OLD NEW ROUNDS` prints: how many triples there are and how many breaks, over all rounds.
-pub fn line(alloc: Global, words: &[&str]) -> Result<String, NoMemory> {
+pub(crate) fn line(alloc: Global, words: &[&str]) -> Result<String, NoMemory> {
     let (old, new, rounds) = (number(words, 0), number(words, 1), number(words, 2));
     let (triples, breaks) = count::<Brand>(alloc, Blank::new(1), old, new, rounds)?;
     Ok(format!(in alloc; "{triples} triples, {breaks} breaks")?)

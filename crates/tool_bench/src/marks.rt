@@ -206,7 +206,7 @@ fn named_pattern(words: &[&str]) -> Pattern {
 }
 
 /// What `marks mixed|functions|variables|types EXPORTS NODES SECTIONS ROUNDS` prints: how many marks there are, over all rounds.
-pub fn line(alloc: Global, words: &[&str]) -> Result<String, NoMemory> {
+pub(crate) fn line(alloc: Global, words: &[&str]) -> Result<String, NoMemory> {
     let plan = Plan {
         pattern: named_pattern(words),
         exports: number(words, 1),

@@ -74,7 +74,7 @@ fn count<L: Ledger>(
 }
 
 /// What `rules MEMBERS ROUNDS` prints: how many rules the structures break and how many partners they have, over all rounds.
-pub fn line(alloc: Global, words: &[&str]) -> Result<String, NoMemory> {
+pub(crate) fn line(alloc: Global, words: &[&str]) -> Result<String, NoMemory> {
     let names = names(alloc, number(words, 0))?;
     let (broken, partners) = count::<Brand>(
         alloc,

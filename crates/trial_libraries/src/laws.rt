@@ -4,13 +4,19 @@ ghost use Rattle.std.specs.List.{flat_map, range_with_len};
 ghost use Rattle.abi_base.specs.Limits.{input_limit};
 ghost use Rattle.trial_libraries.specs.declared.making.Side.{Side as AnySide};
 ghost use Rattle.trial_libraries.specs.Libraries.{library};
+ghost use Rattle.trial_libraries.specs.Limits.{most_functions};
 ghost use Rattle.trial_libraries.specs.Units.{HasAt, functions_of, int, int_place, pointer, pointer_place, structure, structure_place, unit, unit_count};
 
 use crate::making::MOST_FUNCTIONS;
 
+/// The limit of the code is the one that contracts speak of.
+pub fn the_limit_of_functions_is_as_said()
+    ensures { MOST_FUNCTIONS ≡ most_functions }
+{}
+
 /// A made library may be an input.
 pub fn made_libraries_are_no_longer_than_inputs()
-    ensures { (n : ℕ) (side : AnySide) → n ≤ MOST_FUNCTIONS → length (library n side) ≤ input_limit }
+    ensures { (n : ℕ) (side : AnySide) → n ≤ most_functions → length (library n side) ≤ input_limit }
 {}
 
 /// The units of a made library have each of its functions once, in order.

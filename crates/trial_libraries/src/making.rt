@@ -3,6 +3,7 @@ ghost use Rattle.std.specs.Prelude.{◌≡◌, ◌<◌, ◌≤◌, ◌⊎◌, �
 ghost use Rattle.abi_base.specs.Limits.{input_limit};
 ghost use Rattle.trial_libraries.specs.declared.making.GenRefusal.TheVariants.{NoMemory as OutOfMemory};
 ghost use Rattle.trial_libraries.specs.Libraries.{library};
+ghost use Rattle.trial_libraries.specs.Limits.{most_functions};
 
 use crate::file::make_file;
 use crate::symbols::make_symbols;
@@ -44,7 +45,7 @@ impl From<AllocError> for GenRefusal {
 
 // The library of n functions for a side. It fails only when memory runs out.
 fn make_library(alloc: Global, n: u32, side: Side) -> Result<Vec<u8>, AllocError>
-    requires { n ≤ MOST_FUNCTIONS }
+    requires { n ≤ most_functions }
     ensures { IfOk result (λ file. file.items ≡ library n side) }
 {
     let made = make_symbols(alloc, n)?;
@@ -62,7 +63,7 @@ fn make_library(alloc: Global, n: u32, side: Side) -> Result<Vec<u8>, AllocError
 pub fn make(alloc: Global, n: u32, side: Side) -> Result<Vec<u8>, GenRefusal>
     ensures library { IfOk result (λ file. file.items ≡ library n side) }
     ensures short { IfOk result (λ file. length file.items ≤ input_limit) }
-    ensures size { (result ≡ Err GenRefusal.Size) ↔ ((n ≡ 0) ⊎ (MOST_FUNCTIONS < n)) }
+    ensures size { (result ≡ Err GenRefusal.Size) ↔ ((n ≡ 0) ⊎ (most_functions < n)) }
 {
     if n == 0 || n > MOST_FUNCTIONS {
         return Err(GenRefusal::Size);

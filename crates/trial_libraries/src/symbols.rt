@@ -1,11 +1,11 @@
 // The dynamic symbols of a made library, and their names.
 ghost use Rattle.std.specs.Prelude.{◌≡◌, ◌≤◌, ◌+◌, ◌++◌, OnOk, IfOk};
 ghost use Rattle.trial_libraries.specs.Bytes.{ended, string_table};
+ghost use Rattle.trial_libraries.specs.Limits.{most_functions};
 ghost use Rattle.trial_libraries.specs.Symbols.{function_address, function_name, function_names, symbol, symbol_table};
 
 use crate::bytes::{put_text, put_u16, put_u32, put_u64};
 use crate::constants::{GLOBAL_FUNCTION, STV_DEFAULT, SYM_SIZE};
-use crate::making::MOST_FUNCTIONS;
 use std::alloc::{AllocError, Global};
 
 // Where function 0 begins, and how many bytes each function has.
@@ -51,7 +51,7 @@ fn put_symbol(symbols: &mut Vec<u8>, name_place: u32, number: u32) -> Result<(),
 
 // The symbols of so many functions. It fails only when memory runs out.
 pub(crate) fn make_symbols(alloc: Global, n: u32) -> Result<Symbols, AllocError>
-    requires { n ≤ MOST_FUNCTIONS }
+    requires { n ≤ most_functions }
     ensures symbols { IfOk result (λ made. made.symbols.items ≡ symbol_table n) }
     ensures names { IfOk result (λ made. made.names.items ≡ string_table (function_names n)) }
 {

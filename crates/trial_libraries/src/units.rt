@@ -1,11 +1,12 @@
 // The debug units of a made library.
 ghost use Rattle.std.specs.Prelude.{◌≡◌, ◌≤◌, ◌<◌, ◌+◌, ◌^◌, ◌++◌, length, OnOk, IfOk};
 ghost use Rattle.std.specs.List.{flat_map, range_with_len};
+ghost use Rattle.trial_libraries.specs.Limits.{most_functions};
 ghost use Rattle.trial_libraries.specs.Units.{entries, function, functions_of, int, member, parameter, parameters, pointer, pointer_place, ring_length, root, structure, structure_place, unit_count, unit_of, units};
 
 use crate::abbreviations::{BASE, FUNCTION, MEMBER, PARAMETER, POINTER, STRUCTURE, UNIT};
 use crate::bytes::{put_text, put_u16, put_u32, put_u64};
-use crate::making::{MOST_FUNCTIONS, Side};
+use crate::making::Side;
 use crate::symbols::{address_of, put_name};
 use abi_base::dwarf::{DW_ATE_signed, DW_LANG_C99, DW_UT_compile};
 use std::alloc::{AllocError, Global};
@@ -191,7 +192,7 @@ fn put_function(body: &mut Vec<u8>, number: u32) -> Result<(), AllocError>
 
 // Puts the functions of a unit last, which are those of n that are its own.
 fn put_functions(body: &mut Vec<u8>, n: u32, unit: u32) -> Result<(), AllocError>
-    requires few { n ≤ MOST_FUNCTIONS }
+    requires few { n ≤ most_functions }
     requires among { unit < unit_count n }
     ensures { OnOk result (body.new.items ≡ body.old.items ++ flat_map function (functions_of n unit)) }
 {
@@ -205,7 +206,7 @@ fn put_functions(body: &mut Vec<u8>, n: u32, unit: u32) -> Result<(), AllocError
 // The entries of a unit of a library of n functions.
 fn make_entries(alloc: Global, n: u32, ring: u32, unit: u32) -> Result<Vec<u8>, AllocError>
     requires short { ring ≤ LONGEST_RING }
-    requires few { n ≤ MOST_FUNCTIONS }
+    requires few { n ≤ most_functions }
     requires among { unit < unit_count n }
     ensures { IfOk result (λ body. body.items ≡ entries n ring unit) }
 {
@@ -232,7 +233,7 @@ fn put_unit(info: &mut Vec<u8>, body: &[u8]) -> Result<(), AllocError>
 
 // How many units a library of n functions has.
 fn count_units(n: u32) -> u32
-    requires { n ≤ MOST_FUNCTIONS }
+    requires { n ≤ most_functions }
     ensures { result ≡ unit_count n }
 {
     n.div_ceil(UNIT_FUNCTIONS)
@@ -241,7 +242,7 @@ fn count_units(n: u32) -> u32
 // The units of a library of n functions, whose rings have so many structures. It fails only when memory runs out.
 pub(crate) fn make_units(alloc: Global, n: u32, ring: u32) -> Result<Vec<u8>, AllocError>
     requires short { ring ≤ LONGEST_RING }
-    requires few { n ≤ MOST_FUNCTIONS }
+    requires few { n ≤ most_functions }
     ensures { IfOk result (λ info. info.items ≡ units n ring) }
 {
     let mut info = Vec::new(alloc);

@@ -2,7 +2,7 @@
 use Rattle.std.specs.Prelude.{◌≡◌, ◌⊎◌, ℕ, List, [], length, codes}
 use Rattle.trial_libraries.specs.declared.making.Side.TheVariants.{Old, New}
 use Rattle.trial_libraries.specs.Libraries.{library}
-use Rattle.report.specs.declared.style.Style.{Style}
+use Rattle.report.specs.Listening.{Voice}
 use Rattle.library_read.specs.Libraries.{library_of}
 use Rattle.library_check.specs.declared.checking.Unchecked.{Unchecked}
 use Rattle.library_check.specs.Checks.{AreReadable, Compatible, IsCertificateText, IsReportText, IsUnchecked}
@@ -26,21 +26,21 @@ pub record IsYesText (n : ℕ) (lines : List ℕ) : Type 0 where
   pub printed : IsCertificateText (old_library n) (new_library n) [] certificate
   pub is : lines ≡ summary_of n (codes "yes") (export_count n) certificate
 
--- a no: the lines sum up the report that `check` prints, where listeners of these styles are told the rows
-pub record IsNoText (styles : List Style) (n : ℕ) (lines : List ℕ) : Type 0 where
+-- a no: the lines sum up the report that `check` prints, where listeners of these voices, in this order, are told the rows
+pub record IsNoText (voices : List Voice) (n : ℕ) (lines : List ℕ) : Type 0 where
   pub report : List ℕ
   pub incompatible : Compatible (old_library n) (new_library n) [] → ⊥
-  pub printed : IsReportText styles (old_library n) (new_library n) [] report
+  pub printed : IsReportText voices (old_library n) (new_library n) [] report
   pub is : lines ≡ summary_of n (codes "no") (export_count n) report
 
 -- what is said of the two libraries
-abbrev pub IsSaid : List Style → ℕ → List ℕ → Type 0
-IsSaid styles n lines = IsYesText n lines ⊎ IsNoText styles n lines
+abbrev pub IsSaid : List Voice → ℕ → List ℕ → Type 0
+IsSaid voices n lines = IsYesText n lines ⊎ IsNoText voices n lines
 
--- the lines of a trial, whose libraries are readable
-pub record IsTrialText (styles : List Style) (n : ℕ) (lines : List ℕ) : Type 0 where
+-- the lines of a trial with listeners of these voices, whose libraries are readable
+pub record IsTrialText (voices : List Voice) (n : ℕ) (lines : List ℕ) : Type 0 where
   pub readable : AreReadable (old_library n) (new_library n) []
-  pub said : IsSaid styles n lines
+  pub said : IsSaid voices n lines
 
 -- why a trial says nothing: as `check` of the two libraries
 abbrev pub IsUntried : ℕ → Unchecked → Type 0

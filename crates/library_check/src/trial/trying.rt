@@ -2,6 +2,7 @@
 ghost use Rattle.std.specs.Prelude.{◌≡◌, ◌<◌, ◌≤◌, ℕ, List, [], None, length, map, All, OnOk, IfOk, IfErr};
 ghost use Rattle.abi_base.specs.Limits.{input_limit};
 ghost use Rattle.trial_libraries.specs.Libraries.{library};
+ghost use Rattle.trial_libraries.specs.Limits.{most_functions};
 ghost use Rattle.library_read.specs.Faults.{library_fault};
 ghost use Rattle.library_read.specs.Libraries.{library_of};
 ghost use Rattle.library_check.specs.Checks.{IsUnchecked};
@@ -17,12 +18,12 @@ use abi_types::{Library, NewIx, OldIx};
 use report::Listener;
 use std::alloc::Global;
 use suppression_text::{Rules, read_rules};
-use trial_libraries::{GenRefusal, MOST_FUNCTIONS, Side, make};
+use trial_libraries::{GenRefusal, Side, make};
 
 // The made library of a side. It fails only when memory runs out.
 fn make_one(alloc: Global, n: u32, side: Side) -> Result<Vec<u8>, NoMemory>
     requires some { 0 < n }
-    requires few { n ≤ MOST_FUNCTIONS }
+    requires few { n ≤ most_functions }
     ensures made { IfOk result (λ file. file.items ≡ library n side) }
     ensures short { IfOk result (λ file. length file.items ≤ input_limit) }
 {
@@ -56,7 +57,7 @@ fn try_read(
     requires unheard { All (λ listener. heard listener ≡ []) listeners.items }
     requires old { old.now ≡ library_of (old_library n) }
     requires new { new.now ≡ library_of (new_library n) }
-    ensures { IfOk result (λ lines. IsSaid (map asks listeners.items) n lines.items) }
+    ensures { IfOk result (λ lines. IsSaid (map voice listeners.items) n lines.items) }
 {
     let rules = no_rules(alloc)?;
     let exports = old.exports().len();
@@ -79,7 +80,7 @@ fn try_bytes(
     requires new { new.now ≡ new_library n }
     requires old_short { length old.now ≤ input_limit }
     requires new_short { length new.now ≤ input_limit }
-    ensures trial { IfOk result (λ lines. IsTrialText (map asks listeners.items) n lines.items) }
+    ensures trial { IfOk result (λ lines. IsTrialText (map voice listeners.items) n lines.items) }
     ensures untried { IfErr result (IsUntried n) }
 {
     no_rules_are_readable();
@@ -94,18 +95,18 @@ fn try_bytes(
 }
 
 /// The two lines of a trial of n functions, of which there are some and no more than a made library may have: what `check` says
-/// of the old and the new library that are made of them, with an empty rule file and these listeners, how many exports the old
-/// one has, and how many lines the whole text of `check` has; then the SHA-256 of that text. A fault of a made library, of the
-/// old one first, stops it as it stops `check`.
+/// of the old and the new library that are made of them, with an empty rule file, how many exports the old one has, and how many
+/// lines the whole text of `check` has; then the SHA-256 of that text. On no the text is that of these listeners, in their order.
+/// A fault of a made library, of the old one first, stops it as it stops `check`.
 pub fn try_both(
     alloc: Global,
     n: u32,
     listeners: Vec<Box<dyn Listener>>,
 ) -> Result<Vec<u8>, Unchecked>
     requires some { 0 < n }
-    requires few { n ≤ MOST_FUNCTIONS }
+    requires few { n ≤ most_functions }
     requires unheard { All (λ listener. heard listener ≡ []) listeners.items }
-    ensures trial { IfOk result (λ lines. IsTrialText (map asks listeners.items) n lines.items) }
+    ensures trial { IfOk result (λ lines. IsTrialText (map voice listeners.items) n lines.items) }
     ensures untried { IfErr result (IsUntried n) }
 {
     let old = match make_one(alloc, n, Side::Old) {

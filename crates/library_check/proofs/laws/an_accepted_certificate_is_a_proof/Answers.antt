@@ -1,5 +1,4 @@
 use Rattle.library_read.specs.Libraries.{library_of}
-use Rattle.suppression_text.specs.Rules.{rules_of}
 use Rattle.library_check.specs.Checks.{sides_of}
 use Rattle.library_check.specs.Verifications.{case_for}
 use Rattle.library_check.proofs.Marked.{even_sides}
@@ -12,4 +11,4 @@ returns c = λ old new rules certificate old_short new_short old_readable new_re
     (c.readable_files_are_libraries.ensures old old_short old_readable).numbered
     (c.nodes_stand_for_what_exports_reach.ensures.graph old old_short old_readable)
     (c.nodes_stand_for_what_exports_reach.ensures.graph new new_short new_readable)
-    (even_sides (library_of old) (library_of new) (rules_of rules)) is.accepted
+    (even_sides c.a_rule_file_marks_equal_labels_alike.ensures old new rules) is.accepted

@@ -1,7 +1,8 @@
-use Rattle.std.proofs.Common.{◌≡◌, ◌∙◌}
+use Rattle.std.proofs.Common.{◌≡◌, ◌∙◌, subst, sym}
 use Rattle.std.specs.Option.{option_copied}
 use Rattle.abi_types.specs.Plain.{plain_exports}
-use Rattle.suppressions.proofs.MarkLemmas.{marks_are}
+use Rattle.suppressions.specs.Marks.{AreEvenMarks}
+use Rattle.suppressions.proofs.MarkLemmas.{marks_are, marks_are_even}
 use Rattle.suppressions.proofs.marking.marks.Goals as goal
 
 pub returns-clause-marks : goal.returns-clause-marks
@@ -9,3 +10,6 @@ returns-clause-marks c =
     marks_are c.args.rules.now c.args.old.now c.digest.result _ _ _ c.as_mut_slice-sections.result.now _ (option_copied c.soname-soname.result) (plain_exports c.exports.result.now) c.graph.result.now
     c.digest.ensures (c.as_mut_slice-sections.ensures.value ∙ c.in_ok-ready.ensures) (c.in_ok-exports.ensures.same ∙ c.as_mut_slice-sections.ensures.value ∙ c.in_ok-ready.ensures) c.soname-soname.ensures c.exports.ensures c.graph.ensures
     c.in_ok-exports.ensures.flags c.in_ok-nodes.ensures.direct c.in_ok-nodes.ensures.pointer
+
+pub returns-clause-even : goal.returns-clause-even
+returns-clause-even c = subst (AreEvenMarks c.args.old.now) (sym (returns-clause-marks c)) (marks_are_even c.args.rules.now c.args.old.now)

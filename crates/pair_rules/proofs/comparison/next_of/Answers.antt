@@ -1,7 +1,7 @@
 -- Where the two parts lead that the code reads.
 use Rattle.std.proofs.Common.{◌∙◌}
 use Rattle.pair_rules.proofs.Compared.{next_of-none, next_of-read, by_number}
-use Rattle.pair_rules.proofs.comparison.next_in.Goals as goal
+use Rattle.pair_rules.proofs.comparison.next_of.Goals as goal
 
 pub returns-in-None : goal.returns-in-None
 returns-in-None c = next_of-none c.args.old.now c.args.new.now c.args.way c.args.i c.in-None.ensures.place

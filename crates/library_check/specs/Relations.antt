@@ -1,0 +1,35 @@
+-- What a certificate tells beside its verdict: such a relation between types as a yes asks for.
+use Rattle.std.specs.Prelude.{ℕ, List}
+use Rattle.cert_check.specs.Compatible.{Sides, task_of}
+use Rattle.cert_check.specs.Relation.{relation_of}
+use Rattle.cert_text.specs.Certs.{PlainCert}
+use Rattle.cert_text.specs.Grammar.{IsSpelled}
+use Rattle.pair_rules.specs.Closed.{HoldsRoots, IsClosed}
+use Rattle.library_check.specs.declared.judging.Checked.{Checked}
+use Rattle.library_check.specs.declared.judging.Checked.TheVariants.{Yes, No}
+use Rattle.library_check.specs.declared.verifying.Verified.{Verified}
+use Rattle.library_check.specs.declared.verifying.Verified.TheVariants as verified
+use Rattle.library_check.specs.Checks.{sides_of}
+use Rattle.library_check.specs.Verifications.{case_for}
+
+-- The text spells a certificate whose pair lines are a relation that is closed under the rules of types, and that holds the
+-- types of all exports that are compared.
+pub record SpellsRelation (s : Sides) (text : List ℕ) : Type 0 where
+  pub cert : PlainCert
+  pub spelled : IsSpelled text cert
+  pub closed : IsClosed (task_of s) (relation_of (case_for s cert))
+  pub roots : HoldsRoots (task_of s) (relation_of (case_for s cert))
+
+-- the text tells such a relation for these libraries and this rule file
+abbrev pub IsRelationText : List ℕ → List ℕ → List ℕ → List ℕ → Type 0
+IsRelationText old new rules text = SpellsRelation (sides_of old new rules) text
+
+-- a yes prints such a relation
+abbrev pub PrintsSuchRelation : List ℕ → List ℕ → List ℕ → Checked → Type 0
+PrintsSuchRelation old new rules (Yes text) = IsRelationText old new rules text.items
+PrintsSuchRelation old new rules (No text) = Unit {0}
+
+-- a certificate that is accepted tells such a relation
+abbrev pub AcceptsSuchRelation : List ℕ → List ℕ → List ℕ → List ℕ → Verified → Type 0
+AcceptsSuchRelation old new rules certificate verified.Accepted = IsRelationText old new rules certificate
+AcceptsSuchRelation old new rules certificate (verified.Refused refusal) = Unit {0}
