@@ -5,7 +5,7 @@
 #
 # usage: bench/certificates.sh [ABI [TRIAL_LIBRARY]]   (default: the programs that `rt run` built in their crates' out)
 set -eu
-maker=$(readlink -f "${2:-$(dirname "$0")/../crates/trial_library/out/trial_library}")
+maker=$(readlink -f "${2:-$(dirname "$0")/../crates/tool_trial_library/out/tool_trial_library}")
 . "$(dirname "$0")/common.bash"
 mkdir -p certificates
 cd certificates

@@ -1,20 +1,20 @@
 #!/usr/bin/env bash
-# Times the marks of a rule file over a library, by the program marks_bench: 50,000 exports and 20,000 nodes, with 10 and with 100
+# Times the marks of a rule file over a library, by `tool_bench marks`: 50,000 exports and 20,000 nodes, with 10 and with 100
 # sections of patterns that hold of nothing, and twice as many of each. Prints seconds of processor time for one finding of the
 # marks, without those of making the library, the least of three runs, and peak memory.
 #
-# usage: bench/marks.sh [MARKS_BENCH]   (default: the program that `rt run` built in crates/marks_bench/out)
+# usage: bench/marks.sh [PROGRAM]   (default: the program that `rt run` built in crates/tool_bench/out)
 set -eu
-marks=$(readlink -f "${1:-$(dirname "$0")/../crates/marks_bench/out/marks_bench}")
+marks=$(readlink -f "${1:-$(dirname "$0")/../crates/tool_bench/out/tool_bench}")
 set -- "$marks"
 . "$(dirname "$0")/common.bash"
 
 # found PATTERN EXPORTS NODES SECTIONS: a line of the seconds of one finding, as a fifth of what five more cost.
 found() {
     local one six
-    one=$(least 3 "$marks" "$@" 1)
-    six=$(least 3 "$marks" "$@" 6)
-    echo "$1, $2 exports, $3 nodes, $4 sections: $(awk -v a="$one" -v b="$six" 'BEGIN { printf "%.3f", (b - a) / 5 }') s, peak $(peak_memory "$marks" "$@" 1) MB"
+    one=$(least 3 "$marks" marks "$@" 1)
+    six=$(least 3 "$marks" marks "$@" 6)
+    echo "$1, $2 exports, $3 nodes, $4 sections: $(awk -v a="$one" -v b="$six" 'BEGIN { printf "%.3f", (b - a) / 5 }') s, peak $(peak_memory "$marks" marks "$@" 1) MB"
 }
 
 for pattern in mixed functions types; do

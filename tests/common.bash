@@ -63,7 +63,7 @@ program_of() {
 
 case $crate in
 abi_cli) program_of abi_cli 64 "${ABI:-}" ;;
-graph_lines) program_of graph_lines 1 "${GRAPH_LINES:-}" ;;
+tool_graph_lines) program_of tool_graph_lines 1 "${GRAPH_LINES:-}" ;;
 "") found= ;;
 *) fail "no program of the crate $crate is known" ;;
 esac

@@ -3,14 +3,14 @@
 # of the text. readelf and abidiff must read the libraries without a complaint.
 #
 #   tests/trials.sh                 builds the programs of this repository
-#   ABI=/path/of/abi TRIAL_LIBRARY=/path/of/trial_library tests/trials.sh    takes other ones
+#   ABI=/path/of/abi TRIAL_LIBRARY=/path/of/tool_trial_library tests/trials.sh    takes other ones
 set -eu
 title="trials"
 tools="gcc readelf sha256sum awk abidiff python3"
 crate=abi_cli
 . "$(dirname "$0")/common.bash"
 
-program_of trial_library 1 "${TRIAL_LIBRARY:-}"
+program_of tool_trial_library 1 "${TRIAL_LIBRARY:-}"
 maker=$found
 
 # tried FUNCTIONS: the trial of so many functions, against the libraries on disk.

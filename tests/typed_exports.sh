@@ -3,11 +3,11 @@
 # function and variable, and its name, against what readelf lists.
 #
 #   tests/typed_exports.sh                 builds the program of this repository
-#   GRAPH_LINES=/path/of/graph_lines tests/typed_exports.sh    takes another one
+#   GRAPH_LINES=/path/of/tool_graph_lines tests/typed_exports.sh    takes another one
 set -eu
 title="typed exports"
 tools="gcc readelf awk"
-crate=graph_lines
+crate=tool_graph_lines
 . "$(dirname "$0")/common.bash"
 
 # addressed LIBRARY: a line for each export, in order: its name and its value in hexadecimal, which is `-` where the symbol

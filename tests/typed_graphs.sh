@@ -5,11 +5,11 @@
 # functions take and give. Sizes and members are held against what pahole prints, too.
 #
 #   tests/typed_graphs.sh                 builds the program of this repository
-#   GRAPH_LINES=/path/of/graph_lines tests/typed_graphs.sh    takes another one
+#   GRAPH_LINES=/path/of/tool_graph_lines tests/typed_graphs.sh    takes another one
 set -eu
 title="typed graphs"
 tools="gcc readelf awk timeout"
-crate=graph_lines
+crate=tool_graph_lines
 . "$(dirname "$0")/common.bash"
 
 # build COMPILER OPTION..: builds kinds.so, whose two units hold the functions and the variables of kinds.h.

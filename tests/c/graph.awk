@@ -1,4 +1,4 @@
-# Reads what graph_lines prints, and prints a line for each fact of it, in the form of kinds.awk:
+# Reads what tool_graph_lines prints, and prints a line for each fact of it, in the form of kinds.awk:
 #
 #     structure KEY size BYTES align BYTES        and so for a union; an enumeration has no alignment
 #     KEY member NUMBER NAME bit BIT width BITS DESCRIPTION size BYTES

@@ -1,8 +1,9 @@
 // The answer of a command, built whole.
 ghost use Rattle.std.specs.Prelude.{◌≡◌, [], map, All, IfOk};
+ghost use Rattle.abi_base.specs.Causes.{SameCounts, Unfailing};
 ghost use Rattle.commands.specs.Commands.{files_of, places_of, plain_file, plain_place};
 ghost use Rattle.commands.specs.Outcomes.{IsStopReply};
-ghost use Rattle.commands.specs.Reading.{AreOwnShort, reading_of};
+ghost use Rattle.commands.specs.Reading.{AreOwnShort, AreTold, reading_of};
 ghost use Rattle.commands.specs.Replies.{Replies};
 
 use crate::command::Command;
@@ -37,7 +38,9 @@ pub fn answer_with<'a, C: Command, I: Inputs>(
     requires places { map plain_place places.now ≡ places_of (C.inputs command) }
     requires short { AreOwnShort (places_of (C.inputs command)) }
     requires unheard { All (λ listener. heard listener ≡ []) listeners.items }
-    ensures replies { IfOk result (λ a. Replies (reading_of I.told I.faults I.given inputs.old inputs.new) (C.inputs command) (C.says command (map asks listeners.items)) a.outcome a.text.items) }
+    ensures replies { IfOk result (λ a. Replies (reading_of I.told I.faults I.given I.started inputs.old inputs.new) (C.inputs command) (C.says command (map voice listeners.items)) a.outcome a.text.items) }
+    // Where no call is made to fail and all inputs are told, no count rises.
+    ensures steady { Unfailing I.is_made_to_fail inputs.old → AreTold (I.told inputs.old) (places_of (C.inputs command)) → SameCounts (I.faults inputs.old) (I.faults inputs.new) }
     ensures files { IfOk result (λ a. map plain_file a.files.items ≡ files_of (places_of (C.inputs command))) }
 {
     let files = files_in(alloc, places)?;

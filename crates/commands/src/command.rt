@@ -1,7 +1,7 @@
 // Commands.
 ghost use Rattle.std.specs.Prelude.{◌≡◌, [], List, ℕ, Option, length, map, All, OnOk, IfOk, IfErr};
 ghost use Rattle.abi_base.specs.declared.remark.Remark.{Remark as AnyRemark};
-ghost use Rattle.report.specs.declared.style.Style.{Style as AnyStyle};
+ghost use Rattle.report.specs.Listening.{Voice};
 ghost use Rattle.commands.specs.Commands.{Wanted, asks_of, items_of, places_of};
 ghost use Rattle.commands.specs.Faults.{AreReadable, AreShort, StopsAt};
 ghost use Rattle.commands.specs.Reading.{AreOwn};
@@ -28,8 +28,8 @@ pub trait Command: Drop {
     /// The inputs that it wants, in the order in which they are read, and which fault of each is asked.
     ghost inputs: { Self → List Wanted };
 
-    /// What it may say of the bytes of its inputs, where none has a fault and listeners of these styles are told.
-    ghost says: { Self → List AnyStyle → List (List ℕ) → AnyVerdict → Option AnyRemark → List ℕ → Type 0 };
+    /// What it may say of the bytes of its inputs, where none has a fault and listeners of these voices are told.
+    ghost says: { Self → List Voice → List (List ℕ) → AnyVerdict → Option AnyRemark → List ℕ → Type 0 };
 
     /// What it says of these bytes of its inputs, or the first fault of them.
     fn judge(
@@ -43,6 +43,6 @@ pub trait Command: Drop {
         requires unheard { All (λ listener. heard listener ≡ []) listeners.items }
         requires short { AreShort (map items_of all.now) }
         ensures readable { OnOk result (AreReadable (asks_of (inputs self)) (map items_of all.now)) }
-        ensures said { IfOk result (λ j. says self (map asks listeners.items) (map items_of all.now) j.verdict j.untyped j.text.items) }
+        ensures said { IfOk result (λ j. says self (map voice listeners.items) (map items_of all.now) j.verdict j.untyped j.text.items) }
         ensures stops { IfErr result (StopsAt (asks_of (inputs self)) (map items_of all.now)) };
 }

@@ -1,10 +1,10 @@
 // Reads inputs whole, in order.
-ghost use Rattle.std.specs.Prelude.{◌≡◌, ◌≤◌, List, ℕ, length, map, IfOk, IfErr, IfSome};
-ghost use Rattle.abi_base.specs.Causes.{NeverFall};
+ghost use Rattle.std.specs.Prelude.{◌≡◌, ◌≤◌, List, ℕ, length, map, IfOk, IfErr, IsSome, IfSome};
+ghost use Rattle.abi_base.specs.Causes.{NeverFall, SameCounts, Unfailing};
 ghost use Rattle.abi_base.specs.Limits.{input_limit};
 ghost use Rattle.commands.specs.Commands.{items_of, plain_place};
 ghost use Rattle.commands.specs.Faults.{AreShort};
-ghost use Rattle.commands.specs.Reading.{AreOwnShort, Gives, IsOwnShort, StopsOne, StopsReading, told_of};
+ghost use Rattle.commands.specs.Reading.{AreOwnShort, AreTold, Gives, IsOwnShort, StopsOne, StopsReading, reading_of, starts_after_source, told_of};
 
 use crate::place::{Place, Source};
 use crate::stop::Stop;
@@ -18,6 +18,9 @@ fn read_one<I: Inputs>(alloc: Global, inputs: &mut I, place: &Place<'_>) -> Resu
     ensures later { NeverFall (I.faults inputs.old) (I.faults inputs.new) }
     ensures given { IfOk result (λ bytes. IfSome (told_of (I.told inputs.old) (plain_place place.now).1) (λ t. bytes.items ≡ t)) }
     ensures short { IfOk result (λ bytes. length bytes.items ≤ input_limit) }
+    ensures still { Unfailing I.is_made_to_fail inputs.old → Unfailing I.is_made_to_fail inputs.new }
+    ensures steady { Unfailing I.is_made_to_fail inputs.old → IsSome (told_of (I.told inputs.old) (plain_place place.now).1) → SameCounts (I.faults inputs.old) (I.faults inputs.new) }
+    ensures started { I.started inputs.new ≡ starts_after_source (plain_place place.now).1 (I.started inputs.old) }
     ensures unread { IfErr result (StopsOne (I.told inputs.old) (I.faults inputs.old) (I.faults inputs.new) (I.given inputs.new) (plain_place place.now)) }
 {
     match &place.source {
@@ -47,7 +50,9 @@ pub(crate) fn read_all<I: Inputs>(
     ensures told { (name : List ℕ) → I.told inputs.new name ≡ I.told inputs.old name }
     ensures later { NeverFall (I.faults inputs.old) (I.faults inputs.new) }
     ensures given { IfOk result (λ all. Gives (I.told inputs.old) (map plain_place places.now) (map items_of all.items)) }
-    ensures unread { IfErr result (StopsReading (I.told inputs.old) (I.faults inputs.old) (I.faults inputs.new) (I.given inputs.new) (map plain_place places.now)) }
+    // Where no call is made to fail and all inputs are told, no count rises.
+    ensures steady { Unfailing I.is_made_to_fail inputs.old → AreTold (I.told inputs.old) (map plain_place places.now) → SameCounts (I.faults inputs.old) (I.faults inputs.new) }
+    ensures unread { IfErr result (StopsReading (reading_of I.told I.faults I.given I.started inputs.old inputs.new) (map plain_place places.now)) }
 {
     let mut all = Vec::new(alloc);
     for place in places {

@@ -37,7 +37,8 @@ fn with_name(names: u64, name: u64) -> u64
     names | (1 << (name % NAME_BITS) as u32)
 }
 
-// Whether the bit of an attribute is there.
+// Whether the bit of an attribute is there. Attributes share bits: where it is not there, the entry has no such attribute, and
+// where it is, the entry is read. It only saves time.
 #[inline(always)]
 pub(crate) fn may_have(names: u64, name: u64) -> bool
     ensures { result ≡ (names / 2 ^ (name % name_bits) % 2 == 1) }
@@ -231,7 +232,7 @@ fn short_number(asked: &AttributeSource<'_>, name: u64, form: u64) -> Option<u32
 }
 
 // The place of the entry that an attribute of an entry that is stored refers to, where the attribute has the form `DW_FORM_ref4`
-// and a slot tells its place.
+// and a slot tells its place. It only saves time: none says nothing, and `value_of` gives the answer.
 #[inline(always)]
 #[tactic(auto, using(crate::proofs::ShortLemmas::refers_short))]
 pub(crate) fn short_reference_of(asked: &AttributeSource<'_>, name: u64) -> Option<u64>
@@ -245,7 +246,7 @@ pub(crate) fn short_reference_of(asked: &AttributeSource<'_>, name: u64) -> Opti
 }
 
 // The place of the text in `.debug_str` that an attribute of an entry that is stored is, where the attribute has the form
-// `DW_FORM_strp` and a slot tells its place.
+// `DW_FORM_strp` and a slot tells its place. It only saves time: none says nothing, and `value_of` gives the answer.
 #[inline(always)]
 #[tactic(auto, using(crate::proofs::ShortLemmas::text_short))]
 pub(crate) fn short_text_of(asked: &AttributeSource<'_>, name: u64) -> Option<u64>

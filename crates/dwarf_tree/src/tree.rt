@@ -39,7 +39,7 @@ pub struct Tree<'a> {
     ends: Vec<u32>,
     // For each unit the position of its root.
     roots: Vec<u32>,
-    // Where to look for the entry that begins at an offset.
+    // Where to look first for the entry that begins at an offset. They only save time.
     hints: Vec<u32>,
 }
 
@@ -141,7 +141,8 @@ impl<'a> Tree<'a> {
         self.shapes[stored.shape as usize].unit as usize
     }
 
-    /// Whether an entry may have an attribute, by its abbreviation. Where it may not, it has none.
+    /// Whether an entry may have an attribute, by bits that are kept of its abbreviation. False says that it has none, and true
+    /// says nothing: this call only saves time, since `own` gives the answer.
     #[inline(always)]
     pub fn may_have(&self, e: usize, name: u64) -> bool
         requires { e < length self.now.entries }
@@ -193,8 +194,8 @@ impl<'a> Tree<'a> {
     }
 
     /// The place of the entry that an attribute of an entry itself refers to, where the attribute has the form `DW_FORM_ref4` and
-    /// the entry's abbreviation tells where its value stands, as most references have: it takes less time than `own`. None says
-    /// nothing of the attribute.
+    /// the entry's abbreviation tells where its value stands, as most references have. None says nothing of the attribute: this
+    /// call only saves time, since `own` gives the answer.
     #[inline(always)]
     pub fn short_reference(&self, e: usize, name: u64) -> Option<u64>
         requires { e < length self.now.entries }
@@ -216,8 +217,8 @@ impl<'a> Tree<'a> {
     }
 
     /// The place of the text in `.debug_str` that an attribute of an entry itself is, where the attribute has the form
-    /// `DW_FORM_strp` and the entry's abbreviation tells where its value stands: it takes less time than `own`. None says nothing
-    /// of the attribute.
+    /// `DW_FORM_strp` and the entry's abbreviation tells where its value stands. None says nothing of the attribute: this call only
+    /// saves time, since `own` gives the answer.
     #[inline(always)]
     pub fn short_text(&self, e: usize, name: u64) -> Option<u64>
         requires { e < length self.now.entries }

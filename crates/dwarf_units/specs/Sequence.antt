@@ -1,16 +1,13 @@
 -- The units of `.debug_info`, in order, and how they end (DWARF 5, section 7.5.1 "Unit Headers"; DWARF 4, section 7.5.1.1
 -- "Compilation Unit Header").
-use Rattle.std.specs.Prelude.{◌≡◌, ◌<◌, ◌≤◌, ℕ, suc, ◌+◌, ◌==◌, ◌||◌, ◌&&◌, not, nat_lt, nat_le, Bool, false, if◌then◌else◌, List, [], ◌∷◌, ◌++◌, flat_map, map, length, take, slice_index, Option, Some, None, Result, Ok, Err}
-use Rattle.std.specs.Option.{option_map, option_map_or}
+use Rattle.std.specs.Prelude.{◌≡◌, ◌<◌, ◌≤◌, ℕ, suc, ◌+◌, ◌==◌, ◌||◌, ◌&&◌, not, nat_lt, nat_le, Bool, false, if◌then◌else◌, List, [], ◌∷◌, ◌++◌, flat_map, map, length, slice_index, Option, Some, None, Result, Ok, Err}
 use Rattle.abi_base.specs.Dwarf.{dw_tag_partial_unit, dw_ut_compile, dw_ut_type, dw_ut_partial, dwarf_4, dwarf_5, length_size, dwarf64_length, reserved_length, header_size_4, version_at, debug_abbrev_offset_4_at, address_size_4_at, unit_type_at, address_size_at, debug_abbrev_offset_at, type_signature_at, type_offset_at, x86_64_address_size}
 use Rattle.abi_base.specs.declared.fault.Fault.{Fault}
 use Rattle.abi_base.specs.declared.fault.FaultKind.TheVariants as kind
-use Rattle.abi_base.specs.Leb.{uleb_at}
 use Rattle.abi_base.specs.Numbers.{number}
 use Rattle.abi_base.specs.Outcome.{fault_if, first}
 use Rattle.abi_base.specs.Runs.{Run, run}
-use Rattle.dwarf_forms.specs.declared.abbreviations.abbrev.Abbrev.{Abbrev}
-use Rattle.dwarf_forms.specs.abbreviations.Abbrevs.{abbrev_of, table_run}
+use Rattle.dwarf_forms.specs.abbreviations.Abbrevs.{table_run}
 use Rattle.dwarf_units.specs.declared.entry.Entry.{Entry}
 use Rattle.dwarf_units.specs.Units.{PlainUnit, header_size_of, root_of, entries_of}
 
@@ -79,31 +76,33 @@ header_fault info at = first (length_rows info at ++ kind_rows info at)
 unfoldable pub unit_fault : List ℕ → List ℕ → ℕ → Option Fault
 unit_fault info abbrevs at = first (header_fault info at ∷ (table_run abbrevs (unit_abbrevs info at)).end ∷ [])
 
--- the tag of the root, where its code can be read and the table has it
-unfoldable pub root_tag : List ℕ → ℕ → ℕ → List Abbrev → Option ℕ
-root_tag info end at table = option_map_or (λ code. option_map (λ a. a.tag) (abbrev_of table code.0)) (uleb_at (take end info) at) None
+-- the first of a unit's entries, its root, is that of a partial unit
+abbrev pub begins_partial : List Entry → Bool
+begins_partial [] = false
+begins_partial (root ∷ others) = root.tag == dw_tag_partial_unit
 
--- whether the unit is a partial one: in version 5 its type says so, in version 4 the tag of its root
-abbrev pub is_partial : List ℕ → ℕ → List Abbrev → Bool
-is_partial info at table =
-    if unit_version info at == dwarf_4
-    then option_map_or (λ tag. tag == dw_tag_partial_unit) (root_tag info (unit_end info at) (at + header_size_4) table) false
-    else unit_type info at == dw_ut_partial
+-- Whether a unit is a partial one: in version 5 its type says so, in version 4 the tag of its root. A root that has a fault says
+-- nothing.
+unfoldable pub is_partial : PlainUnit → Bool
+is_partial u = if u.version == dwarf_4 then begins_partial (entries_of u).items else unit_type u.info u.offset == dw_ut_partial
 
--- the unit at a place
-unfoldable pub unit_of : List ℕ → List ℕ → ℕ → PlainUnit
-unit_of info abbrevs at =
-    let table = (table_run abbrevs (unit_abbrevs info at)).items in
+-- the unit at a place, as a partial one or as another
+abbrev pub unit_with : List ℕ → List ℕ → ℕ → Bool → PlainUnit
+unit_with info abbrevs at partial =
     record {
       offset = at;
       end = unit_end info at;
       version = unit_version info at;
-      partial = is_partial info at table;
+      partial = partial;
       signature = (if is_type_at info at then Some (number 8 info (at + type_signature_at)) else None);
       type_entry = (if is_type_at info at then at + number 4 info (at + type_offset_at) else 0);
-      table = table;
+      table = (table_run abbrevs (unit_abbrevs info at)).items;
       info = info;
     }
+
+-- the unit at a place
+unfoldable pub unit_of : List ℕ → List ℕ → ℕ → PlainUnit
+unit_of info abbrevs at = unit_with info abbrevs at (is_partial (unit_with info abbrevs at false))
 
 abbrev pub unit_or : Option Fault → PlainUnit → Result (PlainUnit × ℕ) (Option Fault)
 unit_or None u = Ok (u, u.end)

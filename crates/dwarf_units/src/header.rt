@@ -1,17 +1,16 @@
 // The header of a unit: its faults, and what it says.
-ghost use Rattle.std.specs.Prelude.{◌≡◌, ◌≤◌, ◌<◌, ◌+◌, ◌||◌, nat_lt, length, take, true, IfNone};
+ghost use Rattle.std.specs.Prelude.{◌≡◌, ◌≤◌, ◌<◌, ◌+◌, ◌||◌, nat_lt, length, true, IfNone};
 ghost use Rattle.abi_base.specs.Dwarf.{header_size_4, length_size};
 ghost use Rattle.abi_base.specs.Outcome.{first};
-ghost use Rattle.dwarf_units.specs.Sequence.{header_fault, header_size_at, is_partial, is_read_type as the_type_is_read, is_type_at, is_version as the_version_is_read, kind_rows, length_rows, root_tag, unit_abbrevs, unit_end, unit_version};
+ghost use Rattle.dwarf_units.specs.Sequence.{header_fault, header_size_at, is_read_type as the_type_is_read, is_type_at, is_version as the_version_is_read, kind_rows, length_rows, unit_abbrevs, unit_end, unit_version};
 
 use crate::constants::{
     ADDRESS_SIZE, ADDRESS_SIZE_4, DEBUG_ABBREV_OFFSET, DEBUG_ABBREV_OFFSET_4, DWARF_4, DWARF_5,
     DWARF64_LENGTH, HEADER_SIZE, HEADER_SIZE_4, LENGTH_SIZE, RESERVED_LENGTH, TYPE_HEADER_SIZE,
     UNIT_TYPE, VERSION, X86_64_ADDRESS_SIZE,
 };
-use crate::sizes::SizedTable;
-use abi_base::dwarf::{DW_TAG_partial_unit, DW_UT_compile, DW_UT_partial, DW_UT_type};
-use abi_base::{Fault, FaultKind, u16_in, u32_in, uleb};
+use abi_base::dwarf::{DW_UT_compile, DW_UT_partial, DW_UT_type};
+use abi_base::{Fault, FaultKind, u16_in, u32_in};
 
 fn fault_at(kind: FaultKind, at: usize) -> Fault
     ensures { result ≡ record { kind = kind; at = at } }
@@ -140,37 +139,6 @@ pub fn abbrevs_in(info: &[u8], at: usize) -> u64
         at + DEBUG_ABBREV_OFFSET
     };
     u64::from(u32_in(info, place))
-}
-
-// The tag of the root at a place, where its code can be read and the table has it.
-#[tactic(auto, unfolding(crate::specs::Sequence::root_tag))]
-fn root_tag_in(info: &[u8], end: usize, at: usize, table: &SizedTable) -> Option<u64>
-    requires { end ≤ length info.now }
-    ensures { result ≡ root_tag info.now end at table.now }
-{
-    let Some((code, _)) = uleb(&info[..end], at) else {
-        return None;
-    };
-    match table.find(code) {
-        Some(abbrev) => Some(abbrev.tag),
-        None => None,
-    }
-}
-
-/// Whether a unit is a partial one.
-pub fn is_partial_in(info: &[u8], at: usize, end: usize, table: &SizedTable) -> bool
-    requires header { at + header_size_at info.now at ≤ length info.now }
-    requires end { end ≡ unit_end info.now at }
-    requires inside { end ≤ length info.now }
-    ensures { result ≡ is_partial info.now at table.now }
-{
-    if u16_in(info, at + VERSION) != DWARF_4 {
-        return info[at + UNIT_TYPE] == DW_UT_partial;
-    }
-    match root_tag_in(info, end, at + HEADER_SIZE_4 as usize, table) {
-        Some(tag) => tag == DW_TAG_partial_unit,
-        None => false,
-    }
 }
 
 /// Whether a unit is a type unit.

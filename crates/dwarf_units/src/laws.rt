@@ -1,12 +1,13 @@
 //! What the definitions of units and entries come to. Each law is the contract of a function that does nothing.
 ghost use Rattle.std.specs.Prelude.{◌≡◌, ◌↔◌, All, ℕ, List, Option, Some, None, Ok};
+ghost use Rattle.abi_base.specs.Dwarf.{dwarf_4};
 ghost use Rattle.abi_base.specs.Runs.{Chain, given};
 ghost use Rattle.abi_base.specs.declared.fault.Fault.{Fault};
 ghost use Rattle.dwarf_units.specs.declared.entry.Entry.{Entry};
 ghost use Rattle.dwarf_units.specs.Grammar.{HasType, IsTree, TokenStands, faultless};
 ghost use Rattle.dwarf_units.specs.HeaderRows.{AreWhole, IsFaultOfUnits};
 ghost use Rattle.dwarf_units.specs.Rows.{IsFaultOf, IsWhole};
-ghost use Rattle.dwarf_units.specs.Sequence.{UnitStands, unit_step, units_of};
+ghost use Rattle.dwarf_units.specs.Sequence.{UnitStands, begins_partial, unit_step, units_of};
 ghost use Rattle.dwarf_units.specs.ValuePlaces.{IsTold};
 ghost use Rattle.dwarf_units.specs.Units.{PlainUnit, State, entries_of, root_of, token_at, tokens_from};
 
@@ -37,6 +38,12 @@ pub fn tokens_stand_one_after_another()
 {
     reading_moves_on_inside_the_unit();
 }
+
+/// A unit of version 4 is a partial one exactly where its root has no fault and the tag of a partial unit. A unit whose root has a
+/// fault has no entries.
+pub fn a_root_says_whether_a_unit_is_partial()
+    ensures { (info abbrevs : List ℕ) → All (λ (u : PlainUnit). u.version ≡ dwarf_4 → u.partial ≡ begins_partial (entries_of u).items) (units_of info abbrevs).items }
+{}
 
 /// The fault that the units end with is at the first unit that is not whole: that of the first row of its header, or where none
 /// holds, that of its table. Where they end without a fault, all are whole up to the section's end.

@@ -5,7 +5,8 @@ ghost use Rattle.dwarf_units.specs.KeptTables.{IsKept, IsUnit, NextIsBy};
 ghost use Rattle.dwarf_units.specs.Plain.{plain_unit};
 
 use crate::constants::{LENGTH_SIZE, TYPE_OFFSET, TYPE_SIGNATURE, VERSION};
-use crate::header::{abbrevs_in, header_fault_in, is_partial_in, is_type_in};
+use crate::header::{abbrevs_in, header_fault_in, is_type_in};
+use crate::partial::is_partial;
 use crate::table::{KeptTable, table_in};
 use crate::unit::Unit;
 use abi_base::{Refusal, u16_in, u32_in, u64_in};
@@ -61,11 +62,11 @@ fn unit_in<'a>(
     match table_in(alloc, abbrevs, abbrevs_in(info, at), last) {
         Ok(table) => {
             let is_type = is_type_in(info, at);
-            Ok(Unit {
+            let mut unit = Unit {
                 offset: at as u64,
                 end,
                 version: u16_in(info, at + VERSION),
-                partial: is_partial_in(info, at, end as usize, &table),
+                partial: false,
                 signature: if is_type {
                     Some(u64_in(info, at + TYPE_SIGNATURE))
                 } else {
@@ -78,7 +79,9 @@ fn unit_in<'a>(
                 },
                 table,
                 info,
-            })
+            };
+            unit.partial = is_partial(alloc, &unit)?;
+            Ok(unit)
         },
         Err(refused) => Err(refused),
     }

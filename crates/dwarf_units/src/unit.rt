@@ -16,7 +16,7 @@ pub struct Unit<'a> {
     pub end: u64,
     /// The version of DWARF: 4 or 5.
     pub version: u16,
-    /// Whether it is a partial unit. In version 4 the tag of its root says so.
+    /// Whether it is a partial unit. In version 4 the tag of its root says so, where the root has no fault.
     pub partial: bool,
     /// Its signature, where it is a type unit.
     pub signature: Option<u64>,

@@ -2,6 +2,7 @@
 //! first fault of each (System V gABI; GNU symbol versioning).
 #![tactic(auto)]
 
+pub mod constants;
 pub mod file;
 pub mod sections;
 pub mod symbols;

@@ -8,8 +8,11 @@ ghost use Rattle.elf_bind.specs.Exports.{kind_of as the_kind_of, is_marker as th
 
 use crate::bind_one::same_name;
 use abi_types::{Export, SymbolKind};
-use elf::symbols::{SHN_ABS, STT_COMMON, STT_FUNC, STT_GNU_IFUNC, STT_OBJECT, STT_TLS, Symbol};
-use elf::versions::{VER_NDX_LOCAL, Version};
+use elf::constants::{
+    SHN_ABS, STT_COMMON, STT_FUNC, STT_GNU_IFUNC, STT_OBJECT, STT_TLS, VER_NDX_LOCAL,
+};
+use elf::symbols::Symbol;
+use elf::versions::Version;
 
 // What a symbol is, by its type.
 fn kind_of(kind: u8) -> SymbolKind

@@ -1,5 +1,5 @@
 -- Triples and what led to them, as visits.
-use Rattle.std.proofs.Common.{◌≡◌, ◌==◌, ◌&&◌, ℕ, Bool, true, false, zero, suc, ◌+◌, ◌<◌, List, [], ◌∷◌, ◌++◌, length, slice_get, get_or, ltb, Option, Some, None, not, refl, sym, ◌∙◌, ap, inl, inr, arith}
+use Rattle.std.proofs.Common.{◌≡◌, ◌==◌, ◌&&◌, ℕ, Bool, true, false, zero, suc, List, [], ◌∷◌, ◌++◌, length, slice_get, get_or, ltb, Some, None, not, refl, sym, ◌∙◌, ap, inl, inr, arith}
 use Rattle.std.specs.List.{list_any}
 use Rattle.std.proofs.lemmas.Bool.{cases_Bool, false≢true, ltb-true, lt-ltb, not-true}
 use Rattle.std.proofs.lemmas.Option.{slice_get_read, slice_get_within, same_Some, none-some}
@@ -71,7 +71,7 @@ pub visits_of-empty : (xs : List Triple) (ps : List Parent) → xs ≡ [] → ps
 visits_of-empty xs ps a b = ap (λ ys. visits_of ys ps) a ∙ ap (visits_of []) b ∙ visits_of-none
 
 -- a triple is there exactly where a visit of it is
-pub has_keyed : (xs : List Triple) (ps : List Parent) (x : Triple) → length xs ≡ length ps → list_any (at_triple x) xs ≡ has (visits_of xs ps) x
+has_keyed : (xs : List Triple) (ps : List Parent) (x : Triple) → length xs ≡ length ps → list_any (at_triple x) xs ≡ has (visits_of xs ps) x
 unfolding has visits_of
 has_keyed [] [] x same = refl
 has_keyed [] (p ∷ ps) x same = absurd (let e : 0 ≡ suc (length ps) = same in omega arith)

@@ -3,7 +3,6 @@ use Rattle.std.proofs.Common.{◌≡◌, ◌<◌, ◌≤◌, ℕ, false, length,
 use Rattle.std.specs.Prelude.{◌↔◌}
 use Rattle.std.specs.Option.{option_map}
 use Rattle.std.proofs.lemmas.Option.{slice_get_within, same_Some, none-some}
-use Rattle.abi_types.specs.declared.kind.Way.{Way}
 use Rattle.abi_types.specs.Types.{PlainNode, PlainView}
 use Rattle.abi_types.specs.Graphs.{view_at, IsGraph}
 use Rattle.pair_rules.specs.Steps.{PlainRoot, Task, Triple, is_marked, step, next_of, IsStep}

@@ -1,4 +1,5 @@
 mod Bounds
+mod Counting
 mod Entered
 mod Growth
 mod Keyed

@@ -1,10 +1,9 @@
 -- Triples that the test tells to be one are one.
-use Rattle.std.proofs.Common.{◌≡◌, ◌==◌, ◌&&◌, ℕ, Bool, true, false, refl, ◌∙◌, ap}
+use Rattle.std.proofs.Common.{◌≡◌, ◌==◌, ◌&&◌, ℕ, true, refl, ◌∙◌, ap}
 use Rattle.std.proofs.lemmas.Bool.{and_parts, and_from, eqb-true, eq-eqb}
 use Rattle.abi_types.specs.declared.kind.Way.{Way}
 use Rattle.abi_types.specs.declared.kind.Way.TheVariants.{Direct, Pointer}
 use Rattle.pair_rules.specs.Steps.{Triple}
-use Rattle.pair_rules.specs.Steps.{is_pointer}
 use Rattle.pair_explorer.specs.Visits.{same_way, same_triple}
 
 pub same_way-refl : (w : Way) → same_way w w ≡ true

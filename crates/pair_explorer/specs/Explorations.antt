@@ -1,5 +1,5 @@
 -- What an exploration gives.
-use Rattle.std.specs.Prelude.{◌≡◌, ◌<◌, ◌*◌, ℕ, true, List, [], length, map, flat_map, Option, Some, None, slice_get, if◌then◌else◌}
+use Rattle.std.specs.Prelude.{◌≡◌, ◌<◌, ◌*◌, ℕ, Bool, true, not, List, [], length, map, count_by, flat_map, Option, Some, None, slice_get, if◌then◌else◌}
 use Rattle.std.specs.List.{range_with_len}
 use Rattle.pair_rules.specs.declared.rules.Broken.{Broken}
 use Rattle.pair_rules.specs.Steps.{PlainRoot, Task, Triple, is_marked, breaks_of, step}
@@ -21,6 +21,14 @@ some_breaks t n (Some v) = visit_breaks t n v
 -- the breaks of the first visits, in their order
 unfoldable pub breaks_below : Task → List Visit → ℕ → List (ℕ × Broken)
 breaks_below t visits n = flat_map (λ i. some_breaks t i (slice_get visits i)) (range_with_len 0 n)
+
+-- whether the types of a visit are compared: those of a triple whose old node is unmarked at its way
+abbrev pub is_compared : Task → Visit → Bool
+is_compared t v = not (is_marked t v.old v.way)
+
+-- how many of the visits are
+abbrev pub compared_count : Task → List Visit → ℕ
+compared_count t visits = count_by (is_compared t) visits
 
 -- the triples of representatives that there can be, each class of one graph with each of the other at two ways
 abbrev pub most_triples : Scope → ℕ

@@ -1,20 +1,17 @@
 // All triples to which the roots lead, breadth first.
-ghost use Rattle.std.specs.Prelude.{◌≡◌, ◌≤◌, ◌<◌, ◌+◌, ◌++◌, map, false, length, IfOk, OnOk};
+ghost use Rattle.std.specs.Prelude.{◌≡◌, ◌≤◌, ◌<◌, ◌+◌, ◌++◌, if◌then◌else◌, map, false, length, IfOk, OnOk};
 ghost use Rattle.pair_explorer.specs.Adding.{expanded};
-ghost use Rattle.pair_explorer.specs.Explorations.{IsExploration, visit_breaks, most_triples};
+ghost use Rattle.pair_explorer.specs.Explorations.{IsExploration, compared_count, is_compared, most_triples, visit_breaks};
 ghost use Rattle.pair_explorer.specs.GraphPairs.{scope_of};
-ghost use Rattle.pair_explorer.specs.Scopes.{AreGraphs, HasNodes, IsScope, scope};
+ghost use Rattle.pair_explorer.specs.Scopes.{AreGraphs, HasNodes, IsScope};
 
 use crate::graph_pair::{GraphPair, add_partners, add_roots, is_marked};
-use crate::roots::Root;
 use crate::visits::{Visit, Visits};
 use abi_base::{List, NoMemory};
-use abi_types::{Graph, Marks, NewIx, OldIx};
 use pair_rules::laws::steps_lead_to_nodes;
 use pair_rules::{Broken, Comparison, Steps};
 use std::alloc::Global;
 use std::sync::ledger::Ledger;
-use type_classes::Classes;
 
 /// What an exploration gives.
 #[derive(Drop)]
@@ -55,60 +52,48 @@ fn expand<L: Ledger>(
     requires new { visit.now.new < length ground.now.new.now }
     ensures visits { OnOk result (explored.new.visits ≡ expanded (scope_of ground.now) explored.old.visits number visit.now) }
     ensures breaks { OnOk result (explored.new.breaks ≡ explored.old.breaks ++ visit_breaks (scope_of ground.now).task number visit.now) }
-    ensures cost { steps.new ≤ steps.old + 1 }
+    ensures cost { steps.new ≡ steps.old + (if is_compared (scope_of ground.now).task visit.now then 1 else 0) }
 {
     if is_marked(ground, visit.old, visit.way) {
         return Ok(());
     }
     let old = ground.old.view(visit.old);
     let new = ground.new.view(visit.new);
-    let comparison = Comparison::of(alloc, old, new, steps)?;
-    let found = comparison.breaks(alloc)?;
-    add_breaks(&mut explored.breaks, number, found.as_slice())?;
-    add_partners(ground, &mut explored.visits, number, visit, &comparison)
+    let found = Comparison::of(alloc, old, new, steps)?;
+    add_breaks(&mut explored.breaks, number, found.breaks.as_slice())?;
+    let matches = found.matches.as_slice();
+    add_partners(ground, &mut explored.visits, number, visit, matches)
 }
 
 /// All triples to which the roots lead, over the representatives of classes, with the first path to each, and the broken rules
 /// of those whose old node is unmarked at its way. The classes are those of the two graphs; `is_scope` says what else is asked
-/// of the roots and of the marks.
+/// of the roots and of the marks. It takes one step for each visit whose types are compared.
 pub fn explore<L: Ledger>(
     alloc: Global,
-    old: &Graph<OldIx>,
-    new: &Graph<NewIx>,
-    roots: &[Root],
-    marks: &Marks,
-    old_classes: &Classes<OldIx>,
-    new_classes: &Classes<NewIx>,
+    ground: &GraphPair,
     steps: &mut Steps<L>,
 ) -> Result<Explored, NoMemory>
-    requires { IsScope (scope old.now new.now roots.now marks.now old_classes.now new_classes.now) }
-    ensures exploration { IfOk result (λ e. IsExploration (scope old.now new.now roots.now marks.now old_classes.now new_classes.now) e.visits e.breaks) }
-    ensures few { IfOk result (λ e. length e.visits ≤ most_triples (scope old.now new.now roots.now marks.now old_classes.now new_classes.now)) }
+    requires { IsScope (scope_of ground.now) }
+    ensures exploration { IfOk result (λ e. IsExploration (scope_of ground.now) e.visits e.breaks) }
+    ensures few { IfOk result (λ e. length e.visits ≤ most_triples (scope_of ground.now)) }
+    ensures steps { IfOk result (λ e. steps.new ≡ steps.old + compared_count (scope_of ground.now).task e.visits) }
     ensures cost { IfOk result (λ e. steps.new ≤ steps.old + length e.visits) }
-    ensures bound { steps.new ≤ steps.old + most_triples (scope old.now new.now roots.now marks.now old_classes.now new_classes.now) }
+    ensures bound { steps.new ≤ steps.old + most_triples (scope_of ground.now) }
 {
     steps_lead_to_nodes();
-    old.known();
-    new.known();
-    old_classes.known();
-    new_classes.known();
-    let ground = GraphPair {
-        old,
-        new,
-        roots,
-        marks,
-        old_classes,
-        new_classes,
-    };
+    ground.old.known();
+    ground.new.known();
+    ground.old_classes.known();
+    ground.new_classes.known();
     let mut explored = Explored {
         visits: Visits::new(alloc),
         breaks: List::new(alloc),
     };
-    add_roots(&ground, &mut explored.visits)?;
+    add_roots(ground, &mut explored.visits)?;
     let mut number = 0;
     'list: while number < explored.visits.len() {
         let visit = explored.visits.visit(number);
-        expand(alloc, &ground, &mut explored, number, &visit, steps)?;
+        expand(alloc, ground, &mut explored, number, &visit, steps)?;
         number += 1;
     }
     Ok(explored)

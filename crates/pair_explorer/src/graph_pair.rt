@@ -1,6 +1,7 @@
 // What an exploration goes by, and how one triple leads to others.
 ghost use Rattle.std.specs.Prelude.{◌≡◌, ◌<◌, length, false, Some, OnOk};
 ghost use Rattle.abi_types.specs.Graphs.{view_at};
+ghost use Rattle.pair_rules.specs.Comparisons.{matches as the_matches};
 ghost use Rattle.pair_rules.specs.Steps.{is_marked as the_node_is_marked};
 ghost use Rattle.pair_explorer.specs.Visits.{seen};
 ghost use Rattle.pair_explorer.specs.Adding.{entered, next_visit as the_next_visit, root_visit as the_root_visit};
@@ -11,11 +12,12 @@ use crate::roots::Root;
 use crate::visits::{Parent, Visit, Visits};
 use abi_base::NoMemory;
 use abi_types::{Graph, Index, Marks, NewIx, OldIx, Way};
-use pair_rules::Comparison;
 use pair_rules::laws::steps_lead_to_nodes;
+use pair_rules::next_of;
 use type_classes::Classes;
 
-/// What is compared, and the classes of its nodes. The lifetimes are those that a caller's graphs and classes bring along.
+/// Two graphs, the roots and the marks that are explored from and past, and the classes of the nodes. The lifetimes are those
+/// that a caller's graphs and classes bring along.
 #[derive(Clone, Copy)]
 pub struct GraphPair<'x, 'o, 'n, 'og, 'oc, 'ng, 'nc> {
     pub old: &'x Graph<'o, OldIx>,
@@ -75,19 +77,22 @@ fn next_visit(
     ground: &GraphPair,
     number: usize,
     visit: &Visit,
-    comparison: &Comparison,
+    matches: &[Option<usize>],
     i: usize,
 ) -> Option<Visit>
     requires nodes { HasNodes (scope_of ground.now) }
     requires graphs { AreGraphs (scope_of ground.now) }
     requires unmarked { the_node_is_marked (scope_of ground.now).task visit.now.old visit.now.way ≡ false }
-    requires old { comparison.now.old ≡ view_at ground.now.old.now visit.now.old }
-    requires new { comparison.now.new ≡ view_at ground.now.new.now visit.now.new }
-    requires inside { i < length comparison.now.old.parts }
+    requires old { visit.now.old < length ground.now.old.now }
+    requires new { visit.now.new < length ground.now.new.now }
+    requires matches { matches.now ≡ the_matches (view_at ground.now.old.now visit.now.old) (view_at ground.now.new.now visit.now.new) }
+    requires inside { i < length (view_at ground.now.old.now visit.now.old).parts }
     ensures { result ≡ the_next_visit (scope_of ground.now) number (seen visit.now) i }
 {
     steps_lead_to_nodes();
-    let next = comparison.next(visit.way, i)?;
+    let old = ground.old.view(visit.old);
+    let new = ground.new.view(visit.new);
+    let next = next_of(old, new, matches, visit.way, i)?;
     Some(Visit {
         old: ground.old_classes.rep(next.old),
         new: ground.new_classes.rep(next.new),
@@ -99,23 +104,32 @@ fn next_visit(
     })
 }
 
-/// Adds all to which the visit of a number leads. Its old node is unmarked at its way.
+// How many parts the old node of a visit has.
+fn parts_len(ground: &GraphPair, visit: &Visit) -> usize
+    requires { visit.now.old < length ground.now.old.now }
+    ensures { result ≡ length (view_at ground.now.old.now visit.now.old).parts }
+{
+    ground.old.view(visit.old).parts_len()
+}
+
+/// Adds all to which the visit of a number leads, whose parts match as its comparison told. Its old node is unmarked at its way.
 pub fn add_partners(
     ground: &GraphPair,
     visits: &mut Visits,
     number: usize,
     visit: &Visit,
-    comparison: &Comparison,
+    matches: &[Option<usize>],
 ) -> Result<(), NoMemory>
     requires nodes { HasNodes (scope_of ground.now) }
     requires graphs { AreGraphs (scope_of ground.now) }
     requires unmarked { the_node_is_marked (scope_of ground.now).task visit.now.old visit.now.way ≡ false }
-    requires old { comparison.now.old ≡ view_at ground.now.old.now visit.now.old }
-    requires new { comparison.now.new ≡ view_at ground.now.new.now visit.now.new }
-    ensures { OnOk result (visits.new ≡ entered (the_next_visit (scope_of ground.now) number (seen visit.now)) (length comparison.now.old.parts) visits.old) }
+    requires old { visit.now.old < length ground.now.old.now }
+    requires new { visit.now.new < length ground.now.new.now }
+    requires matches { matches.now ≡ the_matches (view_at ground.now.old.now visit.now.old) (view_at ground.now.new.now visit.now.new) }
+    ensures { OnOk result (visits.new ≡ entered (the_next_visit (scope_of ground.now) number (seen visit.now)) (length (view_at ground.now.old.now visit.now.old).parts) visits.old) }
 {
-    for i in 0..comparison.parts_len() {
-        if let Some(next) = next_visit(ground, number, visit, comparison, i) {
+    for i in 0..parts_len(ground, visit) {
+        if let Some(next) = next_visit(ground, number, visit, matches, i) {
             visits.add(&next)?;
         }
     }

@@ -11,6 +11,7 @@ mod scopes;
 mod visits;
 
 pub use exploring::{Explored, explore};
+pub use graph_pair::GraphPair;
 pub use roots::Root;
 pub use routes::{Route, route_to};
 pub use scopes::is_scope;

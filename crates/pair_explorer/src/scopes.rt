@@ -1,9 +1,11 @@
 // Whether what a caller hands over may be explored.
 ghost use Rattle.std.specs.Prelude.{◌≡◌, ◌<◌, ◌↔◌, length, IsTrue};
-ghost use Rattle.pair_explorer.specs.Scopes.{scope, IsScope, AreInside, AreAscending, AreEvenMarks};
+ghost use Rattle.pair_explorer.specs.GraphPairs.{scope_of};
+ghost use Rattle.pair_explorer.specs.Scopes.{IsScope, AreInside, AreAscending, AreEvenMarks};
 
+use crate::graph_pair::GraphPair;
 use crate::roots::Root;
-use abi_types::{Graph, Index, Marks, NewIx, OldIx};
+use abi_types::{Graph, Index, NewIx, OldIx};
 use type_classes::Classes;
 
 // Whether a root names nodes of both graphs.
@@ -62,26 +64,20 @@ fn are_even(flags: &[bool], classes: &Classes<OldIx>, nodes: usize) -> bool
 
 /// Whether `explore` may be called: the roots are nodes, in strictly ascending order of their exports, and each old node has a
 /// mark at each way, which is the same within a class.
-pub fn is_scope(
-    old: &Graph<OldIx>,
-    new: &Graph<NewIx>,
-    roots: &[Root],
-    marks: &Marks,
-    old_classes: &Classes<OldIx>,
-    new_classes: &Classes<NewIx>,
-) -> bool
-    requires old_nodes { old_classes.now.nodes ≡ old.now }
-    requires new_nodes { new_classes.now.nodes ≡ new.now }
-    ensures { IsTrue result ↔ IsScope (scope old.now new.now roots.now marks.now old_classes.now new_classes.now) }
+pub fn is_scope(ground: &GraphPair) -> bool
+    requires old_nodes { ground.now.old_classes.now.nodes ≡ ground.now.old.now }
+    requires new_nodes { ground.now.new_classes.now.nodes ≡ ground.now.new.now }
+    ensures { IsTrue result ↔ IsScope (scope_of ground.now) }
 {
-    if !are_inside(old, new, roots) {
+    if !are_inside(ground.old, ground.new, ground.roots) {
         return false;
     }
-    if !are_ascending(roots) {
+    if !are_ascending(ground.roots) {
         return false;
     }
-    if !are_even(marks.direct.as_slice(), old_classes, old.len()) {
+    let nodes = ground.old.len();
+    if !are_even(ground.marks.direct.as_slice(), ground.old_classes, nodes) {
         return false;
     }
-    are_even(marks.pointer.as_slice(), old_classes, old.len())
+    are_even(ground.marks.pointer.as_slice(), ground.old_classes, nodes)
 }

@@ -4,7 +4,7 @@ ghost use Rattle.std.specs.List.{list_any};
 ghost use Rattle.indexmap.specs.IndexSet.{insert_key};
 ghost use Rattle.pair_explorer.specs.Adding.{added};
 ghost use Rattle.pair_explorer.specs.Keys.{at_triple};
-ghost use Rattle.pair_explorer.specs.Visits.{seen, has as the_visits_have};
+ghost use Rattle.pair_explorer.specs.Visits.{seen};
 
 use abi_base::NoMemory;
 use abi_types::{NewIx, OldIx, Way};
@@ -113,13 +113,6 @@ impl Visits {
         ensures { slice_get self.now number ≡ Some result }
     {
         self.get(number).unwrap()
-    }
-
-    /// Whether a triple was reached.
-    pub fn has(&self, triple: &Triple) -> bool
-        ensures { result ≡ the_visits_have self.now triple.now }
-    {
-        self.triples.contains(triple)
     }
 
     /// Adds a visit, where its triple is new.

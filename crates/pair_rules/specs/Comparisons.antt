@@ -1,14 +1,9 @@
--- Two types that are compared, and the matches of all parts of the old one.
+-- The matches of all parts of an old type in a new one.
 use Rattle.std.specs.Prelude.{ℕ, if◌then◌else◌, List, [], length, map, Option, None}
 use Rattle.std.specs.List.{range_with_len}
 use Rattle.abi_types.specs.Types.{PlainView}
 use Rattle.pair_rules.specs.Matching.{match_of}
 use Rattle.pair_rules.specs.TypeRules.{are_compared}
-
--- an old type, and the new type in its place
-pub record PlainComparison : Type 0 where
-  pub old : PlainView
-  pub new : PlainView
 
 -- the match of each part of `v`, where parts are compared, and else nothing
 unfoldable pub matches : PlainView → PlainView → List (Option ℕ)

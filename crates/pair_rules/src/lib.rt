@@ -11,7 +11,7 @@ mod rules;
 mod steps;
 mod triple;
 
-pub use comparison::{Comparison, breaks};
+pub use comparison::{Comparison, breaks, next_of};
 pub use exports::export_breaks;
 pub use matching::{after, match_of, number_of, partner, partner_at};
 pub use rules::{Broken, bit_at, holds, params_of, value_at, width_at};

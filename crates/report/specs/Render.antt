@@ -3,7 +3,7 @@ use Rattle.std.specs.Prelude.{◌≡◌, ℕ, ◌-◌, ◌==◌, Bool, if◌then
 use Rattle.std.specs.List.{concat}
 use Rattle.abi_types.specs.declared.rule.Rule.{Rule}
 use Rattle.abi_types.specs.declared.rule.Rule.TheVariants.{LibrarySoname, ExportPresence, ExportVersion, ExportKind, ExportSize, ExportType, KindOfType, TypeSize, ScalarGroup, TypeAlignment, DeclarationTag, MemberPresence, MemberOffset, BitFieldWidth, EnumeratorPresence, EnumeratorValue, ElementCount, ParameterCount, VariadicArguments, PassingPlace}
-use Rattle.abi_types.specs.contracts.rule.RuleNamePartialEq.TheImpl.{ghosts}
+use Rattle.abi_types.specs.contracts.rule.RulePartialEq.TheImpl.{ghosts}
 use Rattle.abi_types.specs.Kinds.{rule_word}
 use Rattle.report.specs.declared.row.Row.{Row}
 use Rattle.report.specs.declared.style.Style.{Style}

@@ -1,21 +1,21 @@
 -- Over inputs that tell their bytes there is one answer: the first thing that stops decides, and then the verdict.
-use Rattle.std.proofs.Common.{◌≡◌, ℕ, List, [], ◌∷◌, Option, Some, None, refl, sym, ◌∙◌, ap, subst, inl, inr}
+use Rattle.std.proofs.Common.{◌≡◌, ℕ, zero, suc, List, [], ◌∷◌, Option, Some, None, refl, sym, ◌∙◌, ap, subst, inl, inr}
 use Rattle.abi_base.specs.Causes.{Rose}
 use Rattle.abi_base.specs.declared.fault.Fault.{Fault}
 use Rattle.abi_base.specs.declared.remark.Remark.{Remark}
 use Rattle.commands.specs.Commands.{asks_of, Wanted, places_of}
-use Rattle.commands.specs.Faults.{AreReadable, AreShort, FirstFault}
+use Rattle.commands.specs.Faults.{AreReadable, AreShort, FaultOfAll, FirstFault, too_long}
 use Rattle.commands.specs.OneReply.{SaysOne, TellsEach}
-use Rattle.commands.specs.Reading.{Gives, Reaches, Reading, too_long}
+use Rattle.commands.specs.Reading.{Gives, Reaches, Reading}
 use Rattle.commands.specs.Replies.{IsFaulty, Replies}
-use Rattle.commands.specs.Served.{AreServed, IsUnfailed, IsVerdict}
+use Rattle.commands.specs.Served.{AreServed, AreUnfailed, IsUnfailed, IsVerdict}
 use Rattle.commands.specs.Texts.{unreadable_text}
 use Rattle.commands.specs.declared.input.Input.{Input}
 use Rattle.commands.specs.declared.outcome.Outcome.{Outcome}
 use Rattle.commands.specs.declared.outcome.Outcome.TheVariants.{Judged, Unreadable, ReadFault, Help, Usage, NoMemory, WriteFault}
 use Rattle.commands.specs.declared.verdict.Verdict.{Verdict}
 use Rattle.commands.proofs.InOrder.{gives_short}
-use Rattle.commands.proofs.lemmas.Told.{first_fault, first_long, gives_told, is_first, none_faulty, none_long, reaches_long}
+use Rattle.commands.proofs.lemmas.Told.{first_fault, first_long, gives_told, is_first, is_first_long, none_faulty, none_long, reaches_long}
 
 -- what stops a judgement: the first input that is too long, or else the first that has a fault
 abbrev pub stop_of : Option Input → Option (Input × Fault) → Option (Input × Fault)
@@ -46,11 +46,18 @@ module _ (r : Reading) (inputs : List Wanted) (says : List (List ℕ) → Verdic
 
   faulty : (which : Input) (fault : Fault) → IsFaulty r inputs which fault → the_stop ≡ Some (which, fault)
   unfolding the_stop
-  faulty which fault (inl (same, (name, reaches, over, long))) =
-      ap (λ l. stop_of l (first_fault (asks_of inputs) all)) (reaches_long r.told (places_of inputs) all which name tells reaches long) ∙ ap (λ f. Some (which, f)) (sym same)
+  faulty which fault (inl (same, (at, name, reaches, last, over, long))) =
+      ap (λ l. stop_of l (first_fault (asks_of inputs) all)) (reaches_long r.told (places_of inputs) all at which name tells reaches long) ∙ ap (λ f. Some (which, f)) (sym same)
   faulty which fault (inr (given, gives, first)) =
       let on = on_told (λ l. FirstFault (asks_of inputs) l which fault) given gives first in
       by_faults on.0 ∙ is_first (asks_of inputs) all which fault on.1
+
+  -- the first fault of what they tell stops the judgement
+  pub fault_of_all : (which : Input) (fault : Fault) → FaultOfAll (asks_of inputs) all which fault → the_stop ≡ Some (which, fault)
+  unfolding the_stop
+  fault_of_all which fault (inl (same, long)) =
+      ap (λ l. stop_of l (first_fault (asks_of inputs) all)) (is_first_long inputs all which long) ∙ ap (λ f. Some (which, f)) (sym same)
+  fault_of_all which fault (inr (short, first)) = by_faults short ∙ is_first (asks_of inputs) all which fault first
 
   pub replies_alone : (outcome : Outcome) (text : List ℕ) → ((which : Input) → outcome ≡ ReadFault which → ⊥) → Replies r inputs says outcome text → IsReply the_stop outcome text
   replies_alone (Judged v untyped) text other (given, gives, (readable, said)) =
@@ -105,19 +112,35 @@ module _ (r : Reading) where
   served_readable (wanted ∷ inputs) [] served = absurd served
   served_readable (wanted ∷ inputs) (bytes ∷ all) served = (served.0.faultless, served_readable inputs all served.1)
 
-  never_fails : (inputs : List Wanted) (all : List (List ℕ)) → AreServed r inputs all → (which : Input) (name : List ℕ) → Reaches r.told (places_of inputs) which name → Rose (r.before name) (r.after name) → ⊥
-  never_fails [] all served which name reaches rose = absurd reaches
-  never_fails (wanted ∷ inputs) [] served which name reaches rose = absurd served
-  never_fails (wanted ∷ inputs) (bytes ∷ all) served which name (inl here) rose = subst (IsUnfailed r) here.1 served.0.unfailed rose
-  never_fails (wanted ∷ inputs) (bytes ∷ all) served which name (inr past) rose = never_fails inputs all served.1 which name past.1 rose
+  served_unfailed : (inputs : List Wanted) (all : List (List ℕ)) → AreServed r inputs all → AreUnfailed r inputs
+  served_unfailed [] [] served = tt
+  served_unfailed [] (bytes ∷ all) served = absurd served
+  served_unfailed (wanted ∷ inputs) [] served = absurd served
+  served_unfailed (wanted ∷ inputs) (bytes ∷ all) served = (served.0.unfailed, served_unfailed inputs all served.1)
 
-  pub served_verdict : (inputs : List Wanted) (says : List (List ℕ) → Verdict → Option Remark → List ℕ → Type 0) (all : List (List ℕ)) → AreServed r inputs all
-      → (outcome : Outcome) (text : List ℕ) → Replies r inputs says outcome text → IsVerdict says all outcome (λ (t : List ℕ). t ≡ text)
-  served_verdict inputs says all served outcome text reply =
-      verdict_alone r inputs says all (served_tells inputs all served) (served_short inputs all served) (served_readable inputs all served) outcome text
-      (λ which same.
-      let fails : Replies r inputs says (ReadFault which) text = subst (λ o. Replies r inputs says o text) same reply in
-      never_fails inputs all served which fails.0.0 fails.0.1 fails.0.2) reply
+  reaches_unfailed : (inputs : List Wanted) → AreUnfailed r inputs → (at : ℕ) (which : Input) (name : List ℕ) → Reaches r.told (places_of inputs) at which name → Rose (r.before name) (r.after name) → ⊥
+  reaches_unfailed [] unfailed at which name reaches rose = absurd reaches
+  reaches_unfailed (wanted ∷ inputs) unfailed zero which name here rose = subst (IsUnfailed r) here.1 unfailed.0 rose
+  reaches_unfailed (wanted ∷ inputs) unfailed (suc at) which name past rose = reaches_unfailed inputs unfailed.1 at which name past.1 rose
+
+  module _ (inputs : List Wanted) (says : List (List ℕ) → Verdict → Option Remark → List ℕ → Type 0) (all : List (List ℕ)) (outcome : Outcome) (text : List ℕ) (reply : Replies r inputs says outcome text) where
+    -- where no reading failed, no read fault is answered
+    never_fails : AreUnfailed r inputs → (which : Input) → outcome ≡ ReadFault which → ⊥
+    never_fails unfailed which same =
+        let fails : Replies r inputs says (ReadFault which) text = subst (λ o. Replies r inputs says o text) same reply in
+        reaches_unfailed inputs unfailed fails.0.0 which fails.0.1 fails.0.2 fails.0.4
+
+    pub served_verdict : AreServed r inputs all → IsVerdict says all outcome (λ (t : List ℕ). t ≡ text)
+    served_verdict served =
+        verdict_alone r inputs says all (served_tells inputs all served) (served_short inputs all served) (served_readable inputs all served) outcome text
+        (never_fails (served_unfailed inputs all served)) reply
+
+    -- where no reading failed, the first fault is answered
+    pub fault_answers : TellsEach r.told (places_of inputs) all → AreUnfailed r inputs → (which : Input) (fault : Fault) → FaultOfAll (asks_of inputs) all which fault → outcome ≡ Unreadable which fault
+    fault_answers tells unfailed which fault first =
+        let alone = replies_alone r inputs says all tells outcome text (never_fails unfailed) reply in
+        let this : the_stop r inputs says all tells ≡ Some (which, fault) = fault_of_all r inputs says all tells which fault first in
+        (subst (λ s. IsReply r inputs says all tells s outcome text) this alone).0
 
 -- a verdict with its text, of which a fact is known
 pub verdict_with : (says : List (List ℕ) → Verdict → Option Remark → List ℕ → Type 0) (all : List (List ℕ)) (outcome : Outcome) (text : List ℕ) (P : List ℕ → Type 0)

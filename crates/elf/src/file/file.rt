@@ -7,7 +7,7 @@ ghost use Rattle.elf.specs.file.Elf.{table, elf_fault, section_named, section_of
 ghost use Rattle.elf.specs.file.File.{viewed};
 ghost use Rattle.abi_base.specs.Limits.{input_limit};
 
-use crate::file::constants::SHT_STRTAB;
+use crate::constants::SHT_STRTAB;
 use crate::file::header::{header_fault, section_in, table_in};
 use crate::file::places::{
     compressed_fault_in, contents_in, name_fault_in, name_in, range_fault_in,

@@ -4,7 +4,7 @@ ghost use Rattle.abi_base.specs.Outcome.{first};
 ghost use Rattle.elf.specs.file.Elf.{header_at, table, section, is_table_bad as the_table_is_bad, header_faults, HasTable};
 ghost use Rattle.abi_base.specs.Elf.{ehdr_size, shdr_size};
 
-use crate::file::constants::{
+use crate::constants::{
     E_MACHINE, E_SHENTSIZE, E_SHNUM, E_SHOFF, E_SHSTRNDX, E_TYPE, E_VERSION, EHDR_SIZE, EI_CLASS,
     EI_DATA, EI_VERSION, ELFCLASS64, ELFDATA2LSB, ELFMAG, EM_X86_64, ET_DYN, EV_CURRENT,
     SH_ENTSIZE, SH_FLAGS, SH_INFO, SH_LINK, SH_NAME, SH_OFFSET, SH_SIZE, SH_TYPE, SHDR_SIZE,

@@ -5,7 +5,7 @@ ghost use Rattle.abi_base.specs.Elf.{sht_dynamic, sht_dynsym, sht_strtab};
 ghost use Rattle.abi_base.specs.GnuVersions.{sht_gnu_verdef, sht_gnu_verneed, sht_gnu_versym};
 ghost use Rattle.elf.specs.file.Elf.{elf_fault, table, section, section_name, holds_bytes, contents, is_compressed};
 
-use crate::file::constants::{
+use crate::constants::{
     SHT_DYNAMIC, SHT_DYNSYM, SHT_GNU_VERDEF, SHT_GNU_VERNEED, SHT_GNU_VERSYM, SHT_STRTAB,
 };
 

@@ -1,15 +1,11 @@
 //! An ELF-64 x86-64 shared object: its section table, what its sections hold, and the first fault of its header and its
 //! sections (System V gABI, "ELF Header", "Sections", "String Table").
 
-mod constants;
 mod file;
 mod header;
 pub mod laws;
 mod places;
 mod records;
 
-pub use constants::{
-    SHT_DYNAMIC, SHT_DYNSYM, SHT_GNU_VERDEF, SHT_GNU_VERNEED, SHT_GNU_VERSYM, SHT_STRTAB,
-};
 pub use file::{ElfFile, read_elf};
 pub use records::{Section, SectionHeader, SectionTable};

@@ -4,7 +4,7 @@ ghost use Rattle.std.specs.Option.{option_copied};
 ghost use Rattle.abi_base.specs.Outcome.{first};
 ghost use Rattle.elf.specs.file.Elf.{table, contents, section_name, all_sections, range_fault, name_fault, compressed_fault, holds_bytes, is_compressed as the_name_is_compressed, HasTable, HasRanges};
 
-use crate::file::constants::{DEBUG_PREFIX, SHF_COMPRESSED, SHT_NOBITS, SHT_NULL, ZDEBUG_PREFIX};
+use crate::constants::{DEBUG_PREFIX, SHF_COMPRESSED, SHT_NOBITS, SHT_NULL, ZDEBUG_PREFIX};
 use crate::file::header::section_in;
 use crate::file::records::{SectionHeader, SectionTable};
 use abi_base::{Fault, FaultKind, text_at};

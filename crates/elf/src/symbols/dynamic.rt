@@ -5,8 +5,8 @@ ghost use Rattle.abi_base.specs.Outcome.{Settles};
 ghost use Rattle.elf.specs.symbols.Dynamic.{tag_in, value_in, text_of_entry, soname_entry, soname_fault, soname_of, dynamic_fault};
 ghost use Rattle.abi_base.specs.Elf.{dyn_size};
 
-use crate::file::{ElfFile, SHT_DYNAMIC};
-use crate::symbols::constants::{D_TAG, D_VAL, DT_NULL, DT_SONAME, DYN_SIZE};
+use crate::constants::{D_TAG, D_VAL, DT_NULL, DT_SONAME, DYN_SIZE, SHT_DYNAMIC};
+use crate::file::ElfFile;
 use crate::symbols::strings::strings_for;
 use abi_base::{Fault, FaultKind, INPUT_LIMIT, text_at, u64_in};
 

@@ -5,7 +5,7 @@ ghost use Rattle.elf.specs.symbols.Symbols.{symbol_fault, symbol_table, symbol_s
 ghost use Rattle.elf.specs.symbols.Dynamic.{dynamic_fault, dynamic_table, soname_of, soname_entry, IsFirstSoname};
 ghost use Rattle.abi_base.specs.Elf.{sym_size, stb_local, stb_global, stb_weak, stb_gnu_unique, stt_notype, stt_object, stt_func, stt_common, stt_tls, stt_gnu_ifunc, stv_default, stv_protected, shn_abs};
 
-use crate::symbols::constants::{
+use crate::constants::{
     SHN_ABS, STB_GLOBAL, STB_GNU_UNIQUE, STB_LOCAL, STB_WEAK, STT_COMMON, STT_FUNC, STT_GNU_IFUNC,
     STT_NOTYPE, STT_OBJECT, STT_TLS, STV_DEFAULT, STV_PROTECTED,
 };

@@ -1,7 +1,7 @@
 // A dynamic symbol.
 ghost use Rattle.std.specs.Prelude.{◌≡◌};
 
-use crate::symbols::constants::{
+use crate::constants::{
     SHN_UNDEF, STB_GLOBAL, STB_GNU_UNIQUE, STB_WEAK, STT_COMMON, STT_FUNC, STT_GNU_IFUNC,
     STT_NOTYPE, STT_OBJECT, STT_TLS, STV_DEFAULT, STV_PROTECTED,
 };

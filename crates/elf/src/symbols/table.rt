@@ -8,10 +8,10 @@ ghost use Rattle.elf.specs.symbols.Symbols.{symbol_in as the_symbol_in, symbols_
 ghost use Rattle.abi_base.specs.Limits.{input_limit};
 ghost use Rattle.abi_base.specs.Elf.{sym_size};
 
-use crate::file::{ElfFile, SHT_DYNSYM};
-use crate::symbols::constants::{
-    ST_INFO, ST_NAME, ST_OTHER, ST_SHNDX, ST_SIZE, ST_VALUE, SYM_SIZE,
+use crate::constants::{
+    SHT_DYNSYM, ST_INFO, ST_NAME, ST_OTHER, ST_SHNDX, ST_SIZE, ST_VALUE, SYM_SIZE,
 };
+use crate::file::ElfFile;
 use crate::symbols::strings::strings_for;
 use crate::symbols::symbol::Symbol;
 use abi_base::{Fault, FaultKind, INPUT_LIMIT, Refusal, text_at, u16_in, u32_in, u64_in};

@@ -7,11 +7,11 @@ ghost use Rattle.elf.specs.versions.Definitions.{place_of, index_of, auxiliary_o
 ghost use Rattle.elf.specs.versions.Names.{IsNames};
 ghost use Rattle.abi_base.specs.Limits.{input_limit};
 
-use crate::file::{ElfFile, SHT_GNU_VERDEF};
-use crate::versions::constants::{
-    VD_AUX, VD_CNT, VD_NDX, VD_NEXT, VD_VERSION, VDA_NAME, VER_DEF_CURRENT, VERDAUX_SIZE,
-    VERDEF_SIZE, VERSYM_HIDDEN,
+use crate::constants::{
+    SHT_GNU_VERDEF, VD_AUX, VD_CNT, VD_NDX, VD_NEXT, VD_VERSION, VDA_NAME, VER_DEF_CURRENT,
+    VERDAUX_SIZE, VERDEF_SIZE, VERSYM_HIDDEN,
 };
+use crate::file::ElfFile;
 use abi_base::{Fault, FaultKind, INPUT_LIMIT, Refusal, text_at, u16_in, u32_in};
 use std::alloc::Global;
 use std::collections::HashMap;

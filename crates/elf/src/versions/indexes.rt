@@ -10,8 +10,8 @@ ghost use Rattle.elf.specs.versions.Plain.{plain_version};
 ghost use Rattle.elf.specs.versions.Versions.{table_fault, index_table, index_in, version_by, version_from};
 ghost use Rattle.abi_base.specs.GnuVersions.{versym_size};
 
-use crate::file::{ElfFile, SHT_GNU_VERSYM};
-use crate::versions::constants::{VER_NDX_GLOBAL, VERSYM_HIDDEN, VERSYM_SIZE};
+use crate::constants::{SHT_GNU_VERSYM, VER_NDX_GLOBAL, VERSYM_HIDDEN, VERSYM_SIZE};
+use crate::file::ElfFile;
 use crate::versions::version::Version;
 use abi_base::{Fault, FaultKind, NoMemory, u16_in};
 use std::alloc::Global;

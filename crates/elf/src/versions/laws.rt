@@ -5,7 +5,7 @@ ghost use Rattle.abi_base.specs.GnuVersions.{sht_gnu_versym, ver_ndx_local, ver_
 ghost use Rattle.elf.specs.versions.Definitions.{place_of, index_of, name_of, version_name, definition_table, definition_strings, definition_count};
 ghost use Rattle.elf.specs.versions.Versions.{version_at, versions_of, version_in, version_fault};
 
-use crate::versions::constants::{VER_NDX_GLOBAL, VER_NDX_LOCAL};
+use crate::constants::{VER_NDX_GLOBAL, VER_NDX_LOCAL};
 
 /// The indexes of symbols without a version have their numbers of the Linux Standard Base, "Symbol Versioning".
 pub fn indexes_have_their_numbers()

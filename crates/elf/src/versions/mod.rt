@@ -1,7 +1,6 @@
 //! The symbol versions of a shared object: the definitions of its versions, and the version of each of its dynamic
 //! symbols (GNU symbol versioning, as the Linux Standard Base, "Symbol Versioning", has it).
 
-mod constants;
 mod definitions;
 mod indexes;
 mod kept;
@@ -9,7 +8,6 @@ pub mod laws;
 mod reading;
 mod version;
 
-pub use constants::{VER_NDX_GLOBAL, VER_NDX_LOCAL};
 pub use kept::Versions;
 pub use reading::versions;
 pub use version::Version;

@@ -1,0 +1,14 @@
+mod Advancing
+mod Agreeing
+mod Breaking
+mod Finite
+mod Forming
+mod Known
+mod Landed
+mod Leaving
+mod Missed
+mod Moving
+mod Naming
+mod Opening
+mod PlaceOf
+mod WorkedAccess

@@ -1,0 +1,36 @@
+// Whether a unit is a partial one.
+ghost use Rattle.std.specs.Prelude.{◌≡◌, IfOk};
+ghost use Rattle.dwarf_units.specs.Plain.{plain_unit};
+ghost use Rattle.dwarf_units.specs.Sequence.{begins_partial, is_partial as the_partial_one};
+ghost use Rattle.dwarf_units.specs.Units.{entries_of};
+
+use crate::constants::{DWARF_4, UNIT_TYPE};
+use crate::start::entries;
+use crate::unit::Unit;
+use abi_base::dwarf::{DW_TAG_partial_unit, DW_UT_partial};
+use abi_base::{NoMemory, Refusal};
+use std::alloc::Global;
+
+// Whether the root of a unit has no fault, and is that of a partial unit.
+fn has_partial_root(alloc: Global, unit: &Unit<'_>) -> Result<bool, NoMemory>
+    ensures { IfOk result (λ is. is ≡ begins_partial (entries_of (plain_unit unit.now)).items) }
+{
+    let mut left = entries(unit);
+    match left.next_outline(alloc) {
+        Ok(Some(root)) => Ok(root.tag() == DW_TAG_partial_unit),
+        Ok(None) => Ok(false),
+        Err(Refusal::Fault(_)) => Ok(false),
+        Err(Refusal::NoMemory) => Err(NoMemory),
+    }
+}
+
+/// Whether a unit is a partial one: in version 5 its type says so, in version 4 the tag of its root, where that has no fault.
+#[tactic(auto, unfolding(crate::specs::Sequence::is_partial))]
+pub fn is_partial(alloc: Global, unit: &Unit<'_>) -> Result<bool, NoMemory>
+    ensures { IfOk result (λ is. is ≡ the_partial_one (plain_unit unit.now)) }
+{
+    if unit.version == DWARF_4 {
+        return has_partial_root(alloc, unit);
+    }
+    Ok(unit.info[unit.offset as usize + UNIT_TYPE] == DW_UT_partial)
+}
