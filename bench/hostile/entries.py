@@ -39,29 +39,34 @@ from .library import addresses, library
 ROOT = Abbreviation(UNIT, COMPILE_UNIT, True, ((AT_LANGUAGE, DATA1),))
 
 
+# Numbers of attributes that nobody asks for, each of which differs by 64 from one that is asked: name, location, low_pc, ranges,
+# entry_pc, abstract_origin, specification, type and declaration.
+BESIDE = (0x43, 0x42, 0x51, 0x15, 0x12, 0x71, 0x07, 0x09, 0x7C)
+
+
+def beside(count: int) -> tuple[tuple[int, ...], ...]:
+    return tuple((BESIDE[number % len(BESIDE)], FLAG_PRESENT) for number in range(count))
+
+
+def of_one_form(count: int, form: Abbreviation, entry: bytes) -> Case:
+    """As many entries of one abbreviation, each spelled so."""
+    info = Info()
+    info.begin()
+    info.bytes += entry * count
+    info.close()
+    info.end()
+    return listed(library(info, [], abbreviations=table([ROOT, form])))
+
+
 def flags(count: int) -> Case:
-    """Entries of one abbreviation with as many attributes, of which none but the last takes bytes. The attribute's number differs
-    by 64 from that of the name."""
-    pairs = ((0x43, FLAG_PRESENT),) * count + ((AT_CONST_VALUE, UDATA),)
-    info = Info()
-    info.begin()
-    info.bytes += bytes((2, 0)) * count
-    info.close()
-    info.end()
-    abbreviations = table([ROOT, Abbreviation(2, MEMBER, False, pairs)])
-    return listed(library(info, [], abbreviations=abbreviations))
+    """Functions of one abbreviation with as many attributes without bytes."""
+    return of_one_form(count, Abbreviation(2, FUNCTION, False, beside(count)), b"\2")
 
 
-def flags_alone(count: int) -> Case:
-    """The same without a value: each entry is one byte."""
-    pairs = ((AT_DECLARATION, FLAG_PRESENT),) * count
-    info = Info()
-    info.begin()
-    info.bytes += b"\2" * count
-    info.close()
-    info.end()
-    abbreviations = table([ROOT, Abbreviation(2, MEMBER, False, pairs)])
-    return listed(library(info, [], abbreviations=abbreviations))
+def flags_and_value(count: int) -> Case:
+    """Members of one abbreviation with as many attributes, of which the last alone takes bytes."""
+    pairs = ((AT_DECLARATION, FLAG_PRESENT),) * count + ((AT_CONST_VALUE, UDATA),)
+    return of_one_form(count, Abbreviation(2, MEMBER, False, pairs), b"\2\0")
 
 
 def flags_of_roots(count: int) -> Case:
@@ -259,8 +264,8 @@ def asked_names(count: int) -> Case:
 
 
 KINDS = [
-    Kind("flags", "an abbreviation of n attributes without bytes and one with, n entries of it", flags, 6900),
-    Kind("flags_alone", "an abbreviation of n attributes without bytes, n entries of it", flags_alone, 13800),
+    Kind("flags", "an abbreviation of n attributes without bytes, n functions of it", flags, 13800),
+    Kind("flags_and_value", "an abbreviation of n attributes without bytes and one with, n members of it", flags_and_value, 10000),
     Kind("flags_of_roots", "n units whose root has n attributes without bytes", flags_of_roots, 4000),
     Kind("asked_names", "n pointers behind n attributes without bytes", asked_names, 4000),
     Kind("two_tables", "n units that alternate between two tables of n abbreviations", two_tables, 4000),
