@@ -14,7 +14,7 @@ from .cases import Kind
 from .measure import HEAD, Row, run_case
 
 ALL = [*entries.KINDS, *layouts.KINDS, *pairs.KINDS, *names.KINDS, *ruled.KINDS, *collide.KINDS]
-RUNS = 3
+RUNS = int(os.environ.get("RUNS", "3"))
 
 
 def kind_named(name: str) -> Kind:
@@ -26,9 +26,10 @@ def kind_named(name: str) -> Kind:
 
 def measured(program: str, kind: Kind) -> Row:
     """A row of the table. Of the two files one is held at a time."""
-    case = kind.make(kind.first)
+    first = kind.first * int(os.environ.get("TIMES", "1"))
+    case = kind.make(first)
     small = case.size(), run_case(program, case, RUNS)
-    case = kind.make(2 * kind.first)
+    case = kind.make(2 * first)
     large = case.size(), run_case(program, case, RUNS)
     return Row(kind.name, (small[0], large[0]), (small[1], large[1]))
 

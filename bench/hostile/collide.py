@@ -77,7 +77,7 @@ def names_that_collide(count: int) -> Case:
 
 
 KINDS = [
-    Kind("colliding_addresses", "n functions at addresses that collide in a map", addresses_that_collide, 50000),
-    Kind("colliding_signatures", "n type units with signatures that collide in a map", signatures_that_collide, 50000),
-    Kind("colliding_names", "n symbols with names that collide in a map", names_that_collide, 50000),
+    Kind("colliding_addresses", "n functions at addresses that collide in a map", addresses_that_collide, 30000),
+    Kind("colliding_signatures", "n type units with signatures that collide in a map", signatures_that_collide, 30000),
+    Kind("colliding_names", "n symbols with names that collide in a map", names_that_collide, 30000),
 ]

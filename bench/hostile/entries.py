@@ -263,21 +263,41 @@ def asked_names(count: int) -> Case:
     return listed(library(info, [0x1000], [Abbreviation(FREE, POINTER, False, pairs)]))
 
 
+def attributes(count: int) -> Case:
+    """A root with as many attributes without bytes."""
+    info = Info()
+    info.begin(root=bytes((UNIT, 0x0C)))
+    info.end()
+    pairs = ((AT_LANGUAGE, DATA1),) + ((0x53, FLAG_PRESENT),) * count
+    return listed(library(info, [], abbreviations=table([Abbreviation(UNIT, COMPILE_UNIT, False, pairs)])))
+
+
+def units(count: int) -> Case:
+    """Units of as few bytes as can be."""
+    info = Info()
+    for _ in range(count):
+        info.begin(root=bytes((UNIT,)))
+        info.end()
+    return listed(library(info, [], abbreviations=table([Abbreviation(UNIT, COMPILE_UNIT, False)])))
+
+
 KINDS = [
-    Kind("flags", "an abbreviation of n attributes without bytes, n functions of it", flags, 13800),
-    Kind("flags_and_value", "an abbreviation of n attributes without bytes and one with, n members of it", flags_and_value, 10000),
-    Kind("flags_of_roots", "n units whose root has n attributes without bytes", flags_of_roots, 4000),
+    Kind("flags", "an abbreviation of n attributes without bytes, n functions of it", flags, 2000),
+    Kind("flags_and_value", "an abbreviation of n attributes without bytes and one with, n members of it", flags_and_value, 3000),
+    Kind("flags_of_roots", "n units whose root has n attributes without bytes", flags_of_roots, 2000),
     Kind("asked_names", "n pointers behind n attributes without bytes", asked_names, 4000),
-    Kind("two_tables", "n units that alternate between two tables of n abbreviations", two_tables, 4000),
-    Kind("one_chain", "n units that each begin at another of n abbreviations of one table", one_chain, 4000),
-    Kind("ranges", "n functions that share one range list of n base addresses", ranges, 20000),
-    Kind("pairs_of_ranges", "the same in version 4 of DWARF", pairs_of_ranges, 20000),
-    Kind("one_origin", "n functions of one origin with n parameters", one_origin, 1500),
-    Kind("one_address", "n exports at one function of n parameters", one_address, 1500),
-    Kind("parameters", "one function of n parameters of one byte", parameters, 200000),
-    Kind("enumerators", "an enumeration of n enumerators of one byte", enumerators, 200000),
-    Kind("pointers", "n pointers of two bytes", pointers, 200000),
-    Kind("leaves", "n entries of one byte, by abi entries", leaves, 2000000),
-    Kind("nested", "n entries of one byte, each inside the one before", nested, 1000000),
+    Kind("two_tables", "n units that alternate between two tables of n abbreviations", two_tables, 2000),
+    Kind("one_chain", "n units that each begin at another of n abbreviations of one table", one_chain, 2000),
+    Kind("ranges", "n functions that share one range list of n base addresses", ranges, 4000),
+    Kind("pairs_of_ranges", "the same in version 4 of DWARF", pairs_of_ranges, 8000),
+    Kind("one_origin", "n functions of one origin with n parameters", one_origin, 800),
+    Kind("one_address", "n exports at one function of n parameters", one_address, 4000),
+    Kind("parameters", "one function of n parameters of one byte", parameters, 100000),
+    Kind("enumerators", "an enumeration of n enumerators of one byte", enumerators, 100000),
+    Kind("pointers", "n pointers of two bytes", pointers, 100000),
+    Kind("leaves", "n entries of one byte, by abi entries", leaves, 1000000),
+    Kind("nested", "n entries of one byte, each inside the one before", nested, 500000),
+    Kind("attributes", "a root with n attributes without bytes", attributes, 500000),
+    Kind("units", "n units of 13 bytes", units, 100000),
     Kind("abbreviations", "n abbreviations of six bytes with codes far apart", abbreviations, 200000),
 ]

@@ -13,6 +13,9 @@ MOST_SECONDS = 120
 MOST_GROWTH = 2.5
 BYTES_A_BYTE = 64
 BYTES_BESIDE = 10_000_000
+# Beside the growth: no file of few bytes may take long.
+SECONDS_A_MEGABYTE = 10
+SECONDS_BESIDE = 0.2
 # Shorter runs say nothing of how time grows.
 SHORT = 0.08
 
@@ -48,6 +51,8 @@ class Row:
         found = []
         growth = self.growth()
         if growth is not None and growth > MOST_GROWTH or self.runs[1].status.startswith("signal"):
+            found.append("growth")
+        if any(run.seconds > SECONDS_A_MEGABYTE * size / 1e6 + SECONDS_BESIDE for run, size in zip(self.runs, self.sizes)):
             found.append("time")
         if any(run.memory > BYTES_A_BYTE * size + BYTES_BESIDE for run, size in zip(self.runs, self.sizes)):
             found.append("memory")

@@ -90,13 +90,13 @@ def section_names(count: int) -> Case:
 
 
 KINDS = [
-    Kind("one_version", "n symbols whose one version has a name of 8 n bytes", one_version, 20000),
-    Kind("gone", "the same, and all are gone in the new library", gone, 4000),
-    Kind("versions", "n symbols of one name of 20 n bytes with n versions", versions, 1250),
-    Kind("short_versions", "n symbols of one short name with n versions", short_versions, 8000),
-    Kind("definitions", "n definitions of versions, all of one name of 40 n bytes", definitions, 8000),
-    Kind("shared_ends", "n symbols whose names are the ends of one text of n bytes", shared_ends, 10000),
-    Kind("listed_ends", "the same, by abi exports", listed_ends, 10000),
-    Kind("hidden_names", "n local symbols whose names are one text of 20 n bytes", hidden_names, 20000),
-    Kind("section_names", "n sections whose names are one text of 20 n bytes", section_names, 10000),
+    Kind("one_version", "n symbols whose one version has a name of 8 n bytes", one_version, 3000),
+    Kind("gone", "the same, and all are gone in the new library", gone, 2000),
+    Kind("versions", "n symbols of one name of 20 n bytes with n versions", versions, 600),
+    Kind("short_versions", "n symbols of one short name with n versions", short_versions, 6000),
+    Kind("definitions", "n definitions of versions, all of one name of 40 n bytes", definitions, 3000),
+    Kind("shared_ends", "n symbols whose names are the ends of one text of n bytes", shared_ends, 5000),
+    Kind("listed_ends", "the same, by abi exports", listed_ends, 5000),
+    Kind("hidden_names", "n local symbols whose names are one text of 20 n bytes", hidden_names, 5000),
+    Kind("section_names", "n sections whose names are one text of 20 n bytes", section_names, 2000),
 ]

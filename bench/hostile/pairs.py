@@ -84,8 +84,8 @@ def rings(count: int) -> Case:
 
 
 KINDS = [
-    Kind("rings_of_sizes", "two rings of n and n + 1 structures, no two of one size", rings_of_sizes, 60),
+    Kind("rings_of_sizes", "two rings of n and n + 1 structures, no two of one size", rings_of_sizes, 40),
     Kind("wide_rings", "rings of n and n + 1 structures with n members", wide_rings, 60),
-    Kind("chain", "a chain of n pointers to structures, each of another size", chain, 4000),
-    Kind("rings", "rings of n and n + 1 pointers", rings, 2000),
+    Kind("chain", "a chain of n pointers to structures, each of another size", chain, 2000),
+    Kind("rings", "rings of n and n + 1 pointers", rings, 500),
 ]

@@ -70,11 +70,11 @@ def kinds_of_types(count: int) -> Case:
 
 
 KINDS = [
-    Kind("exact_names", "n sections that give a name, n exports", exact_names, 20000),
-    Kind("patterns", "n sections with a pattern of few bytes, n exports", patterns, 2000),
-    Kind("small_patterns", "n sections with one small pattern, one export", small_patterns, 2000),
-    Kind("classes", "n patterns of Unicode classes, 256 bytes each", classes, 200),
-    Kind("heavy_pattern", "a pattern of Unicode classes, and a name of 3 n bytes", heavy_pattern, 5000),
-    Kind("sonames", "n sections that ask a soname of 20 n bytes, n exports", sonames, 500),
-    Kind("kinds_of_types", "n sections that ask a kind of types, n structures", kinds_of_types, 10000),
+    Kind("exact_names", "n sections that give a name, n exports", exact_names, 3000),
+    Kind("patterns", "n sections with a pattern of few bytes, n exports", patterns, 1000),
+    Kind("small_patterns", "n sections with one small pattern, one export", small_patterns, 500),
+    Kind("classes", "n patterns of Unicode classes, 256 bytes each", classes, 20),
+    Kind("heavy_pattern", "a pattern of Unicode classes, and a name of 3 n bytes", heavy_pattern, 1000),
+    Kind("sonames", "n sections that ask a soname of 20 n bytes, n exports", sonames, 200),
+    Kind("kinds_of_types", "n sections that ask a kind of types, n structures", kinds_of_types, 5000),
 ]
