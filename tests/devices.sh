@@ -13,8 +13,8 @@ crate=abi_cli
 
 gcc -shared -fPIC -O1 -o faulty.so "$sources/faulty.c"
 
-# with SETTINGS ARGUMENT..: the program, given the arguments, with the calls of faulty.so that these settings make fail. Its status is
-# in `ended`, and what it writes in the files `got` and `errors`.
+# with SETTINGS ARGUMENT..: the program, given the arguments, with the calls of faulty.so that these settings make fail. Its status
+# is in `ended`, and what it writes in the files `got` and `errors`.
 with() {
     local settings=$1
     shift
@@ -24,7 +24,7 @@ with() {
 }
 
 # gives NAME STATUS TEXT: the last run must have ended with the status and printed the text; beside the statuses 2, 3 and 6 stands
-# one sentence, and it does not name the place of the failure twice.
+# one sentence.
 gives() {
     [ "$ended" -eq "$2" ] || fail "$1: status $ended, not $2: $(head -n 1 errors)"
     printf '%b' "$3" >want
@@ -145,8 +145,8 @@ rm most.so more.so sparse.so
 
 # ---- calls that write
 
-# writes_fail STATUS TEXT ARGUMENT..: the device takes a byte at a time, and fails at each byte of the text in turn. What was written
-# is the text up to that byte.
+# writes_fail STATUS TEXT ARGUMENT..: the device takes a byte at a time, and fails at each byte of the text in turn. What was
+# written is the text up to that byte.
 writes_fail() {
     local status=$1 text=$2 size call
     shift 2
@@ -194,7 +194,7 @@ ended=0
 [ "$ended" -eq 6 ] || fail "all is closed: status $ended, not 6"
 passed "standard error, and all, is closed"
 
-# broken READ ARGUMENT..: the reader of a pipe takes so many bytes and goes; the status is what Python gives, less than 0 for a signal.
+# broken.py BYTES COMMAND..: the reader of a pipe takes so many bytes and goes; the command must end with status 6, and no signal.
 cat >broken.py <<'END'
 import os, subprocess, sys
 taken, words = int(sys.argv[1]), sys.argv[2:]

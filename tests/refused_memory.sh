@@ -1,7 +1,7 @@
 #!/usr/bin/env bash
-# Refuses the program's requests for memory one at a time, with a function that stands before those of the C library. Each time it
-# must give the answer that it gives with all its memory, or end with status 4 and print nothing. Of commands with many requests some
-# are tried, spread evenly.
+# Refuses the program's requests for memory one at a time, with a function that stands before those of the C library. Each time
+# it must give the answer that it gives with all its memory, or end with status 4 and print nothing. Of commands with many requests
+# some are tried, spread evenly.
 #
 #   tests/refused_memory.sh [MOST]             tries at most so many requests of a command: 60, where no number is given
 #   ABI=/path/of/abi tests/refused_memory.sh   takes another program
@@ -30,7 +30,8 @@ refused() {
         tried=$((tried + 1))
         if [ "$ended" -eq 4 ] && [ ! -s got ]; then
             out=$((out + 1))
-            [ ! -s errors ] || [ "$(cat errors)" = "abi: out of memory" ] || fail "$name: without request $call it says: $(cat errors)"
+            [ ! -s errors ] || [ "$(cat errors)" = "abi: out of memory" ] ||
+                fail "$name: without request $call it says: $(cat errors)"
         elif [ "$ended" -ne "$status" ] || ! cmp -s want got; then
             fail "$name: without request $call status $ended: $(head -c 100 got)"
         fi

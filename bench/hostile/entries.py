@@ -118,6 +118,19 @@ def ranges(count: int) -> Case:
     return listed(library(info, [0x1000], further, {".debug_rnglists": lists}))
 
 
+def ends_of_ranges(count: int) -> Case:
+    """Functions whose range lists are the ends of one list, each with another number of base addresses."""
+    info = Info()
+    info.begin()
+    for number in range(count):
+        info.add(FREE, u32(9 * number))
+    info.close()
+    info.end()
+    lists = (u8(5) + u64(0x1000)) * count + u8(7) + u64(0x1000) + uleb(1) + u8(0)
+    further = [Abbreviation(FREE, FUNCTION, False, ((AT_RANGES, SEC_OFFSET),))]
+    return listed(library(info, [0x1000], further, {".debug_rnglists": lists}))
+
+
 def pairs_of_ranges(count: int) -> Case:
     """The same in version 4: pairs that select a base address."""
     info = Info()
@@ -289,6 +302,7 @@ KINDS = [
     Kind("two_tables", "n units that alternate between two tables of n abbreviations", two_tables, 2000),
     Kind("one_chain", "n units that each begin at another of n abbreviations of one table", one_chain, 2000),
     Kind("ranges", "n functions that share one range list of n base addresses", ranges, 4000),
+    Kind("ends_of_ranges", "n functions whose range lists are the ends of one of n base addresses", ends_of_ranges, 4000),
     Kind("pairs_of_ranges", "the same in version 4 of DWARF", pairs_of_ranges, 8000),
     Kind("one_origin", "n functions of one origin with n parameters", one_origin, 800),
     Kind("one_address", "n exports at one function of n parameters", one_address, 4000),
