@@ -31,13 +31,13 @@ def bits_for(count: int) -> int:
     return bits
 
 
-def colliding(count: int, state: int = SEED) -> list[int]:
-    """So many different numbers of eight bytes that stand at one place."""
+def colliding(count: int, state: int = SEED, form: str = "numbers") -> list[int]:
+    """So many different keys of eight bytes that stand at one place, as numbers."""
     source = Path(__file__).with_name("collide.c")
     with tempfile.TemporaryDirectory() as folder:
         program = f"{folder}/collide"
         subprocess.run(["gcc", "-O2", "-o", program, str(source)], check=True)
-        words = [program, str(count), str(bits_for(count)), f"{state:x}"]
+        words = [program, str(count), str(bits_for(count)), f"{state:x}", form]
         found = subprocess.run(words, check=True, capture_output=True, text=True).stdout
     return [int(line, 16) for line in found.split()]
 
@@ -70,7 +70,8 @@ def names_that_collide(count: int) -> Case:
     """Symbols whose names of eight bytes stand at one place of a map by name."""
     names = bytearray(b"\0")
     symbols = []
-    for number in colliding(count, folded(SEED, 8, 8)):
+    # The length is hashed before the bytes.
+    for number in colliding(count, folded(SEED, 8, 8), "names"):
         symbols.append(Symbol(len(names), 0x1000))
         names += u64(number) + b"\0"
     return against_itself(image(symbol_sections(symbols, bytes(names))))

@@ -35,11 +35,11 @@ def classes(count: int) -> Case:
 
 def heavy_pattern(count: int) -> Case:
     """One pattern of Unicode classes, and an export with a long name, which it has to read to the end."""
-    pattern = r"(?:\w+\d*\pL?){9}".replace("{9}", "") * 14
+    pattern = r"(?:\w+\d*\pL?)" * 14
     letters = "".join(chr(FIRST_LETTER + number % 1000) for number in range(count))
     names = b"\0" + text(letters)
     contents = image(symbol_sections([Symbol(1, 0x1000)], names))
-    return ruled(contents, f"[suppress_function]\nname_regexp = {pattern}!$\n")
+    return ruled(contents, f"[suppress_function]\nname_regexp = {pattern}\\s\n")
 
 
 def sonames(count: int) -> Case:
@@ -52,7 +52,7 @@ def sonames(count: int) -> Case:
     at = len(names)
     names += b"a" * (20 * count) + b"\0"
     contents = image([*symbol_sections(symbols, bytes(names)), soname_section(at)])
-    return ruled(contents, "[suppress_function]\nsoname_regexp = b$\n" * count)
+    return ruled(contents, "[suppress_function]\nsoname_regexp = [bc][de]\n" * count)
 
 
 def kinds_of_types(count: int) -> Case:
@@ -74,7 +74,7 @@ KINDS = [
     Kind("patterns", "n sections with a pattern of few bytes, n exports", patterns, 1000),
     Kind("small_patterns", "n sections with one small pattern, one export", small_patterns, 500),
     Kind("classes", "n patterns of Unicode classes, 256 bytes each", classes, 20),
-    Kind("heavy_pattern", "a pattern of Unicode classes, and a name of 3 n bytes", heavy_pattern, 1000),
+    Kind("heavy_pattern", "a pattern of Unicode classes, and a name of 3 n bytes", heavy_pattern, 50000),
     Kind("sonames", "n sections that ask a soname of 20 n bytes, n exports", sonames, 200),
     Kind("kinds_of_types", "n sections that ask a kind of types, n structures", kinds_of_types, 5000),
 ]
