@@ -1,5 +1,6 @@
 """Runs a program over made files under limits, and measures processor time and peak memory."""
 
+import math
 import os
 import subprocess
 from dataclasses import dataclass
@@ -38,10 +39,12 @@ class Row:
     runs: tuple[Run, Run]
 
     def growth(self) -> float | None:
+        """How many times the seconds for twice the bytes; a file that grew by less counts as twice as large."""
         small, large = self.runs
         if large.seconds < SHORT:
             return None
-        return large.seconds / max(small.seconds, 0.01)
+        doublings = max(1.0, math.log2(self.sizes[1] / self.sizes[0]))
+        return float((large.seconds / max(small.seconds, 0.01)) ** (1 / doublings))
 
     def bytes_a_byte(self) -> float:
         return max(run.memory / size for run, size in zip(self.runs, self.sizes))
