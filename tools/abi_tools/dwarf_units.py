@@ -108,19 +108,34 @@ class Pass:
         runs = self._plans.setdefault((unit.table, unit.version), {})
         table = self._tables.at(unit.table)
         sizes = self._sizes.setdefault(unit.version, fixed_sizes(unit.version))
-        try:
-            _over_entries(section, unit, runs, partial(_planned, table, sizes, self._shifts))
-        except (IndexError, ValueError, KeyError, struct.error) as error:
-            raise Fault(f"{self._where}: an entry of the unit at {unit.start} is damaged") from error
-        except Fault as fault:
-            raise Fault(f"{self._where}: the unit at {unit.start}: {fault}") from fault
+        _checked_pass(section, unit, runs, partial(_planned, table, sizes, self._shifts), self._where)
 
 
 def _planned(table: Table, sizes: dict[str, int], shifts: Shifts, code: int) -> tuple[Run, ...]:
     return plan(table[code], sizes, shifts)
 
 
-def _over_entries(section: bytearray, unit: Unit, runs: dict[int, tuple[Run, ...]],
+def codes_used(section: Bytes, unit: Unit, table: Table, where: str) -> set[int]:
+    """The codes of the abbreviations that the entries of a unit have. Raises a fault if an entry is damaged, or has a form that
+    is not read."""
+    runs: dict[int, tuple[Run, ...]] = {}
+    planned = partial(_planned, table, fixed_sizes(unit.version), Shifts({}))
+    _checked_pass(section, unit, runs, planned, where)
+    return set(runs)
+
+
+def _checked_pass(section: Bytes, unit: Unit, runs: dict[int, tuple[Run, ...]],
+                  planned: Callable[[int], tuple[Run, ...]], where: str) -> None:
+    """A pass over the entries of a unit, with a fault where one is damaged."""
+    try:
+        _over_entries(section, unit, runs, planned)
+    except (IndexError, ValueError, KeyError, struct.error) as error:
+        raise Fault(f"{where}: an entry of the unit at {unit.start} is damaged") from error
+    except Fault as fault:
+        raise Fault(f"{where}: the unit at {unit.start}: {fault}") from fault
+
+
+def _over_entries(section: Bytes, unit: Unit, runs: dict[int, tuple[Run, ...]],
                   planned: Callable[[int], tuple[Run, ...]]) -> None:
     """Passes over the entries of a unit; `runs` has what was planned before."""
     read, write = _FOUR.unpack_from, _FOUR.pack_into

@@ -37,8 +37,9 @@ _BUILD_ID_LENGTHS = range(1, 65)
 
 @dataclass(frozen=True)
 class Section:
-    """A section's header (gABI, "Section Header"), with the name in place of its offset."""
+    """A section's number in its file and its header (gABI, "Section Header"), with the name in place of its offset."""
 
+    number: int
     name: str
     kind: int
     flags: int
@@ -107,7 +108,7 @@ class ElfFile:
         header = self.elf.header
         for number in range(self.elf.num_sections()):
             fields = Section.LAYOUT.unpack_from(self.data, header.e_shoff + number * header.e_shentsize)
-            yield Section(self.elf.get_section(number).name, *fields[1:])
+            yield Section(number, self.elf.get_section(number).name, *fields[1:])
 
     def _check_table(self) -> None:
         if not self.data.startswith(_MAGIC) or len(self.data) < _TABLE_END.size:

@@ -21,7 +21,7 @@ _FILE_HEADER_SIZE = 64
 _RESERVED_NUMBERS = 0xFF00
 _TABLE_ALIGNMENT = 8
 _SHT_STRTAB = 3
-_NONE = Section("", SHT_NULL, 0, 0, 0, 0, 0, 0, 0, 0)
+_NONE = Section(0, "", SHT_NULL, 0, 0, 0, 0, 0, 0, 0, 0)
 
 
 @dataclass(frozen=True)
@@ -73,7 +73,7 @@ def sections_alone(library: ElfFile, sections: Sequence[tuple[Section, bytes]]) 
     image = bytearray(library.data[:_FILE_HEADER_SIZE])
     _PROGRAM_HEADERS_AT[0].pack_into(image, _PROGRAM_HEADERS_AT[1], 0)
     _ENTRY_POINT_AT[0].pack_into(image, _ENTRY_POINT_AT[1], 0)
-    numbers = {library.sections.index(section): number for number, (section, _) in enumerate(sections, 1)}
+    numbers = {section.number: place for place, (section, _) in enumerate(sections, 1)}
     table = [_NONE]
     for section, contents in sections:
         _pad(image, min(section.alignment, _TABLE_ALIGNMENT))
