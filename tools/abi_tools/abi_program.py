@@ -65,19 +65,22 @@ class Export:
 
 
 class Abi:
-    """The program: the one that the variable ABI names, or else `abi` on the PATH."""
+    """The program: the one that the variable ABI names, or else `abi` on the PATH. It works in a folder, from which the names of
+    libraries count."""
 
-    def __init__(self, program: Optional[str] = None) -> None:
+    def __init__(self, folder: Path = Path()) -> None:
         """Finds it. Raises a fault if there is none."""
-        named = program or os.environ.get("ABI") or "abi"
+        named = os.environ.get("ABI") or "abi"
         found = shutil.which(named)
         if found is None:
             raise Fault(f"there is no program {named}: put abi on the PATH, or name it by the variable ABI")
-        self._program = found
+        self._program = os.path.abspath(found)
+        self.folder = folder
 
     def run(self, *arguments: str) -> Answer:
         """What the program says of its arguments."""
-        ended = subprocess.run([self._program, *arguments], stdin=subprocess.DEVNULL, capture_output=True, check=False)
+        ended = subprocess.run([self._program, *arguments], stdin=subprocess.DEVNULL, capture_output=True, check=False,
+                               cwd=self.folder)
         text, notes = (part.decode("utf-8", "surrogateescape") for part in (ended.stdout, ended.stderr))
         return Answer(ended.returncode, text, notes)
 

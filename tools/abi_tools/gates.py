@@ -43,7 +43,7 @@ class Library:
     def read(cls, abi: Abi, path: Path) -> "Library":
         """Reads it. Raises a fault if `abi` does not read it."""
         exports = {export.number: export for export in abi.exports(path)}
-        file = ElfFile(path)
+        file = ElfFile(abi.folder / path)
         return cls(path, exports, levels(file), file.symbol_values())
 
     @cached_property
