@@ -47,7 +47,7 @@ class Levels:
     def reason(self) -> str:
         """Why exports have no types, as it is said of a library."""
         if self.untyped.is_all or self.untyped.ranges:
-            return "has debug information of level 1 (-g1), which has no types"
+            return "has debug information without types (of level 1, -g1, or of assembler)"
         return "has no debug information of them" if self.has_types else "has no debug information"
 
 

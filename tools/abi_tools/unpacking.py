@@ -2,9 +2,11 @@
 
 from __future__ import annotations
 
+import lzma
 import shutil
 import subprocess
 import tarfile
+import zlib
 from dataclasses import dataclass
 from pathlib import Path, PurePosixPath
 from typing import Iterable, Iterator, Optional
@@ -86,7 +88,12 @@ def _unpack_deb(file: Path, root: Path) -> Iterator[PurePosixPath]:
                 name = _parts(member.name, file)
                 if _place(archive, member, _folder(root, name.parent, file) / name.name, file):
                     yield name
-    except (ArError, DebError, tarfile.TarError, EOFError, ValueError) as error:
+    except (ArError, DebError, tarfile.TarError, lzma.LZMAError, zlib.error, EOFError, ValueError) as error:
+        raise Fault(f"{file} is damaged: {error}") from error
+    except OSError as error:
+        # The library that reads the archive raises some of its own; one of the system has a number.
+        if error.errno is not None:
+            raise
         raise Fault(f"{file} is damaged: {error}") from error
 
 
