@@ -50,7 +50,7 @@ def untyped(folder: Path) -> None:
 
 def debian_build(folder: Path) -> Ended:
     """A build of the package."""
-    return run("dpkg-buildpackage", "-us", "-uc", "-b", "-rfakeroot" if shutil.which("fakeroot") else "-r", folder=folder)
+    return run("dpkg-buildpackage", "-us", "-uc", "-b", folder=folder)
 
 
 def test_debian_rules(project: Path, tmp_path: Path) -> None:

@@ -65,7 +65,7 @@ def _by_link(library: Path, name: str, root: Path) -> Iterator[Path]:
     yield folder / name
     yield folder / ".debug" / name
     if folder.is_relative_to(root):
-        found = below(root, DEBUG_FOLDER / folder.relative_to(root) / name)
+        found = below(root, DEBUG_FOLDER / PurePosixPath(folder.relative_to(root)) / name)
         if found is not None:
             yield found
     if root != Path("/"):
@@ -151,7 +151,7 @@ def _supplementary_places(debug: Path, link: SupplementaryLink, root: Path) -> I
         if name.is_absolute():
             yield below(place, name)
         elif debug.is_relative_to(place):
-            yield below(place, debug.parent.relative_to(place) / name)
+            yield below(place, PurePosixPath(debug.parent.relative_to(place)) / name)
         yield below(place, _by_build_id(link.checksum))
         yield from _named_below(place, _SUPPLEMENTARY_FOLDER, name.name)
     if not name.is_absolute():

@@ -14,7 +14,8 @@ Bytes = Union[bytes, bytearray]
 # How to step over a value: it takes the section and where the value begins, and answers where it ends.
 Step = Callable[[Bytes, int], int]
 
-FORM_NAMES: Mapping[int, str] = {number: name for name, number in ENUM_DW_FORM.items() if isinstance(number, int)}
+FORMS: Mapping[str, int] = {name: number for name, number in ENUM_DW_FORM.items() if isinstance(number, int)}
+FORM_NAMES: Mapping[int, str] = {number: name for name, number in FORMS.items()}
 TAGS: Mapping[str, int] = {name: number for name, number in ENUM_DW_TAG.items() if isinstance(number, int)}
 ATTRIBUTES: Mapping[str, int] = {name: number for name, number in ENUM_DW_AT.items() if isinstance(number, int)}
 # The most bytes of a number of variable length, as `abi` reads it.
@@ -66,8 +67,8 @@ STEPS: Mapping[str, Step] = {
     "DW_FORM_string": _over_text,
     **dict.fromkeys(("DW_FORM_block", "DW_FORM_exprloc"), _over_block),
     "DW_FORM_block1": lambda data, at: at + 1 + data[at],
-    "DW_FORM_block2": lambda data, at: at + 2 + _TWO.unpack_from(data, at)[0],
-    "DW_FORM_block4": lambda data, at: at + 4 + _FOUR.unpack_from(data, at)[0],
+    "DW_FORM_block2": lambda data, at: at + 2 + int(_TWO.unpack_from(data, at)[0]),
+    "DW_FORM_block4": lambda data, at: at + 4 + int(_FOUR.unpack_from(data, at)[0]),
 }
 
 
@@ -117,7 +118,7 @@ Table = Mapping[int, Abbreviation]
 
 def read_table(section: Bytes, at: int) -> dict[int, Abbreviation]:
     """The table of abbreviations at a place, by their codes. Raises IndexError if it does not end in the section."""
-    table = {}
+    table: dict[int, Abbreviation] = {}
     while True:
         code, at = read_number(section, at)
         if code == 0:
@@ -128,7 +129,7 @@ def read_table(section: Bytes, at: int) -> dict[int, Abbreviation]:
 
 
 def _read_attributes(section: Bytes, at: int) -> tuple[tuple[AttributeForm, ...], int]:
-    attributes = []
+    attributes: list[AttributeForm] = []
     while True:
         attribute, form_at = read_number(section, at)
         form, at = read_number(section, form_at)

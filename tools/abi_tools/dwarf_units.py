@@ -138,7 +138,9 @@ def _checked_pass(section: Bytes, unit: Unit, runs: dict[int, tuple[Run, ...]],
 def _over_entries(section: Bytes, unit: Unit, runs: dict[int, tuple[Run, ...]],
                   planned: Callable[[int], tuple[Run, ...]]) -> None:
     """Passes over the entries of a unit; `runs` has what was planned before."""
-    read, write = _FOUR.unpack_from, _FOUR.pack_into
+    read = _FOUR.unpack_from
+    # Values are written where the section can be: where something is added to them.
+    write: Callable[..., None] = _FOUR.pack_into
     at, end = unit.entries, unit.end
     while at < end:
         code = section[at]

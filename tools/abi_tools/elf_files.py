@@ -235,7 +235,7 @@ class ElfFile:
     @property
     def is_shared_object(self) -> bool:
         """Whether the file is of the type and for the machine that `abi` reads."""
-        return self.elf.header.e_type == "ET_DYN" and self.elf.header.e_machine == "EM_X86_64"
+        return bool(self.elf.header.e_type == "ET_DYN" and self.elf.header.e_machine == "EM_X86_64")
 
     @property
     def soname(self) -> Optional[str]:

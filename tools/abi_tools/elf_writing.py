@@ -6,7 +6,7 @@ import struct
 from dataclasses import dataclass, replace
 from typing import Collection, Sequence
 
-from abi_tools.elf_files import ElfFile, SHT_NULL, SHT_PROGBITS, Section
+from abi_tools.elf_files import DAMAGED, ElfFile, SHT_NULL, SHT_PROGBITS, Section
 from abi_tools.faults import Fault
 from abi_tools.inflating import SHF_COMPRESSED
 
@@ -20,6 +20,8 @@ _FILE_HEADER_SIZE = 64
 # From this number on, the count of sections stands elsewhere.
 _RESERVED_NUMBERS = 0xFF00
 _TABLE_ALIGNMENT = 8
+# A page: sections that are not loaded need no larger alignment.
+_LARGEST_ALIGNMENT = 4096
 _SHT_STRTAB = 3
 _NONE = Section(0, "", SHT_NULL, 0, 0, 0, 0, 0, 0, 0, 0)
 
@@ -39,16 +41,19 @@ class AddedSection:
 
 def _pad(image: bytearray, alignment: int) -> None:
     """Brings the image to a length that is a multiple of the alignment."""
-    image.extend(bytes(-len(image) % max(alignment, 1)))
+    image.extend(bytes(-len(image) % min(max(alignment, 1), _LARGEST_ALIGNMENT)))
 
 
 def _kept_end(library: ElfFile, kept: Sequence[Section]) -> int:
     """Where the last byte of the library's headers, segments and kept sections ends."""
     header = library.elf.header
-    ends = [_FILE_HEADER_SIZE, header.e_phoff + header.e_phnum * header.e_phentsize]
-    ends += [segment["p_offset"] + segment["p_filesz"] for segment in library.elf.iter_segments()]
+    ends: list[int] = [_FILE_HEADER_SIZE, header.e_phoff + header.e_phnum * header.e_phentsize]
+    try:
+        ends += [segment["p_offset"] + segment["p_filesz"] for segment in library.elf.iter_segments()]
+    except DAMAGED as error:
+        raise Fault(f"{library.path} is damaged in its program headers") from error
     ends += [section.offset + section.size for section in kept if section.holds_bytes]
-    return min(max(ends), len(library.data))
+    return int(min(max(ends), len(library.data)))
 
 
 def with_sections(library: ElfFile, dropped: Collection[str], added: Sequence[AddedSection]) -> bytes:

@@ -11,7 +11,7 @@ import struct
 from dataclasses import dataclass
 from typing import Mapping
 
-from abi_tools.dwarf_tables import ENUM_DW_FORM, FORM_NAMES, Shifts, padded_number
+from abi_tools.dwarf_tables import FORM_NAMES, FORMS, Shifts, padded_number
 from abi_tools.dwarf_units import Pass, Tables, units
 from abi_tools.faults import Fault
 
@@ -106,7 +106,7 @@ def _inside_forms(section: bytes, tables: Tables) -> bytes:
             for one in abbreviation.attributes:
                 form = REPLACED.get(FORM_NAMES.get(one.form, ""))
                 if form is not None:
-                    changed[one.form_at:one.form_end] = padded_number(ENUM_DW_FORM[form], one.form_end - one.form_at)
+                    changed[one.form_at:one.form_end] = padded_number(FORMS[form], one.form_end - one.form_at)
     return bytes(changed)
 
 
