@@ -129,4 +129,6 @@ def test_the_script_ends_with_2_where_nothing_can_be_told(build: Build, tmp_path
     for program, words in ((killed, "the signal 9 ended abi"), (tmp_path / "none", "there is no program")):
         ended = run("env", f"ABI={program}", TOOLS / "abi-gate", whole, whole)
         assert ended.status == 2 and words in ended.out + ended.errors
-    assert run("env", "-u", "ABI", f"PATH={Path(os.environ['ABI']).parent}:/usr/bin:/bin", TOOLS / "abi-gate", whole, whole).status in (0, 2)
+    killed.unlink()
+    killed.symlink_to(Path(os.environ["ABI"]).resolve())
+    assert run("env", "-u", "ABI", f"PATH={tmp_path}:/usr/bin:/bin", TOOLS / "abi-gate", whole, whole).status == 0
