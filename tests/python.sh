@@ -1,0 +1,31 @@
+#!/usr/bin/env bash
+# Runs the tests of the tools that put together what distributions ship, and of the recipes of examples/: libraries and packages
+# that gcc, objcopy, dwz, dpkg-deb and rpmbuild make, and what the proved program says of them.
+#
+#   tests/python.sh                 builds the program of this repository
+#   ABI=/path/of/abi tests/python.sh    takes another one
+set -eu
+title="packages and recipes"
+tools="/usr/bin/python3 gcc clang readelf objcopy ar strip dwz eu-unstrip eu-elflint dpkg-deb bsdtar make"
+crate=abi_cli
+. "$(dirname "$0")/common.bash"
+
+for module in elftools debian zstandard yaml pytest; do
+    /usr/bin/python3 -c "import $module" 2>/dev/null && continue
+    [ -n "${SKIP_MISSING_TOOLS:-}" ] || fail "there is no $module for /usr/bin/python3 (with SKIP_MISSING_TOOLS=1 nothing runs)"
+    told "nothing ran, since there is no $module for /usr/bin/python3"
+    exit 0
+done
+
+ABI=$program /usr/bin/python3 -B -m pytest --quiet --color=no -p no:cacheprovider -rs --basetemp="$work/tests" \
+    "$root/tests/python" >log 2>&1 || { tail -n 60 log >&2 && fail "$(tail -n 1 log)"; }
+cat log
+
+# The last line counts the tests; lines before it name what was left out.
+checks=$(sed -n '$s/^\([0-9]*\) passed.*/\1/p' log)
+[ "${checks:-0}" -gt 0 ] || fail "no test ran"
+left_out=$(sed -n 's/^SKIPPED .*there is no \(.*\)$/ \1/p' log | sort -u | tr -d '\n')
+for tool in rpmbuild dpkg-buildpackage meson cmake; do
+    ! command -v "$tool" >/dev/null || ran="$ran $tool"
+done
+finished

@@ -1,0 +1,134 @@
+"""`abi-gate`: 0, 1 and 2."""
+
+from __future__ import annotations
+
+import os
+from pathlib import Path
+from typing import Callable
+
+import pytest
+from conftest import TOOLS, Ended, abi, done, run, script, tool
+
+Build = Callable[..., Path]
+
+OLD = """\
+struct point { int x, y; };
+int area(struct point *p) { return p->x * p->y; }
+int other(int a) { return a + 1; }
+int object = 3;
+void plain(void) { }
+"""
+NEW = OLD.replace("int x, y;", "long x, y;")
+
+
+def gate(*arguments: object) -> Ended:
+    """What the gate does, with a line that begins with its answer."""
+    ended = tool("abi-gate", *arguments)
+    assert ended.out.startswith({0: "yes", 1: "no", 2: "cannot tell: "}[ended.status]), ended
+    return ended
+
+
+def told(ended: Ended, *words: str) -> None:
+    """It cannot be told, and the reason has the words."""
+    assert ended.status == 2 and len(ended.out.splitlines()) == 1, ended
+    assert all(word in ended.out for word in words), ended.out
+
+
+@pytest.fixture(params=("gcc -gdwarf-5", "gcc -gdwarf-4 -ffunction-sections", "clang -gdwarf-5 -ffunction-sections", "clang -gdwarf-4"))
+def levels(request: pytest.FixtureRequest, build: Build, tmp_path: Path) -> dict[str, Path]:
+    """One library with types, with debug information of level 1, and stripped, and its next build."""
+    compiler, *options = request.param.split()
+    made = {"full": build("full.so", OLD, *options, "-g", compiler=compiler),
+            "next": build("next.so", NEW, *options, "-g", compiler=compiler),
+            "one": build("one.so", OLD, *options, "-g1", compiler=compiler),
+            "none": tmp_path / "none.so"}
+    done("strip", "-o", made["none"], made["full"])
+    return made
+
+
+def test_yes_and_no_are_those_of_abi(levels: dict[str, Path], tmp_path: Path) -> None:
+    certificate = tmp_path / "cert"
+    ended = gate("--certificate", certificate, levels["full"], levels["full"])
+    assert (ended.status, ended.out) == (0, "yes: 4 exports compared, 4 with types\n")
+    assert abi("verify", levels["full"], levels["full"], certificate).out == "accepted\n"
+    ended = gate("--certificate", certificate, levels["full"], levels["next"])
+    assert (ended.status, ended.out) == (1, abi("check", levels["full"], levels["next"]).out)
+    assert not certificate.exists()
+
+
+def test_missing_types_are_told(levels: dict[str, Path]) -> None:
+    full, one, none, following = (levels[name] for name in ("full", "one", "none", "next"))
+    told(gate(none, none), "no types were compared", "no debug information")
+    told(gate(one, one), "no types were compared", "-g1")
+    told(gate(full, none), "have none in the new one", "no debug information")
+    told(gate(full, one), "have none in the new one", "-g1")
+    told(gate(none, full), "no types were compared", "no debug information")
+    told(gate(one, following), "-g1")
+    told(gate(none, one), "no types were compared")
+    told(gate(one, none), "-g1")
+
+
+def test_a_break_is_a_no_also_without_types(levels: dict[str, Path], build: Build) -> None:
+    without = build("without.so", OLD.replace("int other(int a) { return a + 1; }", ""), "-g0")
+    for name in ("full", "one", "none"):
+        ended = gate(levels[name], without)
+        assert ended.status == 1 and "X2 other: gone" in ended.out
+
+
+def test_parts_of_a_library_may_lack_types(tmp_path: Path) -> None:
+    """A library of two units, of which the new one has types of one alone."""
+    (tmp_path / "one.c").write_text("struct point { int x, y; };\nint area(struct point *p) { return p->x; }\n")
+    (tmp_path / "two.c").write_text("int other(int a) { return a + 1; }\nint third(long *a) { return *a > 1; }\n")
+    for name, unit, options in (("a", "one", "-g"), ("b", "two", "-g"), ("c", "two", "-g1"), ("d", "two", "-g0")):
+        done("gcc", "-fPIC", "-c", options, "-o", tmp_path / f"{name}.o", tmp_path / f"{unit}.c")
+    for name in "bcd":
+        done("gcc", "-shared", "-o", tmp_path / f"a{name}.so", tmp_path / "a.o", tmp_path / f"{name}.o")
+    full, level_one, untyped = (tmp_path / f"a{name}.so" for name in "bcd")
+    told(gate(full, level_one), "2 exports", "-g1")
+    told(gate(full, untyped), "2 exports", "no debug information of them")
+    told(gate(level_one, full), "2 exports", "-g1")
+    assert gate(untyped, untyped).out == "yes: 3 exports compared, 1 with types\n"
+    assert gate("--require-types", "33", untyped, untyped).status == 0
+    told(gate("--require-types", "34%", untyped, untyped), "1 of 3 exports", "34 of 100")
+    told(gate("--require-types", "34", level_one, level_one), "1 of 3 exports")
+
+
+def test_nothing_compared_is_told(build: Build, tmp_path: Path) -> None:
+    empty = build("empty.so", "static int nothing;\n", "-g", "-nostdlib")
+    told(gate(empty, empty), "nothing was compared")
+    whole = build("whole.so", OLD)
+    (tmp_path / "all.rules").write_text("[suppress_function]\nname_regexp = .*\n[suppress_variable]\nname_regexp = .*\n")
+    told(gate("--rules", tmp_path / "all.rules", whole, whole), "nothing was compared")
+
+
+def test_rules_are_those_of_abi(build: Build, tmp_path: Path) -> None:
+    old, new = build("old.so", OLD), build("new.so", NEW)
+    (tmp_path / "abi.rules").write_text("[suppress_type]\nname = point\n")
+    assert gate("--rules", tmp_path / "abi.rules", old, new).status == 0
+    (tmp_path / "abi.rules").write_text("[suppress_nothing]\nname = point\n")
+    told(gate("--rules", tmp_path / "abi.rules", old, new), "there is no section of this name")
+
+
+def test_what_abi_refuses_is_told(build: Build, tmp_path: Path) -> None:
+    whole = build("whole.so", OLD)
+    cut = tmp_path / "cut.so"
+    cut.write_bytes(whole.read_bytes()[:5000])
+    told(gate(whole, cut), "cut.so")
+    told(gate(tmp_path / "missing.so", whole), "missing.so")
+    told(gate(whole, build("other.so", OLD, "-g", "-gz=zlib")), "is compressed")
+
+
+def test_the_script_ends_with_2_where_nothing_can_be_told(build: Build, tmp_path: Path) -> None:
+    whole = build("whole.so", OLD)
+    assert script("abi-gate", whole, whole).status == 0
+    assert script("abi-gate", whole).status == 2
+    assert script("abi-gate", "--require-types", "101", whole, whole).status == 2
+    killed = tmp_path / "abi"
+    killed.write_text("#!/bin/sh\nkill -9 $$\n")
+    killed.chmod(0o755)
+    for program, words in ((killed, "the signal 9 ended abi"), (tmp_path / "none", "there is no program")):
+        ended = run("env", f"ABI={program}", TOOLS / "abi-gate", whole, whole)
+        assert ended.status == 2 and words in ended.out + ended.errors
+    killed.unlink()
+    killed.symlink_to(Path(os.environ["ABI"]).resolve())
+    assert run("env", "-u", "ABI", f"PATH={tmp_path}:/usr/bin:/bin", TOOLS / "abi-gate", whole, whole).status == 0

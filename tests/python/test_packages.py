@@ -1,0 +1,214 @@
+"""`abi-packages` on packages that dpkg-deb and rpmbuild make."""
+
+from __future__ import annotations
+
+import gzip
+import io
+import tarfile
+from pathlib import Path
+from typing import Callable, Mapping
+
+import pytest
+from conftest import FIRST, SECOND, Ended, abi, build_id, done, needs, script, shared, split, system_place, tool
+
+Build = Callable[..., Path]
+Files = Mapping[str, Path]
+LIBRARIES = "usr/lib/x86_64-linux-gnu"
+CHANGED = FIRST.replace('#include "shapes.h"', '#include "shapes.h"\nstruct added { int a; };').replace(
+    "int call(callback_type f, shape_type *s)", "int call(callback_type f, shape_type *s, int more)")
+
+
+def tree(folder: Path, files: Files) -> Path:
+    """The files of a package in their places."""
+    for name, path in files.items():
+        (folder / name).parent.mkdir(parents=True, exist_ok=True)
+        done("cp", "-P", path, folder / name)
+    return folder
+
+
+def deb(folder: Path, name: str, files: Files, compression: str = "xz") -> Path:
+    """A .deb, by dpkg-deb."""
+    made = tree(folder / f"{name}.tree", files)
+    (made / "DEBIAN").mkdir(parents=True)
+    (made / "DEBIAN/control").write_text(f"Package: {name}\nVersion: 1\nArchitecture: amd64\nMaintainer: a <a@example.org>\n"
+                                         "Description: a package\n")
+    done("dpkg-deb", "--root-owner-group", f"-Z{compression}", "-b", made, folder / f"{name}.deb")
+    return folder / f"{name}.deb"
+
+
+def rpm(folder: Path, name: str, files: Files) -> Path:
+    """A .rpm, by rpmbuild."""
+    needs("rpmbuild")
+    made = tree(folder / f"{name}.tree", files)
+    spec = folder / f"{name}.spec"
+    spec.write_text(f"Name: {name}\nVersion: 1\nRelease: 1\nSummary: a package\nLicense: MIT\n%description\n%install\n"
+                    f"cp -a {made}/. %{{buildroot}}\n%files\n/usr\n")
+    done("rpmbuild", "-bb", "--quiet", "--define", f"_topdir {folder / 'rpmbuild'}", "--define", "debug_package %{nil}", "--define",
+         "__os_install_post %{nil}", "--define", "_build_id_links none", "--define", "_rpmfilename %{NAME}.rpm", spec)
+    return folder / "rpmbuild/RPMS" / f"{name}.rpm"
+
+
+def parted(build: Build, folder: Path, text: str, name: str, soname: str) -> tuple[Files, Files, Path]:
+    """A library as its package ships it, the files of its debug package, and the whole library."""
+    whole = build(f"{name}.so", text, soname=soname)
+    debug = folder / f"{name}.debug"
+    stripped = split(whole, debug)
+    place = str(system_place(Path(), build_id(whole)))
+    return {f"{LIBRARIES}/{soname}.1.2": stripped}, {place: debug}, whole
+
+
+def packages(folder: Path, *arguments: object) -> Ended:
+    """What the tool says; certificates go to a folder of the test."""
+    return tool("abi-packages", "--certificates", folder / "certificates", *arguments)
+
+
+@pytest.fixture
+def old(build: Build, tmp_path: Path) -> tuple[Path, Path]:
+    """The old packages: of a library, and of its debug information."""
+    library, debug, _ = parted(build, tmp_path, FIRST, "old", "libshapes.so.1")
+    return deb(tmp_path, "libshapes1", library), deb(tmp_path, "libshapes1-dbgsym", debug)
+
+
+def test_a_yes_has_a_certificate_of_the_joined_libraries(old: tuple[Path, Path], build: Build, tmp_path: Path) -> None:
+    library, debug, _ = parted(build, tmp_path, FIRST.replace("* s->at->y", "+ s->at->y"), "new", "libshapes.so.1")
+    new = deb(tmp_path, "new", library, "gzip"), deb(tmp_path, "new-dbgsym", debug, "zstd")
+    ended = script("abi-packages", "--certificates", tmp_path / "certificates", *old, "--", *new)
+    kept = tmp_path / "certificates/libshapes.so.1.cert"
+    assert (ended.status, ended.out.splitlines()) == (0, [
+        "yes libshapes.so.1: 2 exports compared, 2 with types; exports with types: old 2 of 2, new 2 of 2; certificate " + str(kept),
+        "1 libraries: 1 yes"])
+    for side, name in (("old", "old"), ("new", "new")):
+        assert tool("join-debug", tmp_path / f"{name}.stripped", tmp_path / f"{side}.joined", tmp_path / f"{name}.debug").status == 0
+    assert abi("verify", tmp_path / "old.joined", tmp_path / "new.joined", kept).out == "accepted\n"
+
+
+def test_a_no_has_the_report_of_abi(old: tuple[Path, Path], build: Build, tmp_path: Path) -> None:
+    library, debug, whole = parted(build, tmp_path, CHANGED, "new", "libshapes.so.1")
+    ended = packages(tmp_path, *old, "--", deb(tmp_path, "new", library), deb(tmp_path, "new-dbgsym", debug))
+    assert ended.status == 1 and ended.out.startswith("no libshapes.so.1: "), ended
+    report = tmp_path / "certificates/libshapes.so.1.report"
+    assert report.read_text() == abi("check", tmp_path / "old.so", whole).out
+
+
+def test_libraries_that_are_gone_or_new_have_a_line(old: tuple[Path, Path], build: Build, tmp_path: Path) -> None:
+    library, debug, _ = parted(build, tmp_path, FIRST, "new", "libshapes.so.2")
+    ended = packages(tmp_path, *old, "--", deb(tmp_path, "new", library), deb(tmp_path, "new-dbgsym", debug))
+    assert ended.status == 1
+    assert ended.out.splitlines() == ["gone libshapes.so.1: libshapes1.deb had it", "new libshapes.so.2: new.deb has it",
+                                      "2 libraries: 1 gone, 1 new"]
+    both = {**library, f"{LIBRARIES}/libshapes.so.1": tmp_path / "old.stripped"}
+    ended = packages(tmp_path, *old, "--", deb(tmp_path, "both", both), old[1])
+    assert ended.status == 0 and [line.split()[0] for line in ended.out.splitlines()] == ["yes", "new", "2"]
+
+
+def test_without_debug_packages_it_cannot_be_told(old: tuple[Path, Path], build: Build, tmp_path: Path) -> None:
+    library, debug, _ = parted(build, tmp_path, FIRST.replace("* s->at->y", "+ s->at->y"), "new", "libshapes.so.1")
+    new = deb(tmp_path, "new", library)
+    for first, second in (((old[0],), (new,)), (old, (new,)), ((old[0],), (new, deb(tmp_path, "new-dbgsym", debug)))):
+        ended = packages(tmp_path, *first, "--", *second)
+        assert ended.status == 2 and ended.out.startswith("cannot tell libshapes.so.1: "), ended
+        assert "there is no debug file of usr/lib" in ended.out
+    assert list((tmp_path / "certificates").iterdir()) == []
+
+
+def test_an_export_that_is_gone_is_a_no_also_without_debug_packages(old: tuple[Path, Path], build: Build, tmp_path: Path) -> None:
+    library, _, _ = parted(build, tmp_path, SECOND, "new", "libshapes.so.1")
+    assert packages(tmp_path, *old, "--", deb(tmp_path, "new", library)).status == 1
+
+
+def test_a_package_may_bring_its_rule_file(old: tuple[Path, Path], build: Build, tmp_path: Path) -> None:
+    library, debug, _ = parted(build, tmp_path, CHANGED, "new", "libshapes.so.1")
+    rules = tmp_path / "abi.rules"
+    rules.write_text("[suppress_function]\nname = call\n")
+    (tmp_path / "abi.rules.gz").write_bytes(gzip.compress(rules.read_bytes()))
+    symbols = deb(tmp_path, "new-dbgsym", debug)
+    for name, more in (("plain", "abi.rules"), ("packed", "abi.rules.gz")):
+        new = deb(tmp_path, name, {**library, f"usr/share/doc/{name}/{more}": tmp_path / more})
+        ended = packages(tmp_path, *old, "--", new, symbols)
+        assert ended.status == 0 and f"rules usr/share/doc/{name}/{more} (new)" in ended.out, ended
+    ended = packages(tmp_path, "--rules", rules, *old, "--", deb(tmp_path, "bare", library), symbols)
+    assert ended.status == 0
+    rules.write_text("[nothing]\n")
+    ended = packages(tmp_path, "--rules", rules, *old, "--", tmp_path / "bare.deb", symbols)
+    assert ended.status == 2 and "no section of this name" in ended.out
+    assert packages(tmp_path, "--rules", tmp_path / "none", *old, "--", tmp_path / "bare.deb").status == 2
+
+
+def test_rpm_packages_with_a_supplementary_file(build: Build, tmp_path: Path) -> None:
+    """As Fedora has it: debug files by name, links by build id, and a supplementary file that is named from the debug file on."""
+    whole = [build(f"{number}.so", text, soname=f"lib{number}.so.1") for number, text in ((1, FIRST), (2, SECOND))]
+    stripped, files = [], {}
+    for library in whole:
+        stripped.append(split(library, tmp_path / f"{library.stem}.debug", link=False))
+    shared([tmp_path / "1.debug", tmp_path / "2.debug"], tmp_path / "shapes-1", "-M", "../../../.dwz/shapes-1")
+    files["usr/lib/debug/.dwz/shapes-1"] = tmp_path / "shapes-1"
+    for library in whole:
+        files[f"usr/lib/debug/usr/lib64/{library.stem}-1.debug"] = tmp_path / f"{library.stem}.debug"
+        link = tmp_path / f"{library.stem}.link"
+        link.symlink_to(f"../../usr/lib64/{library.stem}-1.debug")
+        files[str(system_place(Path(), build_id(library)))] = link
+    made = [rpm(tmp_path, "shapes", {f"usr/lib64/lib{number}.so.1": one for number, one in zip((1, 2), stripped)}),
+            rpm(tmp_path, "shapes-debuginfo", files)]
+    ended = packages(tmp_path, *made, "--", *made)
+    assert ended.status == 0 and "2 libraries: 2 yes" in ended.out, ended
+    assert ended.out.count("exports with types: old 2 of 2, new 2 of 2") == 2
+
+
+def test_a_soname_may_stand_in_several_folders(build: Build, tmp_path: Path) -> None:
+    whole = build("one.so", FIRST, soname="libshapes.so.1")
+    files = {f"{LIBRARIES}/libshapes.so.1": whole, f"{LIBRARIES}/glibc-hwcaps/x86-64-v3/libshapes.so.1": whole,
+             f"{LIBRARIES}/plugin.so": build("plugin.so", SECOND), "usr/bin/program": tmp_path / "shapes.h"}
+    made = deb(tmp_path, "several", files)
+    ended = packages(tmp_path, made, "--", made)
+    assert ended.status == 0, ended
+    assert [line.split(":")[0] for line in ended.out.splitlines()] == [
+        "yes plugin.so", f"yes {LIBRARIES}/glibc-hwcaps/x86-64-v3/libshapes.so.1", f"yes {LIBRARIES}/libshapes.so.1", "3 libraries"]
+
+
+def hostile_deb(path: Path, members: list[tuple[str, bytes | None, str]]) -> Path:
+    """A .deb whose archive has names that dpkg-deb would not make: a name, contents or none for a link, and where the link leads."""
+    archive = io.BytesIO()
+    with tarfile.open(fileobj=archive, mode="w:gz") as made:
+        for name, contents, target in members:
+            member = tarfile.TarInfo(name)
+            member.size = len(contents or b"")
+            if contents is None:
+                member.type, member.linkname = tarfile.SYMTYPE, target
+            made.addfile(member, io.BytesIO(contents or b""))
+    folder = path.with_suffix(".parts")
+    folder.mkdir()
+    (folder / "debian-binary").write_text("2.0\n")
+    for part in ("control.tar.gz", "data.tar.gz"):
+        (folder / part).write_bytes(archive.getvalue())
+    done("ar", "rc", path, *(folder / part for part in ("debian-binary", "control.tar.gz", "data.tar.gz")))
+    return path
+
+
+def test_a_package_writes_nothing_outside_of_its_folder(old: tuple[Path, Path], build: Build, tmp_path: Path) -> None:
+    contents = build("evil.so", FIRST).read_bytes()
+    outside = tmp_path / "outside"
+    outside.mkdir()
+    for number, members in enumerate(([("../../outside/evil.so", contents, "")], [(f"usr/{'../' * 9}tmp/evil.so", contents, "")],
+                                      [("usr/lib", None, str(outside)), ("usr/lib/evil.so", contents, "")],
+                                      [("usr/evil.so", None, str(outside / "evil.so")), ("usr/evil.so", contents, "")])):
+        ended = packages(tmp_path, hostile_deb(tmp_path / f"hostile{number}.deb", members), "--", *old)
+        assert ended.status == 2 and ended.errors.startswith("abi-packages: "), ended
+        assert list(outside.iterdir()) == [] and not Path("/tmp/evil.so").exists()
+
+
+def test_what_is_no_package_is_refused(old: tuple[Path, Path], tmp_path: Path) -> None:
+    cut = tmp_path / "cut.deb"
+    contents = old[0].read_bytes()
+    for share in (0, 5, 50, 95):
+        cut.write_bytes(contents[:len(contents) * share // 100])
+        ended = packages(tmp_path, cut, "--", *old)
+        assert ended.status == 2 and len(ended.errors.splitlines()) == 1 and "cut.deb" in ended.errors, ended
+    ended = packages(tmp_path, tmp_path / "none.deb", "--", *old)
+    assert ended.status == 2 and "there is no package" in ended.errors
+    ended = packages(tmp_path, old[0], old[0], "--", *old)
+    assert ended.status == 2 and "another package brings" in ended.errors
+    for arguments in ((*old,), (*old, "--"), ("--", *old), (*old, "--", *old, "--rules", "x")):
+        assert packages(tmp_path, *arguments).status == 2
+    nothing = deb(tmp_path, "nothing", {"usr/share/doc/nothing/readme": tmp_path / "shapes.h"})
+    ended = packages(tmp_path, nothing, "--", nothing)
+    assert ended.status == 2 and "no library is in the old packages" in ended.errors

@@ -1,0 +1,21 @@
+"""The arguments of the tools."""
+
+from __future__ import annotations
+
+import argparse
+from typing import NoReturn
+
+from abi_tools.faults import WRONG_ARGUMENTS
+
+
+class Arguments(argparse.ArgumentParser):
+    """A parser of arguments, which ends the program with a status of its own where they are wrong."""
+
+    def __init__(self, tool: str, description: str, statuses: str, wrong: int = WRONG_ARGUMENTS) -> None:
+        super().__init__(prog=tool, description=description, epilog=statuses, allow_abbrev=False,
+                         formatter_class=argparse.RawDescriptionHelpFormatter)
+        self._wrong = wrong
+
+    def error(self, message: str) -> NoReturn:
+        """Prints the usage and what is wrong, and ends the program."""
+        self.exit(self._wrong, f"{self.format_usage()}{self.prog}: {message}\n")

@@ -1,0 +1,114 @@
+"""ELF files as the tools write them: a library with sections added behind it, and a file of sections alone."""
+
+from __future__ import annotations
+
+import struct
+from dataclasses import dataclass, replace
+from typing import Collection, Sequence
+
+from abi_tools.elf_files import DAMAGED, ElfFile, SHT_NULL, SHT_PROGBITS, Section
+from abi_tools.faults import Fault
+from abi_tools.inflating import SHF_COMPRESSED
+
+# Fields of the header of an ELF-64 file (gABI, "ELF Header"), by their offsets.
+_PROGRAM_HEADERS_AT = struct.Struct("<Q"), 32
+_SECTION_HEADERS_AT = struct.Struct("<Q"), 40
+# e_phentsize, e_phnum, e_shentsize, e_shnum, e_shstrndx
+_COUNTS_AT = struct.Struct("<HHHHH"), 54
+_ENTRY_POINT_AT = struct.Struct("<Q"), 24
+_FILE_HEADER_SIZE = 64
+# From this number on, the count of sections stands elsewhere.
+_RESERVED_NUMBERS = 0xFF00
+_TABLE_ALIGNMENT = 8
+# A page: sections that are not loaded need no larger alignment.
+_LARGEST_ALIGNMENT = 4096
+_SHT_STRTAB = 3
+_NONE = Section(0, "", SHT_NULL, 0, 0, 0, 0, 0, 0, 0, 0)
+
+
+@dataclass(frozen=True)
+class AddedSection:
+    """A section that is written: the header of one that it stands for, and its contents."""
+
+    like: Section
+    contents: bytes
+
+    def placed(self, offset: int) -> Section:
+        """Its header, where it stands at the offset."""
+        return replace(self.like, kind=SHT_PROGBITS, flags=self.like.flags & ~SHF_COMPRESSED, address=0, offset=offset,
+                       size=len(self.contents), link=0, info=0)
+
+
+def _pad(image: bytearray, alignment: int) -> None:
+    """Brings the image to a length that is a multiple of the alignment."""
+    image.extend(bytes(-len(image) % min(max(alignment, 1), _LARGEST_ALIGNMENT)))
+
+
+def _kept_end(library: ElfFile, kept: Sequence[Section]) -> int:
+    """Where the last byte of the library's headers, segments and kept sections ends."""
+    header = library.elf.header
+    ends: list[int] = [_FILE_HEADER_SIZE, header.e_phoff + header.e_phnum * header.e_phentsize]
+    try:
+        ends += [segment["p_offset"] + segment["p_filesz"] for segment in library.elf.iter_segments()]
+    except DAMAGED as error:
+        raise Fault(f"{library.path} is damaged in its program headers") from error
+    ends += [section.offset + section.size for section in kept if section.holds_bytes]
+    return int(min(max(ends), len(library.data)))
+
+
+def with_sections(library: ElfFile, dropped: Collection[str], added: Sequence[AddedSection]) -> bytes:
+    """The library with sections added behind all others, which keep their numbers and places. Those of the names `dropped`
+    have no contents, name and type any more. Raises a fault if there are too many sections."""
+    kept = [_NONE if section.name in dropped else section for section in library.sections]
+    if len(kept) + len(added) >= _RESERVED_NUMBERS:
+        raise Fault(f"{library.path} has too many sections")
+    image = bytearray(library.data[:_kept_end(library, kept)])
+    placed = []
+    for section in added:
+        _pad(image, section.like.alignment)
+        placed.append(section.placed(len(image)))
+        image += section.contents
+    names_number = library.elf.get_shstrndx()
+    _write_table(image, [*kept, *placed], names_number, library.raw(library.sections[names_number]))
+    return bytes(image)
+
+
+def sections_alone(library: ElfFile, sections: Sequence[tuple[Section, bytes]]) -> bytes:
+    """A file that has the sections, in this order and with the links between them, and no segments."""
+    image = bytearray(library.data[:_FILE_HEADER_SIZE])
+    _PROGRAM_HEADERS_AT[0].pack_into(image, _PROGRAM_HEADERS_AT[1], 0)
+    _ENTRY_POINT_AT[0].pack_into(image, _ENTRY_POINT_AT[1], 0)
+    numbers = {section.number: place for place, (section, _) in enumerate(sections, 1)}
+    table = [_NONE]
+    for section, contents in sections:
+        _pad(image, min(section.alignment, _TABLE_ALIGNMENT))
+        table.append(replace(section, flags=section.flags & ~SHF_COMPRESSED, offset=len(image), size=len(contents),
+                             link=numbers.get(section.link, 0)))
+        image += contents
+    names = replace(_NONE, name=".shstrtab", kind=_SHT_STRTAB, alignment=1)
+    _write_table(image, [*table, names], len(table), b"\0")
+    return bytes(image)
+
+
+def _write_table(image: bytearray, sections: Sequence[Section], names_number: int, first_names: bytes) -> None:
+    """Appends the names of the sections, behind `first_names`, and their headers, and says so in the file's header."""
+    names = bytearray(first_names)
+    places: dict[str, int] = {}
+    for section in sections:
+        name = section.name.encode("utf-8", "surrogateescape") + b"\0"
+        if name not in names:
+            names += name
+        places[section.name] = names.index(name)
+    names_at = len(image)
+    image += names
+    _pad(image, _TABLE_ALIGNMENT)
+    table_at = len(image)
+    for number, section in enumerate(sections):
+        if number == names_number:
+            section = replace(section, offset=names_at, size=len(names))
+        image += section.header(places[section.name])
+    _SECTION_HEADERS_AT[0].pack_into(image, _SECTION_HEADERS_AT[1], table_at)
+    entry_size, count = _COUNTS_AT[0].unpack_from(image, _COUNTS_AT[1])[:2]
+    if not _PROGRAM_HEADERS_AT[0].unpack_from(image, _PROGRAM_HEADERS_AT[1])[0]:
+        count = 0
+    _COUNTS_AT[0].pack_into(image, _COUNTS_AT[1], entry_size, count, Section.LAYOUT.size, len(sections), names_number)

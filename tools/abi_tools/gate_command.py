@@ -1,0 +1,65 @@
+"""The command `abi-gate`."""
+
+from __future__ import annotations
+
+import argparse
+import sys
+from pathlib import Path
+from typing import Sequence
+
+from abi_tools.abi_program import Abi
+from abi_tools.arguments import Arguments
+from abi_tools.gates import Judgement, Verdict, judge
+from abi_tools.output_file import clear_output, write_whole
+
+_DESCRIPTION = """\
+Runs `abi check` on a library that was released and a new build of it, for a build that must stop where the new one may not replace
+the old one, or where that cannot be told. `abi` is the one that the variable ABI names, or else the one on the PATH.
+"""
+_STATUSES = """\
+Exit status:
+  0  yes: the new library may replace the old one
+  1  no: the report of abi is printed
+  2  it cannot be told, and a line says why: an input is refused or missing, exports lost their types with the debug information
+     (stripped, -g1), nothing was compared, no types were compared, or fewer than --require-types asks for; also where the
+     arguments are wrong
+"""
+
+
+def share(text: str) -> float:
+    """A share of 100. Raises ValueError if it is none."""
+    value = float(text.removesuffix("%"))
+    if not 0 <= value <= 100:
+        raise argparse.ArgumentTypeError(f"{text} is no share of 100")
+    return value
+
+
+def main(arguments: Sequence[str]) -> int:
+    """Judges as the arguments say, prints the answer, and answers the verdict."""
+    parser = Arguments("abi-gate", _DESCRIPTION, _STATUSES, wrong=Verdict.CANNOT_TELL)
+    parser.add_argument("--rules", type=Path, metavar="FILE", help="a rule file of abi: what is not compared")
+    parser.add_argument("--require-types", type=share, default=0.0, metavar="SHARE",
+                        help="how many of 100 compared exports must have types in both libraries (default: one at all)")
+    parser.add_argument("--certificate", type=Path, metavar="FILE", help="where the certificate of a yes is kept")
+    parser.add_argument("old", type=Path, metavar="OLD")
+    parser.add_argument("new", type=Path, metavar="NEW")
+    given = parser.parse_args(arguments)
+    if given.certificate is not None:
+        clear_output(given.certificate, [path for path in (given.old, given.new, given.rules) if path is not None])
+    judgement = judge(Abi(), given.old, given.new, given.rules, given.require_types)
+    if given.certificate is not None and judgement.verdict == Verdict.YES and judgement.answer is not None:
+        write_whole(given.certificate, judgement.answer.text.encode("utf-8", "surrogateescape"))
+    _show(judgement)
+    return int(judgement.verdict)
+
+
+def _show(judgement: Judgement) -> None:
+    """Prints the answer for people."""
+    if judgement.answer is not None and judgement.verdict != Verdict.CANNOT_TELL:
+        sys.stderr.write(judgement.answer.notes)
+    if judgement.verdict == Verdict.YES:
+        print(f"yes: {judgement.compared} exports compared, {judgement.typed} with types")
+    elif judgement.verdict == Verdict.NO and judgement.answer is not None:
+        sys.stdout.write(judgement.answer.text)
+    for reason in judgement.reasons:
+        print(f"cannot tell: {reason}")

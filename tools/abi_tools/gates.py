@@ -1,0 +1,156 @@
+"""Whether a new library may take the place of an old one, for a gate that can also say that it cannot be told.
+
+`abi` judges. What is added here is whether its answer rests on types at all: where there is no debug information, or only that of
+level 1, a yes says little, and a no may come from the missing types alone.
+"""
+
+from __future__ import annotations
+
+import enum
+from dataclasses import dataclass
+from functools import cached_property
+from pathlib import Path
+from typing import Optional
+
+from abi_tools.abi_program import NO, YES, Abi, Answer, Export
+from abi_tools.debug_levels import Levels, levels
+from abi_tools.elf_files import ElfFile
+from abi_tools.faults import Fault
+
+
+class Verdict(enum.IntEnum):
+    """The exit statuses of a gate."""
+
+    YES = 0
+    NO = 1
+    CANNOT_TELL = 2
+
+    def words(self) -> str:
+        """How people read it."""
+        return self.name.lower().replace("_", " ")
+
+
+@dataclass(frozen=True)
+class Library:
+    """A library, its exports as `abi` reads them, and which code has types."""
+
+    path: Path
+    exports: dict[int, Export]
+    levels: Levels
+    values: list[int]
+
+    @classmethod
+    def read(cls, abi: Abi, path: Path) -> "Library":
+        """Reads it. Raises a fault if `abi` does not read it."""
+        exports = {export.number: export for export in abi.exports(path)}
+        file = ElfFile(abi.folder / path)
+        return cls(path, exports, levels(file), file.symbol_values())
+
+    @cached_property
+    def by_label(self) -> dict[str, Export]:
+        """The exports by their labels."""
+        return {export.label: export for export in self.exports.values()}
+
+    def lacks_types(self, export: Export) -> bool:
+        """Whether the type of an export is one that is read because its debug information has no types."""
+        if not export.may_lack_types:
+            return False
+        return export.said == "is void" or self.levels.untyped.has(self.values[export.number])
+
+    def has_types(self, export: Export) -> bool:
+        """Whether the debug information has the type of an export."""
+        return export.is_typed and not self.lacks_types(export)
+
+    def is_described(self, export: Export) -> bool:
+        """Whether there is debug information with types of the code of a function, or, of an object, of any code."""
+        if export.kind in ("FUNC", "NOTYPE"):
+            return self.levels.typed.has(self.values[export.number])
+        return self.levels.has_types
+
+    def typed_count(self) -> tuple[int, int]:
+        """How many exports have types, and of how many: those of a size above 0."""
+        counted = [export for export in self.exports.values() if export.size]
+        return sum(self.has_types(export) for export in counted), len(counted)
+
+
+@dataclass(frozen=True)
+class Judgement:
+    """A verdict, the reasons where it cannot be told, what `abi` said, and how many exports were compared and had types in both
+    libraries."""
+
+    verdict: Verdict
+    reasons: tuple[str, ...]
+    answer: Optional[Answer]
+    compared: int = 0
+    typed: int = 0
+    old: Optional[Library] = None
+    new: Optional[Library] = None
+
+
+def judge(abi: Abi, old_path: Path, new_path: Path, rules: Optional[Path], least_share: float = 0.0) -> Judgement:
+    """The verdict on two libraries, where at least a share (of 100) of the compared exports must have types. What `abi` does not
+    read, and what ends it, is a verdict that it cannot be told."""
+    answer = abi.check(old_path, new_path, rules)
+    if answer.status not in (YES, NO):
+        return Judgement(Verdict.CANNOT_TELL, (answer.why(),), answer)
+    try:
+        old, new = Library.read(abi, old_path), Library.read(abi, new_path)
+    except Fault as fault:
+        return Judgement(Verdict.CANNOT_TELL, (str(fault),), answer)
+    return _of_no(answer, old, new) if answer.status == NO else _of_yes(answer, old, new, least_share)
+
+
+def _of_yes(answer: Answer, old: Library, new: Library, least_share: float) -> Judgement:
+    """The verdict where `abi` said yes."""
+    bound = [(old.exports[one], new.exports[two]) for one, two in answer.bound]
+    counted = [(one, two) for one, two in bound if one.size]
+    typed = sum(old.has_types(one) and new.has_types(two) for one, two in counted)
+    lost = sum(old.has_types(one) and new.lacks_types(two) for one, two in bound)
+    reasons = []
+    if not bound:
+        reasons.append("nothing was compared: no export of the old library, or none that the rule file does not leave out")
+    elif lost:
+        reasons.append(_lost(lost, new))
+    elif counted and not typed:
+        reasons.append(f"no types were compared: {_without_types(old, new)}")
+    elif counted and 100 * typed < least_share * len(counted):
+        reasons.append(f"{typed} of {len(counted)} exports have types in both libraries, which is less than {least_share:g} of 100")
+    verdict = Verdict.CANNOT_TELL if reasons else Verdict.YES
+    return Judgement(verdict, tuple(reasons), answer, len(bound), typed, old, new)
+
+
+def _of_no(answer: Answer, old: Library, new: Library) -> Judgement:
+    """The verdict where `abi` said no: it cannot be told where all rows come from missing types."""
+    doubtful = [row for row in answer.rows if _is_doubtful(row, old, new)]
+    if len(doubtful) < len(answer.rows):
+        return Judgement(Verdict.NO, (), answer, old=old, new=new)
+    labels = {row.split(" ", 2)[1].rstrip(":") for row in doubtful}
+    if any(old.lacks_types(old.by_label[label]) for label in labels if label in old.by_label):
+        reason = f"{len(labels)} exports cannot be compared: {old.path} {old.levels.reason()}"
+    else:
+        reason = _lost(len(labels), new)
+    return Judgement(Verdict.CANNOT_TELL, (reason,), answer, old=old, new=new)
+
+
+def _is_doubtful(row: str, old: Library, new: Library) -> bool:
+    """Whether a row of the report comes from missing types: an export whose type is gone with the debug information, or one whose
+    type is read from debug information without types."""
+    rule, label = row.split(" ", 2)[:2]
+    first, second = old.by_label.get(label.rstrip(":")), new.by_label.get(label.rstrip(":"))
+    if first is None or second is None:
+        return False
+    if rule == "X6":
+        return not new.is_described(second)
+    return rule.startswith("L") and (old.lacks_types(first) or new.lacks_types(second))
+
+
+def _lost(count: int, new: Library) -> str:
+    """That exports lost their types with the debug information."""
+    return (f"{count} exports that have types in the old library have none in the new one: "
+            f"{new.path} {new.levels.reason()}")
+
+
+def _without_types(old: Library, new: Library) -> str:
+    """Which library has no types, and why."""
+    untyped = [library for library in (old, new) if not library.typed_count()[0]] or [old, new]
+    return ", and ".join(f"{one.path} {one.levels.reason()}" for one in untyped)

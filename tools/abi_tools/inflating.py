@@ -1,0 +1,55 @@
+"""Compressed sections: those of the gABI ("Section Compression"; zlib and zstd), and those of older tools (`.zdebug_`)."""
+
+from __future__ import annotations
+
+import struct
+import zlib
+
+import zstandard
+
+from abi_tools.faults import Fault
+
+SHF_COMPRESSED = 0x800
+# Elf64_Chdr: ch_type, ch_reserved, ch_size, ch_addralign.
+_COMPRESSION_HEADER = struct.Struct("<IIQQ")
+_ZLIB = 1
+_ZSTD = 2
+# An older section begins with these bytes and its size, the highest byte first.
+_OLD_MAGIC = b"ZLIB"
+_OLD_HEADER = struct.Struct(">4sQ")
+# A file that is larger is refused by `abi`, so what is larger is not inflated.
+LARGEST = 1 << 32
+
+
+def inflate(contents: bytes, where: str) -> bytes:
+    """The contents of a section that has the flag SHF_COMPRESSED. Raises a fault, which names `where`, if they are damaged or
+    compressed in another way than zlib and zstd."""
+    if len(contents) < _COMPRESSION_HEADER.size:
+        raise Fault(f"{where} is cut short inside its compression header")
+    kind, _, size, _ = _COMPRESSION_HEADER.unpack_from(contents)
+    return _inflated(kind, contents[_COMPRESSION_HEADER.size:], size, where)
+
+
+def inflate_old(contents: bytes, where: str) -> bytes:
+    """The contents of a section whose name begins with `.zdebug_`. Raises a fault if they are damaged."""
+    if len(contents) < _OLD_HEADER.size or not contents.startswith(_OLD_MAGIC):
+        raise Fault(f"{where} does not begin as a compressed section does")
+    _, size = _OLD_HEADER.unpack_from(contents)
+    return _inflated(_ZLIB, contents[_OLD_HEADER.size:], size, where)
+
+
+def _inflated(kind: int, packed: bytes, size: int, where: str) -> bytes:
+    if size > LARGEST:
+        raise Fault(f"{where} says that it has {size} bytes once it is inflated, which is too much")
+    try:
+        if kind == _ZLIB:
+            plain = zlib.decompressobj().decompress(packed, size + 1)
+        elif kind == _ZSTD:
+            plain = zstandard.ZstdDecompressor().stream_reader(packed).read(size + 1)
+        else:
+            raise Fault(f"{where} is compressed in a way that is neither zlib nor zstd (type {kind})")
+    except (zlib.error, zstandard.ZstdError) as error:
+        raise Fault(f"{where} cannot be inflated: {error}") from error
+    if len(plain) != size:
+        raise Fault(f"{where} does not have the {size} bytes that it says once it is inflated")
+    return plain

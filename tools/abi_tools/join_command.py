@@ -1,0 +1,33 @@
+"""The command `join-debug`."""
+
+from __future__ import annotations
+
+from pathlib import Path
+from typing import Sequence
+
+from abi_tools.arguments import Arguments
+from abi_tools.joining import join
+from abi_tools.output_file import clear_output, write_whole
+
+_DESCRIPTION = """\
+Joins a library with the debug information that its distribution ships apart, in one file that `abi` reads: debug sections are put
+in place and inflated, and what stands in a supplementary file (dwz -m) is put in. Without DEBUG_FILE the debug file is looked for
+below FOLDER, by the library's build id and by .gnu_debuglink; a library that has debug information itself needs none. The debug
+file must be of the library's build. OUTPUT is there at the end exactly where the status is 0.
+"""
+_STATUSES = "Exit status: 0 joined; 1 not joined, and a sentence says why; 64 wrong arguments."
+
+
+def main(arguments: Sequence[str]) -> int:
+    """Joins as the arguments say, and answers 0. Raises a fault if that cannot be done."""
+    parser = Arguments("join-debug", _DESCRIPTION, _STATUSES)
+    parser.add_argument("--root", type=Path, default=Path("/"), metavar="FOLDER",
+                        help="the folder of an unpacked package with its usr/lib/debug (default: /)")
+    parser.add_argument("library", type=Path, metavar="LIBRARY")
+    parser.add_argument("output", type=Path, metavar="OUTPUT")
+    parser.add_argument("debug_file", type=Path, nargs="?", metavar="DEBUG_FILE")
+    given = parser.parse_args(arguments)
+    inputs = [given.library] + ([given.debug_file] if given.debug_file else [])
+    clear_output(given.output, inputs)
+    write_whole(given.output, join(given.library, given.root, given.debug_file))
+    return 0

@@ -1,0 +1,25 @@
+"""How the scripts beside this package start: a missing library of Debian gets a sentence, not a trace."""
+
+from __future__ import annotations
+
+import importlib
+import sys
+
+# The libraries that do not come with Python, and the packages of Debian that bring them.
+PACKAGES = {"elftools": "python3-pyelftools", "debian": "python3-debian", "zstandard": "python3-zstandard"}
+
+
+def start(tool: str, module: str, fault_status: int = 1) -> int:
+    """Runs `main` of the module of this package with the arguments of the command line, and answers its status;
+    `fault_status` where it cannot be done."""
+    try:
+        command = importlib.import_module(f"abi_tools.{module}")
+    except ModuleNotFoundError as error:
+        library = (error.name or "").split(".")[0]
+        if library not in PACKAGES:
+            raise
+        print(f"{tool}: there is no {library} for Python: install the package {PACKAGES[library]}", file=sys.stderr)
+        return fault_status
+    from abi_tools.faults import run_tool
+
+    return run_tool(tool, command.main, sys.argv[1:], fault_status)
