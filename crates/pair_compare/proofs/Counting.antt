@@ -14,7 +14,7 @@ class_count-le : (c : PlainClasses) → class_count c ≤ length c.nodes
 unfolding class_reps
 class_count-le c =
     let nodes = range_with_len 0 (length c.nodes) in
-    let stands = λ i. rep_of c i == i in
+    let stands = λ (i : ℕ). rep_of c i == i in
     omega (arith, length-filter stands nodes, count_by-le-length stands nodes, length-range_with_len 0 (length c.nodes))
 
 -- so there are no more triples of classes than of nodes
