@@ -14,6 +14,7 @@ use Rattle.clap.specs.declared.builder.value_parser.ValueParser.TheVariants as v
 use Rattle.clap.proofs.FaultLemmas.{leaf_fault}
 use Rattle.clap.proofs.OnLiterals.{clap_on_literals}
 use Rattle.report.specs.declared.styles.report_option.ReportStyle.TheVariants as style
+use Rattle.cli_args.specs.Trials.{most_count}
 use Rattle.cli_args.specs.Words.{IsNoOption}
 use Rattle.cli_args.specs.Line.{PlainLine, line_app, line_in, option_words, words_of}
 use Rattle.cli_args.specs.ParsedArguments.{arguments_by, check, command_named, entries, exports, request, request_on, request_or_usage, trial, verify}
@@ -191,7 +192,7 @@ pub exports_asks : (library : Text) → IsNoOption library → arguments_by (cod
 unfolding command_named
 exports_asks library l = plain_words_ask (codes "exports") (library ∷ []) (letter 101 (λ e. absurd (omega (arith, e)))) (l, tt) (omega arith)
 
-pub trial_asks : (n : ℕ) → 1 ≤ n → n ≤ 50000 → arguments_by (codes "trial" ∷ decimal n ∷ []) ≡ request (trial n)
+pub trial_asks : (n : ℕ) → 1 ≤ n → n ≤ most_count → arguments_by (codes "trial" ∷ decimal n ∷ []) ≡ request (trial n)
 unfolding command_named
 trial_asks n least most =
     let count = decimal_counts n least most in

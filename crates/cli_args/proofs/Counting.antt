@@ -13,7 +13,7 @@ use Rattle.std.proofs.lemmas.Fmt.{decimal-digits_value, decimal_is_IsNumeral, fi
 use Rattle.std.proofs.lemmas.Option.{same_Some}
 use Rattle.std.proofs.lemmas.Str.Parse.{IsDigitsTest, IsNumeralModel, numerals_by_value, parse_digits}
 use Rattle.cli_args.specs.Words.{IsNoOption}
-use Rattle.cli_args.specs.Trials.{is_decimal, is_trial_count, trial_count_of}
+use Rattle.cli_args.specs.Trials.{is_decimal, is_trial_count, most_count, trial_count_of}
 
 both : (a b : Bool) → (a && b) ≡ true → (a ≡ true) × (b ≡ true)
 both true true e = (refl, refl)
@@ -43,12 +43,12 @@ count_at : (word : List ℕ) (b : Bool) → (is_decimal word && is_trial_count (
 unfolding trial_count_of
 count_at word b e = ap (λ (t : Bool). cond t (Some (digits_value 10 word)) None) e
 
-pub counted : (word : List ℕ) (n : ℕ) → is_decimal word ≡ true → n ≡ digits_value 10 word → 1 ≤ n → n ≤ 50000 → Some n ≡ trial_count_of word
+pub counted : (word : List ℕ) (n : ℕ) → is_decimal word ≡ true → n ≡ digits_value 10 word → 1 ≤ n → n ≤ most_count → Some n ≡ trial_count_of word
 counted word n digits is least most =
     let v = digits_value 10 word in
     let low : 1 ≤ v = omega arith in
-    let high : v ≤ 50000 = omega arith in
-    let in_range = and_true (nat_le 1 v) (nat_le v 50000) (le-leb 1 v low) (le-leb v 50000 high) in
+    let high : v ≤ most_count = omega arith in
+    let in_range = and_true (nat_le 1 v) (nat_le v most_count) (le-leb 1 v low) (le-leb v most_count high) in
     ap Some is ∙ sym (count_at word true (and_true (is_decimal word) (is_trial_count v) digits in_range))
 
 -- what the word writes, where it counts
@@ -56,19 +56,19 @@ record Counts (word : List ℕ) : Type 0 where
   digits : list_all is_ascii_digit word ≡ true
   no_zero_first : (slice_index word 0 == 48) ≡ false
   least : 1 ≤ digits_value 10 word
-  most : digits_value 10 word ≤ 50000
+  most : digits_value 10 word ≤ most_count
 
 counts : (word : List ℕ) → (is_decimal word && is_trial_count (digits_value 10 word)) ≡ true → Counts word
 counts word e =
     let v = digits_value 10 word in
     let parts = both (is_decimal word) (is_trial_count v) e in
     let written = both (list_all is_ascii_digit word) (not (slice_index word 0 == 48)) parts.0 in
-    let in_range = both (nat_le 1 v) (nat_le v 50000) parts.1 in
+    let in_range = both (nat_le 1 v) (nat_le v most_count) parts.1 in
     record {
       digits = written.0;
       no_zero_first = not_false (slice_index word 0 == 48) written.1;
       least = leb-true 1 v in_range.0;
-      most = leb-true v 50000 in_range.1;
+      most = leb-true v most_count in_range.1;
     }
 
 none_at : (word : List ℕ) (C : Type 0) → (Counts word → C) → (trial_count_of word ≡ None → C) → C
@@ -108,7 +108,7 @@ no_option : (word : List ℕ) → list_all is_ascii_digit word ≡ true → IsNo
 no_option [] digits e = absurd (true≢false (ap is_some (sym e)))
 no_option (x ∷ xs) digits e = let within = (tells.parts x xs digits).0 in absurd (omega (arith, within.0, same_Some x 45 e))
 
-pub decimal_counts : (n : ℕ) → 1 ≤ n → n ≤ 50000 → (trial_count_of (decimal n) ≡ Some n) × IsNoOption (decimal n)
+pub decimal_counts : (n : ℕ) → 1 ≤ n → n ≤ most_count → (trial_count_of (decimal n) ≡ Some n) × IsNoOption (decimal n)
 decimal_counts n least most =
     let numeral = decimal_is_IsNumeral n (omega (arith, most)) in
     let digits : list_all is_ascii_digit (decimal n) ≡ true = own.from (decimal n) numeral.0.1 in

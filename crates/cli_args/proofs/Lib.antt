@@ -1,5 +1,6 @@
 mod OneKind
 mod LineLemmas
+mod HelpAlone
 mod HelpWords
 mod Samples
 mod Judging

@@ -5,7 +5,7 @@ use Rattle.std.specs.Str.Parse.{digits_value}
 use Rattle.std.proofs.lemmas.Bool.{leb-true}
 use Rattle.report.specs.declared.styles.report_option.ReportStyle.{ReportStyle}
 use Rattle.cli_args.specs.Line.{PlainLine}
-use Rattle.cli_args.specs.Trials.{is_decimal, is_trial_count, trial_count_of}
+use Rattle.cli_args.specs.Trials.{is_decimal, is_trial_count, most_count, trial_count_of}
 use Rattle.cli_args.specs.ParsedArguments.{PlainRequest, PlainArguments, check, entries, exports, trial, request, check_of, verify_of, lone_word, style_of, command_named, request_of, request_on, request_or_usage, arguments_by}
 use Rattle.cli_args.specs.declared.judge.CommandName.{CommandName}
 use Rattle.cli_args.specs.declared.judge.CommandName.TheVariants.{Check, Verify, Entries, Exports, Trial}
@@ -13,7 +13,7 @@ use Rattle.cli_args.proofs.Judging.{judged_all}
 
 -- the number of a trial is one that may be asked for
 abbrev pub IsRightTrial : PlainRequest → Type 0
-IsRightTrial (trial n) = (1 ≤ n) × (n ≤ 50000)
+IsRightTrial (trial n) = (1 ≤ n) × (n ≤ most_count)
 IsRightTrial other = Unit {0}
 
 abbrev AsksRight : PlainArguments → Type 0
@@ -25,10 +25,10 @@ both_true true true e = (refl, refl)
 both_true true false e = absurd (true≢false (sym e))
 both_true false b e = absurd (true≢false (sym e))
 
-counted : (n : ℕ) (a : Bool) → (a && is_trial_count n) ≡ true → (1 ≤ n) × (n ≤ 50000)
+counted : (n : ℕ) (a : Bool) → (a && is_trial_count n) ≡ true → (1 ≤ n) × (n ≤ most_count)
 counted n a e =
-    let least = both_true (nat_le 1 n) (nat_le n 50000) (both_true a (is_trial_count n) e).1 in
-    (leb-true 1 n least.0, leb-true n 50000 least.1)
+    let least = both_true (nat_le 1 n) (nat_le n most_count) (both_true a (is_trial_count n) e).1 in
+    (leb-true 1 n least.0, leb-true n most_count least.1)
 
 right_count : (word : List ℕ) → AsksRight (request_or_usage (option_map trial (trial_count_of word)))
 unfolding trial_count_of
@@ -80,5 +80,5 @@ right_request (Some Trial) files rules report = right_trial (lone_word files rul
 right_line : (line : PlainLine) → AsksRight (request_or_usage (request_on line))
 right_line line = right_request (option_and_then command_named line.command) line.files line.rules line.report
 
-pub right : (words : List (List ℕ)) (n : ℕ) → arguments_by words ≡ request (trial n) → (1 ≤ n) × (n ≤ 50000)
+pub right : (words : List (List ℕ)) (n : ℕ) → arguments_by words ≡ request (trial n) → (1 ≤ n) × (n ≤ most_count)
 right words n e = subst AsksRight e (judged_all AsksRight tt tt right_line words)

@@ -8,9 +8,13 @@ use Rattle.std.specs.Str.Parse.{digits_value}
 abbrev pub is_decimal : List ℕ → Bool
 is_decimal word = list_all is_ascii_digit word && not (slice_index word 0 == 48)
 
-abbrev pub is_trial_count : ℕ → Bool
-is_trial_count n = nat_le 1 n && nat_le n 50000
+-- the most functions of a trial
+abbrev pub most_count : ℕ
+most_count = 50000
 
--- the number that the word writes in decimal without leading zeros, where it is from 1 to 50,000
+abbrev pub is_trial_count : ℕ → Bool
+is_trial_count n = nat_le 1 n && nat_le n most_count
+
+-- the number that the word writes in decimal without leading zeros, where a trial may have so many functions
 unfoldable pub trial_count_of : List ℕ → Option ℕ
 trial_count_of word = if is_decimal word && is_trial_count (digits_value 10 word) then Some (digits_value 10 word) else None

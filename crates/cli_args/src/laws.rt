@@ -4,9 +4,9 @@ ghost use Rattle.std.specs.List.{All, Any};
 ghost use Rattle.std.specs.Fmt.{decimal};
 ghost use Rattle.clap.specs.Words.{fault_of};
 ghost use Rattle.report.specs.declared.styles.report_option.ReportStyle.TheVariants.{Text};
-ghost use Rattle.cli_args.specs.Words.{LooksForHelp, IsNoOption};
+ghost use Rattle.cli_args.specs.Words.{AsksForHelp, LooksForHelp, IsNoOption};
 ghost use Rattle.cli_args.specs.Line.{line_app, words_of};
-ghost use Rattle.cli_args.specs.Trials.{trial_count_of};
+ghost use Rattle.cli_args.specs.Trials.{most_count, trial_count_of};
 ghost use Rattle.cli_args.specs.ParsedArguments.{arguments_by, request_on, request_or_usage, request, help, check, verify, entries, exports, trial};
 
 /// `clap` has at most one answer to words.
@@ -14,15 +14,22 @@ pub fn one_answer()
     ensures { (words : List (List ℕ)) → length (fault_of line_app words) ≤ 1 }
 {}
 
-/// Where words ask for the help, one of them begins with `--help`, or begins with one `-` that no second one follows and has
-/// an `h` in it.
+/// `--help` or `-h` alone asks for the help.
+pub fn help_alone_is_help()
+    ensures long { arguments_by (codes "--help" ∷ []) ≡ help }
+    ensures short { arguments_by (codes "-h" ∷ []) ≡ help }
+{}
+
+/// Where words ask for the help, one of them is `--help`, with or without a value, or has `h` as its first short option. So it
+/// begins with `--help`, or begins with one `-` that no second one follows and has an `h` in it.
 pub fn help_is_asked()
-    ensures { (words : List (List ℕ)) → arguments_by words ≡ help → Any LooksForHelp words }
+    ensures asks { (words : List (List ℕ)) → arguments_by words ≡ help → Any AsksForHelp words }
+    ensures looks { (words : List (List ℕ)) → arguments_by words ≡ help → Any LooksForHelp words }
 {}
 
 /// A trial is of 1 to 50,000 functions.
 pub fn a_trial_is_of_a_count()
-    ensures { (words : List (List ℕ)) (n : ℕ) → arguments_by words ≡ request (trial n) → (1 ≤ n) × (n ≤ 50000) }
+    ensures { (words : List (List ℕ)) (n : ℕ) → arguments_by words ≡ request (trial n) → (1 ≤ n) × (n ≤ most_count) }
 {}
 
 /// A line as the usage has it, COMMAND [--rules FILE] [--report STYLE] FILES.., asks for what stands in it, where none of its
@@ -58,7 +65,7 @@ pub fn exports_takes_one_file()
 
 /// `trial` and a number from 1 to 50,000 in decimal ask for a trial of so many functions.
 pub fn trial_takes_a_number()
-    ensures { (n : ℕ) → 1 ≤ n → n ≤ 50000 → arguments_by (codes "trial" ∷ decimal n ∷ []) ≡ request (trial n) }
+    ensures { (n : ℕ) → 1 ≤ n → n ≤ most_count → arguments_by (codes "trial" ∷ decimal n ∷ []) ≡ request (trial n) }
 {}
 
 /// A word that is read as the number of a trial is that number in decimal, without leading zeros or a sign.
