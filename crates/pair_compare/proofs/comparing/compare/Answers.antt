@@ -6,12 +6,12 @@ use Rattle.pair_compare.proofs.Judging.{are_bound, is_unbroken, no_items}
 use Rattle.pair_compare.proofs.comparing.compare.Goals as goal
 
 pub make_cert-requires-clause-exports : goal.make_cert-requires-clause-exports
-make_cert-requires-clause-exports c =
+make_cert-requires-clause-exports g c =
     let none : c.in_ok-rows.rows ≡ [] = no_items c.as_slice.result.now c.in_ok-rows.rows c.is_empty.result c.as_slice.ensures c.is_empty.ensures c.if-not-is_empty.false in
     are_bound (sides c.args.old.now c.args.new.now c.args.marks.now) (c.in_ok-rows.ensures.none.0 none)
 
 pub make_cert-requires-clause-types : goal.make_cert-requires-clause-types
-make_cert-requires-clause-types c =
+make_cert-requires-clause-types g c =
     let none : c.in_ok-rows.rows ≡ [] = no_items c.as_slice.result.now c.in_ok-rows.rows c.is_empty.result c.as_slice.ensures c.is_empty.ensures c.if-not-is_empty.false in
     is_unbroken c.no_break_is_compatible.ensures (sides c.args.old.now c.args.new.now c.args.marks.now) c.in_ok-old_classes.old_classes c.in_ok-new_classes.new_classes c.in_ok-explored.explored.visits c.in_ok-explored.explored.breaks
     (record {
@@ -23,7 +23,7 @@ make_cert-requires-clause-types c =
       exploration = c.in_ok-explored.ensures.explored;
     }) (c.in_ok-rows.ensures.none.0 none)
 
-pub returns : goal.returns
-returns c =
+pub returns-clause-right : goal.returns-clause-right
+returns-clause-right g c =
     let none : c.in_ok-rows.rows ≡ [] = no_items c.as_slice.result.now c.in_ok-rows.rows c.is_empty.result c.as_slice.ensures c.is_empty.ensures c.if-not-is_empty.false in
     record { compatible = c.in_ok-rows.ensures.none.0 none; certificate = c.in_ok-cert.ensures.certificate; accepted = c.in_ok-cert.ensures.accepted }
