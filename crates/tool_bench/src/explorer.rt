@@ -5,7 +5,7 @@ ghost use Rattle.std.specs.Prelude.{◌≡◌, ◌<◌};
 use crate::words::number;
 use abi_base::{List, NoMemory};
 use abi_types::{Graph, Index, NewIx, Node, OldIx};
-use pair_explorer::{Root, explore, is_scope};
+use pair_explorer::{GraphPair, Root, explore, is_scope};
 use pair_rules::Steps;
 use std::alloc::Global;
 use std::marker::Brand;
@@ -98,29 +98,21 @@ fn explored<L: Ledger>(
     let marks = no_marks(alloc, 0, old.len())?;
     let old_classes = plain(alloc, old)?;
     let new_classes = plain(alloc, new)?;
+    let graphs = GraphPair {
+        old,
+        new,
+        roots: roots.as_slice(),
+        marks: &marks,
+        old_classes: &old_classes,
+        new_classes: &new_classes,
+    };
     let mut triples = 0usize;
     let mut breaks = 0usize;
     for _ in 0..rounds {
-        if !is_scope(
-            old,
-            new,
-            roots.as_slice(),
-            &marks,
-            &old_classes,
-            &new_classes,
-        ) {
+        if !is_scope(&graphs) {
             return Ok((triples, breaks));
         }
-        let explored = explore(
-            alloc,
-            old,
-            new,
-            roots.as_slice(),
-            &marks,
-            &old_classes,
-            &new_classes,
-            &mut steps,
-        )?;
+        let explored = explore(alloc, &graphs, &mut steps)?;
         triples = triples.saturating_add(explored.visits.len());
         breaks = breaks.saturating_add(explored.breaks.as_slice().len());
     }
