@@ -1,11 +1,11 @@
 -- What is given for the numbers of a range, in their order.
-use Rattle.std.proofs.Common.{◌≡◌, ◌<◌, ◌≤◌, ◌+◌, ℕ, zero, suc, List, [], ◌∷◌, ◌++◌, length, slice_get, Option, Some, None, refl, sym, ◌∙◌, ap, inl, inr, arith}
+use Rattle.std.proofs.Common.{◌≡◌, ◌<◌, ◌≤◌, ◌+◌, ℕ, zero, suc, List, [], ◌∷◌, ◌++◌, slice_get, Option, Some, None, refl, sym, ◌∙◌, ap, inl, inr, arith}
 use Rattle.std.specs.Prelude.{filter_map, option_to_list}
 use Rattle.std.specs.List.{range_with_len, Contains}
 use Rattle.std.proofs.lemmas.Bool.{cases_order}
 use Rattle.std.proofs.lemmas.List.Elements.{filter_map-append}
 use Rattle.std.proofs.lemmas.Option.{none-some}
-use Rattle.cert_check.specs.Given.{given_below, IsGivenBy, AreGivenInOrder, StandInOrder}
+use Rattle.cert_check.specs.Given.{given_below, AreGivenInOrder, StandInOrder}
 use Rattle.cert_check.proofs.ListLemmas.{contains_at, at_contains}
 
 range_more : (a n : ℕ) → range_with_len a (suc n) ≡ range_with_len a n ++ (a + n) ∷ []

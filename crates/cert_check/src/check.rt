@@ -1,19 +1,44 @@
 // The whole check.
+ghost use Rattle.std.specs.Prelude.{OnOk};
+ghost use Rattle.pair_rules.specs.Stable.{AreEven};
 ghost use Rattle.cert_check.specs.Accepted.{Settles, asked, places};
+ghost use Rattle.cert_check.specs.Agreed.{IsAgreed};
+ghost use Rattle.cert_check.specs.Compatible.{sides, task_of};
 
 use crate::alike::{check_alike_lines_of_new, check_alike_lines_of_old};
 use crate::bindings::check_bindings;
 use crate::certified_pair::CertifiedPair;
 use crate::exports::{check_roots, check_rules};
 use crate::heads::check_heads;
+use crate::laws::{an_accepted_certificate_is_a_proof, compatible_is_that_accesses_agree};
 use crate::pairs::check_pairs;
 use crate::refused::Refused;
 use abi_types::{Library, Marks, NewIx, OldIx};
 use cert_text::Cert;
 
-/// Whether a certificate proves that the new library may stand in the place of the old one, but for what is marked: Ok
-/// exactly where all that is asked of it holds, else the first that does not. It takes no memory.
+/// Whether a certificate proves that the new library may replace the old one, except for what the rules suppress: Ok exactly where
+/// all its conditions hold, else the first that fails. On Ok, where old nodes with equal labels are marked alike, what a program
+/// compiled against the old library reaches is the same in the new one. It takes no memory.
 pub fn check_cert(
+    old: &Library<OldIx>,
+    new: &Library<NewIx>,
+    marks: &Marks,
+    cert: &Cert,
+) -> Result<(), Refused>
+    ensures settles { Settles (asked old.now new.now marks.now cert.now) (places (asked old.now new.now marks.now cert.now)) result }
+    ensures agreed { OnOk result (AreEven (task_of (sides old.now new.now marks.now)) → IsAgreed (sides old.now new.now marks.now)) }
+{
+    an_accepted_certificate_is_a_proof();
+    compatible_is_that_accesses_agree();
+    old.known();
+    new.known();
+    old.graph().known();
+    new.graph().known();
+    check_conditions(old, new, marks, cert)
+}
+
+// Each condition in its order.
+fn check_conditions(
     old: &Library<OldIx>,
     new: &Library<NewIx>,
     marks: &Marks,

@@ -5,7 +5,9 @@ ghost use Rattle.abi_types.specs.Libraries.{AreNumbered};
 ghost use Rattle.pair_rules.specs.Steps.{PlainRoot};
 ghost use Rattle.pair_rules.specs.Stable.{AreEven};
 ghost use Rattle.pair_rules.specs.Closed.{IsClosed, HoldsRoots};
+ghost use Rattle.accesses.specs.LeafPlaces.{LeavesStay};
 ghost use Rattle.cert_text.specs.Certs.{PairLine, PlainCert1};
+ghost use Rattle.cert_check.specs.Agreed.{AreValid, IsAgreed};
 ghost use Rattle.cert_check.specs.Compatible.{Sides, IsCompatible, task_of, typed_roots};
 ghost use Rattle.cert_check.specs.TypedPairs.{IsTypedPair, HasTypes};
 ghost use Rattle.cert_check.specs.Accepted.{Case, Place, IsAccepted, IsFirstFailing, is_line, line_of, places};
@@ -14,6 +16,7 @@ ghost use Rattle.cert_check.specs.ProvedConditions.{KeepsAll};
 ghost use Rattle.cert_check.specs.Relation.{relation_of};
 ghost use Rattle.cert_check.specs.FirstVersion.{AreOneMark, IsAccepted1, migrated_case};
 
+use accesses::laws::{compatible_is_that_all_accesses_land, leaves_stay};
 use pair_rules::laws::{steps_lead_to_nodes, what_stands_for_classes_closes};
 
 /// Where old nodes with equal labels are marked alike at each way, an accepted certificate proves that the new library may
@@ -23,6 +26,18 @@ pub fn an_accepted_certificate_is_a_proof()
         → AreEven (task_of c.sides) → IsAccepted c → IsCompatible c.sides }
 {
     what_stands_for_classes_closes();
+}
+
+/// The new library may replace the old one exactly where the sonames agree, each old export that is compared binds and keeps the
+/// rules of exports, and every open access from the types of these exports lands in agreement. Then each leaf of what an open
+/// access lands on stays where it is, if it lies under no place that is marked at its way and under none that is declared only in
+/// the new library.
+pub fn compatible_is_that_accesses_agree()
+    ensures exact { (s : Sides) → AreValid s → IsCompatible s ↔ IsAgreed s }
+    ensures leaves { (s : Sides) → AreValid s → IsCompatible s → LeavesStay (task_of s) }
+{
+    compatible_is_that_all_accesses_land();
+    leaves_stay();
 }
 
 /// Under the same premises the relation of an accepted certificate is such a relation as the theorem speaks of: it is closed, and

@@ -1,5 +1,7 @@
 // What is said of two libraries as they were read.
-ghost use Rattle.std.specs.Prelude.{◌≡◌, [], map, All, IfOk};
+ghost use Rattle.std.specs.Prelude.{◌≡◌, ◌<◌, [], map, All, IfOk};
+ghost use Rattle.cert_check.specs.Compatible.{sides};
+ghost use Rattle.pair_compare.specs.Judged.{IsRight};
 ghost use Rattle.pair_compare.specs.Marking.{AreMarksOf};
 ghost use Rattle.suppressions.specs.Marks.{marks_of};
 ghost use Rattle.library_check.specs.Judgements.{IsJudged, IsReport};
@@ -8,8 +10,11 @@ use abi_base::NoMemory;
 use abi_types::{Library, Marks, NewIx, OldIx};
 use cert_text::write_cert;
 use pair_compare::{Comparison, compare};
+use pair_rules::Steps;
 use report::{Listener, Row, tell_all};
 use std::alloc::Global;
+use std::marker::Brand;
+use std::sync::ledger::{Blank, Ledger};
 use suppression_text::Rules;
 use suppressions::marks;
 
@@ -49,6 +54,24 @@ fn report(
     Ok(text)
 }
 
+// What the comparison of two libraries tells, with a counter of its own.
+fn compared<L: Ledger>(
+    alloc: Global,
+    blank: Blank,
+    old: &Library<OldIx>,
+    new: &Library<NewIx>,
+    marks: &Marks,
+) -> Result<Comparison, NoMemory>
+    requires name { blank.name ≡ L.name }
+    requires parts { blank.parts ≡ L.parts }
+    requires some { 0 < blank.parts }
+    requires marks { AreMarksOf old.now marks.now }
+    ensures { IfOk result (IsRight (sides old.now new.now marks.now)) }
+{
+    let mut steps = Steps::<L>::new(blank);
+    compare(alloc, old, new, marks, &mut steps)
+}
+
 /// What `check` says of two libraries and a rule file that were read: yes with the certificate, or no with the texts that
 /// listeners make of every break. It fails only when memory runs out.
 pub fn judge(
@@ -62,7 +85,7 @@ pub fn judge(
     ensures { IfOk result (IsJudged (map voice listeners.items) old.now new.now rules.now) }
 {
     let marks = marks_by(alloc, rules, old)?;
-    match compare(alloc, old, new, &marks)? {
+    match compared::<Brand>(alloc, Blank::new(1), old, new, &marks)? {
         Comparison::Compatible(cert) => Ok(Checked::Yes(write_cert(alloc, &cert)?)),
         Comparison::Broken(rows) => Ok(Checked::No(report(alloc, listeners, rows.as_slice())?)),
     }

@@ -2,17 +2,21 @@
 ghost use Rattle.std.specs.Prelude.{◌≡◌, ◌≢◌, ◌≤◌, ℕ, List, [], None, length, All};
 ghost use Rattle.abi_base.specs.Limits.{input_limit};
 ghost use Rattle.abi_types.specs.Libraries.{PlainLibrary};
-ghost use Rattle.report.specs.Listening.{Voice as AnyVoice};
+ghost use Rattle.report.specs.Listening.{Voice};
 ghost use Rattle.pair_compare.specs.Marking.{no_marks};
+ghost use Rattle.cert_check.specs.Accepted.{IsAccepted};
+ghost use Rattle.cert_check.specs.FirstVersion.{IsAccepted1, migrated_case};
+ghost use Rattle.cert_text.specs.Certs.{PlainCert1};
 ghost use Rattle.library_read.specs.Faults.{library_fault};
 ghost use Rattle.suppression_text.specs.Faults.{rule_fault};
 ghost use Rattle.suppression_text.specs.Rules.{rules_of};
 ghost use Rattle.suppressions.specs.Marks.{marks_of};
+ghost use Rattle.suppressions.specs.Reasons.{HasNoWays};
 ghost use Rattle.library_check.specs.declared.verifying.Unverified.{Unverified};
 ghost use Rattle.library_check.specs.declared.verifying.Unverified.TheVariants.{NoMemory};
 ghost use Rattle.library_check.specs.declared.verifying.Verified.{Verified};
 ghost use Rattle.library_check.specs.declared.verifying.Verified.TheVariants.{Accepted};
-ghost use Rattle.library_check.specs.Checks.{AreReadable, Compatible, IsCertificateText, IsReportText};
+ghost use Rattle.library_check.specs.Checks.{AreReadable, Compatible, IsCertificateText, IsReportText, sides_of};
 ghost use Rattle.library_check.specs.Relations.{IsRelationText};
 ghost use Rattle.library_check.specs.Verifications.{IsAcceptedText, IsUnverified, IsVerified, certificate_fault};
 ghost use Rattle.library_check.specs.Voices.{TellsItsText};
@@ -20,14 +24,19 @@ ghost use Rattle.report.specs.declared.styles.report_option.ReportStyle.{ReportS
 ghost use Rattle.report.specs.declared.styles.report_option.ReportStyle.TheVariants.{Own};
 ghost use Rattle.report.specs.styles.Wanted.{wanted_voices};
 
-use cert_check::laws::{one_place_fails_first, the_relation_of_an_accepted_certificate_is_closed};
+use cert_check::laws::{
+    a_migrated_certificate_is_accepted, one_place_fails_first,
+    the_relation_of_an_accepted_certificate_is_closed,
+};
 use cert_text::laws::{a_text_is_of_one_certificate, what_is_spelled_has_no_fault};
 use library_read::laws::{nodes_stand_for_what_exports_reach, readable_files_are_libraries};
 use pair_compare::laws::{
     a_library_may_replace_itself, exports_without_a_fault_are_distinct,
     two_libraries_have_one_right_answer,
 };
-use suppressions::laws::a_rule_file_marks_equal_labels_alike;
+use suppressions::laws::{
+    a_rule_file_marks_equal_labels_alike, rules_without_accessed_through_see_no_way,
+};
 
 /// A readable file may replace itself, whatever a rule file leaves out.
 pub fn a_file_may_replace_itself()
@@ -42,7 +51,7 @@ pub fn a_file_may_replace_itself()
 pub fn a_check_has_one_text()
     ensures certificate { (old new rules text other : List ℕ) → length old ≤ input_limit → length new ≤ input_limit → AreReadable old new rules
         → IsCertificateText old new rules text → IsCertificateText old new rules other → text ≡ other }
-    ensures report { (voices : List AnyVoice) (old new rules text other : List ℕ) → All TellsItsText voices → length old ≤ input_limit → length new ≤ input_limit → AreReadable old new rules
+    ensures report { (voices : List Voice) (old new rules text other : List ℕ) → All TellsItsText voices → length old ≤ input_limit → length new ≤ input_limit → AreReadable old new rules
         → IsReportText voices old new rules text → IsReportText voices old new rules other → text ≡ other }
 {
     two_libraries_have_one_right_answer();
@@ -51,7 +60,7 @@ pub fn a_check_has_one_text()
 
 /// The rows decide the texts of listeners that are asked for in any style but their own.
 pub fn the_rows_decide_the_texts_of_a_style()
-    ensures { (wanted : AnyWanted) (voices : List AnyVoice) → wanted ≢ Own → All TellsItsText (wanted_voices wanted voices) }
+    ensures { (wanted : AnyWanted) (voices : List Voice) → wanted ≢ Own → All TellsItsText (wanted_voices wanted voices) }
 {}
 
 /// Of one certificate for the same inputs `verify` says one thing: it accepts none that it refuses, and it refuses for one
@@ -97,6 +106,15 @@ pub fn an_accepted_certificate_tells_such_a_relation()
     the_relation_of_an_accepted_certificate_is_closed();
     nodes_stand_for_what_exports_reach();
     a_rule_file_marks_equal_labels_alike();
+}
+
+/// Where a rule file has no `accessed_through`, a certificate of version 1 that is accepted is accepted once it is migrated.
+pub fn a_certificate_may_be_migrated_without_accessed_through()
+    ensures { (old new rules : List ℕ) (certificate : PlainCert1) → HasNoWays (rules_of rules) → IsAccepted1 (sides_of old new rules) certificate
+        → IsAccepted (migrated_case (sides_of old new rules) certificate) }
+{
+    a_migrated_certificate_is_accepted();
+    rules_without_accessed_through_see_no_way();
 }
 
 /// An empty rule file is readable, and leaves nothing out.

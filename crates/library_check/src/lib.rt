@@ -1,6 +1,6 @@
 //! What `abi check` says of the bytes of two libraries and of a rule file: whether the new library may replace the old one, with
 //! the text that shows it. And what `abi verify` says of the text of a certificate for them. What they promise stands in
-//! `specs/Checks.antt` and `specs/Verifications.antt`.
+//! `specs/Checks.antt`, `specs/Verifications.antt` and `specs/Relations.antt`.
 #![tactic(auto)]
 
 mod checking;

@@ -4,5 +4,6 @@ mod Itself
 mod Reading
 mod Scoping
 mod Judging
+mod Counting
 mod certificates_lemmas
 mod reports_lemmas

@@ -13,6 +13,5 @@ pub mod RootLemmas
 pub mod RowLemmas
 pub mod SameRows
 pub mod ToldLemmas
-pub mod TypedLemmas
 pub mod VisitLemmas
 pub mod WalkLemmas

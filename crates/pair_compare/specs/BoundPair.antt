@@ -1,9 +1,9 @@
--- What roots are made from, as two libraries and marks.
+-- Two libraries and marks, and what exports bind to.
 use Rattle.std.specs.Prelude.{◌≡◌, ℕ, slice_get, slice_index_or, option_and_then, Option, None}
 use Rattle.abi_types.specs.Exports.{PlainExport}
 use Rattle.elf_bind.specs.Binding.{bind_each}
 use Rattle.cert_check.specs.Compatible.{Sides, sides}
-use Rattle.pair_compare.specs.declared.typed.BoundPair.{BoundPair}
+use Rattle.pair_compare.specs.declared.bound_pair.BoundPair.{BoundPair}
 
 abbrev pub sides_of : BoundPair → Sides
 sides_of g = sides g.old.now g.new.now g.marks.now

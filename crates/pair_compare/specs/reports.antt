@@ -5,4 +5,3 @@ pub mod ExportRows
 pub mod TypeFindings
 pub mod Keys
 pub mod Readable
-pub mod LibraryPair

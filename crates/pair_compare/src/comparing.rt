@@ -1,9 +1,11 @@
 // The comparison of two libraries.
-ghost use Rattle.std.specs.Prelude.{IfOk};
+ghost use Rattle.std.specs.Prelude.{◌≤◌, ◌+◌, IfOk};
 ghost use Rattle.cert_check.specs.Compatible.{sides};
+ghost use Rattle.pair_compare.specs.Explored.{most_steps};
 ghost use Rattle.pair_compare.specs.Marking.{AreMarksOf};
 ghost use Rattle.pair_compare.specs.Judged.{IsRight};
 
+use crate::bound_pair::BoundPair;
 use crate::certificates::make_cert;
 use crate::exploring::explore_types;
 use crate::reports::report_rows;
@@ -12,8 +14,10 @@ use abi_types::{Library, Marks, NewIx, OldIx};
 use cert_text::Cert;
 use elf_bind::bind_all;
 use pair_explorer::laws::no_break_is_compatible;
+use pair_rules::Steps;
 use report::Row;
 use std::alloc::Global;
+use std::sync::ledger::Ledger;
 use type_classes::{alike, alike_beside};
 
 /// What the comparison of two libraries tells.
@@ -26,15 +30,18 @@ pub enum Comparison {
 }
 
 /// Whether the new library may stand in the place of the old one, but for what is marked: the certificate where it may, else
-/// the rows of the report. `unmarked` marks nothing.
-pub fn compare(
+/// the rows of the report. `unmarked` marks nothing. Each comparison of two types is a step, and there are no more of them than
+/// pairs of an old and a new type at two ways, also where memory runs out.
+pub fn compare<L: Ledger>(
     alloc: Global,
     old: &Library<OldIx>,
     new: &Library<NewIx>,
     marks: &Marks,
+    steps: &mut Steps<L>,
 ) -> Result<Comparison, NoMemory>
     requires { AreMarksOf old.now marks.now }
-    ensures { IfOk result (IsRight (sides old.now new.now marks.now)) }
+    ensures right { IfOk result (IsRight (sides old.now new.now marks.now)) }
+    ensures bound { steps.new ≤ steps.old + most_steps (sides old.now new.now marks.now) }
 {
     no_break_is_compatible();
     let old_graph = old.graph();
@@ -43,21 +50,19 @@ pub fn compare(
     new_graph.known();
     let bound = bind_all(alloc, old.exports(), new.exports())?;
     let bound = bound.as_slice();
-    let old_classes = alike(alloc, old_graph)?;
-    let new_classes = alike_beside(alloc, new_graph, &old_classes)?;
-    let explored = explore_types(alloc, old, new, marks, bound, &old_classes, &new_classes)?;
-    let rows = report_rows(alloc, old, new, marks, bound, &explored)?;
-    if !rows.as_slice().is_empty() {
-        return Ok(Comparison::Broken(rows));
-    }
-    let cert = make_cert(
-        alloc,
+    let pair = BoundPair {
         old,
         new,
         marks,
-        &old_classes,
-        &new_classes,
-        &explored.visits,
-    )?;
+        bound,
+    };
+    let old_classes = alike(alloc, old_graph)?;
+    let new_classes = alike_beside(alloc, new_graph, &old_classes)?;
+    let explored = explore_types(alloc, &pair, &old_classes, &new_classes, steps)?;
+    let rows = report_rows(alloc, &pair, &explored)?;
+    if !rows.as_slice().is_empty() {
+        return Ok(Comparison::Broken(rows));
+    }
+    let cert = make_cert(alloc, &pair, &old_classes, &new_classes, &explored.visits)?;
     Ok(Comparison::Compatible(cert))
 }

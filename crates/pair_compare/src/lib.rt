@@ -2,6 +2,7 @@
 //! where it may not.
 #![tactic(auto)]
 
+mod bound_pair;
 pub mod certificates;
 mod comparing;
 mod empty;
@@ -10,6 +11,7 @@ pub mod laws;
 pub mod reports;
 mod typed;
 
+pub use bound_pair::BoundPair;
 pub use comparing::{Comparison, compare};
 pub use empty::unmarked;
 pub use typed::roots;

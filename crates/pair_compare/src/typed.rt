@@ -1,23 +1,14 @@
 // Where the comparison of the types of two libraries begins.
 ghost use Rattle.std.specs.Prelude.{◌≡◌, ◌<◌, length, false, Some, None, IfOk, MatchOption, slice_get, slice_index_or};
 ghost use Rattle.abi_types.specs.Plain.{plain_export};
-ghost use Rattle.elf_bind.specs.Binding.{bind_each};
-ghost use Rattle.cert_check.specs.Compatible.{is_typed as the_export_is_typed, root_to, sides, typed_root, typed_roots};
+ghost use Rattle.cert_check.specs.Compatible.{is_typed as the_export_is_typed, root_to, typed_root, typed_roots};
 ghost use Rattle.pair_compare.specs.BoundPair.{IsBinding, partner, sides_of};
 
+use crate::bound_pair::BoundPair;
 use abi_base::NoMemory;
-use abi_types::{Export, Library, Marks, NewIx, OldIx};
+use abi_types::Export;
 use pair_explorer::Root;
 use std::alloc::Global;
-
-// Two libraries, what is not compared of the old one, and what each old export binds to.
-#[derive(Clone, Copy)]
-struct BoundPair<'x, 'o, 'n> {
-    old: &'x Library<'o, OldIx>,
-    new: &'x Library<'n, NewIx>,
-    marks: &'x Marks,
-    bound: &'x [Option<usize>],
-}
 
 // Whether a rule drops the old export at a position.
 fn is_dropped(ground: &BoundPair, k: usize) -> bool
@@ -112,27 +103,15 @@ fn root_at(ground: &BoundPair, k: usize) -> Option<Root>
 }
 
 /// The types of each old export that is compared and of the new one that it binds to, where both have one, in order of the old
-/// exports. `bound` says to which new export each old one binds, as `elf_bind::bind_all` does.
-pub fn roots(
-    alloc: Global,
-    old: &Library<OldIx>,
-    new: &Library<NewIx>,
-    marks: &Marks,
-    bound: &[Option<usize>],
-) -> Result<Vec<Root>, NoMemory>
-    requires { bound.now ≡ bind_each old.now.exports new.now.exports }
-    ensures { IfOk result (λ roots. roots.items ≡ typed_roots (sides old.now new.now marks.now)) }
+/// exports.
+pub fn roots(alloc: Global, pair: &BoundPair) -> Result<Vec<Root>, NoMemory>
+    requires { IsBinding pair.now }
+    ensures { IfOk result (λ roots. roots.items ≡ typed_roots (sides_of pair.now)) }
 {
-    let ground = BoundPair {
-        old,
-        new,
-        marks,
-        bound,
-    };
-    let count = old.exports().len();
+    let count = pair.old.exports().len();
     let mut roots = Vec::new(alloc);
     'exports: for k in 0..count {
-        if let Some(root) = root_at(&ground, k) {
+        if let Some(root) = root_at(pair, k) {
             roots.push(root)?;
         }
     }

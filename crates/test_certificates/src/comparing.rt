@@ -1,12 +1,17 @@
 // What no clause says: that calls find memory. And two comparisons by hand.
+ghost use Rattle.std.specs.Prelude.{◌≡◌, ◌<◌};
+
 use abi_base::{List, NoMemory};
 use abi_types::{
     Call, CallShape, Export, Graph, Index, Library, NewIx, Node, OldIx, Place, Rule, SymbolKind,
 };
 use pair_compare::laws::no_marks_are_even;
 use pair_compare::{Comparison, compare, unmarked};
+use pair_rules::Steps;
 use std::alloc::Global;
+use std::marker::Brand;
 use std::process::Abort;
+use std::sync::ledger::{Blank, Ledger};
 use std::test::Fail;
 use test_graphs::{function, graph, is_library, member, pointer, scalar, structure, void};
 
@@ -99,12 +104,27 @@ const DIGEST_OF_ABC: [u8; 32] = [
 ];
 
 // What a comparison tells of the library whose structure has 4 bytes, and of one whose structure has so many.
-fn compared(rt: &impl Abort, alloc: Global, size: u64) -> Result<Comparison, NoMemory> {
+fn compared_by<L: Ledger>(
+    rt: &impl Abort,
+    alloc: Global,
+    blank: Blank,
+    size: u64,
+) -> Result<Comparison, NoMemory>
+    requires name { blank.name ≡ L.name }
+    requires parts { blank.parts ≡ L.parts }
+    requires some { 0 < blank.parts }
+{
     no_marks_are_even();
     let old = library::<OldIx>(rt, alloc, 1, INTEGER_SIZE)?;
     let new = library::<NewIx>(rt, alloc, 2, size)?;
     let marks = unmarked(alloc, &old)?;
-    compare(alloc, &old, &new, &marks)
+    let mut steps = Steps::<L>::new(blank);
+    compare(alloc, &old, &new, &marks, &mut steps)
+}
+
+// The same, with a counter of its own.
+fn compared(rt: &impl Abort, alloc: Global, size: u64) -> Result<Comparison, NoMemory> {
+    compared_by::<Brand>(rt, alloc, Blank::new(1), size)
 }
 
 #[test]

@@ -1,4 +1,5 @@
 ghost use Rattle.std.specs.Prelude.{◌<◌, ◌≤◌};
+ghost use Rattle.trial_libraries.specs.Limits.{most_functions};
 
 use library_check::trial::*;
 use report::{Listener, TextListener, add_listener};
@@ -9,7 +10,7 @@ use std::test::Fail;
 // The lines of a trial of n functions, with one listener that makes a line of each row.
 fn assert_tried(rt: &impl Abort, alloc: Global, n: u32, lines: &[u8]) -> Result<(), Fail>
     requires some { 0 < n }
-    requires few { n ≤ 50000 }
+    requires few { n ≤ most_functions }
 {
     let mut listeners: Vec<Box<dyn Listener>> = Vec::new(alloc);
     add_listener(&mut listeners, Box::new(alloc, TextListener::new(alloc))?)?;

@@ -5,7 +5,9 @@ use abi_base::{List, NoMemory};
 use abi_types::{
     Call, CallShape, Group, Index, Kind, NewIx, OldIx, Part, Parts, Place, Slot, View, Way,
 };
-use pair_rules::{Broken, Comparison, Steps, after, breaks, holds, partner, partner_at};
+use pair_rules::{
+    Broken, Comparison, Steps, after, breaks, holds, next_of, partner, partner_at,
+};
 use std::alloc::Global;
 use std::fmt::Write;
 use std::marker::Brand;
@@ -313,9 +315,10 @@ fn leading<L: Ledger>(
 {
     let mut steps = Steps::<L>::new(blank);
     let comparison = Comparison::of(alloc, old, new, &mut steps)?;
+    let matches = comparison.matches.as_slice();
     let mut text = String::new(alloc);
-    for i in 0..comparison.parts_len() {
-        if comparison.next(Way::Direct, i).is_some() {
+    for i in 0..old.parts_len() {
+        if next_of(old, new, matches, Way::Direct, i).is_some() {
             let position = format!(in alloc; "{i}")?;
             push_position(&mut text, position.as_str())?;
         }

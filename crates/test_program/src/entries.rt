@@ -1,6 +1,5 @@
 // Debugging information entries: what `entries` prints, and the faults that it names.
-use crate::fixture::{Change, change, inputs, runs};
-use abi_top::Status;
+use crate::fixture::{Change, Status, change, inputs, runs};
 use std::alloc::{AllocError, Global};
 use std::process::Abort;
 use std::test::Fail;

@@ -1,8 +1,7 @@
 // The first fault of a library, by its number and its place.
 use crate::fixture::{
-    Change, are_refused, change, checks, good_library, library_of, library_with_section,
+    Change, Status, are_refused, change, checks, good_library, library_of, library_with_section,
 };
-use abi_top::Status;
 use std::test::Fail;
 use test_images::{ImageSymbol, library};
 

@@ -2,7 +2,8 @@
 ghost use Rattle.std.specs.Prelude.{◌≡◌, [], All, IfOk};
 
 use abi_base::{Inputs, MemInputs, MemSink, NoMemory};
-use abi_top::{Status, run};
+use abi_top::run;
+use commands::{Outcome, Verdict};
 use report::{Listener, TextListener, add_listener};
 use std::alloc::{AllocError, Global};
 use std::process::Abort;
@@ -14,6 +15,38 @@ pub const CHECK: &[&str] = &["check", "old", "new"];
 
 /// A change of an image: the place, and the bytes that are put there.
 pub type Change = (usize, &'static [u8]);
+
+/// How a run ended: its outcome, without the input and the fault that it names, which stand in the text, and without what is counted
+/// beside a verdict.
+#[derive(Clone, Copy, Debug, PartialEq, Eq)]
+pub(crate) enum Status {
+    Yes,
+    No,
+    Refused,
+    Done,
+    Help,
+    Usage,
+    Unreadable,
+    ReadFault,
+    NoMemory,
+    WriteFault,
+}
+
+/// The status of an outcome.
+pub(crate) fn status_of(outcome: Outcome) -> Status {
+    match outcome {
+        Outcome::Judged(Verdict::Yes, _) => Status::Yes,
+        Outcome::Judged(Verdict::No, _) => Status::No,
+        Outcome::Judged(Verdict::Refused, _) => Status::Refused,
+        Outcome::Judged(Verdict::Done, _) => Status::Done,
+        Outcome::Help => Status::Help,
+        Outcome::Usage => Status::Usage,
+        Outcome::Unreadable(_, _) => Status::Unreadable,
+        Outcome::ReadFault(_) => Status::ReadFault,
+        Outcome::NoMemory => Status::NoMemory,
+        Outcome::WriteFault => Status::WriteFault,
+    }
+}
 
 /// Inputs in memory of these names and bytes, whose listed calls fail.
 pub(crate) fn inputs(
@@ -49,7 +82,7 @@ pub(crate) fn runs<R: Abort + AllocGlobal, I: Inputs>(
     let mut sink = MemSink::new(alloc, 4096, Vec::new(alloc))?;
     let ended = run(alloc, words, inputs, &mut sink, listeners(alloc)?);
     assert_eq!(rt; str::from_utf8(sink.held()).ok(), Some(text));
-    assert_eq!(rt; ended, status, "for {text}");
+    assert_eq!(rt; status_of(ended.outcome), status, "for {text}");
     Ok(())
 }
 

@@ -1,9 +1,9 @@
 // Inputs and sinks that fail, and inputs that are long.
 ghost use Rattle.std.specs.Prelude.{List, ℕ, None};
 
-use crate::fixture::{CHECK, checks, inputs, listeners, runs};
+use crate::fixture::{CHECK, Status, checks, inputs, listeners, runs, status_of};
 use abi_base::{Failed, FileInputs, Inputs, MemSink};
-use abi_top::{Status, run};
+use abi_top::run;
 use std::test::Fail;
 use test_images::library;
 
@@ -14,14 +14,14 @@ fn a_failed_write_leaves_a_front(rt: HostRuntime) -> Result<(), Fail> {
     let new = library(alloc, &["g", "f"])?;
     let files: [(&str, &[u8]); 2] = [("old", &old), ("new", &new)];
     let mut sink = MemSink::new(alloc, 10, vec![in alloc; 2]?)?;
-    let status = run(
+    let ended = run(
         alloc,
         CHECK,
         &mut inputs(alloc, &files, &[])?,
         &mut sink,
         listeners(alloc)?,
     );
-    assert_eq!(rt; status, Status::WriteFault);
+    assert_eq!(rt; status_of(ended.outcome), Status::WriteFault);
     assert_eq!(rt; sink.held(), b"yes 2\nold ".as_slice());
     Ok(())
 }
@@ -68,6 +68,7 @@ struct Zeros {
     new: usize,
     left: usize,
     given: u64,
+    started: u64,
 }
 
 impl Zeros {
@@ -77,6 +78,7 @@ impl Zeros {
             new,
             left: 0,
             given: 0,
+            started: 0,
         }
     }
 }
@@ -92,9 +94,12 @@ impl Inputs for Zeros {
 
     ghost given = { λ z. z.given };
 
+    ghost started = { λ z. z.started };
+
     fn start(&mut self, name: &str) -> Result<(), Failed> {
         self.left = if name == "old" { self.old } else { self.new };
         self.given = 0;
+        self.started = self.started.saturating_add(1);
         Ok(())
     }
 

@@ -1,8 +1,8 @@
 // Libraries with debug information: the certificates and the breaks of their types, their faults, and what `exports` prints.
 use crate::entries::{ABBREVS, TYPE_ABBREVS, TYPE_UNIT, UNIT, UNIT_4};
-use crate::fixture::{CHECK, Change, change, checks, inputs, listeners, runs};
+use crate::fixture::{CHECK, Change, Status, change, checks, inputs, listeners, runs, status_of};
 use abi_base::MemSink;
-use abi_top::{Status, run};
+use abi_top::run;
 use std::alloc::{AllocError, Global};
 use std::process::Abort;
 use std::test::Fail;
@@ -92,7 +92,7 @@ fn is_yes<R: Abort + AllocGlobal>(rt: &R, old: &[u8], new: &[u8], lines: &str) -
     let rules = "rules e3b0c44298fc1c149afbf4c8996fb92427ae41e4649b934ca495991b7852b855";
     let lines = format!(in alloc; "{rules}\n{lines}end\n")?;
     assert_eq!(rt; sink.held().get(BEFORE_RULES..), Some(lines.as_bytes()));
-    assert_eq!(rt; ended, Status::Yes);
+    assert_eq!(rt; status_of(ended.outcome), Status::Yes);
     Ok(())
 }
 

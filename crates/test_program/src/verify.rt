@@ -1,9 +1,9 @@
 // Certificates that were changed, each with what `verify` must answer.
 use crate::entries::{ABBREVS, UNIT};
-use crate::fixture::{CHECK, inputs, listeners, runs};
+use crate::fixture::{CHECK, Status, inputs, listeners, runs, status_of as ending_of};
 use crate::typed::changed;
 use abi_base::{MemSink, NoMemory};
-use abi_top::{Status, run};
+use abi_top::run;
 use std::alloc::Global;
 use std::fmt::Write;
 use std::process::Abort;
@@ -131,7 +131,7 @@ fn changed_certificates_are_refused(rt: HostRuntime) -> Result<(), Fail> {
     let files: [(&str, &[u8]); 2] = [("old", &library), ("new", &library)];
     let mut inputs = inputs(alloc, &files, &[])?;
     let ended = run(alloc, CHECK, &mut inputs, &mut sink, listeners(alloc)?);
-    assert_eq!(rt; ended, Status::Yes);
+    assert_eq!(rt; ending_of(ended.outcome), Status::Yes);
     let own = str::from_utf8(sink.held()).unwrap_or("");
     for row in ROWS.lines() {
         expect(&rt, &library, own, row)?;

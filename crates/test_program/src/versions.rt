@@ -1,8 +1,10 @@
 // Symbols with versions: what they bind to, how reports name them, and the faults of their tables.
 use crate::entries::{ABBREVS, UNIT};
-use crate::fixture::{CHECK, are_refused, change, checks, inputs, library_of, listeners};
+use crate::fixture::{
+    CHECK, Status, are_refused, change, checks, inputs, library_of, listeners, status_of,
+};
 use abi_base::MemSink;
-use abi_top::{Status, run};
+use abi_top::run;
 use std::alloc::{AllocError, Global};
 use std::process::Abort;
 use std::test::Fail;
@@ -80,7 +82,7 @@ fn is_yes<R: Abort + AllocGlobal>(rt: &R, old: &[u8], new: &[u8], binds: &str) -
     let rules = "rules e3b0c44298fc1c149afbf4c8996fb92427ae41e4649b934ca495991b7852b855";
     let lines = format!(in alloc; "{rules}\n{binds}end\n")?;
     assert_eq!(rt; sink.held().get(BEFORE_RULES..), Some(lines.as_bytes()));
-    assert_eq!(rt; ended, Status::Yes);
+    assert_eq!(rt; status_of(ended.outcome), Status::Yes);
     Ok(())
 }
 

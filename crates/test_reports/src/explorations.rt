@@ -5,7 +5,7 @@ ghost use Rattle.pair_explorer.specs.Visits.{AreEarlier};
 use crate::spelled::spelled_graph;
 use abi_base::{List, NoMemory};
 use abi_types::{Graph, Index, Marks, NewIx, OldIx};
-use pair_explorer::{Explored, Root, Visits, explore, is_scope, route_to};
+use pair_explorer::{Explored, GraphPair, Root, Visits, explore, is_scope, route_to};
 use pair_rules::{Broken, Steps};
 use std::alloc::Global;
 use std::fmt::Write;
@@ -171,18 +171,17 @@ fn told_over<L: Ledger>(
     let roots = roots(alloc, row.roots)?;
     let roots = roots.as_slice();
     let marks = marks_of(alloc, row, old.len())?;
-    assert!(rt; is_scope(old, new, roots, &marks, old_classes, new_classes));
-    let mut steps = Steps::<L>::new(blank);
-    let explored = explore(
-        alloc,
+    let graphs = GraphPair {
         old,
         new,
         roots,
-        &marks,
+        marks: &marks,
         old_classes,
         new_classes,
-        &mut steps,
-    )?;
+    };
+    assert!(rt; is_scope(&graphs));
+    let mut steps = Steps::<L>::new(blank);
+    let explored = explore(alloc, &graphs, &mut steps)?;
     text_of(alloc, &explored)
 }
 

@@ -1,16 +1,17 @@
 // Reports on small libraries, by hand.
 ghost use Rattle.std.specs.Prelude.{◌≡◌, ◌<◌, IfOk};
-ghost use Rattle.cert_check.specs.Compatible.{sides, task_of};
+ghost use Rattle.cert_check.specs.Compatible.{task_of};
+ghost use Rattle.pair_compare.specs.BoundPair.{IsBinding, sides_of};
 ghost use Rattle.pair_compare.specs.reports.TypeFindings.{IsExplored};
-ghost use Rattle.elf_bind.specs.Binding.{bind_each};
 
 use crate::spelled::spelled_graph;
 use abi_base::{List, NoMemory};
 use abi_types::{Export, Graph, Index, Library, Marks, NewIx, OldIx, SymbolKind};
 use elf_bind::bind_all;
 use pair_compare::reports::laws::alike_types_are_explored;
-use pair_compare::reports::{compared_roots, report_rows};
-use pair_explorer::{Explored, explore, is_scope};
+use pair_compare::reports::report_rows;
+use pair_compare::{BoundPair, roots};
+use pair_explorer::{Explored, GraphPair, explore, is_scope};
 use pair_rules::Steps;
 use report::Row;
 use std::alloc::Global;
@@ -131,49 +132,35 @@ fn explored<L: Ledger>(
     rt: &impl Abort,
     alloc: Global,
     blank: Blank,
-    old: &Library<OldIx>,
-    new: &Library<NewIx>,
-    marks: &Marks,
-    bound: &[Option<usize>],
+    pair: &BoundPair,
 ) -> Result<Explored, NoMemory>
     requires name { blank.name ≡ L.name }
     requires parts { blank.parts ≡ L.parts }
     requires some { 0 < blank.parts }
-    requires bound { bound.now ≡ bind_each old.now.exports new.now.exports }
-    ensures { IfOk result (λ e. IsExplored (task_of (sides old.now new.now marks.now)) e.visits e.breaks) }
+    requires bound { IsBinding pair.now }
+    ensures { IfOk result (λ e. IsExplored (task_of (sides_of pair.now)) e.visits e.breaks) }
 {
     alike_types_are_explored();
-    let old_graph = old.graph();
-    let new_graph = new.graph();
+    let old_graph = pair.old.graph();
+    let new_graph = pair.new.graph();
     old_graph.known();
     new_graph.known();
     let old_classes = alike(alloc, old_graph)?;
     let new_classes = alike(alloc, new_graph)?;
     old_classes.known();
     new_classes.known();
-    let roots = compared_roots(alloc, old, new, marks, bound)?;
-    let roots = roots.as_slice();
-    assert!(rt;
-        is_scope(
-            old_graph,
-            new_graph,
-            roots,
-            marks,
-            &old_classes,
-            &new_classes
-        )
-    );
+    let roots = roots(alloc, pair)?;
+    let graphs = GraphPair {
+        old: old_graph,
+        new: new_graph,
+        roots: roots.as_slice(),
+        marks: pair.marks,
+        old_classes: &old_classes,
+        new_classes: &new_classes,
+    };
+    assert!(rt; is_scope(&graphs));
     let mut steps = Steps::<L>::new(blank);
-    explore(
-        alloc,
-        old_graph,
-        new_graph,
-        roots,
-        marks,
-        &old_classes,
-        &new_classes,
-        &mut steps,
-    )
+    explore(alloc, &graphs, &mut steps)
 }
 
 fn push_row(rt: &impl Abort, text: &mut String, row: &Row) -> Result<(), NoMemory> {
@@ -204,8 +191,14 @@ fn told(
 ) -> Result<String, NoMemory> {
     let bound = bind_all(alloc, old.exports(), new.exports())?;
     let bound = bound.as_slice();
-    let explored = explored::<Brand>(rt, alloc, Blank::new(1), old, new, marks, bound)?;
-    let rows = report_rows(alloc, old, new, marks, bound, &explored)?;
+    let pair = BoundPair {
+        old,
+        new,
+        marks,
+        bound,
+    };
+    let explored = explored::<Brand>(rt, alloc, Blank::new(1), &pair)?;
+    let rows = report_rows(alloc, &pair, &explored)?;
     let mut text = String::new(alloc);
     for row in rows.as_slice() {
         push_row(rt, &mut text, row)?;

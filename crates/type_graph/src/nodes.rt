@@ -248,7 +248,7 @@ fn is_vector(dwarf: &Dwarf, c: usize) -> bool
     requires { c < length dwarf.now.tree.entries }
     ensures { result ≡ the_array_is_a_vector dwarf.now.tree c }
 {
-    dwarf.flag(c, DW_AT_GNU_vector)
+    dwarf.flag_value(c, DW_AT_GNU_vector)
 }
 
 // What sort of type a core is.

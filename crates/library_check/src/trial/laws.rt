@@ -1,6 +1,6 @@
 //! What trials come to. Each law is the contract of a function whose body only names the laws below it.
 ghost use Rattle.std.specs.Prelude.{◌≡◌, ◌≤◌, ℕ, List};
-ghost use Rattle.report.specs.Listening.{Voice as AnyVoice};
+ghost use Rattle.report.specs.Listening.{Voice};
 ghost use Rattle.library_check.specs.declared.checking.Unchecked.{Unchecked};
 ghost use Rattle.library_check.specs.declared.checking.Unchecked.TheVariants.{NoMemory};
 ghost use Rattle.trial_libraries.specs.Limits.{most_functions};
@@ -13,7 +13,7 @@ use trial_libraries::laws::made_libraries_are_no_longer_than_inputs;
 
 /// A trial of n functions has one text, where listeners make a line of each row.
 pub fn a_trial_has_one_text()
-    ensures { (voices : List AnyVoice) (n : ℕ) (lines other : List ℕ) → n ≤ most_functions
+    ensures { (voices : List Voice) (n : ℕ) (lines other : List ℕ) → n ≤ most_functions
         → IsTrialText (wanted_voices Text voices) n lines → IsTrialText (wanted_voices Text voices) n other → lines ≡ other }
 {
     made_libraries_are_no_longer_than_inputs();
@@ -23,5 +23,5 @@ pub fn a_trial_has_one_text()
 
 /// A trial that has a text is stopped only when memory runs out.
 pub fn a_trial_with_a_text_has_no_fault()
-    ensures { (voices : List AnyVoice) (n : ℕ) (lines : List ℕ) (unchecked : Unchecked) → IsTrialText voices n lines → IsUntried n unchecked → unchecked ≡ NoMemory }
+    ensures { (voices : List Voice) (n : ℕ) (lines : List ℕ) (unchecked : Unchecked) → IsTrialText voices n lines → IsUntried n unchecked → unchecked ≡ NoMemory }
 {}

@@ -1,17 +1,18 @@
 // The certificate of two libraries.
 ghost use Rattle.std.specs.Prelude.{◌≡◌, ◌<◌, ◌+◌, ◌^◌, length, IfOk};
 ghost use Rattle.cert_text.specs.Certs.{IsDigest};
-ghost use Rattle.cert_check.specs.Compatible.{sides};
 ghost use Rattle.cert_check.specs.Accepted.{asked, IsAccepted};
+ghost use Rattle.pair_compare.specs.BoundPair.{sides_of};
 ghost use Rattle.pair_compare.specs.certificates.Certificates.{IsCertificateOf};
 ghost use Rattle.pair_compare.specs.certificates.Searches.{AreBound, IsUnbroken};
 
+use crate::bound_pair::BoundPair;
 use crate::certificates::alike::alike_lines;
 use crate::certificates::binds::bind_lines;
 use crate::certificates::laws::the_certificate_of_the_compatible_is_accepted;
 use crate::certificates::pairs::{pair_lines, visits_are_pair_lines};
 use abi_base::NoMemory;
-use abi_types::{Library, Marks, NewIx, OldIx, Way};
+use abi_types::{NewIx, OldIx, Way};
 use cert_check::digest_beside;
 use cert_check::laws::lines_stand_in_the_order_of_their_numbers;
 use cert_text::Cert;
@@ -46,34 +47,32 @@ fn lines_have_numbers(
 /// The certificate of two libraries of which a search found no break. It is accepted.
 pub fn make_cert(
     alloc: Global,
-    old: &Library<OldIx>,
-    new: &Library<NewIx>,
-    marks: &Marks,
+    pair: &BoundPair,
     old_classes: &Classes<OldIx>,
     new_classes: &Classes<NewIx>,
     visits: &Visits,
 ) -> Result<Cert, NoMemory>
-    requires exports { AreBound (sides old.now new.now marks.now) }
-    requires types { IsUnbroken (sides old.now new.now marks.now) old_classes.now new_classes.now visits.now }
-    ensures certificate { IfOk result (IsCertificateOf (sides old.now new.now marks.now)) }
-    ensures accepted { IfOk result (λ cert. IsAccepted (asked old.now new.now marks.now cert)) }
+    requires exports { AreBound (sides_of pair.now) }
+    requires types { IsUnbroken (sides_of pair.now) old_classes.now new_classes.now visits.now }
+    ensures certificate { IfOk result (IsCertificateOf (sides_of pair.now)) }
+    ensures accepted { IfOk result (λ cert. IsAccepted (asked pair.now.old.now pair.now.new.now pair.now.marks.now cert)) }
 {
     the_certificate_of_the_compatible_is_accepted();
     visits_are_pair_lines();
     lines_stand_in_the_order_of_their_numbers();
     no_break_is_compatible();
-    old.known();
-    new.known();
-    let old_graph = old.graph();
-    let new_graph = new.graph();
+    pair.old.known();
+    pair.new.known();
+    let old_graph = pair.old.graph();
+    let new_graph = pair.new.graph();
     old_graph.known();
     new_graph.known();
     old_classes.known();
     new_classes.known();
-    let old_digest = is_digest(old.digest());
-    let new_digest = is_digest(digest_beside(old, old_digest, new));
-    let rules_digest = is_digest(marks.digest);
-    let binds = bind_lines(alloc, old, new, marks)?;
+    let old_digest = is_digest(pair.old.digest());
+    let new_digest = is_digest(digest_beside(pair.old, old_digest, pair.new));
+    let rules_digest = is_digest(pair.marks.digest);
+    let binds = bind_lines(alloc, pair.old, pair.new, pair.marks)?;
     let alike_old = alike_lines(alloc, old_graph, old_classes)?;
     let alike_new = alike_lines(alloc, new_graph, new_classes)?;
     let pairs = pair_lines(alloc, old_graph, new_graph, visits)?;

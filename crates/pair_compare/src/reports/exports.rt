@@ -3,11 +3,12 @@ ghost use Rattle.std.specs.Prelude.{◌≡◌, ◌<◌, ◌++◌, length, OnOk};
 ghost use Rattle.std.specs.List.{list_any};
 ghost use Rattle.std.specs.Option.{option_copied};
 ghost use Rattle.abi_types.specs.Plain.{plain_export};
-ghost use Rattle.elf_bind.specs.Binding.{bind_each, bind_to, is_named as the_export_is_named};
+ghost use Rattle.elf_bind.specs.Binding.{bind_to, is_named as the_export_is_named};
+ghost use Rattle.pair_compare.specs.BoundPair.{IsBinding, sides_of};
 ghost use Rattle.pair_compare.specs.reports.ExportRows.{changed_rows, export_row as the_export_row, export_rows as the_export_rows, gone_rows, row_if, rows_at, rows_for, rows_upto, soname_rows};
-ghost use Rattle.pair_compare.specs.reports.LibraryPair.{sides_of};
 
-use crate::reports::library_pair::{LibraryPair, export_at, is_compared, partner};
+use crate::bound_pair::BoundPair;
+use crate::reports::lookups::{export_at, is_compared, partner};
 use abi_base::{List, NoMemory};
 use abi_types::{Export, Library, NewIx, Rule};
 use elf_bind::same_name;
@@ -99,7 +100,7 @@ fn is_named(library: &Library<NewIx>, name: &[u8]) -> bool
 fn push_bound(
     alloc: Global,
     rows: &mut List<Row>,
-    ground: &LibraryPair,
+    ground: &BoundPair,
     export: &Export,
     place: Option<usize>,
 ) -> Result<(), NoMemory>
@@ -118,12 +119,11 @@ fn push_bound(
 fn push_at(
     alloc: Global,
     rows: &mut List<Row>,
-    ground: &LibraryPair,
-    bound: &[Option<usize>],
+    ground: &BoundPair,
     k: usize,
 ) -> Result<(), NoMemory>
     requires inside { k < length ground.now.old.now.exports }
-    requires bound { bound.now ≡ bind_each ground.now.old.now.exports ground.now.new.now.exports }
+    requires bound { IsBinding ground.now }
     ensures { OnOk result (rows.new ≡ rows.old ++ rows_at (sides_of ground.now) k) }
 {
     if !is_compared(ground.marks, k) {
@@ -131,7 +131,7 @@ fn push_at(
     }
     match export_at(ground.old, k) {
         None => Ok(()),
-        Some(export) => push_bound(alloc, rows, ground, export, bound[k]),
+        Some(export) => push_bound(alloc, rows, ground, export, ground.bound[k]),
     }
 }
 
@@ -140,16 +140,15 @@ fn push_at(
 pub fn push_export_rows(
     alloc: Global,
     rows: &mut List<Row>,
-    ground: &LibraryPair,
-    bound: &[Option<usize>],
+    ground: &BoundPair,
 ) -> Result<(), NoMemory>
-    requires { bound.now ≡ bind_each ground.now.old.now.exports ground.now.new.now.exports }
+    requires { IsBinding ground.now }
     ensures { OnOk result (rows.new ≡ rows.old ++ the_export_rows (sides_of ground.now)) }
 {
     push_soname_rows(alloc, rows, ground.old.soname(), ground.new.soname())?;
     let count = ground.old.exports().len();
     'exports: for k in 0..count {
-        push_at(alloc, rows, ground, bound, k)?;
+        push_at(alloc, rows, ground, k)?;
     }
     Ok(())
 }

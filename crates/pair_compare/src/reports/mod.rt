@@ -3,11 +3,9 @@
 
 mod exports;
 pub mod laws;
-mod library_pair;
+mod lookups;
 mod paths;
 mod right_report;
-mod roots;
 mod type_findings;
 
 pub use right_report::report_rows;
-pub use roots::compared_roots;

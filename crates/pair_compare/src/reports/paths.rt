@@ -7,7 +7,7 @@ ghost use Rattle.report.specs.Steps.{step_text};
 ghost use Rattle.pair_explorer.specs.Routes.{path_of as the_path_of};
 ghost use Rattle.pair_compare.specs.reports.PathTexts.{between, label_at as the_label_at, steps_text as the_steps_text, type_of as the_type_of, IsWalk};
 
-use crate::reports::library_pair::export_at;
+use crate::reports::lookups::export_at;
 use abi_base::NoMemory;
 use abi_types::{Export, Index, Library, OldIx, View, push_label};
 use pair_explorer::Route;

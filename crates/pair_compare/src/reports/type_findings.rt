@@ -3,14 +3,14 @@ ghost use Rattle.std.specs.Prelude.{◌≡◌, ◌<◌, ◌++◌, length, map, s
 ghost use Rattle.abi_types.specs.Graphs.{view_at};
 ghost use Rattle.report.specs.Details.{type_detail as the_type_detail, IsInside};
 ghost use Rattle.cert_check.specs.Compatible.{task_of};
-ghost use Rattle.pair_compare.specs.reports.LibraryPair.{sides_of};
+ghost use Rattle.pair_compare.specs.BoundPair.{sides_of};
 ghost use Rattle.pair_compare.specs.reports.Keys.{plain_key, key_of};
 ghost use Rattle.pair_compare.specs.reports.Readable.{AreReadable, IsReadable};
 ghost use Rattle.pair_compare.specs.reports.Reports.{row_of};
 ghost use Rattle.pair_compare.specs.reports.TypeFindings.{finding_of, told_breaks, type_rows};
 ghost use Rattle.pair_explorer.specs.Visits.{AreEarlier};
 
-use crate::reports::library_pair::LibraryPair;
+use crate::bound_pair::BoundPair;
 use crate::reports::paths::{label_at, steps_text};
 use abi_base::{List, NoMemory};
 use abi_types::laws::rules_have_places_of_their_own;
@@ -46,7 +46,7 @@ fn detail_of(
 // What tells the row of a break at the visit of a number apart.
 fn key_at(
     alloc: Global,
-    ground: &LibraryPair,
+    ground: &BoundPair,
     visits: &Visits,
     number: usize,
     broken: &Broken,
@@ -65,7 +65,7 @@ fn key_at(
 // The breaks of an exploration without those whose row an earlier one has.
 fn told(
     alloc: Global,
-    ground: &LibraryPair,
+    ground: &BoundPair,
     explored: &Explored,
 ) -> Result<List<(usize, Broken)>, NoMemory>
     requires { AreReadable (sides_of ground.now) explored.now.visits explored.now.breaks }
@@ -87,7 +87,7 @@ fn told(
 // The row of a break at the visit of a number.
 fn row_at(
     alloc: Global,
-    ground: &LibraryPair,
+    ground: &BoundPair,
     visits: &Visits,
     number: usize,
     broken: &Broken,
@@ -118,7 +118,7 @@ fn row_at(
 pub fn push_type_rows(
     alloc: Global,
     rows: &mut List<Row>,
-    ground: &LibraryPair,
+    ground: &BoundPair,
     explored: &Explored,
 ) -> Result<(), NoMemory>
     requires { AreReadable (sides_of ground.now) explored.now.visits explored.now.breaks }

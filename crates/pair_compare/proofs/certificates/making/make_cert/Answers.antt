@@ -1,7 +1,8 @@
 -- What is made is the certificate, and it is accepted.
 use Rattle.std.proofs.Common.{◌<◌, ◌+◌, ◌^◌, [], length, refl, ◌∙◌, ap, arith}
 use Rattle.cert_text.specs.Certs.{PlainCert}
-use Rattle.cert_check.specs.Compatible.{Sides, sides}
+use Rattle.cert_check.specs.Compatible.{Sides}
+use Rattle.pair_compare.specs.BoundPair.{sides_of}
 use Rattle.pair_explorer.specs.Scopes.{Scope}
 use Rattle.pair_compare.specs.certificates.Certificates.{AreLibraries, IsCertificateOf}
 use Rattle.pair_compare.specs.certificates.Searches.{scope_of}
@@ -10,7 +11,7 @@ use Rattle.pair_compare.proofs.certificates.making.make_cert.Goals as goal
 
 pub invariant_of-result : goal.invariant_of-result
 invariant_of-result c =
-    let s : Sides = sides c.args.old.now c.args.new.now c.args.marks.now in
+    let s : Sides = sides_of c.args.pair.now in
     let cert : PlainCert = record {
       old_digest = c.is_digest-old_digest.result;
       new_digest = c.is_digest-new_digest.result;
@@ -41,7 +42,7 @@ invariant_of-result c =
 
 pub returns-clause-certificate : goal.returns-clause-certificate
 returns-clause-certificate c =
-    let s : Sides = sides c.args.old.now c.args.new.now c.args.marks.now in
+    let s : Sides = sides_of c.args.pair.now in
     let cert : PlainCert = record {
       old_digest = c.is_digest-old_digest.result;
       new_digest = c.is_digest-new_digest.result;
@@ -67,7 +68,7 @@ returns-clause-certificate c =
 
 pub returns-clause-accepted : goal.returns-clause-accepted
 returns-clause-accepted c =
-    let s : Sides = sides c.args.old.now c.args.new.now c.args.marks.now in
+    let s : Sides = sides_of c.args.pair.now in
     let cert : PlainCert = record {
       old_digest = c.is_digest-old_digest.result;
       new_digest = c.is_digest-new_digest.result;

@@ -2,7 +2,7 @@
 use Rattle.std.proofs.Common.{◌≡◌, ◌∙◌, ◌++◌, List, OnOk, ap, sym, subst, append-nil}
 use Rattle.abi_types.specs.Plain.{plain_export}
 use Rattle.report.specs.declared.row.Row.{Row}
-use Rattle.pair_compare.specs.reports.LibraryPair.{sides_of}
+use Rattle.pair_compare.specs.BoundPair.{sides_of}
 use Rattle.pair_compare.proofs.reports_lemmas.ExportLemmas.{bound_at, dropped_at, none_at, compared_at}
 use Rattle.pair_compare.proofs.reports.exports.push_at.Goals as goal
 
@@ -14,7 +14,7 @@ pub returns-in-None : goal.returns-in-None
 returns-in-None c = sym (ap (λ (rs : List Row). c.args.rows.now ++ rs) (none_at (sides_of c.args.ground.now) c.args.k c.in-None.ensures) ∙ append-nil c.args.rows.now)
 
 pub push_bound-requires : goal.push_bound-requires
-push_bound-requires c = bound_at c.args.ground.now.old.now.exports c.args.ground.now.new.now.exports c.args.bound.now c.args.k (plain_export c.in-Some.export.now) c.requires.bound c.in-Some.ensures
+push_bound-requires c = bound_at c.args.ground.now.old.now.exports c.args.ground.now.new.now.exports c.args.ground.now.bound.now c.args.k (plain_export c.in-Some.export.now) c.requires.bound.is c.in-Some.ensures
 
 pub returns-in-Some : goal.returns-in-Some
 returns-in-Some c =

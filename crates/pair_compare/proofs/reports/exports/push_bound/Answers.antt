@@ -2,7 +2,7 @@
 use Rattle.std.proofs.Common.{◌≡◌, ◌++◌, List, OnOk, subst}
 use Rattle.abi_types.specs.Plain.{plain_export}
 use Rattle.report.specs.declared.row.Row.{Row}
-use Rattle.pair_compare.specs.reports.LibraryPair.{sides_of}
+use Rattle.pair_compare.specs.BoundPair.{sides_of}
 use Rattle.pair_compare.proofs.reports_lemmas.ExportLemmas.{changed_for, gone_for}
 use Rattle.pair_compare.proofs.reports.exports.push_bound.Goals as goal
 

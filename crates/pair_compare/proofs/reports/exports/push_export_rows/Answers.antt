@@ -1,5 +1,5 @@
 -- Export by export.
-use Rattle.pair_compare.specs.reports.LibraryPair.{sides_of}
+use Rattle.pair_compare.specs.BoundPair.{sides_of}
 use Rattle.pair_compare.proofs.reports_lemmas.ExportLemmas.{exports_none, exports_more, exports_all}
 use Rattle.pair_compare.proofs.reports.exports.push_export_rows.Goals as goal
 

@@ -1,7 +1,7 @@
 -- The rows on the sonames and on the first exports, behind those that were there.
 use Rattle.std.proofs.Common.{◌≡◌, ◌++◌}
 use Rattle.pair_compare.specs.reports.ExportRows.{rows_upto, soname_rows}
-use Rattle.pair_compare.specs.reports.LibraryPair.{sides_of}
+use Rattle.pair_compare.specs.BoundPair.{sides_of}
 use Rattle.pair_compare.proofs.reports.exports.push_export_rows.Given as goal
 
 abbrev pub invariant-exports : goal.invariant-exports

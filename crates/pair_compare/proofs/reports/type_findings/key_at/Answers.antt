@@ -3,7 +3,7 @@ use Rattle.std.proofs.Common.{◌∙◌, ap, List}
 use Rattle.abi_types.specs.Graphs.{view_at}
 use Rattle.abi_types.specs.Types.{PlainNode}
 use Rattle.cert_check.specs.Compatible.{task_of}
-use Rattle.pair_compare.specs.reports.LibraryPair.{sides_of}
+use Rattle.pair_compare.specs.BoundPair.{sides_of}
 use Rattle.pair_compare.proofs.reports_lemmas.ToldLemmas.{key_is}
 use Rattle.pair_compare.proofs.reports.type_findings.key_at.Goals as goal
 

@@ -1,6 +1,6 @@
 -- Row by row.
 use Rattle.std.proofs.Common.{◌∙◌}
-use Rattle.pair_compare.specs.reports.LibraryPair.{sides_of}
+use Rattle.pair_compare.specs.BoundPair.{sides_of}
 use Rattle.pair_compare.proofs.reports_lemmas.ToldLemmas.{kept_readable, rows_all}
 use Rattle.pair_compare.proofs.reports.type_findings.push_type_rows.Goals as goal
 

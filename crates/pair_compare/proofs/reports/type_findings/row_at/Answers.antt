@@ -4,7 +4,7 @@ use Rattle.abi_types.specs.Graphs.{node_at, view_at}
 use Rattle.abi_types.specs.Types.{PlainNode}
 use Rattle.report.specs.declared.row.Row.{Row}
 use Rattle.pair_explorer.specs.Routes.{path_at, path_of}
-use Rattle.pair_compare.specs.reports.LibraryPair.{sides_of}
+use Rattle.pair_compare.specs.BoundPair.{sides_of}
 use Rattle.pair_compare.proofs.reports_lemmas.ToldLemmas.{row_is}
 use Rattle.pair_compare.proofs.reports.type_findings.row_at.Goals as goal
 

@@ -1,7 +1,7 @@
 -- A break goes to what is kept where its key is new.
 use Rattle.std.proofs.Common.{◌<◌, length}
 use Rattle.cert_check.specs.Compatible.{task_of}
-use Rattle.pair_compare.specs.reports.LibraryPair.{sides_of}
+use Rattle.pair_compare.specs.BoundPair.{sides_of}
 use Rattle.pair_compare.proofs.reports_lemmas.ToldLemmas.{readable_at, IsTelling-none, IsTelling-more, IsTelling-still}
 use Rattle.pair_compare.proofs.reports.type_findings.told.Goals as goal
 use Rattle.pair_compare.proofs.reports.type_findings.told.Goals.{then-is_new+in_ok-push, else-is_new}

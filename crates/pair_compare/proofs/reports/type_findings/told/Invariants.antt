@@ -1,6 +1,6 @@
 -- What is kept of the breaks before this one, and their keys.
 use Rattle.cert_check.specs.Compatible.{task_of}
-use Rattle.pair_compare.specs.reports.LibraryPair.{sides_of}
+use Rattle.pair_compare.specs.BoundPair.{sides_of}
 use Rattle.pair_compare.proofs.reports_lemmas.ToldLemmas.{IsTelling}
 use Rattle.pair_compare.proofs.reports.type_findings.told.Given as goal
 

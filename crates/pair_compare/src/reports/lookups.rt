@@ -1,16 +1,8 @@
-// What is reported on.
+// What stands at positions in libraries and marks.
 ghost use Rattle.std.specs.Prelude.{◌≡◌, not, false, slice_get, slice_index_or, option_and_then, Some, None, MatchOption};
 ghost use Rattle.abi_types.specs.Plain.{plain_export};
 
-use abi_types::{Export, Index, Library, Marks, NewIx, OldIx};
-
-/// Two libraries, and what is not compared of the old one.
-#[derive(Clone, Copy)]
-pub struct LibraryPair<'x, 'o, 'n> {
-    pub old: &'x Library<'o, OldIx>,
-    pub new: &'x Library<'n, NewIx>,
-    pub marks: &'x Marks,
-}
+use abi_types::{Export, Index, Library, Marks, NewIx};
 
 /// The export at a position, where there is one.
 pub fn export_at<'x, 'a, Ix: Index>(

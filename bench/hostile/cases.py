@@ -1,0 +1,47 @@
+"""What a made file is: its bytes, and the command that is measured over it."""
+
+from collections.abc import Callable
+from dataclasses import dataclass, field
+
+
+@dataclass(frozen=True)
+class Case:
+    """Files by their names, the words of the measured command, and those of a command whose output stands in the file `made`
+    before it."""
+
+    files: dict[str, bytes]
+    words: list[str]
+    before: list[str] = field(default_factory=list)
+
+    def size(self) -> int:
+        return sum(len(contents) for contents in self.files.values())
+
+
+@dataclass(frozen=True)
+class Kind:
+    """A kind of made files: one of each size. The second of the two measured sizes is twice the first."""
+
+    name: str
+    what: str
+    make: Callable[[int], Case]
+    first: int
+
+
+def listed(contents: bytes) -> Case:
+    """`abi exports` of a library."""
+    return Case({"old": contents}, ["exports", "old"])
+
+
+def against_itself(contents: bytes) -> Case:
+    """`abi check` of a library against itself."""
+    return Case({"old": contents}, ["check", "old", "old"])
+
+
+def against(old: bytes, new: bytes) -> Case:
+    """`abi check` of two libraries."""
+    return Case({"old": old, "new": new}, ["check", "old", "new"])
+
+
+def ruled(contents: bytes, rules: str) -> Case:
+    """`abi check` of a library against itself with a rule file."""
+    return Case({"old": contents, "rules": rules.encode()}, ["check", "--rules", "rules", "old", "old"])

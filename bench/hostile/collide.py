@@ -1,0 +1,84 @@
+"""Keys that stand at one place of a hash map whose seed is fixed. A program in C looks for them."""
+
+import subprocess
+import tempfile
+from pathlib import Path
+
+from .cases import Case, Kind, against_itself, listed
+from .dwarf import AT_LANGUAGE, C99, DATA1, FLAT_CALL, STRUCTURE, TYPE_UNIT, Abbreviation, Info, table
+from .elf import Symbol, image, symbol_sections
+from .encode import u8, u64
+from .library import library
+
+SEED = 0x243F6A8885A308D3
+FACTOR = 0x9E3779B97F4A7C15
+MASK = 2**64 - 1
+# The most entries that stand in a group of places on average.
+GROUP_LOAD = 9
+
+
+def folded(state: int, number: int, size: int) -> int:
+    """The state of the hasher behind a number of so many bytes, at most 8."""
+    product = (state ^ number) * (FACTOR ^ 2 * size)
+    return (product & MASK) ^ (product >> 64)
+
+
+def bits_for(count: int) -> int:
+    """How many bits of a hash choose a group in a map of so many entries."""
+    bits = 0
+    while GROUP_LOAD << bits < count:
+        bits += 1
+    return bits
+
+
+def colliding(count: int, state: int = SEED, form: str = "numbers") -> list[int]:
+    """So many different keys of eight bytes that stand at one place, as numbers."""
+    source = Path(__file__).with_name("collide.c")
+    with tempfile.TemporaryDirectory() as folder:
+        program = f"{folder}/collide"
+        subprocess.run(["gcc", "-O2", "-o", program, str(source)], check=True)
+        words = [program, str(count), str(bits_for(count)), f"{state:x}", form]
+        found = subprocess.run(words, check=True, capture_output=True, text=True).stdout
+    return [int(line, 16) for line in found.split()]
+
+
+def addresses_that_collide(count: int) -> Case:
+    """Functions at addresses that stand at one place of a map by address."""
+    info = Info()
+    info.begin()
+    for address in colliding(count):
+        info.add(FLAT_CALL, u64(address))
+    info.close()
+    info.end()
+    return listed(library(info, []))
+
+
+def signatures_that_collide(count: int) -> Case:
+    """Type units whose signatures stand at one place of a map by signature."""
+    root = Abbreviation(1, TYPE_UNIT, True, ((AT_LANGUAGE, DATA1),))
+    empty = Abbreviation(2, STRUCTURE, False)
+    info = Info()
+    for signature in colliding(count):
+        info.begin_type(signature, 26, u8(1) + u8(C99))
+        info.add(2)
+        info.close()
+        info.end()
+    return listed(library(info, [], abbreviations=table([root, empty])))
+
+
+def names_that_collide(count: int) -> Case:
+    """Symbols whose names of eight bytes stand at one place of a map by name."""
+    names = bytearray(b"\0")
+    symbols = []
+    # The length is hashed before the bytes.
+    for number in colliding(count, folded(SEED, 8, 8), "names"):
+        symbols.append(Symbol(len(names), 0x1000))
+        names += u64(number) + b"\0"
+    return against_itself(image(symbol_sections(symbols, bytes(names))))
+
+
+KINDS = [
+    Kind("colliding_addresses", "n functions at addresses that collide in a map", addresses_that_collide, 30000),
+    Kind("colliding_signatures", "n type units with signatures that collide in a map", signatures_that_collide, 30000),
+    Kind("colliding_names", "n symbols with names that collide in a map", names_that_collide, 30000),
+]

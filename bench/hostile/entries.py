@@ -1,0 +1,317 @@
+"""Made debug information whose units, abbreviations, entries and range lists ask much."""
+
+from .cases import Case, Kind, against_itself, listed
+from .dwarf import (
+    AT_ABSTRACT_ORIGIN,
+    AT_CONST_VALUE,
+    AT_DECLARATION,
+    AT_EXTERNAL,
+    AT_LANGUAGE,
+    AT_LOW_PC,
+    AT_RANGES,
+    AT_TYPE,
+    ADDR,
+    COMPILE_UNIT,
+    DATA1,
+    ENUMERATION,
+    ENUMERATOR,
+    FLAG_PRESENT,
+    FREE,
+    FUNCTION,
+    IMPLICIT,
+    MEMBER,
+    PARAMETER,
+    POINTER,
+    REF1,
+    REF4,
+    SEC_OFFSET,
+    SHARED,
+    UNIT,
+    AT_BYTE_SIZE,
+    UDATA,
+    Abbreviation,
+    Info,
+    table,
+)
+from .encode import u8, u16, u32, u64, uleb
+from .library import addresses, library
+
+ROOT = Abbreviation(UNIT, COMPILE_UNIT, True, ((AT_LANGUAGE, DATA1),))
+
+
+# Numbers of attributes that nobody asks for, each of which differs by 64 from one that is asked: name, location, low_pc, ranges,
+# entry_pc, abstract_origin, specification, type and declaration.
+BESIDE = (0x43, 0x42, 0x51, 0x15, 0x12, 0x71, 0x07, 0x09, 0x7C)
+
+
+def beside(count: int) -> tuple[tuple[int, ...], ...]:
+    return tuple((BESIDE[number % len(BESIDE)], FLAG_PRESENT) for number in range(count))
+
+
+def of_one_form(count: int, form: Abbreviation, entry: bytes) -> Case:
+    """As many entries of one abbreviation, each spelled so."""
+    info = Info()
+    info.begin()
+    info.bytes += entry * count
+    info.close()
+    info.end()
+    return listed(library(info, [], abbreviations=table([ROOT, form])))
+
+
+def flags(count: int) -> Case:
+    """Functions of one abbreviation with as many attributes without bytes."""
+    return of_one_form(count, Abbreviation(2, FUNCTION, False, beside(count)), b"\2")
+
+
+def flags_and_value(count: int) -> Case:
+    """Members of one abbreviation with as many attributes, of which the last alone takes bytes."""
+    pairs = ((AT_DECLARATION, FLAG_PRESENT),) * count + ((AT_CONST_VALUE, UDATA),)
+    return of_one_form(count, Abbreviation(2, MEMBER, False, pairs), b"\2\0")
+
+
+def flags_of_roots(count: int) -> Case:
+    """Units whose roots share an abbreviation of as many attributes without bytes."""
+    pairs = ((AT_LANGUAGE, DATA1),) + ((0x53, FLAG_PRESENT),) * count
+    info = Info()
+    for _ in range(count):
+        info.begin(root=bytes((UNIT, 0x0C)))
+        info.end()
+    abbreviations = table([Abbreviation(UNIT, COMPILE_UNIT, False, pairs)])
+    return listed(library(info, [], abbreviations=abbreviations))
+
+
+def two_tables(count: int) -> Case:
+    """Units that take by turns one of two tables of as many abbreviations."""
+    root = Abbreviation(UNIT, COMPILE_UNIT, False, ((AT_LANGUAGE, DATA1),))
+    further = [Abbreviation(code, MEMBER, False) for code in range(2, count + 1)]
+    one = table([root, *further])
+    info = Info()
+    for number in range(count):
+        info.begin(abbreviations_at=number % 2 * len(one))
+        info.end()
+    return listed(library(info, [], abbreviations=one + one))
+
+
+def one_chain(count: int) -> Case:
+    """Units that begin to read one chain of abbreviations each at another one. All roots have the code of the last."""
+    last = Abbreviation(count, COMPILE_UNIT, False, ((AT_LANGUAGE, DATA1),))
+    spelled = [Abbreviation(code, MEMBER, False).spelled() for code in range(1, count)]
+    info = Info()
+    at = 0
+    for one in [b"", *spelled]:
+        at += len(one)
+        info.begin(abbreviations_at=at, root=uleb(count) + u8(0x0C))
+        info.end()
+    return listed(library(info, [], abbreviations=b"".join(spelled) + last.spelled() + b"\0"))
+
+
+def ranges(count: int) -> Case:
+    """Functions that share one range list, which begins with as many base addresses."""
+    info = Info()
+    info.begin()
+    for _ in range(count):
+        info.add(FREE, u32(0))
+    info.close()
+    info.end()
+    lists = (u8(5) + u64(0x1000)) * count + u8(7) + u64(0x1000) + uleb(1) + u8(0)
+    further = [Abbreviation(FREE, FUNCTION, False, ((AT_RANGES, SEC_OFFSET),))]
+    return listed(library(info, [0x1000], further, {".debug_rnglists": lists}))
+
+
+def ends_of_ranges(count: int) -> Case:
+    """Functions whose range lists are the ends of one list, each with another number of base addresses."""
+    info = Info()
+    info.begin()
+    for number in range(count):
+        info.add(FREE, u32(9 * number))
+    info.close()
+    info.end()
+    lists = (u8(5) + u64(0x1000)) * count + u8(7) + u64(0x1000) + uleb(1) + u8(0)
+    further = [Abbreviation(FREE, FUNCTION, False, ((AT_RANGES, SEC_OFFSET),))]
+    return listed(library(info, [0x1000], further, {".debug_rnglists": lists}))
+
+
+def pairs_of_ranges(count: int) -> Case:
+    """The same in version 4: pairs that select a base address."""
+    info = Info()
+    root = u8(UNIT) + u8(0x0C)
+    info.bytes += u32(0) + u16(4) + u32(0) + u8(8) + root
+    for _ in range(count):
+        info.add(FREE, u32(0))
+    info.close()
+    info.end()
+    lists = (b"\xff" * 8 + u64(0x1000)) * count + u64(1) + u64(2) + bytes(16)
+    further = [Abbreviation(FREE, FUNCTION, False, ((AT_RANGES, SEC_OFFSET),))]
+    return listed(library(info, [0x1000], further, {".debug_ranges": lists}))
+
+
+def one_origin(count: int) -> Case:
+    """Functions that all take their parameters from one origin, which has as many."""
+    info = Info()
+    info.begin()
+    origin = info.add(FREE)
+    for _ in range(count):
+        info.add(FREE + 1)
+    info.close()
+    values = addresses(count)
+    for value in values:
+        info.add(FREE + 2, u64(value), u32(origin))
+    info.close()
+    info.end()
+    further = [
+        Abbreviation(FREE, FUNCTION, True, ((AT_DECLARATION, FLAG_PRESENT),)),
+        Abbreviation(FREE + 1, PARAMETER, False),
+        Abbreviation(FREE + 2, FUNCTION, False, ((AT_LOW_PC, ADDR), (AT_ABSTRACT_ORIGIN, REF4))),
+    ]
+    return listed(library(info, values, further))
+
+
+def one_address(count: int) -> Case:
+    """Exports at the address of one function with as many parameters."""
+    info = Info()
+    info.begin()
+    info.add(FREE + 1, u64(0x1000))
+    info.bytes += u8(FREE) * count
+    info.close()
+    info.close()
+    info.end()
+    further = [
+        Abbreviation(FREE, PARAMETER, False),
+        Abbreviation(FREE + 1, FUNCTION, True, ((AT_LOW_PC, ADDR),)),
+    ]
+    return listed(library(info, [0x1000] * count, further))
+
+
+def parameters(count: int) -> Case:
+    """One function with parameters of one byte."""
+    info = Info()
+    info.begin()
+    info.add(FREE + 1, u64(0x1000))
+    info.bytes += u8(FREE) * count
+    info.close()
+    info.close()
+    info.end()
+    further = [
+        Abbreviation(FREE, PARAMETER, False),
+        Abbreviation(FREE + 1, FUNCTION, True, ((AT_LOW_PC, ADDR),)),
+    ]
+    return against_itself(library(info, [0x1000], further))
+
+
+def enumerators(count: int) -> Case:
+    """An enumeration with enumerators of one byte, which all have no name and one value."""
+    info = Info()
+    info.begin()
+    counted = info.add(FREE, u32(4))
+    info.bytes += u8(FREE + 1) * count
+    info.close()
+    info.function(0x1000, counted)
+    info.close()
+    info.end()
+    further = [
+        Abbreviation(FREE, ENUMERATION, True, ((AT_BYTE_SIZE, 0x06),)),
+        Abbreviation(FREE + 1, ENUMERATOR, False, ((AT_CONST_VALUE, IMPLICIT, 7),)),
+    ]
+    return against_itself(library(info, [0x1000], further))
+
+
+def pointers(count: int) -> Case:
+    """Pointers of two bytes in units that are small enough for references of one byte."""
+    info = Info()
+    values = addresses((count + 99) // 100)
+    for value in values:
+        info.begin()
+        first = info.here()
+        for number in range(min(100, count)):
+            info.add(FREE, u8(first + 2 * number - 2 if number else first + 198))
+        info.function(value, first + 198)
+        info.close()
+        info.end()
+    further = [Abbreviation(FREE, POINTER, False, ((AT_TYPE, REF1),))]
+    return against_itself(library(info, values, further))
+
+
+def leaves(count: int) -> Case:
+    """Entries of one byte that say nothing."""
+    info = Info()
+    info.begin()
+    info.bytes += u8(FREE) * count
+    info.close()
+    info.end()
+    case = listed(library(info, [], [Abbreviation(FREE, MEMBER, False)]))
+    return Case(case.files, ["entries", "old"])
+
+
+def nested(count: int) -> Case:
+    """Entries each of which stands inside the one before."""
+    info = Info()
+    info.begin()
+    info.bytes += u8(FREE) * count + bytes(count)
+    info.close()
+    info.end()
+    return listed(library(info, [], [Abbreviation(FREE, MEMBER, True)]))
+
+
+def abbreviations(count: int) -> Case:
+    """One unit with a table of abbreviations that have no attributes and codes far apart."""
+    info = Info()
+    info.begin()
+    info.close()
+    info.end()
+    far = [Abbreviation(2 * number + 100, MEMBER, False) for number in range(count)]
+    return listed(library(info, [], abbreviations=table([*SHARED, *far])))
+
+
+def asked_names(count: int) -> Case:
+    """Pointers whose type stands behind attributes without bytes: each question passes them all."""
+    pairs = ((AT_EXTERNAL, FLAG_PRESENT),) * count + ((AT_TYPE, REF4),)
+    info = Info()
+    info.begin()
+    whole = info.number()
+    for _ in range(count):
+        last = info.add(FREE, u32(whole))
+    info.function(0x1000, last)
+    info.close()
+    info.end()
+    return listed(library(info, [0x1000], [Abbreviation(FREE, POINTER, False, pairs)]))
+
+
+def attributes(count: int) -> Case:
+    """A root with as many attributes without bytes."""
+    info = Info()
+    info.begin(root=bytes((UNIT, 0x0C)))
+    info.end()
+    pairs = ((AT_LANGUAGE, DATA1),) + ((0x53, FLAG_PRESENT),) * count
+    return listed(library(info, [], abbreviations=table([Abbreviation(UNIT, COMPILE_UNIT, False, pairs)])))
+
+
+def units(count: int) -> Case:
+    """Units of as few bytes as can be."""
+    info = Info()
+    for _ in range(count):
+        info.begin(root=bytes((UNIT,)))
+        info.end()
+    return listed(library(info, [], abbreviations=table([Abbreviation(UNIT, COMPILE_UNIT, False)])))
+
+
+KINDS = [
+    Kind("flags", "an abbreviation of n attributes without bytes, n functions of it", flags, 2000),
+    Kind("flags_and_value", "an abbreviation of n attributes without bytes and one with, n members of it", flags_and_value, 3000),
+    Kind("flags_of_roots", "n units whose root has n attributes without bytes", flags_of_roots, 2000),
+    Kind("asked_names", "n pointers behind n attributes without bytes", asked_names, 4000),
+    Kind("two_tables", "n units that alternate between two tables of n abbreviations", two_tables, 2000),
+    Kind("one_chain", "n units that each begin at another of n abbreviations of one table", one_chain, 2000),
+    Kind("ranges", "n functions that share one range list of n base addresses", ranges, 4000),
+    Kind("ends_of_ranges", "n functions whose range lists are the ends of one of n base addresses", ends_of_ranges, 4000),
+    Kind("pairs_of_ranges", "the same in version 4 of DWARF", pairs_of_ranges, 8000),
+    Kind("one_origin", "n functions of one origin with n parameters", one_origin, 800),
+    Kind("one_address", "n exports at one function of n parameters", one_address, 4000),
+    Kind("parameters", "one function of n parameters of one byte", parameters, 100000),
+    Kind("enumerators", "an enumeration of n enumerators of one byte", enumerators, 100000),
+    Kind("pointers", "n pointers of two bytes", pointers, 100000),
+    Kind("leaves", "n entries of one byte, by abi entries", leaves, 1000000),
+    Kind("nested", "n entries of one byte, each inside the one before", nested, 500000),
+    Kind("attributes", "a root with n attributes without bytes", attributes, 500000),
+    Kind("units", "n units of 13 bytes", units, 100000),
+    Kind("abbreviations", "n abbreviations of six bytes with codes far apart", abbreviations, 200000),
+]

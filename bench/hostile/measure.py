@@ -1,0 +1,110 @@
+"""Runs a program over made files under limits, and measures processor time and peak memory."""
+
+import math
+import os
+import subprocess
+from dataclasses import dataclass
+from pathlib import Path
+
+from .cases import Case
+
+MOST_MEMORY = 8_000_000_000
+MOST_SECONDS = 120
+# What a made file may ask: times the seconds of half the file, and bytes for each byte beside some for the program itself.
+MOST_GROWTH = 2.5
+BYTES_A_BYTE = 64
+BYTES_BESIDE = 10_000_000
+# Beside the growth: no file of few bytes may take long.
+SECONDS_A_MEGABYTE = 10
+SECONDS_BESIDE = 0.2
+# Shorter runs say nothing of how time grows.
+SHORT = 0.08
+
+
+@dataclass(frozen=True)
+class Run:
+    """How a run ended: its exit status, or the signal that ended it; seconds of processor time; bytes of peak memory."""
+
+    status: str
+    seconds: float
+    memory: int
+
+
+@dataclass(frozen=True)
+class Row:
+    """A kind's file, and the one that is twice as large."""
+
+    name: str
+    sizes: tuple[int, int]
+    runs: tuple[Run, Run]
+
+    def growth(self) -> float | None:
+        """How many times the seconds for twice the bytes; a file that grew by less counts as twice as large."""
+        small, large = self.runs
+        if large.seconds < SHORT:
+            return None
+        doublings = max(1.0, math.log2(self.sizes[1] / self.sizes[0]))
+        return float((large.seconds / max(small.seconds, 0.01)) ** (1 / doublings))
+
+    def bytes_a_byte(self) -> float:
+        return max(run.memory / size for run, size in zip(self.runs, self.sizes))
+
+    def overs(self) -> list[str]:
+        """Which bounds the kind passes."""
+        found = []
+        growth = self.growth()
+        if growth is not None and growth > MOST_GROWTH or self.runs[1].status.startswith("signal"):
+            found.append("growth")
+        if any(run.seconds > SECONDS_A_MEGABYTE * size / 1e6 + SECONDS_BESIDE for run, size in zip(self.runs, self.sizes)):
+            found.append("time")
+        if any(run.memory > BYTES_A_BYTE * size + BYTES_BESIDE for run, size in zip(self.runs, self.sizes)):
+            found.append("memory")
+        return found
+
+    def line(self) -> str:
+        small, large = self.runs
+        growth = self.growth()
+        cells = [
+            self.name,
+            f"{self.sizes[1]:,}",
+            f"{small.seconds:.2f}",
+            f"{large.seconds:.2f}",
+            "" if growth is None else f"{growth:.1f}",
+            f"{large.memory / 1e6:.1f}",
+            f"{self.bytes_a_byte():.0f}",
+            large.status if small.status == large.status else f"{small.status}, {large.status}",
+            ", ".join(self.overs()),
+        ]
+        return "| " + " | ".join(cells) + " |"
+
+
+HEAD = """| Made file | Bytes | Half of it, s | s | Ratio | Peak memory, MB | Bytes a byte | Status | Over |
+|---|---|---|---|---|---|---|---|---|"""
+
+
+def limited(words: list[str], output: str) -> Run:
+    """One run of a command under limits of memory and processor time."""
+    limits = ["prlimit", f"--as={MOST_MEMORY}", f"--cpu={MOST_SECONDS}", "--core=0"]
+    timed = ["/usr/bin/time", "-o", "times", "-f", "%U %S %M %x"]
+    with open(output, "wb") as to:
+        subprocess.run(timed + limits + words, stdout=to, stderr=subprocess.DEVNULL, check=False)
+    lines = Path("times").read_text().splitlines()
+    user, system, kilobytes, status = lines[-1].split()
+    if lines[0].startswith("Command terminated by signal"):
+        status = "signal " + lines[0].split()[-1]
+    return Run(status, float(user) + float(system), 1024 * int(kilobytes))
+
+
+def run_case(program: str, case: Case, runs: int) -> Run:
+    """The least of some runs of a case; a long one is made once."""
+    for name, contents in case.files.items():
+        Path(name).write_bytes(contents)
+    if case.before:
+        limited([program, *case.before], "made")
+    least = limited([program, *case.words], os.devnull)
+    for _ in range(runs - 1):
+        if least.seconds > 1:
+            break
+        again = limited([program, *case.words], os.devnull)
+        least = again if again.seconds < least.seconds else least
+    return least

@@ -1,0 +1,102 @@
+"""Made libraries whose names and versions are long, share their bytes, or are many of one name."""
+
+from .cases import Case, Kind, against, against_itself, listed
+from .elf import SHT_PROGBITS, Section, Symbol, image, symbol_sections, version_sections
+from .encode import short_name
+
+MOST_VERSIONS = 32766
+
+
+def table_of(names: list[str]) -> tuple[bytes, list[int]]:
+    """A table of texts, and where each stands."""
+    contents = bytearray(b"\0")
+    places = []
+    for name in names:
+        places.append(len(contents))
+        contents += name.encode() + b"\0"
+    return bytes(contents), places
+
+
+def versioned(count: int, version: str) -> bytes:
+    """Functions of short names that all have one version."""
+    names, places = table_of([short_name(number) for number in range(count)] + [version])
+    symbols = [Symbol(place, 0x1000 + 16 * number) for number, place in enumerate(places[:-1])]
+    indexes = [0] + [2] * count
+    return image(symbol_sections(symbols, names) + version_sections(indexes, [places[-1]]))
+
+
+def one_version(count: int) -> Case:
+    """Symbols whose one version has a long name."""
+    return against_itself(versioned(count, "v" * (8 * count)))
+
+
+def gone(count: int) -> Case:
+    """The same, and in the new library all are gone."""
+    return against(versioned(count, "v" * (8 * count)), versioned(1, "v"))
+
+
+def of_versions(count: int, name: str, hidden: int) -> bytes:
+    """Symbols of one name, each of another version."""
+    names, places = table_of([short_name(number) for number in range(count)] + [name])
+    symbols = [Symbol(places[-1], 0x1000 + 16 * number) for number in range(count)]
+    indexes = [0] + [number + 2 | hidden for number in range(count)]
+    return image(symbol_sections(symbols, names) + version_sections(indexes, places[:-1]))
+
+
+def versions(count: int) -> Case:
+    """Symbols of one long name, each of another version."""
+    return against_itself(of_versions(count, "f" * (20 * count), 0x8000))
+
+
+def short_versions(count: int) -> Case:
+    """Symbols of one short name, each of another version."""
+    return against_itself(of_versions(count, "f", 0x8000))
+
+
+def definitions(count: int) -> Case:
+    """Definitions of versions that all have one long name. No symbol has one of them."""
+    names = b"\0" + b"v" * (40 * count) + b"\0"
+    places = [1] * min(count, MOST_VERSIONS)
+    return listed(image(symbol_sections([], names) + version_sections([0], places)))
+
+
+def suffixes(count: int) -> bytes:
+    """Symbols whose names are the ends of one text."""
+    names = b"\0" + b"s" * count + b"\0"
+    return image(symbol_sections([Symbol(1 + number, 0x1000 + number) for number in range(count)], names))
+
+
+def shared_ends(count: int) -> Case:
+    return against_itself(suffixes(count))
+
+
+def listed_ends(count: int) -> Case:
+    return listed(suffixes(count))
+
+
+def hidden_names(count: int) -> Case:
+    """Local symbols whose names are all one long text."""
+    names = b"\0" + b"s" * (20 * count) + b"\0"
+    return listed(image(symbol_sections([Symbol(1, 0, info=0)] * count, names)))
+
+
+def section_names(count: int) -> Case:
+    """Sections whose names are all one long text."""
+    first = symbol_sections([], b"\0")
+    names = b"s" * (20 * count) + b"\0"
+    sections = [Section(b"", one.kind, one.contents, one.link, one.info, one.entry_size, 0) for one in first]
+    sections += [Section(b"", SHT_PROGBITS, b"", name_at=0)] * count
+    return listed(image(sections, names))
+
+
+KINDS = [
+    Kind("one_version", "n symbols whose one version has a name of 8 n bytes", one_version, 3000),
+    Kind("gone", "the same, and all are gone in the new library", gone, 2000),
+    Kind("versions", "n symbols of one name of 20 n bytes with n versions", versions, 600),
+    Kind("short_versions", "n symbols of one short name with n versions", short_versions, 6000),
+    Kind("definitions", "n definitions of versions, all of one name of 40 n bytes", definitions, 3000),
+    Kind("shared_ends", "n symbols whose names are the ends of one text of n bytes", shared_ends, 5000),
+    Kind("listed_ends", "the same, by abi exports", listed_ends, 5000),
+    Kind("hidden_names", "n local symbols whose names are one text of 20 n bytes", hidden_names, 5000),
+    Kind("section_names", "n sections whose names are one text of 20 n bytes", section_names, 2000),
+]
