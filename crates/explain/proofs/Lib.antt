@@ -1,4 +1,1 @@
-mod KindLemmas
 mod LineLemmas
-mod ListLemmas
-mod TextLemmas

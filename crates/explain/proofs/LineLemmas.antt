@@ -1,39 +1,206 @@
--- The parts of the line of an unreadable input.
-use Rattle.std.proofs.Common.{◌≡◌, ℕ, Bool, true, false, not, sym, ◌∙◌, Some, List, ◌∷◌, ◌++◌, append_assoc, refl}
-use Rattle.std.specs.Prelude.{codes, decimal}
+-- Texts that are shown in a line are one line.
+use Rattle.std.proofs.Common.{◌≡◌, ◌≤◌, ◌<◌, ◌≢◌, ◌+◌, ◌/◌, ◌%◌, ◌^◌, ◌&&◌, ℕ, Bool, true, false, List, [], ◌∷◌, ◌++◌, flat_map, refl, sym, ◌∙◌, ap, arith, true≢false}
+use Rattle.std.specs.Char.{encode_utf8}
+use Rattle.std.specs.Prelude.{codes, decimal, slice_index, if◌then◌else◌}
+use Rattle.std.specs.Str.{chars}
+use Rattle.std.proofs.lemmas.Fmt.{decimal_by_steps}
+use Rattle.std.proofs.lemmas.List.Folds.{list_all-append, list_all_at}
+use Rattle.std.proofs.lemmas.Bool.Decides.{nat_tests}
+use Rattle.std.specs.List.{concat, list_all}
+use Rattle.hex.specs.Hex.{encode_lower, encode_with, lower_digits}
 use Rattle.abi_base.specs.Fault.{fault_number, fault_name}
 use Rattle.abi_base.specs.declared.fault.Fault.{Fault}
 use Rattle.abi_base.specs.declared.fault.FaultKind.{FaultKind}
-use Rattle.std.specs.Str.{bytes_eq}
-use Rattle.std.specs.Cmp.Lexicographic.{same_text}
-use Rattle.explain.specs.FaultSentence.{unreadable_line}
+use Rattle.abi_base.specs.declared.fault.FaultKind.TheVariants.{ShortFile, NotElf, Class, Data, Version, NotShared, Machine, SectionTable, SectionRange, SectionName, Compressed, NoDynamicSymbols, SymbolTable, DynamicTable, VersionTable, VersionDefinition, VersionIndex, DuplicateExport, UnitHeader, DwarfVersion, UnitType, AddressSize, Dwarf64, Abbrev, AbbrevCode, Form, Cut, Tree, Text, Index, Ranges, Language, Reference, Shape, TooDeep, TooLarge, Supplementary, OriginTooDeep, TooLong, VersionNeed, ImportVersion, TypeOffset, BadText, RuleLine, Section, Property, EmptyRule, BadPattern, LongPattern, Repeated, Brace, CertLine, Order, End}
+use Rattle.explain.specs.Sentences.{fault_mark, said_of}
+use Rattle.explain.specs.Lines.{in_line, is_escaped, is_one_line, is_printed, shown_char}
 
-abbrev pub behind_name : Fault → List ℕ → List ℕ
-behind_name fault more = decimal fault.at ++ 10 ∷ more
+-- two lines one behind the other are one
+pub joined : (xs ys : List ℕ) → is_one_line xs ≡ true → is_one_line ys ≡ true → is_one_line (xs ++ ys) ≡ true
+joined xs ys one two = list_all-append is_printed xs ys ∙ ap (λ b. b && is_one_line ys) one ∙ two
 
-abbrev pub behind_number : Fault → List ℕ → List ℕ
-behind_number fault more = fault_name fault.kind ++ 32 ∷ behind_name fault more
+-- a byte that is no control character
+printed : (b : ℕ) → 32 ≤ b → b ≢ 127 → is_printed b ≡ true
+printed b some other = grind (arith, nat_tests)
 
-abbrev pub behind_which : Fault → List ℕ → List ℕ
-behind_which fault more = decimal (fault_number fault.kind) ++ 32 ∷ behind_number fault more
+one_byte : (b : ℕ) → 32 ≤ b → b ≢ 127 → is_one_line (b ∷ []) ≡ true
+one_byte b some other = ap (λ is. is && true) (printed b some other)
 
-abbrev pub behind_word : List ℕ → Fault → List ℕ → List ℕ
-behind_word which fault more = which ++ 32 ∷ behind_which fault more
+-- a digit is printed
+digit_line : (n : ℕ) → n < 10 → is_one_line ((48 + n) ∷ []) ≡ true
+digit_line n small = one_byte (48 + n) (omega arith) (λ same. omega (arith, same))
 
-pub line_parts : (which more : List ℕ) (fault : Fault) → unreadable_line which fault ++ more ≡ codes "unreadable" ++ 32 ∷ behind_word which fault more
-line_parts which more fault = simp append_assoc
+pub decimal_line : (n : ℕ) → n < 2 ^ 64 → is_one_line (decimal n) ≡ true
+decimal_line n small =
+    decimal_by_steps (λ (m : ℕ) (ds : List ℕ). is_one_line ds ≡ true) digit_line
+    (λ m ds many before. joined ds ((48 + m % 10) ∷ []) before (digit_line (m % 10) (omega arith))) n small
 
--- a fault is its kind and its place
-pub same_fault : (kind : FaultKind) (at : ℕ) (fault : Fault) → Some kind ≡ Some fault.kind → Some at ≡ Some fault.at → record { kind = kind; at = at } ≡ fault
-same_fault kind at fault is_kind is_at =
-    let k : kind ≡ fault.kind = cc in
-    let a : at ≡ fault.at = cc in
-    rw (k, a)
+chosen : (b : Bool) (xs ys : List ℕ) → (b ≡ true → is_one_line xs ≡ true) → (b ≡ false → is_one_line ys ≡ true) → is_one_line (if b then xs else ys) ≡ true
+chosen true xs ys one two = one refl
+chosen false xs ys one two = two refl
 
--- what a test of two texts that are not apart has told
-pub not_apart : (apart : Bool) (xs ys : List ℕ) → apart ≡ not (bytes_eq xs ys) → apart ≡ false → xs ≡ ys
-not_apart apart xs ys is equal = same_text xs ys (turned (bytes_eq xs ys) (sym is ∙ equal))
-  where
-    turned : (b : Bool) → not b ≡ false → true ≡ b
-    turned true e = refl
-    turned false e = cc
+same_or : (b : Bool) → (b ≡ false → ⊥) → b ≡ true
+same_or true not_false = refl
+same_or false not_false = absurd (not_false refl)
+
+-- a hexadecimal digit is printed
+hex_printed : (d : ℕ) → d < 16 → is_printed (slice_index lower_digits d) ≡ true
+hex_printed d small =
+    let all : list_all is_printed lower_digits ≡ true = refl in
+    same_or (is_printed (slice_index lower_digits d)) (λ no. true≢false (sym all ∙ list_all_at is_printed lower_digits d 0 small no))
+
+-- the escaped form of a character is
+escaped_line : (c : ℕ) → is_escaped c ≡ true → is_one_line (0x5c ∷ 0x78 ∷ encode_lower (c ∷ [])) ≡ true
+unfolding encode_with
+escaped_line c is =
+    let small : c < 256 = grind (arith, nat_tests, is) in
+    let high = hex_printed (c / 16) (omega (arith, small)) in
+    let low = hex_printed (c % 16) (omega arith) in
+    ap (λ b. b && (is_printed (slice_index lower_digits (c % 16)) && true)) high ∙ ap (λ b. b && true) low
+
+-- and so is each other character
+plain_line : (c : ℕ) → is_escaped c ≡ false → is_one_line (encode_utf8 c) ≡ true
+unfolding encode_utf8
+plain_line c is = grind (arith, nat_tests, is)
+
+pub char_line : (c : ℕ) → is_one_line (shown_char c) ≡ true
+char_line c = chosen (is_escaped c) (0x5c ∷ 0x78 ∷ encode_lower (c ∷ [])) (encode_utf8 c) (escaped_line c) (plain_line c)
+
+pub shown_line : (cs : List ℕ) → is_one_line (flat_map shown_char cs) ≡ true
+shown_line [] = refl
+shown_line (c ∷ cs) = joined (shown_char c) (flat_map shown_char cs) (char_line c) (shown_line cs)
+
+pub in_line_line : (text : List ℕ) → is_one_line (in_line text) ≡ true
+in_line_line text = shown_line (chars text)
+
+-- what is said of a path is one line
+pub said_line : (path said : List ℕ) → is_one_line (said_of path said) ≡ true
+said_line path said =
+    let behind : is_one_line (concat (codes ": " ∷ in_line said ∷ [])) ≡ true = joined (codes ": ") (concat (in_line said ∷ [])) refl (joined (in_line said) [] (in_line_line said) refl) in
+    joined (in_line path) (concat (codes ": " ∷ in_line said ∷ [])) (in_line_line path) behind
+
+-- the name of each kind of fault
+name_line : (kind : FaultKind) → is_one_line (fault_name kind) ≡ true
+name_line ShortFile = refl
+name_line NotElf = refl
+name_line Class = refl
+name_line Data = refl
+name_line Version = refl
+name_line NotShared = refl
+name_line Machine = refl
+name_line SectionTable = refl
+name_line SectionRange = refl
+name_line SectionName = refl
+name_line Compressed = refl
+name_line NoDynamicSymbols = refl
+name_line SymbolTable = refl
+name_line DynamicTable = refl
+name_line VersionTable = refl
+name_line VersionDefinition = refl
+name_line VersionIndex = refl
+name_line DuplicateExport = refl
+name_line UnitHeader = refl
+name_line DwarfVersion = refl
+name_line UnitType = refl
+name_line AddressSize = refl
+name_line Dwarf64 = refl
+name_line Abbrev = refl
+name_line AbbrevCode = refl
+name_line Form = refl
+name_line Cut = refl
+name_line Tree = refl
+name_line Text = refl
+name_line Index = refl
+name_line Ranges = refl
+name_line Language = refl
+name_line Reference = refl
+name_line Shape = refl
+name_line TooDeep = refl
+name_line TooLarge = refl
+name_line Supplementary = refl
+name_line OriginTooDeep = refl
+name_line TooLong = refl
+name_line VersionNeed = refl
+name_line ImportVersion = refl
+name_line TypeOffset = refl
+name_line BadText = refl
+name_line RuleLine = refl
+name_line Section = refl
+name_line Property = refl
+name_line EmptyRule = refl
+name_line BadPattern = refl
+name_line LongPattern = refl
+name_line Repeated = refl
+name_line Brace = refl
+name_line CertLine = refl
+name_line Order = refl
+name_line End = refl
+
+-- and so is its number
+number_line : (kind : FaultKind) → is_one_line (decimal (fault_number kind)) ≡ true
+number_line ShortFile = decimal_line 1 (omega arith)
+number_line NotElf = decimal_line 2 (omega arith)
+number_line Class = decimal_line 3 (omega arith)
+number_line Data = decimal_line 4 (omega arith)
+number_line Version = decimal_line 5 (omega arith)
+number_line NotShared = decimal_line 6 (omega arith)
+number_line Machine = decimal_line 7 (omega arith)
+number_line SectionTable = decimal_line 8 (omega arith)
+number_line SectionRange = decimal_line 9 (omega arith)
+number_line SectionName = decimal_line 10 (omega arith)
+number_line Compressed = decimal_line 11 (omega arith)
+number_line NoDynamicSymbols = decimal_line 12 (omega arith)
+number_line SymbolTable = decimal_line 13 (omega arith)
+number_line DynamicTable = decimal_line 14 (omega arith)
+number_line VersionTable = decimal_line 15 (omega arith)
+number_line VersionDefinition = decimal_line 16 (omega arith)
+number_line VersionIndex = decimal_line 17 (omega arith)
+number_line DuplicateExport = decimal_line 18 (omega arith)
+number_line UnitHeader = decimal_line 20 (omega arith)
+number_line DwarfVersion = decimal_line 21 (omega arith)
+number_line UnitType = decimal_line 22 (omega arith)
+number_line AddressSize = decimal_line 23 (omega arith)
+number_line Dwarf64 = decimal_line 24 (omega arith)
+number_line Abbrev = decimal_line 25 (omega arith)
+number_line AbbrevCode = decimal_line 26 (omega arith)
+number_line Form = decimal_line 27 (omega arith)
+number_line Cut = decimal_line 28 (omega arith)
+number_line Tree = decimal_line 29 (omega arith)
+number_line Text = decimal_line 30 (omega arith)
+number_line Index = decimal_line 31 (omega arith)
+number_line Ranges = decimal_line 32 (omega arith)
+number_line Language = decimal_line 33 (omega arith)
+number_line Reference = decimal_line 34 (omega arith)
+number_line Shape = decimal_line 35 (omega arith)
+number_line TooDeep = decimal_line 36 (omega arith)
+number_line TooLarge = decimal_line 37 (omega arith)
+number_line Supplementary = decimal_line 38 (omega arith)
+number_line OriginTooDeep = decimal_line 39 (omega arith)
+number_line TooLong = decimal_line 40 (omega arith)
+number_line VersionNeed = decimal_line 41 (omega arith)
+number_line ImportVersion = decimal_line 42 (omega arith)
+number_line TypeOffset = decimal_line 43 (omega arith)
+number_line BadText = decimal_line 50 (omega arith)
+number_line RuleLine = decimal_line 51 (omega arith)
+number_line Section = decimal_line 52 (omega arith)
+number_line Property = decimal_line 53 (omega arith)
+number_line EmptyRule = decimal_line 54 (omega arith)
+number_line BadPattern = decimal_line 55 (omega arith)
+number_line LongPattern = decimal_line 56 (omega arith)
+number_line Repeated = decimal_line 57 (omega arith)
+number_line Brace = decimal_line 58 (omega arith)
+number_line CertLine = decimal_line 60 (omega arith)
+number_line Order = decimal_line 61 (omega arith)
+number_line End = decimal_line 62 (omega arith)
+
+pub mark_line : (fault : Fault) → fault.at < 2 ^ 64 → is_one_line (fault_mark fault) ≡ true
+mark_line fault small =
+    let number = decimal (fault_number fault.kind) in
+    let name = fault_name fault.kind in
+    let at = decimal fault.at in
+    let four : is_one_line (at ++ (codes ")" ++ [])) ≡ true = joined at (codes ")") (decimal_line fault.at small) refl in
+    let three : is_one_line (codes " at " ++ (at ++ (codes ")" ++ []))) ≡ true = joined (codes " at ") (at ++ (codes ")" ++ [])) refl four in
+    let two : is_one_line (name ++ (codes " at " ++ (at ++ (codes ")" ++ [])))) ≡ true = joined name (codes " at " ++ (at ++ (codes ")" ++ []))) (name_line fault.kind) three in
+    let one : is_one_line (codes " " ++ (name ++ (codes " at " ++ (at ++ (codes ")" ++ []))))) ≡ true = joined (codes " ") (name ++ (codes " at " ++ (at ++ (codes ")" ++ [])))) refl two in
+    joined (codes " (fault ") (number ++ (codes " " ++ (name ++ (codes " at " ++ (at ++ (codes ")" ++ [])))))) refl
+    (joined number (codes " " ++ (name ++ (codes " at " ++ (at ++ (codes ")" ++ []))))) (number_line fault.kind) one)

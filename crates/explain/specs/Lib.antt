@@ -1,4 +1,2 @@
-pub mod NotedLimit
-pub mod NotedBytes
-pub mod Texts
-pub mod FaultSentence
+pub mod Lines
+pub mod Sentences

@@ -1,18 +1,18 @@
-//! Sentences for people, which go to standard error: what is wrong with an input, and what can be done about it. What the
-//! program promises stands in its exit number and on standard output; nothing here changes either.
+//! Sentences for people, which go to standard error: what is wrong with an input, and what can be done about it. Each names its
+//! input by the path, and is one line; that of a fault has the number, the name and the place of the fault. What the program
+//! promises of its answer stands in its exit number and on standard output; nothing here changes either.
 #![tactic(auto)]
 
 mod constants;
-mod fault_sentence;
+mod failures;
 mod faults;
 mod files;
-mod first;
-mod kinds;
+mod lines;
 mod places;
-mod recording_sink;
 mod remarks;
 mod sections;
+mod sentence;
 
-pub use fault_sentence::{push_fault, told_fault};
-pub use recording_sink::RecordingSink;
-pub use remarks::push_untyped;
+pub use failures::failure_sentence;
+pub use remarks::untyped_sentence;
+pub use sentence::fault_sentence;

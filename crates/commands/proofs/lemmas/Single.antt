@@ -59,6 +59,12 @@ module _ (r : Reading) (inputs : List Wanted) (says : List (List ℕ) → Verdic
       ap (λ l. stop_of l (first_fault (asks_of inputs) all)) (is_first_long inputs all which long) ∙ ap (λ f. Some (which, f)) (sym same)
   fault_of_all which fault (inr (short, first)) = by_faults short ∙ is_first (asks_of inputs) all which fault first
 
+  -- a verdict is on what the inputs tell
+  pub judged_alone : (v : Verdict) (untyped : Option Remark) (text : List ℕ) → Replies r inputs says (Judged v untyped) text → AreShort all × AreReadable (asks_of inputs) all × says all v untyped text
+  judged_alone v untyped text (given, gives, (readable, said)) =
+      let on = on_told (λ l. AreReadable (asks_of inputs) l × says l v untyped text) given gives (readable, said) in
+      (on.0, on.1.0, on.1.1)
+
   pub replies_alone : (outcome : Outcome) (text : List ℕ) → ((which : Input) → outcome ≡ ReadFault which → ⊥) → Replies r inputs says outcome text → IsReply the_stop outcome text
   replies_alone (Judged v untyped) text other (given, gives, (readable, said)) =
       let on = on_told (λ l. AreReadable (asks_of inputs) l × says l v untyped text) given gives (readable, said) in

@@ -1,0 +1,110 @@
+// Whole sentences on faults.
+ghost use Rattle.std.specs.Prelude.{◌≡◌, ◌++◌, IfOk, IsTrue, OnOk};
+ghost use Rattle.std.specs.String.{string_bytes};
+ghost use Rattle.explain.specs.Lines.{is_one_line};
+ghost use Rattle.explain.specs.Sentences.{SaysFault, fault_mark};
+
+use crate::faults::{info_sentence, line_sentence, numbered_sentence, whole_table_sentence};
+use crate::files::file_sentence;
+use crate::lines::said;
+use crate::places::{Place, place_of};
+use crate::sections::section_name;
+use abi_base::{Fault, FaultKind, NoMemory};
+use std::alloc::{AllocError, Global};
+use std::fmt::Write;
+
+// Whether a byte is a visible ASCII character.
+fn is_visible(byte: &u8) -> bool {
+    b'!' <= *byte && *byte <= b'~'
+}
+
+// Appends the name of a section in brackets, where all of it can be seen: a name does not break the line.
+fn push_name(text: &mut String, bytes: &[u8], index: u64) -> Result<(), AllocError> {
+    let Some(name) = section_name(bytes, index) else {
+        return Ok(());
+    };
+    if !name.iter().all(is_visible) {
+        return Ok(());
+    }
+    match str::from_utf8(name) {
+        Ok(name) => write!(text, " ({name})"),
+        Err(_) => Ok(()),
+    }
+}
+
+// Appends what is wrong with a dynamic symbol, or with their table.
+fn push_symbol(text: &mut String, kind: FaultKind, at: u64) -> Result<(), AllocError> {
+    match (at, whole_table_sentence(kind)) {
+        (0, Some(sentence)) => text.push_str(sentence),
+        _ => write!(text, "dynamic symbol {at} {}", numbered_sentence(kind)),
+    }
+}
+
+// Appends what is wrong with an entry of the dynamic table, or with the table.
+fn push_dynamic(text: &mut String, kind: FaultKind, at: u64) -> Result<(), AllocError> {
+    match (at, whole_table_sentence(kind)) {
+        (0, Some(sentence)) => text.push_str(sentence),
+        _ => write!(
+            text,
+            "entry {at} of the dynamic table {}",
+            numbered_sentence(kind)
+        ),
+    }
+}
+
+// Appends what is wrong with an input of these bytes that has this fault, with its place. The bytes may be none, where they cannot
+// be read a second time: the words are then less exact.
+fn push_why(text: &mut String, fault: Fault, bytes: &[u8]) -> Result<(), AllocError> {
+    let kind = fault.kind;
+    let at = fault.at;
+    match place_of(kind) {
+        Place::File => text.push_str(file_sentence(kind, at, bytes)),
+        Place::Section => {
+            write!(text, "section {at}")?;
+            push_name(text, bytes, at)?;
+            write!(text, " {}", numbered_sentence(kind))
+        }
+        Place::Symbol => push_symbol(text, kind, at),
+        Place::DynamicEntry => push_dynamic(text, kind, at),
+        Place::Definition => write!(text, "version definition {at} {}", numbered_sentence(kind)),
+        Place::Info => write!(
+            text,
+            "offset {at:#x} of .debug_info: {}",
+            info_sentence(kind)
+        ),
+        Place::Abbreviations => write!(
+            text,
+            "offset {at:#x} of .debug_abbrev: the abbreviation is damaged"
+        ),
+        Place::Line => write!(text, "line {at}: {}", line_sentence(kind)),
+    }
+}
+
+/// The sentence of an input at a path, of these bytes, that has this fault: what is wrong in words, and then the number, the name
+/// and the place of the fault. It is one line, whatever the characters of the path are. The bytes may be none, where they cannot be
+/// read a second time: the words are then less exact.
+pub fn fault_sentence(
+    alloc: Global,
+    path: &str,
+    fault: Fault,
+    bytes: &[u8],
+) -> Result<String, NoMemory>
+    ensures says { IfOk result (λ text. SaysFault path.now fault (string_bytes text)) }
+    ensures line { IfOk result (λ text. IsTrue (is_one_line (string_bytes text))) }
+{
+    let mut why = String::new(alloc);
+    push_why(&mut why, fault, bytes)?;
+    let mut text = said(alloc, path, why.as_str())?;
+    push_mark(&mut text, fault)?;
+    Ok(text)
+}
+
+// Appends the number, the name and the place of a fault.
+fn push_mark(text: &mut String, fault: Fault) -> Result<(), AllocError>
+    ensures { OnOk result (string_bytes text.new ≡ string_bytes text.old ++ fault_mark fault) }
+{
+    let number = fault.kind.number();
+    let name = fault.kind.name();
+    let at = fault.at;
+    write!(text, " (fault {number} {name} at {at})")
+}
