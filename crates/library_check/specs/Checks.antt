@@ -2,6 +2,7 @@
 -- shows it.
 use Rattle.std.specs.Prelude.{◌≡◌, ℕ, List, Some, None}
 use Rattle.report.specs.Listening.{Voice}
+use Rattle.cert_check.specs.Agreed.{IsAgreed}
 use Rattle.cert_check.specs.Compatible.{Sides, IsCompatible}
 use Rattle.library_read.specs.Faults.{library_fault}
 use Rattle.library_read.specs.Libraries.{library_of}
@@ -21,6 +22,11 @@ sides_of old new rules = ruled (library_of old) (library_of new) (rules_of rules
 -- the rules of types.
 abbrev pub Compatible : List ℕ → List ℕ → List ℕ → Type 0
 Compatible old new rules = IsCompatible (sides_of old new rules)
+
+-- The same, seen from a program that was compiled against the old library: the sonames agree, each old export that is compared
+-- binds and keeps the rules of exports, and whatever the program may reach from the types of these exports it finds the same.
+abbrev pub Agreed : List ℕ → List ℕ → List ℕ → Type 0
+Agreed old new rules = IsAgreed (sides_of old new rules)
 
 -- the text of a yes
 abbrev pub IsCertificateText : List ℕ → List ℕ → List ℕ → List ℕ → Type 0

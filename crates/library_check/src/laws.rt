@@ -1,7 +1,9 @@
 //! What `check` and `verify` come to. Each law is the contract of a function whose body only names the laws below it.
-ghost use Rattle.std.specs.Prelude.{◌≡◌, ◌≢◌, ◌≤◌, ℕ, List, [], None, length, All};
+ghost use Rattle.std.specs.Prelude.{◌≡◌, ◌≢◌, ◌≤◌, ◌↔◌, ℕ, List, [], None, length, All};
 ghost use Rattle.abi_base.specs.Limits.{input_limit};
 ghost use Rattle.abi_types.specs.Libraries.{PlainLibrary};
+ghost use Rattle.accesses.specs.LeafPlaces.{LeavesStay};
+ghost use Rattle.cert_check.specs.Compatible.{task_of};
 ghost use Rattle.report.specs.Listening.{Voice};
 ghost use Rattle.pair_compare.specs.Marking.{no_marks};
 ghost use Rattle.cert_check.specs.Accepted.{IsAccepted};
@@ -16,7 +18,7 @@ ghost use Rattle.library_check.specs.declared.verifying.Unverified.{Unverified};
 ghost use Rattle.library_check.specs.declared.verifying.Unverified.TheVariants.{NoMemory};
 ghost use Rattle.library_check.specs.declared.verifying.Verified.{Verified};
 ghost use Rattle.library_check.specs.declared.verifying.Verified.TheVariants.{Accepted};
-ghost use Rattle.library_check.specs.Checks.{AreReadable, Compatible, IsCertificateText, IsReportText, sides_of};
+ghost use Rattle.library_check.specs.Checks.{Agreed, AreReadable, Compatible, IsCertificateText, IsReportText, sides_of};
 ghost use Rattle.library_check.specs.Relations.{IsRelationText};
 ghost use Rattle.library_check.specs.Verifications.{IsAcceptedText, IsUnverified, IsVerified, certificate_fault};
 ghost use Rattle.library_check.specs.Voices.{TellsItsText};
@@ -115,6 +117,20 @@ pub fn a_certificate_may_be_migrated_without_accessed_through()
 {
     a_migrated_certificate_is_accepted();
     rules_without_accessed_through_see_no_way();
+}
+
+/// A new library may replace an old one exactly where a program compiled against the old one finds the same in the new one. Then each
+/// leaf of what an open access lands on stays where it is, if it lies under no place that is marked at its way and under none that is
+/// declared only in the new library.
+pub fn compatible_is_that_accesses_agree()
+    ensures exact { (old new rules : List ℕ) → length old ≤ input_limit → length new ≤ input_limit → library_fault old ≡ None → library_fault new ≡ None
+        → Compatible old new rules ↔ Agreed old new rules }
+    ensures leaves { (old new rules : List ℕ) → length old ≤ input_limit → length new ≤ input_limit → library_fault old ≡ None → library_fault new ≡ None
+        → Compatible old new rules → LeavesStay (task_of (sides_of old new rules)) }
+{
+    cert_check::laws::compatible_is_that_accesses_agree();
+    nodes_stand_for_what_exports_reach();
+    readable_files_are_libraries();
 }
 
 /// An empty rule file is readable, and leaves nothing out.

@@ -2,4 +2,4 @@
 use Rattle.library_check.proofs.judging.judge.Given as goal
 
 abbrev pub ghosts-compared : goal.ghosts-compared
-ghosts-compared a = record { name = a.blank.name; parts = a.blank.parts }
+ghosts-compared g a = record { name = a.blank.name; parts = a.blank.parts }
