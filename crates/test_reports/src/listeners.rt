@@ -40,11 +40,12 @@ struct Counting {
 }
 
 impl Listener for Counting {
+    ghost use Rattle.report.specs.Listening.{styled};
     ghost use Rattle.report.specs.declared.style.Style.TheVariants.{Own};
 
     ghost heard = { λ l. l.rows.items };
 
-    ghost asks = { λ _. Own };
+    ghost voice = { λ _. styled Own };
 
     fn style(&self) -> Style {
         Style::Own
