@@ -26,13 +26,19 @@ run() {
     cat errors >>said
 }
 
-# says STATUS SENTENCE ARGUMENT..: the program must end with the status and say this sentence, and no other.
+# mark STATUS: what stands behind a sentence on a fault: its number, its name and its place, as the answer has them.
+mark() {
+    [ "$1" -ne 2 ] || awk '$1 == "unreadable" { printf " (fault %s %s at %s)", $3, $4, $5 }' "$output"
+}
+
+# says STATUS SENTENCE ARGUMENT..: the program must end with the status and say this sentence, with the mark of its fault, and no
+# other.
 says() {
     local status=$1 sentence=$2
     shift 2
     run "$@"
     [ "$ended" -eq "$status" ] || fail "status $ended, not $status: $*"
-    [ "$(cat errors)" = "abi: $sentence" ] || fail "of $* it says: $(cat errors)"
+    [ "$(cat errors)" = "abi: $sentence$(mark "$status")" ] || fail "of $* it says: $(cat errors)"
     passed "$sentence"
 }
 
@@ -42,7 +48,7 @@ says_like() {
     shift 2
     run "$@"
     [ "$ended" -eq "$status" ] || fail "status $ended, not $status: $*"
-    [ "$(wc -l <errors)" -eq 1 ] && grep -qx "abi: $pattern" errors || fail "of $* it says: $(cat errors)"
+    [ "$(wc -l <errors)" -eq 1 ] && grep -qx "abi: $pattern$(mark "$status")" errors || fail "of $* it says: $(cat errors)"
     passed "$(sed 's/^abi: //' errors)"
 }
 
@@ -331,7 +337,7 @@ needs a version that is not named
 END_OF_LIST
 # The texts that the crate explain has for faults and for their places, where {..} stands for anything.
 sed 's,//.*,,' "$root"/crates/explain/src/{faults,files}.rt | grep -o '[^b]"[^"]*"' >texts
-sed 's,//.*,,' "$root/crates/explain/src/told.rt" | grep -o '"[^"]*{[^"]*"' >>texts
+sed 's,//.*,,' "$root/crates/explain/src/sentence.rt" | grep -o '"[^"]*{[^"]*"' >>texts
 sed -i 's/^[^"]*"//; s/"$//; s/{[^}]*}/.*/g' texts
 [ "$(wc -l <texts)" -ge 60 ] || fail "the sources have $(wc -l <texts) texts"
 while read -r text; do
