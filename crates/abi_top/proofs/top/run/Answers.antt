@@ -1,4 +1,4 @@
-use Rattle.std.proofs.Common.{◌≡◌, List, ℕ, map, subst}
+use Rattle.std.proofs.Common.{◌≡◌, ◌≤◌, List, ℕ, length, map, subst, sym}
 use Rattle.std.specs.Io.KnownBytes.{Appends}
 use Rattle.abi_base.specs.Causes.{AppendsFront}
 use Rattle.abi_top.specs.Answer.{Call, Answers}
@@ -60,3 +60,13 @@ returns-clause-front g c = λ is. (
   c.in-Ok.ensures.answers,
   subst (λ (t : List ℕ). AppendsFront (g.S.Sink.held c.args.sink.now) (g.S.Sink.held c.write_all.new.sink) t) c.deref.ensures.value c.in-Err-write_all.ensures.front,
 )
+
+pub returns-in-Ok-write_all-clause-steady_sink : goal.returns-in-Ok-write_all-clause-steady_sink
+returns-in-Ok-write_all-clause-steady_sink g c = λ room unfailing there enough.
+    c.write_all.ensures.steady room unfailing there
+    (subst (λ (t : List ℕ). length t ≤ room) (sym c.deref.ensures.value) (enough c.in-Ok.answer.outcome c.in-Ok.answer.text.items c.in-Ok.ensures.answers))
+
+pub returns-clause-steady_sink : goal.returns-clause-steady_sink
+returns-clause-steady_sink g c = λ room unfailing there enough.
+    c.write_all.ensures.steady room unfailing there
+    (subst (λ (t : List ℕ). length t ≤ room) (sym c.deref.ensures.value) (enough c.in-Ok.answer.outcome c.in-Ok.answer.text.items c.in-Ok.ensures.answers))
