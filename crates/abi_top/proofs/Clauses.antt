@@ -15,18 +15,19 @@ use Rattle.listings.specs.exports.ExportLines.{exports_text}
 use Rattle.library_read.specs.Faults.{library_fault}
 use Rattle.library_read.specs.Libraries.{library_of}
 use Rattle.library_check.specs.Checks.{Compatible, IsCertificateText, IsReportText}
+use Rattle.library_check.specs.Relations.{IsRelationText}
 use Rattle.library_check.specs.Remarks.{remark_on}
 use Rattle.library_check.specs.Verifications.{IsAcceptedText, IsRefusedText}
 use Rattle.library_check.specs.trial.Trials.{IsTrialText}
 use Rattle.report.specs.declared.styles.report_option.ReportStyle.{ReportStyle}
 use Rattle.report.specs.declared.styles.report_option.ReportStyle.TheVariants.{Text}
-use Rattle.report.specs.styles.Wanted.{wanted_styles}
+use Rattle.report.specs.styles.Wanted.{wanted_voices}
 
 -- ---- a verdict is that of one of the commands
 
 module _ (call : Call) (v : Verdict) (untyped : Option Remark) (text : List ℕ) where
   abbrev OfCheck : Type 0
-  OfCheck = OnCheck call (λ report old new rules. CheckSays (wanted_styles report call.styles) old new rules v text × (untyped ≡ Some (remark_on old new)))
+  OfCheck = OnCheck call (λ report old new rules. CheckSays (wanted_voices report call.voices) old new rules v text × (untyped ≡ Some (remark_on old new)))
 
   abbrev OfVerify : Type 0
   OfVerify = OnVerify call (λ old new rules certificate. VerifySays old new rules certificate v text × (untyped ≡ None))
@@ -38,7 +39,7 @@ module _ (call : Call) (v : Verdict) (untyped : Option Remark) (text : List ℕ)
   OfExports = (name library : List ℕ) × Reads call (exports name) (library ∷ []) × IsListed (exports_text (library_of library)) v untyped text
 
   abbrev OfTrial : Type 0
-  OfTrial = (count : ℕ) × (arguments_by call.words ≡ request (trial count)) × IsTried (wanted_styles Text call.styles) count v untyped text
+  OfTrial = (count : ℕ) × (arguments_by call.words ≡ request (trial count)) × IsTried (wanted_voices Text call.voices) count v untyped text
 
   abbrev OfOne : Type 0
   OfOne = OfCheck ⊎ (OfVerify ⊎ (OfEntries ⊎ (OfExports ⊎ OfTrial)))
@@ -79,23 +80,23 @@ refused_is_done is = cc
 module _ (call : Call) (untyped : Option Remark) (text : List ℕ) (A : List ℕ → Type 0) (appends : A text) where
   abbrev pub OnYes : Type 0
   OnYes =
-      OnCheck call (λ report old new rules. Compatible old new rules × (untyped ≡ Some (remark_on old new)) × (t : List ℕ) × IsCertificateText old new rules t × A t)
-      ⊎ OnVerify call (λ old new rules certificate. IsAcceptedText old new rules certificate × Compatible old new rules × A accepted_text)
+      OnCheck call (λ report old new rules. Compatible old new rules × (untyped ≡ Some (remark_on old new)) × (t : List ℕ) × IsCertificateText old new rules t × IsRelationText old new rules t × A t)
+      ⊎ OnVerify call (λ old new rules certificate. IsAcceptedText old new rules certificate × Compatible old new rules × IsRelationText old new rules certificate × A accepted_text)
 
   pub yes_says : Answers call (Judged verdict.Yes untyped) text → OnYes
   yes_says answer = of (of_command call verdict.Yes untyped text answer)
     where
       of : OfOne call verdict.Yes untyped text → OnYes
       of (inl (rules_name, report, old_name, new_name, old, new, rules, reads, said)) =
-          inl (rules_name, report, old_name, new_name, old, new, rules, reads, (said.0.0, said.1, text, said.0.1, appends))
+          inl (rules_name, report, old_name, new_name, old, new, rules, reads, (said.0.0, said.1, text, said.0.1, said.0.2, appends))
       of (inr (inl (rules_name, old_name, new_name, certificate_name, old, new, rules, certificate, reads, said))) =
-          inr (rules_name, old_name, new_name, certificate_name, old, new, rules, certificate, reads, (said.0.1, said.0.0, subst A said.0.2 appends))
+          inr (rules_name, old_name, new_name, certificate_name, old, new, rules, certificate, reads, (said.0.1, said.0.0, said.0.2, subst A said.0.3 appends))
       of (inr (inr (inl (name, library, reads, said)))) = absurd (yes_is_done said.done)
       of (inr (inr (inr (inl (name, library, reads, said))))) = absurd (yes_is_done said.done)
       of (inr (inr (inr (inr (count, is, said))))) = absurd (yes_is_done said.done)
 
   abbrev pub OnNo : Type 0
-  OnNo = OnCheck call (λ report old new rules. (Compatible old new rules → ⊥) × (untyped ≡ Some (remark_on old new)) × (t : List ℕ) × IsReportText (wanted_styles report call.styles) old new rules t × A t)
+  OnNo = OnCheck call (λ report old new rules. (Compatible old new rules → ⊥) × (untyped ≡ Some (remark_on old new)) × (t : List ℕ) × IsReportText (wanted_voices report call.voices) old new rules t × A t)
 
   pub no_says : Answers call (Judged verdict.No untyped) text → OnNo
   no_says answer = of (of_command call verdict.No untyped text answer)
@@ -143,7 +144,7 @@ module _ (call : Call) (rules_name : Option (List ℕ)) (report : ReportStyle) (
   gives_bytes name other given told same gives = subst (λ o. IfSome o (λ t. given ≡ t)) (ap call.reading.told same ∙ told) gives
 
   pub itself_says : (untyped : Option Remark) (A : List ℕ → Type 0) → ((same rules : List ℕ) → library_fault same ≡ None → Compatible same same rules)
-      → OnCheck call (λ style old new rules. (Compatible old new rules → ⊥) × (untyped ≡ Some (remark_on old new)) × (t : List ℕ) × IsReportText (wanted_styles style call.styles) old new rules t × A t) → ⊥
+      → OnCheck call (λ style old new rules. (Compatible old new rules → ⊥) × (untyped ≡ Some (remark_on old new)) × (t : List ℕ) × IsReportText (wanted_voices style call.voices) old new rules t × A t) → ⊥
   itself_says untyped A itself (rules_name', report', old_name', new_name', old, new, rules, reads, says) =
       let words : request (check rules_name' report' old_name' new_name') ≡ request (check rules_name report old_name new_name) = sym reads.words ∙ is in
       let old_same : old_name' ≡ old_name = cc in

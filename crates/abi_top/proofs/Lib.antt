@@ -1,2 +1,4 @@
-mod ParsedArguments
 mod Clauses
+mod ParsedArguments
+mod Printed
+mod Single

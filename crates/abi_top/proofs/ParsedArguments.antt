@@ -3,11 +3,16 @@ use Rattle.std.proofs.Common.{◌≡◌, ◌≢◌, ◌⊎◌, ℕ, List, [], �
 use Rattle.abi_base.specs.declared.remark.Remark.{Remark}
 use Rattle.abi_top.specs.Answer.{Answers, Asks, Call, row_of}
 use Rattle.cli_args.specs.ParsedArguments.{PlainRequest, PlainArguments, request, usage, help, arguments_by}
+use Rattle.abi_base.specs.declared.fault.Fault.{Fault}
+use Rattle.commands.specs.Commands.{asks_of, places_of}
+use Rattle.commands.specs.Faults.{FaultOfAll}
+use Rattle.commands.specs.OneReply.{TellsEach}
 use Rattle.commands.specs.Replies.{Replies}
-use Rattle.commands.specs.Served.{AreServed, IsVerdict}
+use Rattle.commands.specs.declared.input.Input.{Input}
+use Rattle.commands.specs.Served.{AreServed, AreUnfailed, IsVerdict}
 use Rattle.commands.specs.declared.outcome.Outcome.{Outcome}
 use Rattle.commands.specs.declared.outcome.Outcome.TheVariants.{Judged, Unreadable, ReadFault, Help, Usage, NoMemory, WriteFault}
-use Rattle.commands.proofs.lemmas.Single.{served_verdict, verdict_with}
+use Rattle.commands.proofs.lemmas.Single.{fault_answers, served_verdict, verdict_with}
 
 pub asks_this : (call : Call) (asked : PlainRequest) (P : PlainRequest → Type 0) → arguments_by call.words ≡ request asked → Asks call P → P asked
 asks_this call asked P is (other, is', holds) = let same : other ≡ asked = cc in subst P same holds
@@ -46,4 +51,10 @@ module _ (call : Call) (asked : PlainRequest) (is : arguments_by call.words ≡ 
       → Answers call outcome text → P text → IsVerdict (row_of call asked).says all outcome P
   complete_says all served outcome text P answer holds =
       verdict_with (row_of call asked).says all outcome text P
-      (served_verdict call.reading (row_of call asked).inputs (row_of call asked).says all served outcome text (reply_of outcome text answer)) holds
+      (served_verdict call.reading (row_of call asked).inputs (row_of call asked).says all outcome text (reply_of outcome text answer) served) holds
+
+  -- where all inputs tell their bytes and no reading failed, the first fault is the answer
+  pub fault_says : (all : List (List ℕ)) → TellsEach call.reading.told (places_of (row_of call asked).inputs) all → AreUnfailed call.reading (row_of call asked).inputs
+      → (which : Input) (fault : Fault) → FaultOfAll (asks_of (row_of call asked).inputs) all which fault → (outcome : Outcome) (text : List ℕ) → Answers call outcome text → outcome ≡ Unreadable which fault
+  fault_says all tells unfailed which fault first outcome text answer =
+      fault_answers call.reading (row_of call asked).inputs (row_of call asked).says all outcome text (reply_of outcome text answer) tells unfailed which fault first

@@ -11,7 +11,7 @@ use Rattle.library_read.specs.Libraries.{library_of}
 use Rattle.library_check.specs.trial.Trials.{IsTrialText}
 use Rattle.report.specs.declared.styles.report_option.ReportStyle.{ReportStyle}
 use Rattle.report.specs.declared.styles.report_option.ReportStyle.TheVariants.{Text}
-use Rattle.report.specs.styles.Wanted.{wanted_styles}
+use Rattle.report.specs.styles.Wanted.{wanted_voices}
 
 -- The words ask for this, and its inputs gave these bytes: the told ones where any are told, no more than the limit, and without
 -- a fault of those that are asked.
@@ -42,4 +42,4 @@ OnListing call P =
 -- the words are `trial` and a number, and P holds of the lines of a trial of so many functions, where those listeners are told
 -- that make a line of each break
 abbrev pub OnTrial : Call → (List ℕ → Type 0) → Type 0
-OnTrial call P = (count : ℕ) × (text : List ℕ) × (arguments_by call.words ≡ request (trial count)) × IsTrialText (wanted_styles Text call.styles) count text × P text
+OnTrial call P = (count : ℕ) × (text : List ℕ) × (arguments_by call.words ≡ request (trial count)) × IsTrialText (wanted_voices Text call.voices) count text × P text

@@ -1,30 +1,38 @@
 -- Over inputs that tell their bytes a call has one answer.
-use Rattle.std.specs.Prelude.{◌≡◌, ◌⊎◌, ◌≤◌, ℕ, List, [], ◌∷◌, length, Option}
+use Rattle.std.specs.Prelude.{◌≡◌, ◌⊎◌, ◌≤◌, ℕ, List, [], ◌∷◌, length, All, Option}
 use Rattle.abi_base.specs.Limits.{input_limit}
 use Rattle.abi_base.specs.declared.remark.Remark.{Remark}
 use Rattle.abi_top.specs.Answer.{Call, Answers, row_of}
 use Rattle.abi_top.specs.Text.{accepted_text}
 use Rattle.cli_args.specs.ParsedArguments.{PlainRequest, check, verify, request, usage, help, arguments_by}
 use Rattle.commands.specs.Commands.{places_of}
-use Rattle.commands.specs.OneReply.{SaysOne, TellsEach}
+use Rattle.commands.specs.OneReply.{TellsEach}
 use Rattle.commands.specs.declared.input.Input.{Input}
 use Rattle.commands.specs.declared.outcome.Outcome.{Outcome}
 use Rattle.commands.specs.declared.outcome.Outcome.TheVariants.{Judged, ReadFault}
 use Rattle.commands.specs.declared.verdict.Verdict.TheVariants.{Yes}
+use Rattle.library_check.specs.Voices.{TellsItsText}
+use Rattle.report.specs.Listening.{Voice}
+use Rattle.report.specs.styles.Wanted.{wanted_voices}
 use Rattle.report.specs.declared.styles.report_option.ReportStyle.{ReportStyle}
 
 -- no reading failed
 abbrev pub IsNoReadFault : Outcome → Type 0
 IsNoReadFault outcome = (which : Input) → outcome ≡ ReadFault which → ⊥
 
--- the words ask for something that says one thing, and its inputs tell their bytes
+-- the rows decide the texts of the listeners that are asked for
+abbrev pub AreTextsDecided : List Voice → PlainRequest → Type 0
+AreTextsDecided voices (check rules report old new) = All TellsItsText (wanted_voices report voices)
+AreTextsDecided voices other = Unit {0}
+
+-- the words ask for something whose inputs tell their bytes, and for listeners whose texts the rows decide
 abbrev pub TellsAll : Call → Type 0
 TellsAll call =
-    (asked : PlainRequest) × (arguments_by call.words ≡ request asked) × SaysOne (row_of call asked).inputs (row_of call asked).says
+    (asked : PlainRequest) × (arguments_by call.words ≡ request asked) × AreTextsDecided call.voices asked
     × (all : List (List ℕ)) × TellsEach call.reading.told (places_of (row_of call asked).inputs) all
 
--- Of a call whose words are wrong, ask for help, or ask for a command that says one thing, of inputs that tell their bytes, two
--- answers are one: their outcomes and their texts are equal. A read fault is left out, since it depends on what fails in the call.
+-- Of a call whose words are wrong, ask for help, or ask for inputs that tell their bytes, two answers are one: their outcomes and
+-- their texts are equal. A read fault is left out, since it depends on what fails in the call.
 abbrev pub OneAnswer : Type 0
 OneAnswer =
     (call : Call) → (arguments_by call.words ≡ usage) ⊎ ((arguments_by call.words ≡ help) ⊎ TellsAll call) → (one two : Outcome) (text other : List ℕ) → IsNoReadFault one → IsNoReadFault two

@@ -2,7 +2,7 @@
 use Rattle.std.specs.Prelude.{◌≡◌, ℕ, List, [], ◌∷◌, Option, Some, None}
 use Rattle.abi_base.specs.declared.remark.Remark.{Remark}
 use Rattle.abi_top.specs.Text.{accepted_text, refused_text}
-use Rattle.report.specs.declared.style.Style.{Style}
+use Rattle.report.specs.Listening.{Voice}
 use Rattle.cert_check.specs.declared.refused.Refused.{Refused as Refusal}
 use Rattle.commands.specs.declared.verdict.Verdict.{Verdict}
 use Rattle.commands.specs.declared.verdict.Verdict.TheVariants.{Yes, No, Refused, Done}
@@ -10,26 +10,27 @@ use Rattle.listings.specs.entries.EntryLines.{listing_of}
 use Rattle.listings.specs.exports.ExportLines.{exports_text}
 use Rattle.library_read.specs.Libraries.{library_of}
 use Rattle.library_check.specs.Checks.{Compatible, IsCertificateText, IsReportText}
+use Rattle.library_check.specs.Relations.{IsRelationText}
 use Rattle.library_check.specs.Remarks.{remark_on}
 use Rattle.library_check.specs.Verifications.{IsAcceptedText, IsRefusedText}
 use Rattle.library_check.specs.trial.Trials.{IsTrialText}
 
--- ---- check: yes with the certificate, or no with the report that listeners of these styles make
+-- ---- check: yes with the certificate, which tells such a relation as a yes asks for, or no with the report that listeners of these voices make
 
-abbrev pub CheckSays : List Style → List ℕ → List ℕ → List ℕ → Verdict → List ℕ → Type 0
-CheckSays styles old new rules Yes text = Compatible old new rules × IsCertificateText old new rules text
-CheckSays styles old new rules No text = (Compatible old new rules → ⊥) × IsReportText styles old new rules text
-CheckSays styles old new rules Refused text = ⊥
-CheckSays styles old new rules Done text = ⊥
+abbrev pub CheckSays : List Voice → List ℕ → List ℕ → List ℕ → Verdict → List ℕ → Type 0
+CheckSays voices old new rules Yes text = Compatible old new rules × IsCertificateText old new rules text × IsRelationText old new rules text
+CheckSays voices old new rules No text = (Compatible old new rules → ⊥) × IsReportText voices old new rules text
+CheckSays voices old new rules Refused text = ⊥
+CheckSays voices old new rules Done text = ⊥
 
-abbrev pub check_says : List Style → List (List ℕ) → Verdict → Option Remark → List ℕ → Type 0
-check_says styles (old ∷ new ∷ rules ∷ []) v untyped text = CheckSays styles old new rules v text × (untyped ≡ Some (remark_on old new))
-check_says styles all v untyped text = ⊥
+abbrev pub check_says : List Voice → List (List ℕ) → Verdict → Option Remark → List ℕ → Type 0
+check_says voices (old ∷ new ∷ rules ∷ []) v untyped text = CheckSays voices old new rules v text × (untyped ≡ Some (remark_on old new))
+check_says voices all v untyped text = ⊥
 
 -- ---- verify: yes where the certificate is accepted, or refused with the first condition that it does not meet
 
 abbrev pub VerifySays : List ℕ → List ℕ → List ℕ → List ℕ → Verdict → List ℕ → Type 0
-VerifySays old new rules certificate Yes text = Compatible old new rules × IsAcceptedText old new rules certificate × (text ≡ accepted_text)
+VerifySays old new rules certificate Yes text = Compatible old new rules × IsAcceptedText old new rules certificate × IsRelationText old new rules certificate × (text ≡ accepted_text)
 VerifySays old new rules certificate Refused text = (refusal : Refusal) × IsRefusedText old new rules certificate refusal × (text ≡ refused_text refusal)
 VerifySays old new rules certificate No text = ⊥
 VerifySays old new rules certificate Done text = ⊥
@@ -55,10 +56,10 @@ exports_says all v untyped text = ⊥
 
 -- ---- trial: the lines of a trial of so many functions
 
-pub record IsTried (styles : List Style) (count : ℕ) (v : Verdict) (untyped : Option Remark) (text : List ℕ) : Type 0 where
+pub record IsTried (voices : List Voice) (count : ℕ) (v : Verdict) (untyped : Option Remark) (text : List ℕ) : Type 0 where
   pub done : v ≡ Done
   pub none : untyped ≡ None
-  pub lines : IsTrialText styles count text
+  pub lines : IsTrialText voices count text
 
-abbrev pub trial_says : List Style → ℕ → List (List ℕ) → Verdict → Option Remark → List ℕ → Type 0
-trial_says styles count all v untyped text = IsTried styles count v untyped text
+abbrev pub trial_says : List Voice → ℕ → List (List ℕ) → Verdict → Option Remark → List ℕ → Type 0
+trial_says voices count all v untyped text = IsTried voices count v untyped text

@@ -4,12 +4,13 @@ ghost use Rattle.abi_base.specs.Limits.{input_limit};
 ghost use Rattle.abi_base.specs.declared.remark.Remark.{Remark as AnyRemark};
 ghost use Rattle.abi_top.specs.Rows.{check_inputs};
 ghost use Rattle.abi_top.specs.Says.{CheckSays, check_says};
-ghost use Rattle.report.specs.declared.style.Style.{Style as AnyStyle};
+ghost use Rattle.report.specs.Listening.{Voice};
 ghost use Rattle.cli_args.specs.Requests.{plain_word};
 ghost use Rattle.commands.specs.Commands.{asks_of, places_of, plain_place};
 ghost use Rattle.commands.specs.Faults.{AreReadable, StopsAt};
 ghost use Rattle.library_check.specs.Checks.{IsChecked};
-ghost use Rattle.report.specs.styles.Wanted.{wanted_styles};
+ghost use Rattle.report.specs.styles.Wanted.{wanted_voices};
+ghost use Rattle.library_check.specs.Relations.{PrintsSuchRelation};
 ghost use Rattle.library_check.specs.Remarks.{remark_on};
 
 use abi_base::NoMemory;
@@ -45,7 +46,7 @@ impl<'a> Check<'a> {
 impl Command for Check<'_> {
     ghost inputs = { λ c. check_inputs (plain_word c.rules) c.old.now c.new.now };
 
-    ghost says = { λ c styles. check_says (wanted_styles c.report styles) };
+    ghost says = { λ c voices. check_says (wanted_voices c.report voices) };
 
     fn judge(
         self,
@@ -60,7 +61,7 @@ impl Command for Check<'_> {
 
 // The judgement that says the same.
 fn judgement_of(said: CheckResult) -> Judgement
-    ensures says { (styles : List AnyStyle) (old new rules : List ℕ) → IsChecked styles old new rules said.checked → CheckSays styles old new rules result.verdict result.text.items }
+    ensures says { (voices : List Voice) (old new rules : List ℕ) → IsChecked voices old new rules said.checked → PrintsSuchRelation old new rules said.checked → CheckSays voices old new rules result.verdict result.text.items }
     ensures untyped { result.untyped ≡ Some said.remark }
 {
     let CheckResult { checked, remark } = said;
@@ -91,7 +92,7 @@ fn check_pair(
     requires new_short { length new.now ≤ input_limit }
     requires unheard { All (λ listener. heard listener ≡ []) listeners.items }
     ensures readable { (rules_name : _) (old_name new_name : List ℕ) → OnOk result (AreReadable (asks_of (check_inputs rules_name old_name new_name)) (old.now ∷ new.now ∷ rules.now ∷ [])) }
-    ensures said { IfOk result (λ j. check_says (wanted_styles report (map asks listeners.items)) (old.now ∷ new.now ∷ rules.now ∷ []) j.verdict j.untyped j.text.items) }
+    ensures said { IfOk result (λ j. check_says (wanted_voices report (map voice listeners.items)) (old.now ∷ new.now ∷ rules.now ∷ []) j.verdict j.untyped j.text.items) }
     ensures stops { (rules_name : _) (old_name new_name : List ℕ) → IfErr result (StopsAt (asks_of (check_inputs rules_name old_name new_name)) (old.now ∷ new.now ∷ rules.now ∷ [])) }
 {
     let told = wanted_listeners(alloc, listeners, report)?;

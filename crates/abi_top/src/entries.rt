@@ -29,7 +29,7 @@ impl<'a> Entries<'a> {
 impl Command for Entries<'_> {
     ghost inputs = { λ c. entries_inputs c.library.now };
 
-    ghost says = { λ c styles. entries_says };
+    ghost says = { λ c voices. entries_says };
 
     fn judge(
         self,

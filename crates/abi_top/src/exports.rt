@@ -36,7 +36,7 @@ impl<'a> Exports<'a> {
 impl Command for Exports<'_> {
     ghost inputs = { λ c. exports_inputs c.library.now };
 
-    ghost says = { λ c styles. exports_says };
+    ghost says = { λ c voices. exports_says };
 
     fn judge(
         self,

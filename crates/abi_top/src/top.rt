@@ -1,10 +1,10 @@
 // The top call.
 ghost use Rattle.std.specs.Prelude.{◌≡◌, ◌≢◌, ◌⊎◌, ◌≤◌, List, [], ℕ, Option, None, Some, map, All, OnOk, OnErr, IfOk};
 ghost use Rattle.std.specs.Io.KnownBytes.{Appends};
-ghost use Rattle.abi_base.specs.Causes.{Rose, AppendsFront};
+ghost use Rattle.abi_base.specs.Causes.{AppendsFront, Rose, SameCounts, Unfailing};
 ghost use Rattle.abi_base.specs.declared.fault.Fault.{Fault as AnyFault};
 ghost use Rattle.abi_base.specs.declared.remark.Remark.{Remark as AnyRemark};
-ghost use Rattle.abi_top.specs.Answer.{Answers, Asks, Call, call_of, row_of};
+ghost use Rattle.abi_top.specs.Answer.{Answers, Asks, AsksForTold, Call, HasRoom, call_of, row_of};
 ghost use Rattle.abi_top.specs.Headline.{OnCheck, OnVerify, OnListing, OnTrial};
 ghost use Rattle.abi_top.specs.Rows.{command_of};
 ghost use Rattle.abi_top.specs.Text.{accepted_text, refused_text, usage_text};
@@ -12,18 +12,22 @@ ghost use Rattle.cert_check.specs.declared.refused.Refused.{Refused as Refusal};
 ghost use Rattle.cli_args.specs.ParsedArguments.{PlainRequest, arguments_by, check, trial, request as requested, help, usage};
 ghost use Rattle.cli_args.specs.Requests.{plain_request};
 ghost use Rattle.cli_args.specs.Words.{texts};
-ghost use Rattle.commands.specs.Commands.{files_of, places_of, plain_file};
-ghost use Rattle.commands.specs.Reading.{reading_of};
-ghost use Rattle.commands.specs.Replies.{FailsToRead, IsFaulty, Replies};
-ghost use Rattle.commands.specs.Served.{AreServed, IsVerdict};
+ghost use Rattle.commands.specs.Commands.{asks_of, files_of, places_of, plain_file};
+ghost use Rattle.commands.specs.Faults.{FaultOfAll};
+ghost use Rattle.commands.specs.OneReply.{TellsEach};
+ghost use Rattle.commands.specs.Reading.{AreTold, FailsToRead, reading_of};
+ghost use Rattle.commands.specs.Replies.{IsFaulty, Replies};
+ghost use Rattle.commands.specs.Served.{AreServed, AreUnfailed, IsVerdict};
 ghost use Rattle.commands.specs.Texts.{read_fault_text, unreadable_text};
 ghost use Rattle.commands.specs.declared.input.Input.{Input as AnyInput};
 ghost use Rattle.commands.specs.declared.outcome.Outcome.{Outcome as AnyOutcome};
 ghost use Rattle.library_check.specs.Checks.{Compatible, IsCertificateText, IsReportText};
+ghost use Rattle.library_check.specs.Relations.{IsRelationText};
 ghost use Rattle.library_check.specs.Remarks.{remark_on};
 ghost use Rattle.library_check.specs.Verifications.{IsAcceptedText, IsRefusedText};
 ghost use Rattle.report.specs.declared.styles.report_option.ReportStyle.{ReportStyle as AnyStyle};
-ghost use Rattle.report.specs.styles.Wanted.{wanted_styles};
+ghost use Rattle.report.specs.styles.Wanted.{wanted_voices};
+ghost use Rattle.trial_libraries.specs.Limits.{most_functions};
 
 use crate::check::Check;
 use crate::entries::Entries;
@@ -53,7 +57,7 @@ pub struct Ended<'a> {
 /// The listeners whose style the words ask for are told all breaks, in the order in which they were handed in; the others are
 /// dropped unheard.
 ///
-/// In the clauses `call` is this call: its words, the styles of its listeners, and what is known of its inputs; `row_of call` is the
+/// In the clauses `call` is this call: its words, the voices of its listeners, and what is known of its inputs; `row_of call` is the
 /// row of what is asked for, in the table of commands.
 pub fn run<'a, I: Inputs, S: Sink>(
     alloc: Global,
@@ -65,57 +69,79 @@ pub fn run<'a, I: Inputs, S: Sink>(
     requires { All (λ listener. heard listener ≡ []) listeners.items }
 
     // Every outcome but `NoMemory` and `WriteFault` comes with its row of the table `Answers`, whose text was appended whole.
-    ensures answered { let call : Call = call_of I.told I.faults I.given (map asks listeners.items) words.entry.now inputs.old inputs.new in
+    ensures answered { let call : Call = call_of I.told I.faults I.given I.started (map voice listeners.items) words.entry.now inputs.old inputs.new in
         result.outcome ≢ Outcome.NoMemory → result.outcome ≢ Outcome.WriteFault
         → (text : List ℕ) × Answers call result.outcome text × Appends (S.held sink.old) (S.held sink.new) text }
 
     // Yes: all inputs are readable, and the new library may replace the old one, but for what the rule file leaves out. The
     // answer to `check` is the certificate, which a checker accepts; the answer to `verify` says that the certificate is accepted.
-    ensures yes { let call : Call = call_of I.told I.faults I.given (map asks listeners.items) words.entry.now inputs.old inputs.new in
+    // Either certificate tells a relation between types that proves the yes: it is closed under the rules of types, and holds the
+    // types of all exports that are compared.
+    ensures yes { let call : Call = call_of I.told I.faults I.given I.started (map voice listeners.items) words.entry.now inputs.old inputs.new in
         (untyped : Option AnyRemark) → result.outcome ≡ Outcome.Judged Verdict.Yes untyped
-        → OnCheck call (λ report old new rules. Compatible old new rules × (untyped ≡ Some (remark_on old new)) × (text : List ℕ) × IsCertificateText old new rules text × Appends (S.held sink.old) (S.held sink.new) text)
-        ⊎ OnVerify call (λ old new rules certificate. IsAcceptedText old new rules certificate × Compatible old new rules × Appends (S.held sink.old) (S.held sink.new) accepted_text) }
+        → OnCheck call (λ report old new rules. Compatible old new rules × (untyped ≡ Some (remark_on old new)) × (text : List ℕ) × IsCertificateText old new rules text × IsRelationText old new rules text × Appends (S.held sink.old) (S.held sink.new) text)
+        ⊎ OnVerify call (λ old new rules certificate. IsAcceptedText old new rules certificate × Compatible old new rules × IsRelationText old new rules certificate × Appends (S.held sink.old) (S.held sink.new) accepted_text) }
 
-    // No: all inputs are readable, the new library may not replace the old one, and what listeners of the style that is asked for
-    // make of all breaks was printed, each break of types with the first path to it from an export.
-    ensures no { let call : Call = call_of I.told I.faults I.given (map asks listeners.items) words.entry.now inputs.old inputs.new in
+    // No: all inputs are readable, the new library may not replace the old one, and what the listeners of the style that is asked for
+    // make of all breaks was printed, in their order: each heard all breaks, up to the first at which it has enough, each break of
+    // types with the first path to it from an export.
+    ensures no { let call : Call = call_of I.told I.faults I.given I.started (map voice listeners.items) words.entry.now inputs.old inputs.new in
         (untyped : Option AnyRemark) → result.outcome ≡ Outcome.Judged Verdict.No untyped
-        → OnCheck call (λ report old new rules. (Compatible old new rules → ⊥) × (untyped ≡ Some (remark_on old new)) × (text : List ℕ) × IsReportText (wanted_styles report call.styles) old new rules text × Appends (S.held sink.old) (S.held sink.new) text) }
+        → OnCheck call (λ report old new rules. (Compatible old new rules → ⊥) × (untyped ≡ Some (remark_on old new)) × (text : List ℕ) × IsReportText (wanted_voices report call.voices) old new rules text × Appends (S.held sink.old) (S.held sink.new) text) }
 
     // A library may replace itself, whatever a rule file leaves out: where both names tell the same bytes, the answer is not no.
     ensures itself { (rules : Option (List ℕ)) (report : AnyStyle) (old_name new_name bytes : List ℕ) (untyped : Option AnyRemark) → arguments_by (texts words.entry.now) ≡ requested (check rules report old_name new_name)
         → I.told inputs.old old_name ≡ Some bytes → I.told inputs.old new_name ≡ Some bytes → result.outcome ≢ Outcome.Judged Verdict.No untyped }
 
     // Refused: all inputs are readable, and the text names the first condition that the certificate does not meet.
-    ensures refused { let call : Call = call_of I.told I.faults I.given (map asks listeners.items) words.entry.now inputs.old inputs.new in
+    ensures refused { let call : Call = call_of I.told I.faults I.given I.started (map voice listeners.items) words.entry.now inputs.old inputs.new in
         (untyped : Option AnyRemark) → result.outcome ≡ Outcome.Judged Verdict.Refused untyped
         → OnVerify call (λ old new rules certificate. (refusal : Refusal) × IsRefusedText old new rules certificate refusal × Appends (S.held sink.old) (S.held sink.new) (refused_text refusal)) }
 
     // Done: the library is readable, and a line was printed for each of its entries, or for each of its exports; or the lines of
     // a trial were printed.
-    ensures done { let call : Call = call_of I.told I.faults I.given (map asks listeners.items) words.entry.now inputs.old inputs.new in
+    ensures done { let call : Call = call_of I.told I.faults I.given I.started (map voice listeners.items) words.entry.now inputs.old inputs.new in
         (untyped : Option AnyRemark) → result.outcome ≡ Outcome.Judged Verdict.Done untyped
         → OnListing call (λ text. Appends (S.held sink.old) (S.held sink.new) text) ⊎ OnTrial call (λ text. Appends (S.held sink.old) (S.held sink.new) text) }
 
     // Where the words are right, all inputs that the command wants tell readable bytes and did not fail, and the sink did not fail,
     // the outcome is a verdict that the command's row allows, with the text that was appended; or memory ran out.
-    ensures complete { let call : Call = call_of I.told I.faults I.given (map asks listeners.items) words.entry.now inputs.old inputs.new in
+    ensures complete { let call : Call = call_of I.told I.faults I.given I.started (map voice listeners.items) words.entry.now inputs.old inputs.new in
         (asked : PlainRequest) (all : List (List ℕ)) → arguments_by (texts words.entry.now) ≡ requested asked → AreServed call.reading (row_of call asked).inputs all
         → (Rose (S.faults sink.old) (S.faults sink.new) → ⊥) → result.outcome ≢ Outcome.NoMemory
         → IsVerdict (row_of call asked).says all result.outcome (λ text. Appends (S.held sink.old) (S.held sink.new) text) }
 
+    // Where the words are right, all inputs that the command wants tell their bytes, no reading failed and the sink did not fail,
+    // the first fault of the inputs is the outcome; or memory ran out.
+    ensures first_fault { let call : Call = call_of I.told I.faults I.given I.started (map voice listeners.items) words.entry.now inputs.old inputs.new in
+        (asked : PlainRequest) (all : List (List ℕ)) (which : AnyInput) (fault : AnyFault) → arguments_by (texts words.entry.now) ≡ requested asked
+        → TellsEach call.reading.told (places_of (row_of call asked).inputs) all → AreUnfailed call.reading (row_of call asked).inputs
+        → FaultOfAll (asks_of (row_of call asked).inputs) all which fault
+        → (Rose (S.faults sink.old) (S.faults sink.new) → ⊥) → result.outcome ≢ Outcome.NoMemory
+        → result.outcome ≡ Outcome.Unreadable which fault }
+
+    // Where no call of the inputs is made to fail and all inputs that the words name are told, no count of theirs rises.
+    ensures steady_inputs { Unfailing I.is_made_to_fail inputs.old
+        → AsksForTold (call_of I.told I.faults I.given I.started (map voice listeners.items) words.entry.now inputs.old inputs.new)
+        → SameCounts (I.faults inputs.old) (I.faults inputs.new) }
+
+    // Where no call of the sink is made to fail and it has room for any answer to the call, its count stands still.
+    ensures steady_sink { (room : ℕ) → Unfailing S.is_made_to_fail sink.old → S.room sink.old ≡ Some room
+        → HasRoom (call_of I.told I.faults I.given I.started (map voice listeners.items) words.entry.now inputs.old inputs.new) room
+        → S.faults sink.new ≡ S.faults sink.old }
+
     // Unreadable: this input has this fault, by its length or by its bytes, and none before it has one; a length goes before all
-    // bytes. The text names both.
-    ensures unreadable { let call : Call = call_of I.told I.faults I.given (map asks listeners.items) words.entry.now inputs.old inputs.new in
+    // bytes. The text names both. An input that is too long is the one that was started last.
+    ensures unreadable { let call : Call = call_of I.told I.faults I.given I.started (map voice listeners.items) words.entry.now inputs.old inputs.new in
         (which : AnyInput) (fault : AnyFault) → result.outcome ≡ Outcome.Unreadable which fault
         → Asks call (λ asked. IsFaulty call.reading (row_of call asked).inputs which fault)
         × Appends (S.held sink.old) (S.held sink.new) (unreadable_text which fault) }
 
-    // Read fault: the count of the name that the words give for this input rose in this call, and no input before it is told to be
-    // too long.
-    ensures read_fault { let call : Call = call_of I.told I.faults I.given (map asks listeners.items) words.entry.now inputs.old inputs.new in
+    // Read fault: the count of the name that the words give for this input rose in this call, the input is the one that was started
+    // last, and no input before it is told to be too long.
+    ensures read_fault { let call : Call = call_of I.told I.faults I.given I.started (map voice listeners.items) words.entry.now inputs.old inputs.new in
         (which : AnyInput) → result.outcome ≡ Outcome.ReadFault which
-        → Asks call (λ asked. FailsToRead call.reading (row_of call asked).inputs which)
+        → Asks call (λ asked. FailsToRead call.reading (places_of (row_of call asked).inputs) which)
         × Appends (S.held sink.old) (S.held sink.new) (read_fault_text which) }
 
     // Usage comes exactly where the words are wrong, but where memory runs out or writing fails.
@@ -130,7 +156,7 @@ pub fn run<'a, I: Inputs, S: Sink>(
 
     // A write failed in this call, after a prefix of a text with which another outcome could have come.
     ensures write_fault { result.outcome ≡ Outcome.WriteFault → Rose (S.faults sink.old) (S.faults sink.new) }
-    ensures front { let call : Call = call_of I.told I.faults I.given (map asks listeners.items) words.entry.now inputs.old inputs.new in
+    ensures front { let call : Call = call_of I.told I.faults I.given I.started (map voice listeners.items) words.entry.now inputs.old inputs.new in
         result.outcome ≡ Outcome.WriteFault
         → (outcome : AnyOutcome) × (text : List ℕ) × Answers call outcome text × AppendsFront (S.held sink.old) (S.held sink.new) text }
 
@@ -139,7 +165,7 @@ pub fn run<'a, I: Inputs, S: Sink>(
 
     // The names of the inputs are those that the words give, in the order of the command's row.
     ensures files { (asked : PlainRequest) → arguments_by (texts words.entry.now) ≡ requested asked → result.outcome ≢ Outcome.NoMemory
-        → map plain_file result.files.items ≡ files_of (places_of (command_of (map asks listeners.items) asked).inputs) }
+        → map plain_file result.files.items ≡ files_of (places_of (command_of (map voice listeners.items) asked).inputs) }
 {
     a_file_may_replace_itself();
     match answer_to(alloc, words, inputs, listeners) {
@@ -168,8 +194,11 @@ fn answer_to<'a, I: Inputs>(
     listeners: Vec<Box<dyn Listener>>,
 ) -> Result<Answer<'a>, NoMemory>
     requires { All (λ listener. heard listener ≡ []) listeners.items }
-    ensures answers { IfOk result (λ a. Answers (call_of I.told I.faults I.given (map asks listeners.items) words.entry.now inputs.old inputs.new) a.outcome a.text.items) }
-    ensures files { IfOk result (λ a. (asked : PlainRequest) → arguments_by (texts words.entry.now) ≡ requested asked → map plain_file a.files.items ≡ files_of (places_of (command_of (map asks listeners.items) asked).inputs)) }
+    ensures answers { IfOk result (λ a. Answers (call_of I.told I.faults I.given I.started (map voice listeners.items) words.entry.now inputs.old inputs.new) a.outcome a.text.items) }
+    ensures steady { Unfailing I.is_made_to_fail inputs.old
+        → AsksForTold (call_of I.told I.faults I.given I.started (map voice listeners.items) words.entry.now inputs.old inputs.new)
+        → SameCounts (I.faults inputs.old) (I.faults inputs.new) }
+    ensures files { IfOk result (λ a. (asked : PlainRequest) → arguments_by (texts words.entry.now) ≡ requested asked → map plain_file a.files.items ≡ files_of (places_of (command_of (map voice listeners.items) asked).inputs)) }
 {
     a_trial_is_of_a_count();
     match parse_arguments(alloc, words)? {
@@ -194,11 +223,13 @@ fn answer_of<'a, I: Inputs>(
     inputs: &mut I,
     listeners: Vec<Box<dyn Listener>>,
 ) -> Result<Answer<'a>, NoMemory>
-    requires counted { (count : ℕ) → plain_request request ≡ trial count → (1 ≤ count) × (count ≤ 50000) }
+    requires counted { (count : ℕ) → plain_request request ≡ trial count → (1 ≤ count) × (count ≤ most_functions) }
     requires unheard { All (λ listener. heard listener ≡ []) listeners.items }
-    ensures replies { let row = command_of (map asks listeners.items) (plain_request request.entry) in
-        IfOk result (λ a. Replies (reading_of I.told I.faults I.given inputs.old inputs.new) row.inputs row.says a.outcome a.text.items) }
-    ensures files { let row = command_of (map asks listeners.items) (plain_request request.entry) in
+    ensures replies { let row = command_of (map voice listeners.items) (plain_request request.entry) in
+        IfOk result (λ a. Replies (reading_of I.told I.faults I.given I.started inputs.old inputs.new) row.inputs row.says a.outcome a.text.items) }
+    ensures steady { let row = command_of (map voice listeners.items) (plain_request request.entry) in
+        Unfailing I.is_made_to_fail inputs.old → AreTold (I.told inputs.old) (places_of row.inputs) → SameCounts (I.faults inputs.old) (I.faults inputs.new) }
+    ensures files { let row = command_of (map voice listeners.items) (plain_request request.entry) in
         IfOk result (λ a. map plain_file a.files.items ≡ files_of (places_of row.inputs)) }
 {
     match request {

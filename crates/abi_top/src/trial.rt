@@ -2,11 +2,12 @@
 ghost use Rattle.std.specs.Prelude.{◌≡◌, ◌≤◌, ◌<◌, List, [], ◌∷◌, map, All, IfOk, length};
 ghost use Rattle.abi_base.specs.Limits.{input_limit};
 ghost use Rattle.trial_libraries.specs.Libraries.{library as made_library};
+ghost use Rattle.trial_libraries.specs.Limits.{most_functions};
 ghost use Rattle.abi_top.specs.Rows.{trial_inputs};
 ghost use Rattle.commands.specs.Commands.{places_of, plain_place};
 ghost use Rattle.commands.specs.Reading.{AreOwnShort};
 ghost use Rattle.report.specs.declared.styles.report_option.ReportStyle.TheVariants.{Text};
-ghost use Rattle.report.specs.styles.Wanted.{wanted_styles};
+ghost use Rattle.report.specs.styles.Wanted.{wanted_voices};
 ghost use Rattle.abi_top.specs.Says.{trial_says};
 
 use abi_base::NoMemory;
@@ -18,7 +19,7 @@ use report::Listener;
 use report::styles::{ReportStyle, wanted_listeners};
 use std::alloc::Global;
 use trial_libraries::laws::made_libraries_are_no_longer_than_inputs;
-use trial_libraries::{GenRefusal, MOST_FUNCTIONS, Side, make};
+use trial_libraries::{GenRefusal, Side, make};
 
 /// `trial` of so many functions: two libraries of so many are made and checked, with an empty rule file and these listeners.
 /// Where one of them had a fault, it would be told as if they were read.
@@ -26,13 +27,13 @@ use trial_libraries::{GenRefusal, MOST_FUNCTIONS, Side, make};
 pub struct Trial {
     pub count: u32,
     ghost some: { 0 < count },
-    ghost few: { count ≤ 50000 },
+    ghost few: { count ≤ most_functions },
 }
 
 // The made library of a side. It fails only when memory runs out.
 fn make_one(alloc: Global, count: u32, side: Side) -> Result<Vec<u8>, NoMemory>
     requires some { 0 < count }
-    requires few { count ≤ MOST_FUNCTIONS }
+    requires few { count ≤ most_functions }
     ensures { IfOk result (λ file. file.items ≡ made_library count side) }
 {
     match make(alloc, count, side) {
@@ -58,7 +59,7 @@ impl Trial {
 impl Command for Trial {
     ghost inputs = { λ c. trial_inputs c.count };
 
-    ghost says = { λ c styles. trial_says (wanted_styles Text styles) c.count };
+    ghost says = { λ c voices. trial_says (wanted_voices Text voices) c.count };
 
     fn judge(
         self,

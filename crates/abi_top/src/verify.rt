@@ -41,7 +41,7 @@ impl<'a> Verify<'a> {
 impl Command for Verify<'_> {
     ghost inputs = { λ c. verify_inputs (plain_word c.rules) c.old.now c.new.now c.certificate.now };
 
-    ghost says = { λ c styles. verify_says };
+    ghost says = { λ c voices. verify_says };
 
     fn judge(
         self,

@@ -1,16 +1,16 @@
-use Rattle.std.proofs.Common.{◌≡◌, List, ℕ, map, subst}
+use Rattle.std.proofs.Common.{◌≡◌, ◌≤◌, List, ℕ, length, map, subst, sym}
 use Rattle.std.specs.Io.KnownBytes.{Appends}
 use Rattle.abi_base.specs.Causes.{AppendsFront}
 use Rattle.abi_top.specs.Answer.{Call, Answers}
 use Rattle.cli_args.specs.Words.{texts}
 use Rattle.commands.specs.Reading.{reading_of}
-use Rattle.abi_top.proofs.ParsedArguments.{complete_says}
+use Rattle.abi_top.proofs.ParsedArguments.{complete_says, fault_says}
 use Rattle.abi_top.proofs.Clauses.{yes_says, no_says, refused_says, itself_says}
 use Rattle.abi_top.proofs.top.run.Goals as goal
 
 pub returns-in-Ok-write_all-clause-yes : goal.returns-in-Ok-write_all-clause-yes
 returns-in-Ok-write_all-clause-yes g c = λ untyped is.
-    let call : Call = record { words = texts c.args.words.now; styles = map (λ b. (goal.Listener-dyn g (b.vtable, b.value)).asks b.value) c.args.listeners.items; reading = reading_of g.I.Inputs.told g.I.Inputs.faults g.I.Inputs.given c.args.inputs.now c.answer_to.new.inputs } in
+    let call : Call = record { words = texts c.args.words.now; voices = map (λ b. (goal.Listener-dyn g (b.vtable, b.value)).voice b.value) c.args.listeners.items; reading = reading_of g.I.Inputs.told g.I.Inputs.faults g.I.Inputs.given g.I.Inputs.started c.args.inputs.now c.answer_to.new.inputs } in
     let A : List ℕ → Type 0 = λ t. Appends (g.S.Sink.held c.args.sink.now) (g.S.Sink.held c.write_all.new.sink) t in
     let whole : A c.in-Ok.answer.text.items = subst A c.deref.ensures.value c.in-Ok-write_all.ensures.whole in
     let answers = subst (λ o. Answers call o c.in-Ok.answer.text.items) is c.in-Ok.ensures.answers in
@@ -18,7 +18,7 @@ returns-in-Ok-write_all-clause-yes g c = λ untyped is.
 
 pub returns-in-Ok-write_all-clause-no : goal.returns-in-Ok-write_all-clause-no
 returns-in-Ok-write_all-clause-no g c = λ untyped is.
-    let call : Call = record { words = texts c.args.words.now; styles = map (λ b. (goal.Listener-dyn g (b.vtable, b.value)).asks b.value) c.args.listeners.items; reading = reading_of g.I.Inputs.told g.I.Inputs.faults g.I.Inputs.given c.args.inputs.now c.answer_to.new.inputs } in
+    let call : Call = record { words = texts c.args.words.now; voices = map (λ b. (goal.Listener-dyn g (b.vtable, b.value)).voice b.value) c.args.listeners.items; reading = reading_of g.I.Inputs.told g.I.Inputs.faults g.I.Inputs.given g.I.Inputs.started c.args.inputs.now c.answer_to.new.inputs } in
     let A : List ℕ → Type 0 = λ t. Appends (g.S.Sink.held c.args.sink.now) (g.S.Sink.held c.write_all.new.sink) t in
     let whole : A c.in-Ok.answer.text.items = subst A c.deref.ensures.value c.in-Ok-write_all.ensures.whole in
     let answers = subst (λ o. Answers call o c.in-Ok.answer.text.items) is c.in-Ok.ensures.answers in
@@ -26,7 +26,7 @@ returns-in-Ok-write_all-clause-no g c = λ untyped is.
 
 pub returns-in-Ok-write_all-clause-refused : goal.returns-in-Ok-write_all-clause-refused
 returns-in-Ok-write_all-clause-refused g c = λ untyped is.
-    let call : Call = record { words = texts c.args.words.now; styles = map (λ b. (goal.Listener-dyn g (b.vtable, b.value)).asks b.value) c.args.listeners.items; reading = reading_of g.I.Inputs.told g.I.Inputs.faults g.I.Inputs.given c.args.inputs.now c.answer_to.new.inputs } in
+    let call : Call = record { words = texts c.args.words.now; voices = map (λ b. (goal.Listener-dyn g (b.vtable, b.value)).voice b.value) c.args.listeners.items; reading = reading_of g.I.Inputs.told g.I.Inputs.faults g.I.Inputs.given g.I.Inputs.started c.args.inputs.now c.answer_to.new.inputs } in
     let A : List ℕ → Type 0 = λ t. Appends (g.S.Sink.held c.args.sink.now) (g.S.Sink.held c.write_all.new.sink) t in
     let whole : A c.in-Ok.answer.text.items = subst A c.deref.ensures.value c.in-Ok-write_all.ensures.whole in
     let answers = subst (λ o. Answers call o c.in-Ok.answer.text.items) is c.in-Ok.ensures.answers in
@@ -34,7 +34,7 @@ returns-in-Ok-write_all-clause-refused g c = λ untyped is.
 
 pub returns-in-Ok-write_all-clause-itself : goal.returns-in-Ok-write_all-clause-itself
 returns-in-Ok-write_all-clause-itself g c = λ rules_name report old_name new_name bytes untyped asked old_told new_told is.
-    let call : Call = record { words = texts c.args.words.now; styles = map (λ b. (goal.Listener-dyn g (b.vtable, b.value)).asks b.value) c.args.listeners.items; reading = reading_of g.I.Inputs.told g.I.Inputs.faults g.I.Inputs.given c.args.inputs.now c.answer_to.new.inputs } in
+    let call : Call = record { words = texts c.args.words.now; voices = map (λ b. (goal.Listener-dyn g (b.vtable, b.value)).voice b.value) c.args.listeners.items; reading = reading_of g.I.Inputs.told g.I.Inputs.faults g.I.Inputs.given g.I.Inputs.started c.args.inputs.now c.answer_to.new.inputs } in
     let A : List ℕ → Type 0 = λ t. Appends (g.S.Sink.held c.args.sink.now) (g.S.Sink.held c.write_all.new.sink) t in
     let whole : A c.in-Ok.answer.text.items = subst A c.deref.ensures.value c.in-Ok-write_all.ensures.whole in
     let answers = subst (λ o. Answers call o c.in-Ok.answer.text.items) is c.in-Ok.ensures.answers in
@@ -43,10 +43,15 @@ returns-in-Ok-write_all-clause-itself g c = λ rules_name report old_name new_na
 
 pub returns-in-Ok-write_all-clause-complete : goal.returns-in-Ok-write_all-clause-complete
 returns-in-Ok-write_all-clause-complete g c = λ asked all is served sink memory.
-    let call : Call = record { words = texts c.args.words.now; styles = map (λ b. (goal.Listener-dyn g (b.vtable, b.value)).asks b.value) c.args.listeners.items; reading = reading_of g.I.Inputs.told g.I.Inputs.faults g.I.Inputs.given c.args.inputs.now c.answer_to.new.inputs } in
+    let call : Call = record { words = texts c.args.words.now; voices = map (λ b. (goal.Listener-dyn g (b.vtable, b.value)).voice b.value) c.args.listeners.items; reading = reading_of g.I.Inputs.told g.I.Inputs.faults g.I.Inputs.given g.I.Inputs.started c.args.inputs.now c.answer_to.new.inputs } in
     let A : List ℕ → Type 0 = λ t. Appends (g.S.Sink.held c.args.sink.now) (g.S.Sink.held c.write_all.new.sink) t in
     let whole : A c.in-Ok.answer.text.items = subst A c.deref.ensures.value c.in-Ok-write_all.ensures.whole in
     complete_says call asked is all served c.in-Ok.answer.outcome c.in-Ok.answer.text.items A c.in-Ok.ensures.answers whole
+
+pub returns-in-Ok-write_all-clause-first_fault : goal.returns-in-Ok-write_all-clause-first_fault
+returns-in-Ok-write_all-clause-first_fault g c = λ asked all which fault is tells unfailed first sink memory.
+    let call : Call = record { words = texts c.args.words.now; voices = map (λ b. (goal.Listener-dyn g (b.vtable, b.value)).voice b.value) c.args.listeners.items; reading = reading_of g.I.Inputs.told g.I.Inputs.faults g.I.Inputs.given g.I.Inputs.started c.args.inputs.now c.answer_to.new.inputs } in
+    fault_says call asked is all tells unfailed which fault first c.in-Ok.answer.outcome c.in-Ok.answer.text.items c.in-Ok.ensures.answers
 
 pub returns-clause-front : goal.returns-clause-front
 returns-clause-front g c = λ is. (
@@ -55,3 +60,13 @@ returns-clause-front g c = λ is. (
   c.in-Ok.ensures.answers,
   subst (λ (t : List ℕ). AppendsFront (g.S.Sink.held c.args.sink.now) (g.S.Sink.held c.write_all.new.sink) t) c.deref.ensures.value c.in-Err-write_all.ensures.front,
 )
+
+pub returns-in-Ok-write_all-clause-steady_sink : goal.returns-in-Ok-write_all-clause-steady_sink
+returns-in-Ok-write_all-clause-steady_sink g c = λ room unfailing there enough.
+    c.write_all.ensures.steady room unfailing there
+    (subst (λ (t : List ℕ). length t ≤ room) (sym c.deref.ensures.value) (enough c.in-Ok.answer.outcome c.in-Ok.answer.text.items c.in-Ok.ensures.answers))
+
+pub returns-clause-steady_sink : goal.returns-clause-steady_sink
+returns-clause-steady_sink g c = λ room unfailing there enough.
+    c.write_all.ensures.steady room unfailing there
+    (subst (λ (t : List ℕ). length t ≤ room) (sym c.deref.ensures.value) (enough c.in-Ok.answer.outcome c.in-Ok.answer.text.items c.in-Ok.ensures.answers))

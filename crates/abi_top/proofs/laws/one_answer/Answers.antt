@@ -1,0 +1,11 @@
+use Rattle.abi_top.proofs.Single.{one_answer}
+use Rattle.abi_top.proofs.laws.one_answer.Goals as goal
+
+pub returns : goal.returns
+returns c = one_answer (record {
+  certificate = c.a_check_has_one_text.ensures.certificate;
+  report = c.a_check_has_one_text.ensures.report;
+  verification = c.a_verification_has_one_answer.ensures;
+  tried = c.a_trial_has_one_text.ensures;
+  counted = c.a_trial_is_of_a_count.ensures;
+})
