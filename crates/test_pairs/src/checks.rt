@@ -5,9 +5,7 @@ use abi_base::{List, NoMemory};
 use abi_types::{
     Call, CallShape, Group, Index, Kind, NewIx, OldIx, Part, Parts, Place, Slot, View, Way,
 };
-use pair_rules::{
-    Broken, Comparison, Steps, after, breaks, holds, next_of, partner, partner_at,
-};
+use pair_rules::{Broken, Comparison, Steps, after, breaks, holds, next_of, partner, partner_at};
 use std::alloc::Global;
 use std::fmt::Write;
 use std::marker::Brand;
