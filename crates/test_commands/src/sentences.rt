@@ -1,18 +1,13 @@
 // Each kind of fault has a sentence, with its place.
-use abi_base::{MemSink, Remark, Sink, SizedExports, write_all};
-use explain::{RecordingSink, push_fault, push_untyped, told_fault};
-use std::alloc::{AllocError, Global};
+use abi_base::{Fault, FaultKind, NoMemory, Remark, SizedExports};
+use commands::{File, Input, Outcome, Verdict};
+use explain::{failure_sentence, fault_sentence, notes_on, untyped_sentence};
+use std::alloc::Global;
 use std::test::Fail;
 
-// The sentence of the line of an unreadable input, for a file of these bytes.
-fn sentence(alloc: Global, line: &str, bytes: &[u8]) -> Result<String, AllocError> {
-    let mut text = String::new(alloc);
-    if let Some((which, fault)) = told_fault(line) {
-        text.push_str(which)?;
-        text.push_str(": ")?;
-        push_fault(&mut text, fault, bytes)?;
-    }
-    Ok(text)
+// The sentence of a file of these bytes that has this fault.
+fn sentence(alloc: Global, kind: FaultKind, at: u64, bytes: &[u8]) -> Result<String, NoMemory> {
+    fault_sentence(alloc, "lib.so", Fault { kind, at }, bytes)
 }
 
 #[test]
@@ -21,84 +16,100 @@ fn files_that_are_no_libraries_are_named(rt: HostRuntime) -> Result<(), Fail> {
     let object = b"\x7fELF\x02\x01\x01\x00\x00\x00\x00\x00\x00\x00\x00\x00\x01\x00";
     let program = b"\x7fELF\x02\x01\x01\x00\x00\x00\x00\x00\x00\x00\x00\x00\x02\x00";
     let core = b"\x7fELF\x02\x01\x01\x00\x00\x00\x00\x00\x00\x00\x00\x00\x04\x00";
-    let rows: [(&str, &[u8], &str); 18] = [
-        ("unreadable old 1 ShortFile 0\n", b"", "old: it is empty"),
+    let rows: [(FaultKind, u64, &[u8], &str); 15] = [
         (
-            "unreadable new 2 NotElf 0\n",
+            FaultKind::ShortFile,
+            0,
+            b"",
+            "lib.so: it is empty (fault 1 ShortFile at 0)",
+        ),
+        (
+            FaultKind::NotElf,
+            0,
             b"!<arch>\nlibx.o/",
-            "new: it is a static archive; give the shared object (.so) itself",
+            "lib.so: it is a static archive; give the shared object (.so) itself (fault 2 NotElf at 0)",
         ),
         (
-            "unreadable library 2 NotElf 0\n",
+            FaultKind::NotElf,
+            0,
             b"/* GNU ld script\n",
-            "library: it is a linker script; give the shared object that it names",
+            "lib.so: it is a linker script; give the shared object that it names (fault 2 NotElf at 0)",
         ),
         (
-            "unreadable old 2 NotElf 0\n",
+            FaultKind::NotElf,
+            0,
             b"text",
-            "old: it is not an ELF file",
+            "lib.so: it is not an ELF file (fault 2 NotElf at 0)",
         ),
         (
-            "unreadable old 1 ShortFile 7\n",
+            FaultKind::ShortFile,
+            7,
             b"\x7fELF\x02\x01\x01",
-            "old: it ends inside its ELF header",
+            "lib.so: it ends inside its ELF header (fault 1 ShortFile at 7)",
         ),
         (
-            "unreadable old 1 ShortFile 7\n",
+            FaultKind::ShortFile,
+            7,
             b"",
-            "old: it is not an ELF file",
+            "lib.so: it is not an ELF file (fault 1 ShortFile at 7)",
         ),
         (
-            "unreadable old 3 Class 4\n",
+            FaultKind::Class,
+            4,
             b"\x7fELF\x01",
-            "old: it is a 32-bit file; only 64-bit shared objects for x86-64 are read",
+            "lib.so: it is a 32-bit file; only 64-bit shared objects for x86-64 are read (fault 3 Class at 4)",
         ),
         (
-            "unreadable old 3 Class 4\n",
+            FaultKind::Class,
+            4,
             b"",
-            "old: it is not a 64-bit file; only 64-bit shared objects for x86-64 are read",
+            "lib.so: it is not a 64-bit file; only 64-bit shared objects for x86-64 are read (fault 3 Class at 4)",
         ),
         (
-            "unreadable old 4 Data 5\n",
+            FaultKind::Data,
+            5,
             b"\x7fELF\x02\x02",
-            "old: it is a big-endian file; only shared objects for x86-64 are read",
+            "lib.so: it is a big-endian file; only shared objects for x86-64 are read (fault 4 Data at 5)",
         ),
         (
-            "unreadable old 4 Data 5\n",
+            FaultKind::Data,
+            5,
             b"\x7fELF\x02\x00",
-            "old: it is not a little-endian file; only shared objects for x86-64 are read",
+            "lib.so: it is not a little-endian file; only shared objects for x86-64 are read (fault 4 Data at 5)",
         ),
         (
-            "unreadable old 6 NotShared 16\n",
+            FaultKind::NotShared,
+            16,
             object,
-            "old: it is an object file (.o), not a shared object",
+            "lib.so: it is an object file (.o), not a shared object (fault 6 NotShared at 16)",
         ),
         (
-            "unreadable old 6 NotShared 16\n",
+            FaultKind::NotShared,
+            16,
             program,
-            "old: it is an executable, not a shared object",
+            "lib.so: it is an executable, not a shared object (fault 6 NotShared at 16)",
         ),
         (
-            "unreadable old 6 NotShared 16\n",
+            FaultKind::NotShared,
+            16,
             core,
-            "old: it is a core dump, not a shared object",
+            "lib.so: it is a core dump, not a shared object (fault 6 NotShared at 16)",
         ),
         (
-            "unreadable old 7 Machine 18\n",
+            FaultKind::Machine,
+            18,
             b"",
-            "old: it is for another processor than x86-64",
+            "lib.so: it is for another processor than x86-64 (fault 7 Machine at 18)",
         ),
         (
-            "unreadable old 40 TooLong 268435456\n",
+            FaultKind::TooLong,
+            268435456,
             b"",
-            "old: it is longer than 256 MiB",
+            "lib.so: it is longer than 256 MiB (fault 40 TooLong at 268435456)",
         ),
-        ("unreadable old 99 Nothing 0\n", b"", ""),
-        ("read fault old", b"", ""),
-        ("yes 2", b"", ""),
     ];
-    for (line, bytes, wanted) in rows {
-        assert_eq!(rt; sentence(alloc, line, bytes)?.as_str(), wanted);
+    for (kind, at, bytes, wanted) in rows {
+        assert_eq!(rt; sentence(alloc, kind, at, bytes)?.as_str(), wanted);
     }
     Ok(())
 }
@@ -106,45 +117,54 @@ fn files_that_are_no_libraries_are_named(rt: HostRuntime) -> Result<(), Fail> {
 #[test]
 fn places_are_named(rt: HostRuntime) -> Result<(), Fail> {
     let alloc = rt.alloc();
-    for (line, wanted) in [
+    for (kind, at, wanted) in [
         (
-            "unreadable old 9 SectionRange 3\n",
-            "old: section 3 does not lie inside the file, which may have been cut short",
+            FaultKind::SectionRange,
+            3,
+            "lib.so: section 3 does not lie inside the file, which may have been cut short (fault 9 SectionRange at 3)",
         ),
         (
-            "unreadable old 13 SymbolTable 0\n",
-            "old: the table of dynamic symbols is damaged",
+            FaultKind::SymbolTable,
+            0,
+            "lib.so: the table of dynamic symbols is damaged (fault 13 SymbolTable at 0)",
         ),
         (
-            "unreadable old 13 SymbolTable 5\n",
-            "old: dynamic symbol 5 is damaged, or its name does not end inside the table of names",
+            FaultKind::SymbolTable,
+            5,
+            "lib.so: dynamic symbol 5 is damaged, or its name does not end inside the table of names (fault 13 SymbolTable at 5)",
         ),
         (
-            "unreadable old 14 DynamicTable 0\n",
-            "old: the dynamic table is damaged, or its soname does not end inside the table of names",
+            FaultKind::DynamicTable,
+            0,
+            "lib.so: the dynamic table is damaged, or its soname does not end inside the table of names (fault 14 DynamicTable at 0)",
         ),
         (
-            "unreadable old 18 DuplicateExport 7\n",
-            "old: dynamic symbol 7 has the name and the version of an earlier export",
+            FaultKind::DuplicateExport,
+            7,
+            "lib.so: dynamic symbol 7 has the name and the version of an earlier export (fault 18 DuplicateExport at 7)",
         ),
         (
-            "unreadable new 33 Language 12\n",
-            "new: offset 0xc of .debug_info: the language of the unit is not C or assembler; only units in these are read",
+            FaultKind::Language,
+            12,
+            "lib.so: offset 0xc of .debug_info: the language of the unit is not C or assembler; only units in these are read (fault 33 Language at 12)",
         ),
         (
-            "unreadable new 25 Abbrev 18\n",
-            "new: offset 0x12 of .debug_abbrev: the abbreviation is damaged",
+            FaultKind::Abbrev,
+            18,
+            "lib.so: offset 0x12 of .debug_abbrev: the abbreviation is damaged (fault 25 Abbrev at 18)",
         ),
         (
-            "unreadable rules 52 Section 4\n",
-            "rules: line 4: there is no section of this name",
+            FaultKind::Section,
+            4,
+            "lib.so: line 4: there is no section of this name (fault 52 Section at 4)",
         ),
         (
-            "unreadable certificate 61 Order 7\n",
-            "certificate: line 7: it is out of order",
+            FaultKind::Order,
+            7,
+            "lib.so: line 7: it is out of order (fault 61 Order at 7)",
         ),
     ] {
-        assert_eq!(rt; sentence(alloc, line, b"")?.as_str(), wanted);
+        assert_eq!(rt; sentence(alloc, kind, at, b"")?.as_str(), wanted);
     }
     Ok(())
 }
@@ -161,23 +181,40 @@ fn sections_are_named(rt: HostRuntime) -> Result<(), Fail> {
     file[80 + 24] = 64;
     file[144] = 8;
     for (section, named) in [
-        ("0", "section 0 (.names)"),
-        ("1", "section 1 (.zdebug)"),
-        ("2", "section 2"),
+        (0, "section 0 (.names)"),
+        (1, "section 1 (.zdebug)"),
+        (2, "section 2"),
     ] {
-        let line = format!(in alloc; "unreadable old 11 Compressed {section}\n")?;
         let wanted = format!(in alloc;
-            "old: {named} is compressed; uncompress it with: objcopy --decompress-debug-sections FILE NEW_FILE"
+            "lib.so: {named} is compressed; uncompress it with: objcopy --decompress-debug-sections FILE NEW_FILE (fault 11 Compressed at {section})"
         )?;
-        let text = sentence(alloc, line.as_str(), &file)?;
+        let text = sentence(alloc, FaultKind::Compressed, section, &file)?;
         assert_eq!(rt; text.as_str(), wanted.as_str());
     }
-    let text = sentence(alloc, "unreadable old 11 Compressed 1\n", &file[..100])?;
-    assert!(rt; text.starts_with("old: section 1 is compressed"));
-    // A name with a line feed does not break the line.
+    let text = sentence(alloc, FaultKind::Compressed, 1, &file[..100])?;
+    assert!(rt; text.starts_with("lib.so: section 1 is compressed"));
+    // A name with a line feed is not told.
     file[75] = b'\n';
-    let text = sentence(alloc, "unreadable old 11 Compressed 1\n", &file)?;
-    assert!(rt; text.starts_with("old: section 1 is compressed"));
+    let text = sentence(alloc, FaultKind::Compressed, 1, &file)?;
+    assert!(rt; text.starts_with("lib.so: section 1 is compressed"));
+    Ok(())
+}
+
+// A path stands in one line, whatever its characters are.
+#[test]
+fn paths_do_not_break_the_line(rt: HostRuntime) -> Result<(), Fail> {
+    let alloc = rt.alloc();
+    for (path, shown) in [
+        ("my lib.so", "my lib.so"),
+        ("gr\u{f6}\u{df}e.so", "gr\u{f6}\u{df}e.so"),
+        ("two\nlines\u{7f}", "two\\x0alines\\x7f"),
+        ("\u{1b}[2J\u{9b}2J", "\\x1b[2J\\x9b2J"),
+        ("a\\x0a", "a\\x5cx0a"),
+    ] {
+        let wanted = format!(in alloc; "{shown}: reading failed")?;
+        let text = failure_sentence(alloc, path, "reading failed")?;
+        assert_eq!(rt; text.as_str(), wanted.as_str());
+    }
     Ok(())
 }
 
@@ -185,47 +222,79 @@ fn sections_are_named(rt: HostRuntime) -> Result<(), Fail> {
 fn exports_without_types_are_told(rt: HostRuntime) -> Result<(), Fail> {
     let alloc = rt.alloc();
     for (all, untyped, wanted) in [
-        (0, 0, ""),
-        (7, 0, ""),
+        (0, 0, None),
+        (7, 0, None),
         (
             7,
             2,
-            "lib/a.so: the debug information has no type for 2 of the 7 exports that have a size: of these only names, versions, kinds and the sizes of objects were compared",
+            Some(
+                "lib/a.so: the debug information has no type for 2 of the 7 exports that have a size: of these only names, versions, kinds and the sizes of objects were compared",
+            ),
         ),
         (
             7,
             7,
-            "lib/a.so: the debug information has no types for the exports: only names, versions, kinds and the sizes of objects were compared; compile with -g to compare types",
+            Some(
+                "lib/a.so: the debug information has no types for the exports: only names, versions, kinds and the sizes of objects were compared; compile with -g to compare types",
+            ),
         ),
     ] {
-        let mut text = String::new(alloc);
-        let said = push_untyped(&mut text, SizedExports { all, untyped }, "lib/a.so")?;
-        assert_eq!(rt; text.as_str(), wanted);
-        assert_eq!(rt; said, !wanted.is_empty());
+        let text = untyped_sentence(alloc, "lib/a.so", SizedExports { all, untyped })?;
+        assert_eq!(rt; text.as_ref().map(|text| text.as_str()), wanted);
     }
     Ok(())
 }
 
+// How many notes come with an outcome, and how the first one begins.
 #[test]
-fn what_passes_is_noted(rt: HostRuntime) -> Result<(), Fail> {
+fn an_outcome_has_its_notes(rt: HostRuntime) -> Result<(), Fail> {
     let alloc = rt.alloc();
-    let Ok(inner) = MemSink::new(alloc, 100, Vec::new(alloc)) else {
-        return Ok(());
+    let some = SizedExports { all: 3, untyped: 1 };
+    let none = SizedExports { all: 3, untyped: 0 };
+    let fault = Fault {
+        kind: FaultKind::ShortFile,
+        at: 0,
     };
-    let mut sink = RecordingSink::new(inner);
-    assert_eq!(rt; sink.text(), Some(""));
-    assert_eq!(rt; sink.told(), None);
-    let exports = SizedExports { all: 3, untyped: 1 };
-    let remark = Remark {
-        old: exports,
-        new: exports,
-    };
-    sink.remark(remark);
-    assert!(rt; write_all(&mut sink, &[b'a'; 150]).is_ok());
-    assert!(rt; write_all(&mut sink, &[b'b'; 150]).is_ok());
-    assert_eq!(rt; sink.told(), Some(remark));
-    let text = sink.text().unwrap_or_default();
-    assert_eq!(rt; text.len(), 256);
-    assert_eq!(rt; text.find('b'), Some(150));
+    let both = Some(Remark {
+        old: some,
+        new: some,
+    });
+    let new = Some(Remark {
+        old: none,
+        new: some,
+    });
+    let files = [
+        File {
+            which: Input::Old,
+            name: "a.so",
+        },
+        File {
+            which: Input::New,
+            name: "b.so",
+        },
+    ];
+    for (outcome, count, first) in [
+        (Outcome::Judged(Verdict::Yes, both), 2, "a.so: the debug"),
+        (Outcome::Judged(Verdict::No, new), 1, "b.so: the debug"),
+        (Outcome::Judged(Verdict::Done, None), 0, ""),
+        (
+            Outcome::Unreadable(Input::New, fault),
+            1,
+            "b.so: it is empty",
+        ),
+        (Outcome::Unreadable(Input::Rules, fault), 0, ""),
+        (Outcome::ReadFault(Input::Old), 1, "a.so: no such file"),
+        (Outcome::ReadFault(Input::Library), 0, ""),
+        (Outcome::NoMemory, 1, "out of memory"),
+        (Outcome::WriteFault, 1, "writing failed"),
+        (Outcome::Help, 0, ""),
+        (Outcome::Usage, 0, ""),
+    ] {
+        let notes = notes_on(alloc, outcome, &files, b"", "no such file")?;
+        assert_eq!(rt; notes.len(), count);
+        if count > 0 {
+            assert!(rt; notes[0].starts_with(first));
+        }
+    }
     Ok(())
 }
