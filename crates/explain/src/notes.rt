@@ -84,8 +84,23 @@ fn push_untyped(
     }
 }
 
-// The notes on the exports that were compared without types: one for each library that has some.
-fn on_remark(alloc: Global, files: &[File<'_>], remark: Remark) -> Result<Vec<String>, NoMemory>
+// The notes on the exports that were compared without types, where two libraries were compared: one for each that has some.
+fn on_remark(
+    alloc: Global,
+    files: &[File<'_>],
+    remark: Option<Remark>,
+) -> Result<Vec<String>, NoMemory>
+    ensures tells { (v : AnyVerdict) → IfOk result (λ notes. Tells (outcomes.Judged v remark) (map plain_file files.now) (map string_bytes notes.items)) }
+    ensures lines { IfOk result (λ notes. All (λ note. IsTrue (is_one_line note)) (map string_bytes notes.items)) }
+{
+    match remark {
+        Some(remark) => on_both(alloc, files, remark),
+        None => Ok(Vec::new(alloc)),
+    }
+}
+
+// The notes on two libraries, of which so many exports have no type.
+fn on_both(alloc: Global, files: &[File<'_>], remark: Remark) -> Result<Vec<String>, NoMemory>
     ensures tells { (v : AnyVerdict) → IfOk result (λ notes. Tells (outcomes.Judged v (Some remark)) (map plain_file files.now) (map string_bytes notes.items)) }
     ensures lines { IfOk result (λ notes. All (λ note. IsTrue (is_one_line note)) (map string_bytes notes.items)) }
 {
@@ -116,11 +131,11 @@ pub fn notes_on(
     ensures lines { IfOk result (λ notes. All (λ note. IsTrue (is_one_line note)) (map string_bytes notes.items)) }
 {
     match outcome {
-        Outcome::Judged(_, Some(remark)) => on_remark(alloc, files, remark),
+        Outcome::Judged(_, remark) => on_remark(alloc, files, remark),
         Outcome::Unreadable(which, fault) => on_fault(alloc, files, which, fault, bytes),
         Outcome::ReadFault(which) => on_failure(alloc, files, which, reason),
         Outcome::NoMemory => one(alloc, String::from_str(alloc, "out of memory")?),
         Outcome::WriteFault => one(alloc, String::from_str(alloc, "writing failed")?),
-        Outcome::Judged(_, None) | Outcome::Help | Outcome::Usage => Ok(Vec::new(alloc)),
+        Outcome::Help | Outcome::Usage => Ok(Vec::new(alloc)),
     }
 }

@@ -1,5 +1,9 @@
-use Rattle.std.proofs.Common.{rules, ap, inl, inr, map, string_bytes}
+use Rattle.std.proofs.Common.{subst, sym, IfOk, map, string_bytes}
+use Rattle.commands.specs.Commands.{plain_file}
+use Rattle.commands.specs.declared.outcome.Outcome.TheVariants.{Judged}
+use Rattle.explain.specs.Notes.{Tells}
 use Rattle.explain.proofs.notes.on_remark.Goals as goal
 
-pub returns-in_default-name_of-clause-tells : goal.returns-in_default-name_of-clause-tells
-returns-in_default-name_of-clause-tells c = λ v. inl (c.in-Some.old.now, search rules, inr (search rules, ap (map string_bytes) c.new-notes.ensures.items))
+pub returns-in-Some-clause-tells : goal.returns-in-Some-clause-tells
+returns-in-Some-clause-tells c = λ v.
+    subst (λ o. IfOk c.on_both.result (λ notes. Tells (Judged v o) (map plain_file c.args.files.now) (map string_bytes notes.items))) (sym c.in-Some.is) (c.on_both.ensures.tells v)
