@@ -26,9 +26,9 @@ run() {
     cat errors >>said
 }
 
-# mark STATUS: what stands behind a sentence on a fault: its number, its name and its place, as the answer has them.
+# mark: what a sentence ends with where an input has a fault: the number, the name and the place that the answer gives.
 mark() {
-    [ "$1" -ne 2 ] || awk '$1 == "unreadable" { printf " (fault %s %s at %s)", $3, $4, $5 }' "$output"
+    [ "$ended" -ne 2 ] || awk 'NR == 1 { printf " (fault %s %s at %s)", $3, $4, $5 }' "$output"
 }
 
 # says STATUS SENTENCE ARGUMENT..: the program must end with the status and say this sentence, with the mark of its fault, and no
@@ -37,18 +37,19 @@ says() {
     local status=$1 sentence=$2
     shift 2
     run "$@"
+    sentence+=$(mark)
     [ "$ended" -eq "$status" ] || fail "status $ended, not $status: $*"
-    [ "$(cat errors)" = "abi: $sentence$(mark "$status")" ] || fail "of $* it says: $(cat errors)"
+    [ "$(cat errors)" = "abi: $sentence" ] || fail "of $* it says: $(cat errors)"
     passed "$sentence"
 }
 
-# says_like STATUS PATTERN ARGUMENT..: the same, of a sentence that matches the pattern as a whole.
+# says_like STATUS PATTERN ARGUMENT..: the same, of a sentence that matches the pattern as a whole, before its mark.
 says_like() {
     local status=$1 pattern=$2
     shift 2
     run "$@"
     [ "$ended" -eq "$status" ] || fail "status $ended, not $status: $*"
-    [ "$(wc -l <errors)" -eq 1 ] && grep -qx "abi: $pattern$(mark "$status")" errors || fail "of $* it says: $(cat errors)"
+    [ "$(wc -l <errors)" -eq 1 ] && grep -qx "abi: $pattern$(mark)" errors || fail "of $* it says: $(cat errors)"
     passed "$(sed 's/^abi: //' errors)"
 }
 
@@ -103,6 +104,11 @@ says 2 "long.so: it is longer than 256 MiB" exports long.so
 
 : >empty
 says 2 "empty: it is empty" exports empty
+# A path stands in one line, whatever its characters are.
+odd=$(printf 'two\nlines\033[0m')
+cp empty "$odd"
+says 2 'two\x0alines\x1b[0m: it is empty' exports "$odd"
+says_like 3 'no\\x0afile: .*[Nn]o such file.*' exports "$(printf 'no\nfile')"
 gcc -c -fPIC -g -o f.o f.c
 ar rc f.a f.o
 ar rcT thin.a f.o

@@ -4,7 +4,7 @@
 
 mod notes;
 
-use crate::notes::notes;
+use crate::notes::notes_of;
 use abi_base::{FileInputs, NoMemory, StdSink};
 use abi_top::{Ended, Outcome, run};
 use report::{CountsListener, FirstListener, Listener, TableListener, TextListener, add_listener};
@@ -71,7 +71,7 @@ fn outcome_of<R: Files + Print + Eprint + AllocGlobal>(
 
 // Tells on standard error what the answer does not say. Where that fails, the answer stands.
 fn tell<R: Files + Eprint + AllocGlobal>(rt: &R, ended: &Ended<'_>) {
-    let Ok(notes) = notes(rt, ended) else {
+    let Ok(notes) = notes_of(rt, ended) else {
         return;
     };
     for note in &notes {

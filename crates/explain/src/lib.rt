@@ -8,11 +8,13 @@ mod failures;
 mod faults;
 mod files;
 mod lines;
+mod notes;
 mod places;
 mod remarks;
 mod sections;
 mod sentence;
 
 pub use failures::failure_sentence;
+pub use notes::{name_of, notes_on};
 pub use remarks::untyped_sentence;
 pub use sentence::fault_sentence;

@@ -1,6 +1,7 @@
 // Each kind of fault has a sentence, with its place.
-use abi_base::{Fault, FaultKind, NoMemory, SizedExports};
-use explain::{failure_sentence, fault_sentence, untyped_sentence};
+use abi_base::{Fault, FaultKind, NoMemory, Remark, SizedExports};
+use commands::{File, Input, Outcome, Verdict};
+use explain::{failure_sentence, fault_sentence, notes_on, untyped_sentence};
 use std::alloc::Global;
 use std::test::Fail;
 
@@ -240,6 +241,60 @@ fn exports_without_types_are_told(rt: HostRuntime) -> Result<(), Fail> {
     ] {
         let text = untyped_sentence(alloc, "lib/a.so", SizedExports { all, untyped })?;
         assert_eq!(rt; text.as_ref().map(|text| text.as_str()), wanted);
+    }
+    Ok(())
+}
+
+// How many notes come with an outcome, and how the first one begins.
+#[test]
+fn an_outcome_has_its_notes(rt: HostRuntime) -> Result<(), Fail> {
+    let alloc = rt.alloc();
+    let some = SizedExports { all: 3, untyped: 1 };
+    let none = SizedExports { all: 3, untyped: 0 };
+    let fault = Fault {
+        kind: FaultKind::ShortFile,
+        at: 0,
+    };
+    let both = Some(Remark {
+        old: some,
+        new: some,
+    });
+    let new = Some(Remark {
+        old: none,
+        new: some,
+    });
+    let files = [
+        File {
+            which: Input::Old,
+            name: "a.so",
+        },
+        File {
+            which: Input::New,
+            name: "b.so",
+        },
+    ];
+    for (outcome, count, first) in [
+        (Outcome::Judged(Verdict::Yes, both), 2, "a.so: the debug"),
+        (Outcome::Judged(Verdict::No, new), 1, "b.so: the debug"),
+        (Outcome::Judged(Verdict::Done, None), 0, ""),
+        (
+            Outcome::Unreadable(Input::New, fault),
+            1,
+            "b.so: it is empty",
+        ),
+        (Outcome::Unreadable(Input::Rules, fault), 0, ""),
+        (Outcome::ReadFault(Input::Old), 1, "a.so: no such file"),
+        (Outcome::ReadFault(Input::Library), 0, ""),
+        (Outcome::NoMemory, 1, "out of memory"),
+        (Outcome::WriteFault, 1, "writing failed"),
+        (Outcome::Help, 0, ""),
+        (Outcome::Usage, 0, ""),
+    ] {
+        let notes = notes_on(alloc, outcome, &files, b"", "no such file")?;
+        assert_eq!(rt; notes.len(), count);
+        if count > 0 {
+            assert!(rt; notes[0].starts_with(first));
+        }
     }
     Ok(())
 }

@@ -1,0 +1,141 @@
+// What is told beside an answer.
+ghost use Rattle.std.specs.Prelude.{◌≡◌, [], ◌∷◌, ◌++◌, All, IfNone, IfOk, IfSome, IsTrue, codes, map, string_bytes};
+ghost use Rattle.abi_base.specs.declared.fault.Fault.{Fault as AnyFault};
+ghost use Rattle.commands.specs.Commands.{plain_file};
+ghost use Rattle.commands.specs.declared.outcome.Outcome.TheVariants as outcomes;
+ghost use Rattle.commands.specs.declared.verdict.Verdict.{Verdict as AnyVerdict};
+ghost use Rattle.explain.specs.Lines.{is_one_line};
+ghost use Rattle.explain.specs.Notes.{IsReadUnder, IsUnnamed, Tells, untyped_notes};
+
+use crate::{failure_sentence, fault_sentence, untyped_sentence};
+use abi_base::{Fault, NoMemory, Remark, SizedExports};
+use commands::{File, Input, Outcome};
+use std::alloc::Global;
+
+/// The name under which an input was read, if it was read under one.
+pub fn name_of<'a>(files: &[File<'a>], which: Input) -> Option<&'a str>
+    ensures some { IfSome result (λ name. IsReadUnder (map plain_file files.now) which name.now) }
+    ensures none { IfNone result (IsUnnamed (map plain_file files.now) which) }
+{
+    for file in files {
+        if file.which == which {
+            return Some(file.name);
+        }
+    }
+    None
+}
+
+// The one note.
+fn one(alloc: Global, note: String) -> Result<Vec<String>, NoMemory>
+    ensures { IfOk result (λ notes. map string_bytes notes.items ≡ string_bytes note ∷ []) }
+{
+    let mut notes = Vec::new(alloc);
+    notes.push(note)?;
+    Ok(notes)
+}
+
+// The note on an input that has this fault and these bytes.
+fn on_fault(
+    alloc: Global,
+    files: &[File<'_>],
+    which: Input,
+    fault: Fault,
+    bytes: &[u8],
+) -> Result<Vec<String>, NoMemory>
+    ensures tells { IfOk result (λ notes. Tells (outcomes.Unreadable which fault) (map plain_file files.now) (map string_bytes notes.items)) }
+    ensures lines { IfOk result (λ notes. All (λ note. IsTrue (is_one_line note)) (map string_bytes notes.items)) }
+{
+    match name_of(files, which) {
+        Some(path) => one(alloc, fault_sentence(alloc, path, fault, bytes)?),
+        None => Ok(Vec::new(alloc)),
+    }
+}
+
+// The note on an input whose reading failed for this reason.
+fn on_failure(
+    alloc: Global,
+    files: &[File<'_>],
+    which: Input,
+    reason: &str,
+) -> Result<Vec<String>, NoMemory>
+    ensures tells { IfOk result (λ notes. Tells (outcomes.ReadFault which) (map plain_file files.now) (map string_bytes notes.items)) }
+    ensures lines { IfOk result (λ notes. All (λ note. IsTrue (is_one_line note)) (map string_bytes notes.items)) }
+{
+    match name_of(files, which) {
+        Some(path) => one(alloc, failure_sentence(alloc, path, reason)?),
+        None => Ok(Vec::new(alloc)),
+    }
+}
+
+// Appends the note on a library some of whose exports have no type, where it has one.
+fn push_untyped(
+    alloc: Global,
+    notes: &mut Vec<String>,
+    path: &str,
+    exports: SizedExports,
+) -> Result<(), NoMemory>
+    requires { All (λ note. IsTrue (is_one_line note)) (map string_bytes notes.old.items) }
+    ensures notes { IfOk result (λ _. map string_bytes notes.new.items ≡ map string_bytes notes.old.items ++ untyped_notes path.now exports) }
+    ensures lines { IfOk result (λ _. All (λ note. IsTrue (is_one_line note)) (map string_bytes notes.new.items)) }
+{
+    match untyped_sentence(alloc, path, exports)? {
+        Some(note) => Ok(notes.push(note)?),
+        None => Ok(()),
+    }
+}
+
+// The notes on the exports that were compared without types, where two libraries were compared: one for each that has some.
+fn on_remark(
+    alloc: Global,
+    files: &[File<'_>],
+    remark: Option<Remark>,
+) -> Result<Vec<String>, NoMemory>
+    ensures tells { (v : AnyVerdict) → IfOk result (λ notes. Tells (outcomes.Judged v remark) (map plain_file files.now) (map string_bytes notes.items)) }
+    ensures lines { IfOk result (λ notes. All (λ note. IsTrue (is_one_line note)) (map string_bytes notes.items)) }
+{
+    match remark {
+        Some(remark) => on_both(alloc, files, remark),
+        None => Ok(Vec::new(alloc)),
+    }
+}
+
+// The notes on two libraries, of which so many exports have no type.
+fn on_both(alloc: Global, files: &[File<'_>], remark: Remark) -> Result<Vec<String>, NoMemory>
+    ensures tells { (v : AnyVerdict) → IfOk result (λ notes. Tells (outcomes.Judged v (Some remark)) (map plain_file files.now) (map string_bytes notes.items)) }
+    ensures lines { IfOk result (λ notes. All (λ note. IsTrue (is_one_line note)) (map string_bytes notes.items)) }
+{
+    let mut notes = Vec::new(alloc);
+    let Some(old) = name_of(files, Input::Old) else {
+        return Ok(notes);
+    };
+    let Some(new) = name_of(files, Input::New) else {
+        return Ok(notes);
+    };
+    push_untyped(alloc, &mut notes, old, remark.old)?;
+    if old != new {
+        push_untyped(alloc, &mut notes, new, remark.new)?;
+    }
+    Ok(notes)
+}
+
+/// What is to be told of how a run ended, beside its text: a line for each note. `bytes` are those of the input that has a fault, as
+/// far as they can be read a second time, and `reason` is why reading an input failed.
+pub fn notes_on(
+    alloc: Global,
+    outcome: Outcome,
+    files: &[File<'_>],
+    bytes: &[u8],
+    reason: &str,
+) -> Result<Vec<String>, NoMemory>
+    ensures tells { IfOk result (λ notes. Tells outcome (map plain_file files.now) (map string_bytes notes.items)) }
+    ensures lines { IfOk result (λ notes. All (λ note. IsTrue (is_one_line note)) (map string_bytes notes.items)) }
+{
+    match outcome {
+        Outcome::Judged(_, remark) => on_remark(alloc, files, remark),
+        Outcome::Unreadable(which, fault) => on_fault(alloc, files, which, fault, bytes),
+        Outcome::ReadFault(which) => on_failure(alloc, files, which, reason),
+        Outcome::NoMemory => one(alloc, String::from_str(alloc, "out of memory")?),
+        Outcome::WriteFault => one(alloc, String::from_str(alloc, "writing failed")?),
+        Outcome::Help | Outcome::Usage => Ok(Vec::new(alloc)),
+    }
+}
