@@ -21,6 +21,6 @@ returns g c =
     let new_nodes = c.graph-new_graph.result.now in
     let roots = c.as_slice.result.now in
     if_ok (λ (e : Explored). IsExploration (scope old_nodes new_nodes roots c.args.pair.now.marks.now old new) e.visits e.breaks) (λ (e : Explored). IsExplored (task_of s) e.visits e.breaks) c.explore.result
-    (λ e told. c.alike_types_are_explored.ensures s old_nodes new_nodes roots old new e.visits e.breaks c.graph-old_graph.ensures c.graph-new_graph.ensures (c.as_slice.ensures ∙ c.in_ok-roots.ensures) c.known.ensures c.known-2.ensures
+    (λ e told. c.alike_types_are_explored.ensures s old_nodes new_nodes roots old new e.visits e.breaks c.graph-old_graph.ensures c.graph-new_graph.ensures (c.as_slice.ensures.value ∙ c.in_ok-roots.ensures) c.known.ensures c.known-2.ensures
     c.known-3.ensures c.known-4.ensures c.in_ok-old_classes.ensures.coarsest c.in_ok-new_classes.ensures.coarsest (c.is_scope.ensures.0 (search rules)) told)
     c.explore.ensures.exploration
