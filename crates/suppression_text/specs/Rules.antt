@@ -1,9 +1,10 @@
 -- What a rule file says, as plain data: its sections, in order.
-use Rattle.std.specs.Prelude.{◌+◌, ℕ, List, [], ◌∷◌, ◌++◌, Option, Some, None}
+use Rattle.std.specs.Prelude.{◌+◌, ℕ, List, [], ◌∷◌, ◌++◌, Option, Some, None, find}
+use Rattle.std.specs.Option.{option_map}
 use Rattle.sha2.specs.Sha256.{sha256}
 use Rattle.suppression_text.specs.declared.key.SectionKind.{SectionKind}
 use Rattle.suppression_text.specs.declared.key.Key.{Key}
-use Rattle.suppression_text.specs.Keys.{section_named, key_named}
+use Rattle.suppression_text.specs.Keys.{section_named, key_named, same_key}
 use Rattle.suppression_text.specs.Lines.{Form, Comment, Head, Property, Other, forms_of}
 
 -- a property with its value
@@ -24,6 +25,10 @@ pub record PlainSection : Type 0 where
 pub record PlainRules : Type 0 where
   pub digest : List ℕ
   pub sections : List PlainSection
+
+-- the value of the section's first property with this key, if it has one
+abbrev pub value_in : Key → PlainSection → Option (List ℕ)
+value_in key section = option_map (λ (p : PlainProperty). p.value) (find (λ (p : PlainProperty). same_key key p.key) section.properties)
 
 abbrev pub headed_section : ℕ → SectionKind → List PlainProperty → PlainSection
 headed_section line kind properties = record { line = line; kind = kind; properties = properties }

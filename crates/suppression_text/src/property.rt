@@ -68,6 +68,16 @@ impl Property {
         self.key
     }
 
+    /// The bytes of its value: the text, or that of the pattern.
+    pub fn value(&self) -> &[u8]
+        ensures { result.now ≡ self.now.value }
+    {
+        match &self.value {
+            Value::Text(bytes) => bytes.as_slice(),
+            Value::Pattern(pattern) => pattern.text(),
+        }
+    }
+
     /// What asks bytes for its value.
     pub fn test(&self, alloc: Global) -> Result<Test<'_>, NoMemory>
         ensures { IfOk result (λ test. test ≡ self.now) }

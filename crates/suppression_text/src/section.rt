@@ -2,7 +2,9 @@
 ghost use Rattle.std.specs.Prelude.{◌≡◌, ◌∷◌, ◌++◌, [], map, OnOk, OnErr};
 ghost use Rattle.abi_base.specs.Outcome.{first};
 ghost use Rattle.suppression_text.specs.Keys.{same_key, is_label as it_is_label};
+ghost use Rattle.std.specs.Option.{option_copied};
 ghost use Rattle.suppression_text.specs.Faults.{has as it_has, is_empty_rule, section_fault};
+ghost use Rattle.suppression_text.specs.Rules.{value_in};
 
 use crate::key::{Key, SectionKind};
 use crate::property::Property;
@@ -79,6 +81,20 @@ impl Section {
         self.properties
             .iter()
             .any(|property| is_same(key, property.key()))
+    }
+
+    /// The value of its first property with this key, if it has one.
+    pub fn value(&self, key: Key) -> Option<&[u8]>
+        ensures { option_copied result ≡ value_in key self.now }
+    {
+        match self
+            .properties
+            .iter()
+            .find(|property| is_same(key, property.key()))
+        {
+            None => None,
+            Some(property) => Some(property.value()),
+        }
     }
 
     /// Puts a property last. After `NoMemory` the section is as before.

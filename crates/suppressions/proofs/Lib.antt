@@ -1,3 +1,5 @@
 mod NameLemmas
 mod MarkLemmas
 mod WayLemmas
+mod HandleLemmas
+mod HoldLemmas

@@ -4,3 +4,6 @@ pub mod Meaning
 pub mod Known
 pub mod Marks
 pub mod Reasons
+pub mod Handles
+pub mod PlainHandles
+pub mod Holding

@@ -4,7 +4,7 @@ ghost use Rattle.std.specs.Option.{option_copied};
 ghost use Rattle.abi_types.specs.Plain.{plain_label};
 ghost use Rattle.suppressions.specs.Known.{kind_number as the_kind_number, known_of, name_ways, names_ways, IsKnown};
 
-use crate::ready_section::{ReadySection, some_holds};
+use crate::ready_section::ReadyRules;
 use crate::subject::Subject;
 use abi_base::NoMemory;
 use abi_types::{Label, LabelKind, Way};
@@ -32,12 +32,12 @@ fn kind_number(kind: LabelKind) -> u8
 }
 
 // How sections mark a name.
-fn judge_name(sections: &mut [ReadySection], soname: Option<&[u8]>, label: &Label) -> MarkedByWay
+fn judge_name(sections: &mut ReadyRules, soname: Option<&[u8]>, label: &Label) -> MarkedByWay
     ensures ways { result ≡ name_ways sections.old (option_copied soname.entry) (plain_label label.now) }
     ensures same { sections.new ≡ sections.old }
 {
-    let direct = some_holds(sections, &Subject::of_label(soname, Way::Direct, label));
-    let pointer = some_holds(sections, &Subject::of_label(soname, Way::Pointer, label));
+    let direct = sections.some_holds(&Subject::of_label(soname, Way::Direct, label));
+    let pointer = sections.some_holds(&Subject::of_label(soname, Way::Pointer, label));
     MarkedByWay { direct, pointer }
 }
 
@@ -50,7 +50,7 @@ fn known_name(known: &HashMap<(u8, &[u8]), MarkedByWay>, label: &Label) -> Optio
 
 // How sections mark a name, which is judged once.
 fn name_once<'x>(
-    sections: &mut [ReadySection],
+    sections: &mut ReadyRules,
     known: &mut HashMap<(u8, &'x [u8]), MarkedByWay>,
     soname: Option<&[u8]>,
     label: &Label<'x>,
@@ -70,7 +70,7 @@ fn name_once<'x>(
 
 /// How sections mark a type with these names. Each name is judged once, as long as what is known is handed on.
 pub fn names_once<'x>(
-    sections: &mut [ReadySection],
+    sections: &mut ReadyRules,
     known: &mut HashMap<(u8, &'x [u8]), MarkedByWay>,
     soname: Option<&[u8]>,
     labels: &[Label<'x>],

@@ -3,6 +3,8 @@
 #![tactic(auto)]
 
 mod accessed_through;
+mod handle;
+mod handle_order;
 pub mod laws;
 mod marking;
 mod ready_section;

@@ -7,7 +7,7 @@ ghost use Rattle.suppressions.specs.Marks.{marks_of, AreEvenMarks};
 ghost use Rattle.suppressions.specs.Meaning.{drops, marks_names, is_dropped, is_marked};
 
 use crate::accessed_through::names_once;
-use crate::ready_section::{ReadySection, ready_sections, some_holds};
+use crate::ready_section::ReadyRules;
 use crate::subject::Subject;
 use abi_base::{List, NoMemory};
 use abi_types::{Export, Graph, Index, Label, Library, Marks, OldIx, Way};
@@ -25,13 +25,13 @@ pub fn drops_export(
 ) -> Result<bool, NoMemory>
     ensures { IfOk result (λ drops. drops ≡ is_dropped rules.now (option_copied soname.entry) (plain_export export.now)) }
 {
-    let mut sections = ready_sections(alloc, rules)?;
-    Ok(some_holds(sections.as_mut_slice(), &Subject::of_export(soname, export)))
+    let mut sections = ReadyRules::of(alloc, rules)?;
+    Ok(sections.some_holds(&Subject::of_export(soname, export)))
 }
 
 // Whether sections mark a type with these names.
 fn marks_labels(
-    sections: &mut [ReadySection],
+    sections: &mut ReadyRules,
     soname: Option<&[u8]>,
     labels: &[Label],
     way: Way,
@@ -39,7 +39,7 @@ fn marks_labels(
     ensures { result ≡ marks_names sections.old (option_copied soname.entry) way (map plain_label labels.now) }
 {
     for label in labels {
-        if some_holds(sections, &Subject::of_label(soname, way, label)) {
+        if sections.some_holds(&Subject::of_label(soname, way, label)) {
             return true;
         }
     }
@@ -57,14 +57,14 @@ pub fn drops_labels(
 ) -> Result<bool, NoMemory>
     ensures { IfOk result (λ drops. drops ≡ is_marked rules.now (option_copied soname.entry) (map plain_label labels.now) way) }
 {
-    let mut sections = ready_sections(alloc, rules)?;
-    Ok(marks_labels(sections.as_mut_slice(), soname, labels, way))
+    let mut sections = ReadyRules::of(alloc, rules)?;
+    Ok(marks_labels(&mut sections, soname, labels, way))
 }
 
 // For each export whether sections drop it.
 fn export_flags(
     alloc: Global,
-    sections: &mut [ReadySection],
+    sections: &mut ReadyRules,
     soname: Option<&[u8]>,
     exports: &[Export],
 ) -> Result<List<bool>, NoMemory>
@@ -73,7 +73,7 @@ fn export_flags(
 {
     let mut flags = List::new(alloc);
     for export in exports {
-        flags.push(some_holds(sections, &Subject::of_export(soname, export)))?;
+        flags.push(sections.some_holds(&Subject::of_export(soname, export)))?;
     }
     Ok(flags)
 }
@@ -88,7 +88,7 @@ struct NodeFlags {
 // For each node of a graph whether sections mark it.
 fn node_flags(
     alloc: Global,
-    sections: &mut [ReadySection],
+    sections: &mut ReadyRules,
     soname: Option<&[u8]>,
     graph: &Graph<OldIx>,
 ) -> Result<NodeFlags, NoMemory>
@@ -113,11 +113,10 @@ pub fn marks(alloc: Global, rules: &Rules, old: &Library<OldIx>) -> Result<Marks
     ensures marks { IfOk result (λ marks. marks ≡ marks_of rules.now old.now) }
     ensures even { IfOk result (AreEvenMarks old.now) }
 {
-    let mut ready = ready_sections(alloc, rules)?;
-    let sections = ready.as_mut_slice();
+    let mut sections = ReadyRules::of(alloc, rules)?;
     let soname = old.soname();
-    let exports = export_flags(alloc, sections, soname, old.exports())?;
-    let nodes = node_flags(alloc, sections, soname, old.graph())?;
+    let exports = export_flags(alloc, &mut sections, soname, old.exports())?;
+    let nodes = node_flags(alloc, &mut sections, soname, old.graph())?;
     let NodeFlags { direct, pointer } = nodes;
     Ok(Marks {
         digest: rules.digest(),

@@ -1,9 +1,13 @@
 // Sections whose patterns are ready to be searched for.
-ghost use Rattle.std.specs.Prelude.{◌≡◌, IfOk};
-ghost use Rattle.std.specs.List.{list_all, list_any};
+ghost use Rattle.std.specs.Prelude.{◌≡◌, ◌<◌, All, length, IfOk};
+ghost use Rattle.std.specs.List.{list_all};
+ghost use Rattle.suppressions.specs.PlainHandles.{plain_handle};
 ghost use Rattle.suppressions.specs.PlainSubjects.{plain_subject};
+ghost use Rattle.suppressions.specs.Holding.{one_section_holds, IsOneOfHandle};
 ghost use Rattle.suppressions.specs.Meaning.{property_holds, kind_place as the_kind_place, speaks_of as it_speaks_of, section_holds, some_section_holds};
 
+use crate::handle::Handle;
+use crate::handle_order::HandleOrder;
 use crate::subject::Subject;
 use abi_base::NoMemory;
 use std::alloc::Global;
@@ -107,11 +111,8 @@ impl<'r> ReadySection<'r> {
     }
 }
 
-/// The sections of a rule file, ready.
-pub fn ready_sections<'r>(
-    alloc: Global,
-    rules: &'r Rules,
-) -> Result<Vec<ReadySection<'r>>, NoMemory>
+// The sections of a rule file, ready.
+fn ready_sections<'r>(alloc: Global, rules: &'r Rules) -> Result<Vec<ReadySection<'r>>, NoMemory>
     ensures { IfOk result (λ ready. ready.items ≡ rules.now.sections) }
 {
     let mut ready = Vec::new(alloc);
@@ -121,17 +122,69 @@ pub fn ready_sections<'r>(
     Ok(ready)
 }
 
-/// Whether some section speaks of a subject and all its properties hold.
-pub fn some_holds(sections: &mut [ReadySection], subject: &Subject) -> bool
-    ensures some { result ≡ some_section_holds sections.old (plain_subject subject.now) }
+// Whether one of the sections with these numbers holds of a subject.
+fn one_holds(sections: &mut [ReadySection], numbers: &[usize], subject: &Subject) -> bool
+    requires { All (λ k. k < length sections.old) numbers.now }
+    ensures some { result ≡ one_section_holds sections.old (plain_subject subject.now) numbers.now }
     ensures same { sections.new ≡ sections.old }
 {
-    let mut at = 0;
-    'sections: while at < sections.len() {
-        if sections[at].holds(subject) {
+    for number in numbers {
+        if sections[*number].holds(subject) {
             return true;
         }
-        at += 1;
     }
     false
+}
+
+/// The sections of a rule file, ready, and found by the names that they ask for exactly: a name meets the sections that ask for
+/// it and those that ask for no name, not all others. Contracts see it as the list of the sections.
+#[derive(Drop)]
+pub struct ReadyRules<'r> {
+    sections: Vec<ReadySection<'r>>,
+    order: HandleOrder<'r>,
+}
+
+impl<'r> Model for ReadyRules<'r> {
+    ghost use Rattle.std.specs.Prelude.{◌≡◌, List};
+    ghost use Rattle.suppression_text.specs.Rules.{PlainSection};
+    ghost use Rattle.suppressions.specs.Handles.{handles_of};
+
+    ghost Value = { List PlainSection };
+
+    ghost view = { λ r. r.sections.items };
+
+    ghost invariant = { λ r. r.order ≡ handles_of r.sections.items };
+}
+
+impl<'r> ReadyRules<'r> {
+    /// The sections of a rule file, ready.
+    pub fn of(alloc: Global, rules: &'r Rules) -> Result<ReadyRules<'r>, NoMemory>
+        ensures { IfOk result (λ ready. ready ≡ rules.now.sections) }
+    {
+        let sections = ready_sections(alloc, rules)?;
+        let order = HandleOrder::of(alloc, rules.sections())?;
+        Ok(ReadyRules { sections, order })
+    }
+
+    // Whether a section of a handle holds of a subject.
+    fn holds_at(&mut self, handle: Handle, subject: &Subject) -> bool
+        ensures some { IsOneOfHandle self.old (plain_subject subject.now) (plain_handle handle) result }
+        ensures same { self.new ≡ self.old }
+    {
+        one_holds(self.sections.as_mut_slice(), self.order.find(handle), subject)
+    }
+
+    /// Whether some section speaks of a subject and all its properties hold.
+    pub fn some_holds(&mut self, subject: &Subject) -> bool
+        ensures some { result ≡ some_section_holds self.old (plain_subject subject.now) }
+        ensures same { self.new ≡ self.old }
+    {
+        if self.holds_at(Handle::Any, subject) || self.holds_at(Handle::Name(subject.name), subject) {
+            return true;
+        }
+        match subject.symbol {
+            Some(symbol) => self.holds_at(Handle::Symbol(symbol), subject),
+            None => false,
+        }
+    }
 }

@@ -1,0 +1,145 @@
+-- A section that holds of a subject is found by a handle of the subject.
+use Rattle.std.proofs.Common.{◌≡◌, ◌<◌, ◌×◌, ◌⊎◌, ℕ, Bool, true, false, cond, List, [], ◌∷◌, length, get_or, map, Option, Some, None, refl, sym, ap, ◌∙◌, inl, inr, arith}
+use Rattle.std.specs.Prelude.{Contains, find}
+use Rattle.std.specs.List.{list_all, list_any}
+use Rattle.std.specs.Option.{option_map, option_map_or}
+use Rattle.std.specs.Str.{bytes_eq}
+use Rattle.std.proofs.lemmas.Bool.{and_parts}
+use Rattle.std.proofs.lemmas.List.{length-map, get_or-map}
+use Rattle.std.proofs.lemmas.List.Elements.{All-from_get_or}
+use Rattle.std.proofs.lemmas.List.Folds.{Any-from_list_any, list_any_at, list_any_none}
+use Rattle.std.proofs.lemmas.Slice.Eq.{bytes_eq-Decides}
+use Rattle.suppression_text.specs.declared.key.Key.{Key}
+use Rattle.suppression_text.specs.declared.key.Key.TheVariants.{Label, Name, NameRegexp, NameNotRegexp, SymbolName, SymbolNameRegexp, SymbolVersion, SymbolVersionRegexp, SonameRegexp, TypeKind, AccessedThrough}
+use Rattle.suppression_text.specs.declared.key.SectionKind.TheVariants.{Types}
+use Rattle.suppression_text.specs.Keys.{same_key}
+use Rattle.suppression_text.specs.Passing.{passes}
+use Rattle.suppression_text.specs.Rules.{PlainProperty, PlainSection, plain_property, headed_section, value_in}
+use Rattle.suppressions.specs.Subjects.{PlainSubject}
+use Rattle.suppressions.specs.Meaning.{property_holds, speaks_of, section_holds, some_section_holds}
+use Rattle.suppressions.specs.Handles.{PlainHandle, any_handle, symbol_handle, name_handle, handle_of, handles_of, handle_at, AreAt}
+use Rattle.suppressions.specs.Holding.{section_at, one_section_holds, Holds, IsOneOfHandle}
+
+cases : {P : Type 0} (b : Bool) → (b ≡ true → P) → (b ≡ false → P) → P
+cases true here other = here refl
+cases false here other = other refl
+
+apart : (b : Bool) → b ≡ true → b ≡ false → ⊥
+apart b yes no = cc
+
+-- ---- properties
+
+module _ (s : PlainSubject) where
+  abbrev Found : Key → List ℕ → Type 0
+  Found key v = (p : PlainProperty) × (p.value ≡ v) × (same_key key p.key ≡ true) × (property_holds s p ≡ true)
+
+  abbrev value_of : Option PlainProperty → Option (List ℕ)
+  value_of found = option_map (λ (p : PlainProperty). p.value) found
+
+  same_some : (x y : List ℕ) → Some x ≡ Some y → x ≡ y
+  same_some x y e = cc
+
+  found : (key : Key) (ps : List PlainProperty) (v : List ℕ) → value_of (find (λ (p : PlainProperty). same_key key p.key) ps) ≡ Some v → list_all (property_holds s) ps ≡ true → Found key v
+  found key [] v e all = cc
+  found key (p ∷ ps) v e all =
+      let both = and_parts (property_holds s p) (list_all (property_holds s) ps) all in
+      let rest = find (λ (q : PlainProperty). same_key key q.key) ps in
+      cases (same_key key p.key)
+      (λ yes. (p, same_some p.value v (ap (λ (b : Bool). value_of (cond b (Some p) rest)) (sym yes) ∙ e), yes, both.0))
+      (λ no. found key ps v (ap (λ (b : Bool). value_of (cond b (Some p) rest)) (sym no) ∙ e) both.1)
+
+  name_value : (k : Key) (v : List ℕ) → same_key Name k ≡ true → property_holds s (plain_property k v) ≡ true → v ≡ s.name
+  unfolding property_holds passes
+  name_value Label v same holds = cc
+  name_value Name v same holds = (bytes_eq-Decides v s.name).0 holds
+  name_value NameRegexp v same holds = cc
+  name_value NameNotRegexp v same holds = cc
+  name_value SymbolName v same holds = cc
+  name_value SymbolNameRegexp v same holds = cc
+  name_value SymbolVersion v same holds = cc
+  name_value SymbolVersionRegexp v same holds = cc
+  name_value SonameRegexp v same holds = cc
+  name_value TypeKind v same holds = cc
+  name_value AccessedThrough v same holds = cc
+
+  is_symbol : (v : List ℕ) (symbol : Option (List ℕ)) → option_map_or (passes SymbolName v) symbol false ≡ true → symbol ≡ Some v
+  unfolding passes
+  is_symbol v None holds = cc
+  is_symbol v (Some name) holds = ap Some (sym ((bytes_eq-Decides v name).0 holds))
+
+  symbol_value : (k : Key) (v : List ℕ) → same_key SymbolName k ≡ true → property_holds s (plain_property k v) ≡ true → s.symbol ≡ Some v
+  unfolding property_holds
+  symbol_value Label v same holds = cc
+  symbol_value Name v same holds = cc
+  symbol_value NameRegexp v same holds = cc
+  symbol_value NameNotRegexp v same holds = cc
+  symbol_value SymbolName v same holds = is_symbol v s.symbol holds
+  symbol_value SymbolNameRegexp v same holds = cc
+  symbol_value SymbolVersion v same holds = cc
+  symbol_value SymbolVersionRegexp v same holds = cc
+  symbol_value SonameRegexp v same holds = cc
+  symbol_value TypeKind v same holds = cc
+  symbol_value AccessedThrough v same holds = cc
+
+  -- ---- handles
+
+  abbrev IsByHandle : PlainHandle → Type 0
+  IsByHandle handle = (handle ≡ any_handle) ⊎ ((handle ≡ (1, s.name)) ⊎ ((name : List ℕ) × (s.symbol ≡ Some name) × (handle ≡ (2, name))))
+
+  by_symbol : (ps : List PlainProperty) (symbol : Option (List ℕ)) → value_of (find (λ (p : PlainProperty). same_key SymbolName p.key) ps) ≡ symbol → list_all (property_holds s) ps ≡ true → IsByHandle (symbol_handle symbol)
+  by_symbol ps None is all = inl refl
+  by_symbol ps (Some v) is all =
+      let p = found SymbolName ps v is all in
+      let here : s.symbol ≡ Some p.0.value = symbol_value p.0.key p.0.value p.2 p.3 in
+      inr (inr (v, here ∙ ap Some p.1, refl))
+
+  by_name : (ps : List PlainProperty) (name symbol : Option (List ℕ)) → value_of (find (λ (p : PlainProperty). same_key Name p.key) ps) ≡ name → value_of (find (λ (p : PlainProperty). same_key SymbolName p.key) ps) ≡ symbol → list_all (property_holds s) ps ≡ true → IsByHandle (name_handle name symbol)
+  by_name ps None symbol is other all = by_symbol ps symbol other all
+  by_name ps (Some v) symbol is other all =
+      let p = found Name ps v is all in
+      let here : p.0.value ≡ s.name = name_value p.0.key p.0.value p.2 p.3 in
+      inr (inl (ap (λ (n : List ℕ). (1, n)) (sym p.1 ∙ here)))
+
+  by_handle : (section : PlainSection) → section_holds s section ≡ true → IsByHandle (handle_of section)
+  unfolding section_holds
+  by_handle section holds = by_name section.properties (value_in Name section) (value_in SymbolName section) refl refl (and_parts (speaks_of section s) (list_all (property_holds s) section.properties) holds).1
+
+  -- ---- sections
+
+  module _ (sections : List PlainSection) where
+    pub one_of : (handle : PlainHandle) (numbers : List ℕ) (answer : Bool) → AreAt (handles_of sections) handle numbers → answer ≡ one_section_holds sections s numbers → IsOneOfHandle sections s handle answer
+    one_of handle numbers answer are is =
+        let p : ℕ → Bool = λ k. section_holds s (section_at sections k) in
+        record {
+          some = λ yes.
+              let h = Any-from_list_any p numbers (sym is ∙ yes) in
+              let k = h.1 in
+              let place = (are k).0 (h.0, h.2, h.3) in
+              let inside : k < length sections = rw (length-map sections handle_of) at place.0 in
+              (k, inside, h.4);
+          none = λ no k of_handle holds.
+              let inside : k < length (handles_of sections) = rw (length-map sections handle_of) holds.0 in
+              let at : handle_at (handles_of sections) k ≡ handle = get_or-map handle_of sections k (headed_section 0 Types []) any_handle holds.0 ∙ of_handle in
+              let has = (are k).1 (inside, at) in
+              let yes = list_any_at p numbers has.0 k has.1 (ap p has.2 ∙ holds.1) in
+              apart answer (is ∙ yes) no;
+        }
+
+    pub some_hold : (k : ℕ) → Holds sections s k → some_section_holds sections s ≡ true
+    some_hold k holds = list_any_at (section_holds s) sections k (headed_section 0 Types []) holds.0 holds.1
+
+    abbrev None_of : PlainHandle → Type 0
+    None_of handle = (k : ℕ) → handle_of (section_at sections k) ≡ handle → Holds sections s k → ⊥
+
+    pub none_hold : None_of any_handle → None_of (1, s.name) → ((name : List ℕ) → s.symbol ≡ Some name → None_of (2, name)) → some_section_holds sections s ≡ false
+    none_hold no_any no_name no_symbol =
+        list_any_none (section_holds s) sections
+        (All-from_get_or (λ (section : PlainSection). section_holds s section ≡ false) sections (headed_section 0 Types []) (λ k inside.
+        cases (section_holds s (section_at sections k)) (λ yes.
+        elim (by_handle (section_at sections k) yes) [
+          | inl any ↦ absurd (no_any k any (inside, yes))
+          | inr other ↦ elim other [
+            | inl named ↦ absurd (no_name k named (inside, yes))
+            | inr symbol ↦ absurd (no_symbol symbol.0 symbol.1 k symbol.2 (inside, yes))
+          ]
+        ]) (λ no. no)))

@@ -1,0 +1,25 @@
+-- Sections that hold of a subject, among those of some numbers.
+use Rattle.std.specs.Prelude.{◌≡◌, ◌<◌, ◌×◌, ℕ, Bool, true, false, List, [], length, slice_index_or}
+use Rattle.std.specs.List.{list_any}
+use Rattle.suppression_text.specs.declared.key.SectionKind.TheVariants.{Types}
+use Rattle.suppression_text.specs.Rules.{PlainSection, headed_section}
+use Rattle.suppressions.specs.Handles.{PlainHandle, handle_of}
+use Rattle.suppressions.specs.Meaning.{section_holds}
+use Rattle.suppressions.specs.Subjects.{PlainSubject}
+
+-- the section of a number
+abbrev pub section_at : List PlainSection → ℕ → PlainSection
+section_at sections k = slice_index_or sections k (headed_section 0 Types [])
+
+-- one of the sections of these numbers holds of the subject
+abbrev pub one_section_holds : List PlainSection → PlainSubject → List ℕ → Bool
+one_section_holds sections s numbers = list_any (λ (k : ℕ). section_holds s (section_at sections k)) numbers
+
+-- a section holds of the subject
+abbrev pub Holds : List PlainSection → PlainSubject → ℕ → Type 0
+Holds sections s k = (k < length sections) × (section_holds s (section_at sections k) ≡ true)
+
+-- the answer is whether a section of this handle holds of the subject
+pub record IsOneOfHandle (sections : List PlainSection) (s : PlainSubject) (handle : PlainHandle) (answer : Bool) : Type 0 where
+  pub some : answer ≡ true → (k : ℕ) × Holds sections s k
+  pub none : answer ≡ false → (k : ℕ) → handle_of (section_at sections k) ≡ handle → (Holds sections s k → ⊥)

@@ -1,0 +1,16 @@
+-- Handles of the code, without where their names lie in memory.
+use Rattle.std.specs.Prelude.{ℕ, List, map}
+use Rattle.suppressions.specs.declared.handle.Handle.{Handle}
+use Rattle.suppressions.specs.declared.handle.Handle.TheVariants.{Any, Name, Symbol}
+use Rattle.suppressions.specs.Handles.{PlainHandle, any_handle}
+
+abbrev pub plain_handle : Handle → PlainHandle
+plain_handle Any = any_handle
+plain_handle (Name name) = (1, name.now)
+plain_handle (Symbol name) = (2, name.now)
+
+abbrev pub class_of : Handle → ℕ
+class_of handle = (plain_handle handle).0
+
+abbrev pub plain_handles : List Handle → List PlainHandle
+plain_handles handles = map plain_handle handles

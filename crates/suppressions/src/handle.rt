@@ -1,0 +1,64 @@
+// What sections are found by.
+ghost use Rattle.std.specs.Prelude.{◌≡◌};
+ghost use Rattle.suppressions.specs.Handles.{handle_cmp, handle_of as the_handle_of};
+ghost use Rattle.suppressions.specs.PlainHandles.{plain_handle, class_of};
+
+use std::cmp::Ordering;
+use suppression_text::{Key, Section};
+
+/// What a section asks for exactly. A section with `name` or `symbol_name` can hold only of that name.
+#[derive(Clone, Copy)]
+pub enum Handle<'x> {
+    /// Neither property: the section can hold of any name.
+    Any,
+    /// The property `name`.
+    Name(&'x [u8]),
+    /// The property `symbol_name` of a section without `name`.
+    Symbol(&'x [u8]),
+}
+
+// The place of a kind of handles among all kinds.
+fn class(handle: Handle) -> u8
+    ensures { result ≡ class_of handle }
+{
+    match handle {
+        Handle::Any => 0,
+        Handle::Name(_) => 1,
+        Handle::Symbol(_) => 2,
+    }
+}
+
+impl<'x> Handle<'x> {
+    /// The handle of a section.
+    pub fn of(section: &'x Section) -> Handle<'x>
+        ensures { plain_handle result ≡ the_handle_of section.now }
+    {
+        if let Some(name) = section.value(Key::Name) {
+            return Handle::Name(name);
+        }
+        match section.value(Key::SymbolName) {
+            Some(name) => Handle::Symbol(name),
+            None => Handle::Any,
+        }
+    }
+
+    // The name, empty where there is none.
+    fn name(self) -> &'x [u8]
+        ensures { result.now ≡ (plain_handle self).1 }
+    {
+        match self {
+            Handle::Any => &[],
+            Handle::Name(name) => name,
+            Handle::Symbol(name) => name,
+        }
+    }
+
+    /// How two handles compare: by their kinds, then by their names.
+    pub fn order(self, other: Handle) -> Ordering
+        ensures { result ≡ handle_cmp (plain_handle self) (plain_handle other) }
+    {
+        class(self)
+            .cmp(&class(other))
+            .then(self.name().cmp(other.name()))
+    }
+}

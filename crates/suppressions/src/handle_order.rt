@@ -1,0 +1,150 @@
+// Sections in order of their handles, so that those of a handle are found without a look at all others.
+ghost use Rattle.std.specs.Prelude.{◌≡◌, ◌≤◌, ◌-◌, false, true, length, take, drop, map, IfOk};
+ghost use Rattle.std.specs.List.{range_with_len};
+ghost use Rattle.std.specs.List.Sorted.{IsPartitionPoint};
+ghost use Rattle.std.specs.Ordering.{is_lt, is_le};
+ghost use Rattle.suppressions.specs.Handles.{handle_at as the_handle_at, handle_cmp, handles_of, place_cmp, IsHandleOrder, AreAt};
+ghost use Rattle.suppressions.specs.PlainHandles.{plain_handle, plain_handles};
+
+use crate::handle::Handle;
+use abi_base::NoMemory;
+use std::alloc::Global;
+use std::cmp::Ordering;
+use suppression_text::Section;
+
+// The handle at a position, that of any section past the last one.
+fn handle_at<'x>(handles: &[Handle<'x>], k: usize) -> Handle<'x>
+    ensures { plain_handle result ≡ the_handle_at (plain_handles handles.now) k }
+{
+    if k < handles.len() {
+        handles[k]
+    } else {
+        Handle::Any
+    }
+}
+
+// How two positions compare: by the handles there.
+fn place_order(handles: &[Handle], a: usize, b: usize) -> Ordering
+    ensures { result ≡ place_cmp (plain_handles handles.now) a b }
+{
+    handle_at(handles, a).order(handle_at(handles, b))
+}
+
+// Whether the handle at a position stands before a handle.
+fn stands_before(handles: &[Handle], k: usize, handle: Handle) -> bool
+    ensures { result ≡ is_lt (handle_cmp (the_handle_at (plain_handles handles.now) k) (plain_handle handle)) }
+{
+    handle_at(handles, k).order(handle).is_lt()
+}
+
+// Whether the handle at a position does not stand behind a handle.
+fn stands_upto(handles: &[Handle], k: usize, handle: Handle) -> bool
+    ensures { result ≡ is_le (handle_cmp (the_handle_at (plain_handles handles.now) k) (plain_handle handle)) }
+{
+    handle_at(handles, k).order(handle).is_le()
+}
+
+// The handles of sections.
+fn handles_in<'r>(alloc: Global, sections: &'r [Section]) -> Result<Vec<Handle<'r>>, NoMemory>
+    ensures { IfOk result (λ handles. plain_handles handles.items ≡ handles_of sections.now) }
+{
+    let mut handles = Vec::with_capacity(alloc, sections.len())?;
+    for section in sections {
+        handles.push(Handle::of(section))?;
+    }
+    Ok(handles)
+}
+
+// The numbers below a count.
+fn numbers_below(alloc: Global, count: usize) -> Result<Vec<usize>, NoMemory>
+    ensures { IfOk result (λ numbers. numbers.items ≡ range_with_len 0 count) }
+{
+    let mut numbers = Vec::with_capacity(alloc, count)?;
+    for i in 0..count {
+        numbers.push(i)?;
+    }
+    Ok(numbers)
+}
+
+// The positions of all handles, in their order.
+fn places_of(alloc: Global, handles: &[Handle]) -> Result<Vec<usize>, NoMemory>
+    ensures { IfOk result (λ places. IsHandleOrder places.items (plain_handles handles.now)) }
+{
+    let mut places = numbers_below(alloc, handles.len())?;
+    places.sort_unstable_by(|a, b| place_order(handles, *a, *b));
+    Ok(places)
+}
+
+// How many positions stand before those of a handle.
+fn count_before(handles: &[Handle], places: &[usize], handle: Handle) -> usize
+    requires { IsHandleOrder places.now (plain_handles handles.now) }
+    ensures inside { result ≤ length places.now }
+    ensures parts { IsPartitionPoint (λ k. is_lt (handle_cmp (the_handle_at (plain_handles handles.now) k) (plain_handle handle)) ≡ true) (λ k. is_lt (handle_cmp (the_handle_at (plain_handles handles.now) k) (plain_handle handle)) ≡ false) places.now result }
+{
+    places.partition_point(|k| stands_before(handles, *k, handle))
+}
+
+// How many positions do not stand behind those of a handle.
+fn count_upto(handles: &[Handle], places: &[usize], handle: Handle) -> usize
+    requires { IsHandleOrder places.now (plain_handles handles.now) }
+    ensures inside { result ≤ length places.now }
+    ensures parts { IsPartitionPoint (λ k. is_le (handle_cmp (the_handle_at (plain_handles handles.now) k) (plain_handle handle)) ≡ true) (λ k. is_le (handle_cmp (the_handle_at (plain_handles handles.now) k) (plain_handle handle)) ≡ false) places.now result }
+{
+    places.partition_point(|k| stands_upto(handles, *k, handle))
+}
+
+// The positions from one place on up to another.
+fn between(places: &[usize], start: usize, end: usize) -> &[usize]
+    requires rises { start ≤ end }
+    requires inside { end ≤ length places.now }
+    ensures { result.now ≡ take (end - start) (drop start places.now) }
+{
+    &places[start..end]
+}
+
+// The positions of a handle, by two binary searches.
+fn places_in<'a>(handles: &[Handle], places: &'a [usize], handle: Handle) -> &'a [usize]
+    requires { IsHandleOrder places.now (plain_handles handles.now) }
+    ensures { AreAt (plain_handles handles.now) (plain_handle handle) result.now }
+{
+    let start = count_before(handles, places, handle);
+    let end = count_upto(handles, places, handle);
+    between(places, start, end)
+}
+
+/// The handles of sections, and the sections' numbers in the order of them. Contracts see it as the list of the handles.
+#[derive(Drop)]
+pub struct HandleOrder<'r> {
+    handles: Vec<Handle<'r>>,
+    places: Vec<usize>,
+}
+
+impl<'r> std::marker::Model for HandleOrder<'r> {
+    ghost use Rattle.std.specs.Prelude.{List};
+    ghost use Rattle.suppressions.specs.Handles.{PlainHandle, IsHandleOrder};
+    ghost use Rattle.suppressions.specs.PlainHandles.{plain_handles};
+
+    ghost Value = { List PlainHandle };
+
+    ghost view = { λ o. plain_handles o.handles.items };
+
+    ghost invariant = { λ o. IsHandleOrder o.places.items (plain_handles o.handles.items) };
+}
+
+impl<'r> HandleOrder<'r> {
+    /// The order of sections.
+    pub fn of(alloc: Global, sections: &'r [Section]) -> Result<HandleOrder<'r>, NoMemory>
+        ensures { IfOk result (λ order. order ≡ handles_of sections.now) }
+    {
+        let handles = handles_in(alloc, sections)?;
+        let places = places_of(alloc, handles.as_slice())?;
+        Ok(HandleOrder { handles, places })
+    }
+
+    /// The numbers of the sections of a handle.
+    pub fn find(&self, handle: Handle) -> &[usize]
+        ensures { AreAt self.now (plain_handle handle) result.now }
+    {
+        places_in(self.handles.as_slice(), self.places.as_slice(), handle)
+    }
+}
