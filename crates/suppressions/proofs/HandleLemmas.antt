@@ -1,5 +1,5 @@
 -- Sections in order of their handles, and searches by a handle.
-use Rattle.std.proofs.Common.{◌≡◌, ◌<◌, ◌≤◌, ◌+◌, ◌-◌, ℕ, Bool, true, false, List, [], ◌∷◌, ◌++◌, length, take, drop, get_or, sym, ap, ◌∙◌, inl, inr, arith}
+use Rattle.std.proofs.Common.{zero, suc, ◌≡◌, ◌<◌, ◌≤◌, ◌+◌, ◌-◌, ℕ, Bool, true, false, List, [], ◌∷◌, ◌++◌, length, take, drop, get_or, refl, sym, ap, ◌∙◌, inl, inr, arith}
 use Rattle.std.specs.Prelude.{All, Contains, IsPermutation}
 use Rattle.std.specs.List.{range_with_len}
 use Rattle.std.specs.List.Sorted.{IsPartitionedBy, IsPartitionPoint}
@@ -79,7 +79,7 @@ names_equal : (x y : List ℕ) → slice_cmp nat_cmp x y ≡ Equal → x ≡ y
 names_equal x y e = (bytes_eq-Decides x y).0 (sym (is_eq-slice_cmp x y) ∙ ap is_eq e)
 
 one_pair : (x y : PlainHandle) → x.0 ≡ y.0 → x.1 ≡ y.1 → x ≡ y
-one_pair x y first second = cc
+one_pair x y first second = λ i. (first i, second i)
 
 one_handle : (x y : PlainHandle) → handle_cmp x y ≡ Equal → x ≡ y
 one_handle x y e =

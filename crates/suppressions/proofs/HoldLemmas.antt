@@ -1,5 +1,5 @@
 -- A section that holds of a subject is found by a handle of the subject.
-use Rattle.std.proofs.Common.{◌≡◌, ◌<◌, ◌×◌, ◌⊎◌, ℕ, Bool, true, false, cond, List, [], ◌∷◌, length, get_or, map, Option, Some, None, refl, sym, ap, ◌∙◌, inl, inr, arith}
+use Rattle.std.proofs.Common.{◌≡◌, ◌<◌, ◌⊎◌, ℕ, Bool, true, false, cond, List, [], ◌∷◌, length, get_or, map, Option, Some, None, refl, sym, ap, ◌∙◌, inl, inr, arith}
 use Rattle.std.specs.Prelude.{Contains, find}
 use Rattle.std.specs.List.{list_all, list_any}
 use Rattle.std.specs.Option.{option_map, option_map_or}
@@ -25,7 +25,7 @@ cases true here other = here refl
 cases false here other = other refl
 
 apart : (b : Bool) → b ≡ true → b ≡ false → ⊥
-apart b yes no = cc
+apart b holds fails = cc
 
 -- ---- properties
 
@@ -45,8 +45,8 @@ module _ (s : PlainSubject) where
       let both = and_parts (property_holds s p) (list_all (property_holds s) ps) all in
       let rest = find (λ (q : PlainProperty). same_key key q.key) ps in
       cases (same_key key p.key)
-      (λ yes. (p, same_some p.value v (ap (λ (b : Bool). value_of (cond b (Some p) rest)) (sym yes) ∙ e), yes, both.0))
-      (λ no. found key ps v (ap (λ (b : Bool). value_of (cond b (Some p) rest)) (sym no) ∙ e) both.1)
+      (λ holding. (p, same_some p.value v (ap (λ (b : Bool). value_of (cond b (Some p) rest)) (sym holding) ∙ e), holding, both.0))
+      (λ failing. found key ps v (ap (λ (b : Bool). value_of (cond b (Some p) rest)) (sym failing) ∙ e) both.1)
 
   name_value : (k : Key) (v : List ℕ) → same_key Name k ≡ true → property_holds s (plain_property k v) ≡ true → v ≡ s.name
   unfolding property_holds passes
@@ -111,18 +111,18 @@ module _ (s : PlainSubject) where
     one_of handle numbers answer are is =
         let p : ℕ → Bool = λ k. section_holds s (section_at sections k) in
         record {
-          some = λ yes.
-              let h = Any-from_list_any p numbers (sym is ∙ yes) in
+          some = λ holding.
+              let h = Any-from_list_any p numbers (sym is ∙ holding) in
               let k = h.1 in
               let place = (are k).0 (h.0, h.2, h.3) in
               let inside : k < length sections = rw (length-map sections handle_of) at place.0 in
-              (k, inside, h.4);
-          none = λ no k of_handle holds.
+              (k, (inside, h.4));
+          none = λ failing k of_handle holds.
               let inside : k < length (handles_of sections) = rw (length-map sections handle_of) holds.0 in
               let at : handle_at (handles_of sections) k ≡ handle = get_or-map handle_of sections k (headed_section 0 Types []) any_handle holds.0 ∙ of_handle in
               let has = (are k).1 (inside, at) in
-              let yes = list_any_at p numbers has.0 k has.1 (ap p has.2 ∙ holds.1) in
-              apart answer (is ∙ yes) no;
+              let holding = list_any_at p numbers has.0 k has.1 (ap p has.2 ∙ holds.1) in
+              apart answer (is ∙ holding) failing;
         }
 
     pub some_hold : (k : ℕ) → Holds sections s k → some_section_holds sections s ≡ true
@@ -135,11 +135,27 @@ module _ (s : PlainSubject) where
     none_hold no_any no_name no_symbol =
         list_any_none (section_holds s) sections
         (All-from_get_or (λ (section : PlainSection). section_holds s section ≡ false) sections (headed_section 0 Types []) (λ k inside.
-        cases (section_holds s (section_at sections k)) (λ yes.
-        elim (by_handle (section_at sections k) yes) [
-          | inl any ↦ absurd (no_any k any (inside, yes))
+        cases (section_holds s (section_at sections k)) (λ holding.
+        elim (by_handle (section_at sections k) holding) [
+          | inl any ↦ absurd (no_any k any (inside, holding))
           | inr other ↦ elim other [
-            | inl named ↦ absurd (no_name k named (inside, yes))
-            | inr symbol ↦ absurd (no_symbol symbol.0 symbol.1 k symbol.2 (inside, yes))
+            | inl named ↦ absurd (no_name k named (inside, holding))
+            | inr symbol ↦ absurd (no_symbol symbol.0 symbol.1 k symbol.2 (inside, holding))
           ]
-        ]) (λ no. no)))
+        ]) (λ failing. failing)))
+
+    same_symbol : (x y : List ℕ) → Some x ≡ Some y → x ≡ y
+    same_symbol x y e = cc
+
+    pub with_symbol : (symbol : List ℕ) (answer : Bool) → s.symbol ≡ Some symbol → None_of any_handle → None_of (1, s.name) → IsOneOfHandle sections s (2, symbol) answer → answer ≡ some_section_holds sections s
+    with_symbol symbol answer is no_any no_name one =
+        cases answer
+        (λ holding. let k = one.some holding in holding ∙ sym (some_hold k.0 k.1))
+        (λ failing. failing ∙ sym (none_hold no_any no_name (λ name is_name k at holds.
+        let same : symbol ≡ name = same_symbol symbol name (sym is ∙ is_name) in
+        one.none failing k (at ∙ ap (λ (n : List ℕ). (2, n)) (sym same)) holds)))
+
+    pub without_symbol : s.symbol ≡ None → None_of any_handle → None_of (1, s.name) → false ≡ some_section_holds sections s
+    without_symbol is no_any no_name = sym (none_hold no_any no_name (λ name is_name k at holds. apart_symbol name (sym is ∙ is_name))) where
+      apart_symbol : (name : List ℕ) → None ≡ Some name → ⊥
+      apart_symbol name e = cc

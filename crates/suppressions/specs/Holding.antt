@@ -1,5 +1,5 @@
 -- Sections that hold of a subject, among those of some numbers.
-use Rattle.std.specs.Prelude.{◌≡◌, ◌<◌, ◌×◌, ℕ, Bool, true, false, List, [], length, slice_index_or}
+use Rattle.std.specs.Prelude.{◌≡◌, ◌<◌, ℕ, Bool, true, false, List, [], length, slice_index_or}
 use Rattle.std.specs.List.{list_any}
 use Rattle.suppression_text.specs.declared.key.SectionKind.TheVariants.{Types}
 use Rattle.suppression_text.specs.Rules.{PlainSection, headed_section}

@@ -19,7 +19,7 @@ pub enum Handle<'x> {
 
 // The place of a kind of handles among all kinds.
 fn class(handle: Handle) -> u8
-    ensures { result ≡ class_of handle }
+    ensures { result ≡ class_of handle.entry }
 {
     match handle {
         Handle::Any => 0,
@@ -44,7 +44,7 @@ impl<'x> Handle<'x> {
 
     // The name, empty where there is none.
     fn name(self) -> &'x [u8]
-        ensures { result.now ≡ (plain_handle self).1 }
+        ensures { result.now ≡ (plain_handle self.entry).1 }
     {
         match self {
             Handle::Any => &[],
@@ -55,7 +55,7 @@ impl<'x> Handle<'x> {
 
     /// How two handles compare: by their kinds, then by their names.
     pub fn order(self, other: Handle) -> Ordering
-        ensures { result ≡ handle_cmp (plain_handle self) (plain_handle other) }
+        ensures { result ≡ handle_cmp (plain_handle self.entry) (plain_handle other.entry) }
     {
         class(self)
             .cmp(&class(other))

@@ -32,14 +32,14 @@ fn place_order(handles: &[Handle], a: usize, b: usize) -> Ordering
 
 // Whether the handle at a position stands before a handle.
 fn stands_before(handles: &[Handle], k: usize, handle: Handle) -> bool
-    ensures { result ≡ is_lt (handle_cmp (the_handle_at (plain_handles handles.now) k) (plain_handle handle)) }
+    ensures { result ≡ is_lt (handle_cmp (the_handle_at (plain_handles handles.now) k) (plain_handle handle.entry)) }
 {
     handle_at(handles, k).order(handle).is_lt()
 }
 
 // Whether the handle at a position does not stand behind a handle.
 fn stands_upto(handles: &[Handle], k: usize, handle: Handle) -> bool
-    ensures { result ≡ is_le (handle_cmp (the_handle_at (plain_handles handles.now) k) (plain_handle handle)) }
+    ensures { result ≡ is_le (handle_cmp (the_handle_at (plain_handles handles.now) k) (plain_handle handle.entry)) }
 {
     handle_at(handles, k).order(handle).is_le()
 }
@@ -79,7 +79,7 @@ fn places_of(alloc: Global, handles: &[Handle]) -> Result<Vec<usize>, NoMemory>
 fn count_before(handles: &[Handle], places: &[usize], handle: Handle) -> usize
     requires { IsHandleOrder places.now (plain_handles handles.now) }
     ensures inside { result ≤ length places.now }
-    ensures parts { IsPartitionPoint (λ k. is_lt (handle_cmp (the_handle_at (plain_handles handles.now) k) (plain_handle handle)) ≡ true) (λ k. is_lt (handle_cmp (the_handle_at (plain_handles handles.now) k) (plain_handle handle)) ≡ false) places.now result }
+    ensures parts { IsPartitionPoint (λ k. is_lt (handle_cmp (the_handle_at (plain_handles handles.now) k) (plain_handle handle.entry)) ≡ true) (λ k. is_lt (handle_cmp (the_handle_at (plain_handles handles.now) k) (plain_handle handle.entry)) ≡ false) places.now result }
 {
     places.partition_point(|k| stands_before(handles, *k, handle))
 }
@@ -88,7 +88,7 @@ fn count_before(handles: &[Handle], places: &[usize], handle: Handle) -> usize
 fn count_upto(handles: &[Handle], places: &[usize], handle: Handle) -> usize
     requires { IsHandleOrder places.now (plain_handles handles.now) }
     ensures inside { result ≤ length places.now }
-    ensures parts { IsPartitionPoint (λ k. is_le (handle_cmp (the_handle_at (plain_handles handles.now) k) (plain_handle handle)) ≡ true) (λ k. is_le (handle_cmp (the_handle_at (plain_handles handles.now) k) (plain_handle handle)) ≡ false) places.now result }
+    ensures parts { IsPartitionPoint (λ k. is_le (handle_cmp (the_handle_at (plain_handles handles.now) k) (plain_handle handle.entry)) ≡ true) (λ k. is_le (handle_cmp (the_handle_at (plain_handles handles.now) k) (plain_handle handle.entry)) ≡ false) places.now result }
 {
     places.partition_point(|k| stands_upto(handles, *k, handle))
 }
@@ -105,7 +105,7 @@ fn between(places: &[usize], start: usize, end: usize) -> &[usize]
 // The positions of a handle, by two binary searches.
 fn places_in<'a>(handles: &[Handle], places: &'a [usize], handle: Handle) -> &'a [usize]
     requires { IsHandleOrder places.now (plain_handles handles.now) }
-    ensures { AreAt (plain_handles handles.now) (plain_handle handle) result.now }
+    ensures { AreAt (plain_handles handles.now) (plain_handle handle.entry) result.now }
 {
     let start = count_before(handles, places, handle);
     let end = count_upto(handles, places, handle);
@@ -143,7 +143,7 @@ impl<'r> HandleOrder<'r> {
 
     /// The numbers of the sections of a handle.
     pub fn find(&self, handle: Handle) -> &[usize]
-        ensures { AreAt self.now (plain_handle handle) result.now }
+        ensures { AreAt self.now (plain_handle handle.entry) result.now }
     {
         places_in(self.handles.as_slice(), self.places.as_slice(), handle)
     }

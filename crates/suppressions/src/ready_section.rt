@@ -168,7 +168,7 @@ impl<'r> ReadyRules<'r> {
 
     // Whether a section of a handle holds of a subject.
     fn holds_at(&mut self, handle: Handle, subject: &Subject) -> bool
-        ensures some { IsOneOfHandle self.old (plain_subject subject.now) (plain_handle handle) result }
+        ensures some { IsOneOfHandle self.old (plain_subject subject.now) (plain_handle handle.entry) result }
         ensures same { self.new ≡ self.old }
     {
         one_holds(self.sections.as_mut_slice(), self.order.find(handle), subject)
@@ -182,9 +182,9 @@ impl<'r> ReadyRules<'r> {
         if self.holds_at(Handle::Any, subject) || self.holds_at(Handle::Name(subject.name), subject) {
             return true;
         }
-        match subject.symbol {
-            Some(symbol) => self.holds_at(Handle::Symbol(symbol), subject),
-            None => false,
+        if let Some(symbol) = subject.symbol {
+            return self.holds_at(Handle::Symbol(symbol), subject);
         }
+        false
     }
 }

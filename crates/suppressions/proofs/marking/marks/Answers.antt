@@ -7,8 +7,8 @@ use Rattle.suppressions.proofs.marking.marks.Goals as goal
 
 pub returns-clause-marks : goal.returns-clause-marks
 returns-clause-marks c =
-    marks_are c.args.rules.now c.args.old.now c.digest.result _ _ _ c.as_mut_slice-sections.result.now _ (option_copied c.soname-soname.result) (plain_exports c.exports.result.now) c.graph.result.now
-    c.digest.ensures (c.as_mut_slice-sections.ensures.value ∙ c.in_ok-ready.ensures) (c.in_ok-exports.ensures.same ∙ c.as_mut_slice-sections.ensures.value ∙ c.in_ok-ready.ensures) c.soname-soname.ensures c.exports.ensures c.graph.ensures
+    marks_are c.args.rules.now c.args.old.now c.digest.result _ _ _ c.in_ok-sections.sections _ (option_copied c.soname-soname.result) (plain_exports c.exports.result.now) c.graph.result.now
+    c.digest.ensures c.in_ok-sections.ensures (c.in_ok-exports.ensures.same ∙ c.in_ok-sections.ensures) c.soname-soname.ensures c.exports.ensures c.graph.ensures
     c.in_ok-exports.ensures.flags c.in_ok-nodes.ensures.direct c.in_ok-nodes.ensures.pointer
 
 pub returns-clause-even : goal.returns-clause-even
