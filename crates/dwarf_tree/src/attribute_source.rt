@@ -38,8 +38,8 @@ fn with_name(names: u64, name: u64) -> u64
     names | (1 << bit_of(name))
 }
 
-// Whether the bit of an attribute is there. Where it is not there, the entry has no such attribute. Where it is, the entry is
-// read: attributes that are not asked share a bit. It says nothing but what saves time.
+// Whether the bit of an attribute is there. False says that the entry has no such attribute. True says nothing, since attributes
+// that are not asked share a bit: it only saves time.
 #[inline(always)]
 pub(crate) fn may_have(names: u64, name: u64) -> bool
     ensures { result ≡ (names / 2 ^ the_bit name % 2 == 1) }

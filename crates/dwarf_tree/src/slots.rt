@@ -44,7 +44,7 @@ fn is_passed(spec: Spec) -> bool
     !is_asked(spec.attribute) && matches!(fixed_size(spec.form), Some(0))
 }
 
-// The place of the next pair that is not passed over.
+// The place of the next pair that is not passed over. It only saves time: without it these pairs would have slots, too.
 #[tactic(auto, using(crate::proofs::SlotLemmas::passed_self, crate::proofs::SlotLemmas::passed_next))]
 fn pass_unasked(abbrevs: &[u8], from: usize) -> usize
     ensures { PassSame abbrevs.now result from }
