@@ -58,7 +58,8 @@ fn of_kind(kind: FaultKind, fault: Option<Fault>) -> Option<Fault>
     }
 }
 
-// Whether an entry's own name is a text of `.debug_str`, as most are.
+// Whether an entry's own name is a text of `.debug_str`, as most are. True says that the name has no fault, and false says nothing:
+// this call only saves time, since `name_fault` gives the answer.
 #[inline(always)]
 #[tactic(auto, using(crate::proofs::TextLemmas::short_sound))]
 fn has_short_name(source: &Source, e: usize) -> bool
@@ -233,7 +234,8 @@ fn has_bad_reference(links: &Links<'_>, e: usize, origin: Link, specification: L
     lacks_unit(links, links.own(e, DW_AT_signature))
 }
 
-// Whether an entry's own type is there, by a short reference, or it has none.
+// Whether an entry's own type is there, by a short reference, or it has none. False says nothing: this call only saves time, since
+// `refers_nowhere` gives the answer.
 #[inline(always)]
 fn has_plain_type(links: &Links<'_>, e: usize) -> bool
     requires { e < length links.now.entries }
@@ -250,6 +252,7 @@ fn has_plain_type(links: &Links<'_>, e: usize) -> bool
 }
 
 // Whether an entry has no link and no signature, and its type is there, as of most: then nothing that it refers to has a fault.
+// False says nothing: this call only saves time, since `linked_row` gives the answer.
 #[inline(always)]
 #[tactic(auto, using(crate::proofs::PassLemmas::plain_rows))]
 fn refers_plainly(links: &Links<'_>, e: usize) -> bool

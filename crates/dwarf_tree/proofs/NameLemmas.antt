@@ -17,7 +17,7 @@ use Rattle.dwarf_tree.specs.declared.head.Head.{Head}
 use Rattle.dwarf_tree.specs.declared.entry_records.AbbreviationLayout.{AbbreviationLayout}
 use Rattle.dwarf_tree.specs.declared.entry_records.Slot.{Slot}
 use Rattle.dwarf_tree.specs.declared.entry_records.EntryRecord.{EntryRecord}
-use Rattle.dwarf_tree.specs.Keeping.{Attributes, HasName, HaveNames, IsLayout, LieInside, decoder, kept_by, kept_tree, name_bits, names_in, no_shape, plain_stored, shape_at, shaped, values_from, values_of}
+use Rattle.dwarf_tree.specs.Keeping.{Attributes, HasName, HaveNames, IsLayout, LieInside, decoder, kept_by, kept_tree, bit_of, names_in, no_shape, plain_stored, shape_at, shaped, values_from, values_of}
 use Rattle.dwarf_tree.specs.Trees.{TreeEntry, no_entry, no_head, own_of}
 
 bit_at : (a b k : ℕ) → bit_or a b / 2 ^ k % 2 ≡ bit_or (a / 2 ^ k % 2) (b / 2 ^ k % 2)
@@ -34,19 +34,19 @@ below_two n = omega arith
 -- a bit that is set stays
 pub name_stays : (names b name : ℕ) → HasName names name → HasName (bit_or names b) name
 name_stays names b name is =
-    bit_at names b (name % name_bits) ∙ ap (λ (n : ℕ). bit_or n (b / 2 ^ (name % name_bits) % 2)) is ∙ one_or (b / 2 ^ (name % name_bits) % 2) (below_two (b / 2 ^ (name % name_bits)))
+    bit_at names b (bit_of name) ∙ ap (λ (n : ℕ). bit_or n (b / 2 ^ bit_of name % 2)) is ∙ one_or (b / 2 ^ bit_of name % 2) (below_two (b / 2 ^ bit_of name))
 
 own_bit : (k : ℕ) → 2 ^ k / 2 ^ k % 2 ≡ 1
 own_bit k =
     let one : 2 ^ k ≡ 1 * 2 ^ k = omega arith in
     ap (λ (n : ℕ). n % 2) (ap (λ (m : ℕ). m / 2 ^ k) one ∙ shl-shr 1 k)
 
-pub name_set : (names name : ℕ) → HasName (bit_or names (2 ^ (name % name_bits))) name
+pub name_set : (names name : ℕ) → HasName (bit_or names (2 ^ bit_of name)) name
 name_set names name =
-    bit_at names (2 ^ (name % name_bits)) (name % name_bits)
-    ∙ ap (λ (n : ℕ). bit_or (names / 2 ^ (name % name_bits) % 2) n) (own_bit (name % name_bits))
-    ∙ or_comm (names / 2 ^ (name % name_bits) % 2) 1
-    ∙ one_or (names / 2 ^ (name % name_bits) % 2) (below_two (names / 2 ^ (name % name_bits)))
+    bit_at names (2 ^ bit_of name) (bit_of name)
+    ∙ ap (λ (n : ℕ). bit_or (names / 2 ^ bit_of name % 2) n) (own_bit (bit_of name))
+    ∙ or_comm (names / 2 ^ bit_of name % 2) 1
+    ∙ one_or (names / 2 ^ bit_of name % 2) (below_two (names / 2 ^ bit_of name))
 
 -- of the first attributes
 abbrev pub FirstNames : ℕ → List Spec → ℕ → Type 0
@@ -56,26 +56,26 @@ pub names_none : (specs : List Spec) → FirstNames 0 specs 0
 names_none specs i d lt inside = absurd (omega arith)
 
 pub names_more : (names : ℕ) (specs : List Spec) (k name : ℕ) → ((d : Spec) → (get_or specs k d).attribute ≡ name) → FirstNames names specs k
-    → FirstNames (bit_or names (2 ^ (name % name_bits))) specs (k + 1)
+    → FirstNames (bit_or names (2 ^ bit_of name)) specs (k + 1)
 names_more names specs k name here so_far i d lt inside =
     elim (cases_Bool (i == k)) [
       | inl is ↦ let same = eqb-true i k is in
           let at : (get_or specs i d).attribute ≡ name = ap (λ (j : ℕ). (get_or specs j d).attribute) same ∙ here d in
-          subst (λ (n : ℕ). HasName (bit_or names (2 ^ (name % name_bits))) n) (sym at) (name_set names name)
-      | inr isnt ↦ name_stays names (2 ^ (name % name_bits)) (get_or specs i d).attribute (so_far i d (omega (arith, eqb-false i k isnt)) inside)
+          subst (λ (n : ℕ). HasName (bit_or names (2 ^ bit_of name)) n) (sym at) (name_set names name)
+      | inr isnt ↦ name_stays names (2 ^ bit_of name) (get_or specs i d).attribute (so_far i d (omega (arith, eqb-false i k isnt)) inside)
     ]
 
 pub names_end : (names : ℕ) (specs : List Spec) (k : ℕ) → length specs ≤ k → FirstNames names specs k → HaveNames names (map (λ (s : Spec). s.attribute) specs)
 names_end names specs k le so_far = All-map (HasName names) (λ (s : Spec). s.attribute) specs (λ i d lt. so_far i d (omega arith) lt)
 
 -- an attribute whose bit is not set is not there
-pub not_there : (names : ℕ) (attributes : Attributes) (name : ℕ) → HaveNames names (names_in attributes) → (names / 2 ^ (name % name_bits) % 2 == 1) ≡ false → attribute_of attributes name ≡ None
+pub not_there : (names : ℕ) (attributes : Attributes) (name : ℕ) → HaveNames names (names_in attributes) → (names / 2 ^ bit_of name % 2 == 1) ≡ false → attribute_of attributes name ≡ None
 not_there names [] name have none = refl
 not_there names (a ∷ others) name have none =
     elim (cases_Bool (a.0 == name)) [
       | inl is ↦ absurd (let same = eqb-true a.0 name is in
           let set : HasName names name = subst (λ (n : ℕ). HasName names n) same (All-head (HasName names) a.0 (names_in others) have) in
-          let e = eq-eqb (names / 2 ^ (name % name_bits) % 2) 1 set in
+          let e = eq-eqb (names / 2 ^ bit_of name % 2) 1 set in
           let f = sym e ∙ none in cc)
       | inr apart ↦ let rest = not_there names others name (All-tail (HasName names) a.0 (names_in others) have) none in
           rw apart rest
@@ -103,14 +103,14 @@ names_shaped info abbrevs slots head shape stored say =
     (λ code is. rw is (names_first shape.names info head stored.offset (specs_run abbrevs shape.specs_from).items code.1 say.names))
 
 pub asked_not : (info abbrevs : List ℕ) (units : List Head) (shapes : List AbbreviationLayout) (slots : List Slot) (entries : List EntryRecord) (e name : ℕ) (d : EntryRecord) (s : AbbreviationLayout) → e < length entries
-    → LieInside info abbrevs units shapes slots entries → ((get_or shapes (get_or entries e d).shape s).names / 2 ^ (name % name_bits) % 2 == 1) ≡ false
+    → LieInside info abbrevs units shapes slots entries → ((get_or shapes (get_or entries e d).shape s).names / 2 ^ bit_of name % 2 == 1) ≡ false
     → None ≡ own_of (kept_tree units shapes (decoder info abbrevs units) entries) e name
 asked_not info abbrevs units shapes slots entries e name d s inside lie none =
     let stored = get_or entries e d in
     let there : stored.shape < length shapes = lie.shapes_there e d inside in
     let same : get_or shapes stored.shape s ≡ shape_at shapes stored.shape = same_inside shapes stored.shape s no_shape there in
     let shape = shape_at shapes stored.shape in
-    let unset : (shape.names / 2 ^ (name % name_bits) % 2 == 1) ≡ false = subst (λ (x : AbbreviationLayout). (x.names / 2 ^ (name % name_bits) % 2 == 1) ≡ false) same none in
+    let unset : (shape.names / 2 ^ bit_of name % 2 == 1) ≡ false = subst (λ (x : AbbreviationLayout). (x.names / 2 ^ bit_of name % 2 == 1) ≡ false) same none in
     sym (ap (λ (x : TreeEntry). attribute_of x.attributes name) (get_or-map (plain_stored shapes (decoder info abbrevs units)) entries e d no_entry inside)
     ∙ not_there shape.names (decoder info abbrevs units (kept_by shapes stored)) name
     (names_shaped info abbrevs slots (slice_index_or units shape.unit no_head) shape stored (lie.shapes_say stored.shape no_shape there)) unset)

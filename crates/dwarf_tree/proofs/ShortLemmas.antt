@@ -15,7 +15,7 @@ use Rattle.dwarf_tree.specs.declared.entry_records.EntryHead.{EntryHead}
 use Rattle.dwarf_tree.specs.declared.entry_records.AbbreviationLayout.{AbbreviationLayout}
 use Rattle.dwarf_tree.specs.declared.entry_records.Slot.{Slot}
 use Rattle.dwarf_tree.specs.declared.entry_records.EntryRecord.{EntryRecord}
-use Rattle.dwarf_tree.specs.Keeping.{IsLayout, IsSlotFor, SpellsNumber, shaped, value_read, values_of}
+use Rattle.dwarf_tree.specs.Keeping.{IsAsked, IsLayout, IsSlotFor, SpellsNumber, shaped, value_read, values_of}
 use Rattle.dwarf_tree.proofs.SlotLemmas.{slot_value}
 
 -- a number that is read lies inside the bytes
@@ -28,12 +28,12 @@ number_inside size bytes at n is =
 
 -- where the form of a slot is known, the number at its place spells the value
 pub spelled_short : (info abbrevs : List ℕ) (slots : List Slot) (head : Head) (shape : AbbreviationLayout) (stored : EntryRecord) (name code after : ℕ) (slot : Slot)
-    → head.end ≤ length info → IsLayout abbrevs slots shape → IsSlotFor slots shape.slots_from shape.slots_to name slot
+    → head.end ≤ length info → IsLayout abbrevs slots shape → IsSlotFor slots shape.slots_from shape.slots_to name slot → IsAsked name
     → (form : ℕ) → slot.form ≡ form → form ≢ 0
     → uleb_at (take head.end info) stored.offset ≡ Some (code, after)
     → (read : Option ℕ) → read ≡ number_at 4 (take head.end info) (after + slot.from) → IfSome read (SpellsNumber info abbrevs head (shaped shape stored) name form)
-spelled_short info abbrevs slots head shape stored name code after slot fits say found form is told begins None read = tt
-spelled_short info abbrevs slots head shape stored name code after slot fits say found form is told begins (Some n) read =
+spelled_short info abbrevs slots head shape stored name code after slot fits say found asked form is told begins None read = tt
+spelled_short info abbrevs slots head shape stored name code after slot fits say found asked form is told begins (Some n) read =
     let inside : after + slot.from + 4 ≤ length (take head.end info) = number_inside 4 (take head.end info) (after + slot.from) n (sym read) in
     let room : after + slot.from ≤ head.end = omega (arith, inside, length-take-le head.end info fits) in
     let tells : slot.form ≢ 0 = λ e. told (sym is ∙ e) in
@@ -42,7 +42,7 @@ spelled_short info abbrevs slots head shape stored name code after slot fits say
       number = sym read;
       value =
           ap (λ (f : ℕ). value_read (value_at f (pos 0) head.offset head.end stored.offset info (after + slot.from))) (sym is)
-          ∙ slot_value info abbrevs slots head shape stored name code after slot fits say found tells begins room;
+          ∙ slot_value info abbrevs slots head shape stored name code after slot fits say found asked tells begins room;
     }
 
 module _ (info abbrevs : List ℕ) (head : Head) (kept : EntryHead) (name n : ℕ) where

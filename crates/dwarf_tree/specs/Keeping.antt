@@ -1,7 +1,8 @@
 -- How a tree is kept: beside each entry where its attributes stand in `.debug_abbrev`, and no value. The values are those that
 -- the bytes hold. Beside each entry stands where those below it end, and beside each unit its root.
-use Rattle.std.specs.Prelude.{◌≡◌, ◌≢◌, ◌<◌, ◌≤◌, ◌+◌, ◌^◌, ◌%◌, ◌/◌, ◌⊎◌, ℕ, true, All, AllPairs, List, [], ◌∷◌, ◌++◌, length, take, map, slice_index, slice_index_or, Some, None, Option, Result, Ok, Err, pos}
+use Rattle.std.specs.Prelude.{◌≡◌, ◌≢◌, ◌<◌, ◌≤◌, ◌+◌, ◌^◌, ◌%◌, ◌/◌, ◌⊎◌, ◌==◌, find, option_map, unwrap_or, ℕ, true, All, AllPairs, List, [], ◌∷◌, ◌++◌, length, take, map, slice_index, slice_index_or, Some, None, Option, Result, Ok, Err, pos}
 use Rattle.abi_base.specs.declared.fault.Fault.{Fault}
+use Rattle.abi_base.specs.Dwarf.{dw_at_location, dw_at_name, dw_at_byte_size, dw_at_bit_offset, dw_at_bit_size, dw_at_low_pc, dw_at_language, dw_at_const_value, dw_at_upper_bound, dw_at_abstract_origin, dw_at_count, dw_at_data_member_location, dw_at_declaration, dw_at_encoding, dw_at_specification, dw_at_type, dw_at_entry_pc, dw_at_ranges, dw_at_signature, dw_at_data_bit_offset, dw_at_str_offsets_base, dw_at_addr_base, dw_at_rnglists_base, dw_at_alignment, dw_at_gnu_vector}
 use Rattle.abi_base.specs.Leb.{uleb_at}
 use Rattle.abi_base.specs.Numbers.{number_at}
 use Rattle.dwarf_forms.specs.declared.abbreviations.abbrev.Spec.{Spec}
@@ -135,13 +136,47 @@ partial_tree info abbrevs units shapes entries = record { info = info; abbrevs =
 abbrev pub now_with : PartialTree → List Head → List TreeEntry → PartialTree
 now_with g units entries = record { info = g.info; abbrevs = g.abbrevs; tree = record { units = units; entries = entries } }
 
--- how many bits tell of the attributes of an entry
-abbrev pub name_bits : ℕ
-name_bits = 64
+-- the attributes that are asked of entries, each with a bit of its own
+unfoldable pub own_bits : List (ℕ × ℕ)
+own_bits =
+    (dw_at_location, 0)
+    ∷ (dw_at_name, 1)
+    ∷ (dw_at_byte_size, 2)
+    ∷ (dw_at_bit_offset, 3)
+    ∷ (dw_at_bit_size, 4)
+    ∷ (dw_at_low_pc, 5)
+    ∷ (dw_at_language, 6)
+    ∷ (dw_at_const_value, 7)
+    ∷ (dw_at_upper_bound, 8)
+    ∷ (dw_at_abstract_origin, 9)
+    ∷ (dw_at_count, 10)
+    ∷ (dw_at_data_member_location, 11)
+    ∷ (dw_at_declaration, 12)
+    ∷ (dw_at_encoding, 13)
+    ∷ (dw_at_specification, 14)
+    ∷ (dw_at_type, 15)
+    ∷ (dw_at_entry_pc, 16)
+    ∷ (dw_at_ranges, 17)
+    ∷ (dw_at_signature, 18)
+    ∷ (dw_at_data_bit_offset, 19)
+    ∷ (dw_at_str_offsets_base, 20)
+    ∷ (dw_at_addr_base, 21)
+    ∷ (dw_at_rnglists_base, 22)
+    ∷ (dw_at_alignment, 23)
+    ∷ (dw_at_gnu_vector, 24)
+    ∷ []
 
--- the bit of an attribute is set, which is the one of its name modulo their number
+-- the bit of an attribute: all that are not asked share one
+unfoldable pub bit_of : ℕ → ℕ
+bit_of name = unwrap_or (option_map (λ row. row.1) (find (λ row. row.0 == name) own_bits)) 63
+
+-- the bit of an attribute is set
 abbrev pub HasName : ℕ → ℕ → Type 0
-HasName names name = names / 2 ^ (name % name_bits) % 2 ≡ 1
+HasName names name = names / 2 ^ bit_of name % 2 ≡ 1
+
+-- an attribute is one that is asked of entries
+abbrev pub IsAsked : ℕ → Type 0
+IsAsked name = bit_of name ≢ 63
 
 -- the bits of all these attributes are set
 abbrev pub HaveNames : ℕ → List ℕ → Type 0
@@ -174,10 +209,10 @@ pub record IsSlotOf (s : Spec) (bytes : ℕ) (slot : Slot) : Type 0 where
 abbrev pub NoneBefore : List Slot → ℕ → ℕ → ℕ → Type 0
 NoneBefore slots from to name = (k : ℕ) (d : Slot) → from ≤ k → k < to → (slice_index_or slots k d).attribute ≢ name
 
--- the slots from one place on and before another lead to values, each where it tells a form and is the first of its attribute
+-- the slots from one place on and before another lead to values, each where it tells a form and is the first of an attribute that is asked
 abbrev pub AreSlots : List ℕ → ℕ → List Slot → ℕ → ℕ → Type 0
 AreSlots abbrevs specs_from slots from to =
-    (k : ℕ) (d : Slot) → from ≤ k → k < to → (slice_index_or slots k d).form ≢ 0 → NoneBefore slots from k (slice_index_or slots k d).attribute → SlotLeadsTo abbrevs specs_from (slice_index_or slots k d)
+    (k : ℕ) (d : Slot) → from ≤ k → k < to → (slice_index_or slots k d).form ≢ 0 → IsAsked (slice_index_or slots k d).attribute → NoneBefore slots from k (slice_index_or slots k d).attribute → SlotLeadsTo abbrevs specs_from (slice_index_or slots k d)
 
 -- the first slot of an attribute, from one place on and before another
 pub record IsSlotFor (slots : List Slot) (from to name : ℕ) (slot : Slot) : Type 0 where
@@ -193,11 +228,15 @@ pub record Extends (slots others : List Slot) : Type 0 where
   pub longer : length slots ≤ length others
   pub same : (k : ℕ) (d : Slot) → k < length slots → slice_index_or others k d ≡ slice_index_or slots k d
 
--- From a place of pairs on, and so many bytes behind a code, the value of an attribute is found as from the first pair on, where the
--- slots are of other attributes: those from a place on.
+-- the value of an attribute that is asked is found from one place of pairs on as from another
+abbrev pub PassSame : List ℕ → ℕ → ℕ → Type 0
+PassSame abbrevs next pairs = (unit_end name at : ℕ) → IsAsked name → FindSame abbrevs unit_end name (next, at) (pairs, at)
+
+-- From a place of pairs on, and so many bytes behind a code, the value of an attribute that is asked is found as from the first pair
+-- on, where the slots are of other attributes: those from a place on.
 abbrev pub Passed : List ℕ → ℕ → List Slot → ℕ → ℕ → ℕ → Type 0
 Passed abbrevs specs_from slots first pairs from =
-    (unit_end name at : ℕ) → at + from ≤ unit_end → NoneBefore slots first (length slots) name → FindSame abbrevs unit_end name (pairs, at + from) (specs_from, at)
+    (unit_end name at : ℕ) → at + from ≤ unit_end → IsAsked name → NoneBefore slots first (length slots) name → FindSame abbrevs unit_end name (pairs, at + from) (specs_from, at)
 
 -- what a shape says of the pairs of its abbreviation is so
 pub record IsLayout (abbrevs : List ℕ) (slots : List Slot) (shape : AbbreviationLayout) : Type 0 where

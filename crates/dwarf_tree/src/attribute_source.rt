@@ -6,12 +6,13 @@ ghost use Rattle.dwarf_forms.specs.declared.values.Value.TheVariants as value;
 ghost use Rattle.dwarf_units.specs.Units.{attribute_of};
 ghost use Rattle.abi_base.specs.Runs.{put_front};
 ghost use Rattle.dwarf_forms.specs.abbreviations.Abbrevs.{plain_pair, specs_run};
-ghost use Rattle.dwarf_tree.specs.Keeping.{FindSame, HaveNames, IsLayout, SpellsNumber, asked_value, name_bits, shaped as the_shaped_one, value_read, values_of};
+ghost use Rattle.dwarf_tree.specs.Keeping.{FindSame, HaveNames, IsLayout, SpellsNumber, asked_value, bit_of as the_bit, shaped as the_shaped_one, value_read, values_of};
 
 use crate::entry_records::{
-    AbbreviationLayout, EntryHead, EntryRecord, FORM_UNKNOWN, NAME_BITS, Slot, shaped,
+    AbbreviationLayout, EntryHead, EntryRecord, FORM_UNKNOWN, Slot, shaped,
 };
 use crate::head::Head;
+use crate::names::bit_of;
 use crate::slots::slot_for;
 use abi_base::dwarf::{DW_FORM_ref4, DW_FORM_string, DW_FORM_strp};
 use abi_base::{Fault, text_at, u32_at, uleb};
@@ -32,18 +33,18 @@ pub(crate) struct AttributeSource<'t> {
 
 // The bits with the one of an attribute.
 fn with_name(names: u64, name: u64) -> u64
-    ensures { result ≡ bit_or names (2 ^ (name % name_bits)) }
+    ensures { result ≡ bit_or names (2 ^ the_bit name) }
 {
-    names | (1 << (name % NAME_BITS) as u32)
+    names | (1 << bit_of(name))
 }
 
-// Whether the bit of an attribute is there. Attributes share bits: where it is not there, the entry has no such attribute, and
-// where it is, the entry is read. It only saves time.
+// Whether the bit of an attribute is there. False says that the entry has no such attribute. True says nothing, since attributes
+// that are not asked share a bit: it only saves time.
 #[inline(always)]
 pub(crate) fn may_have(names: u64, name: u64) -> bool
-    ensures { result ≡ (names / 2 ^ (name % name_bits) % 2 == 1) }
+    ensures { result ≡ (names / 2 ^ the_bit name % 2 == 1) }
 {
-    (names >> (name % NAME_BITS) as u32) % 2 == 1
+    (names >> bit_of(name)) % 2 == 1
 }
 
 // The bits of the attributes of these pairs of attribute and form.

@@ -2,9 +2,6 @@
 ghost use Rattle.std.specs.Prelude.{◌≡◌};
 ghost use Rattle.dwarf_tree.specs.Keeping.{shaped as the_shaped_one, unit_in as the_unit_in};
 
-// How many bits tell of the attributes of an entry.
-pub(crate) const NAME_BITS: u64 = 64;
-
 // The form of a pair with a number behind it, which the slot does not tell: `DW_FORM_implicit_const`. No form has this number.
 pub(crate) const FORM_UNKNOWN: u8 = 0;
 
@@ -24,7 +21,7 @@ pub(crate) struct Slot {
 #[derive(Clone, Copy)]
 pub(crate) struct AbbreviationLayout {
     pub tag: u64,
-    // Of each of its attributes one bit, by the attribute modulo `NAME_BITS`.
+    // The bits of its attributes. Those that are not asked of entries share one.
     pub names: u64,
     // Where its pairs of attribute and form begin in `.debug_abbrev`.
     pub specs_from: u32,

@@ -7,6 +7,7 @@ mod entry_records;
 mod head;
 mod hints;
 pub mod laws;
+mod names;
 mod reading;
 mod roots;
 mod searches;

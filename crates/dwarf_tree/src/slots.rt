@@ -1,12 +1,14 @@
 // Where the values of the entries of an abbreviation stand.
-ghost use Rattle.std.specs.Prelude.{◌<◌, ◌≤◌, ◌^◌, length, IfNone, IfSome, OnOk};
-ghost use Rattle.dwarf_tree.specs.Keeping.{AreSlots, Extends, IsSlotFor, IsSlotOf, NoneBefore};
+ghost use Rattle.std.specs.Prelude.{◌≡◌, ◌<◌, ◌≤◌, ◌^◌, length, true, IfSome, OnOk, Some};
+ghost use Rattle.dwarf_forms.specs.Values.{fixed_size_of, shape_of};
+ghost use Rattle.dwarf_tree.specs.Keeping.{AreSlots, Extends, IsAsked, IsSlotFor, IsSlotOf, PassSame, bit_of as the_bit};
 
 use crate::entry_records::{AbbreviationLayout, FORM_UNKNOWN, Slot};
+use crate::names::is_asked;
 use abi_base::NoMemory;
 use dwarf_forms::abbreviations::{Spec, next_spec};
-use dwarf_forms::fixed_end;
 use dwarf_forms::laws::values_of_a_fixed_size_end_behind_it;
+use dwarf_forms::{fixed_end, fixed_size};
 
 // How many slots an abbreviation has at most.
 const MOST_SLOTS: usize = 255;
@@ -34,6 +36,30 @@ fn slot_of(spec: Spec, from: usize) -> Option<Slot>
     })
 }
 
+// Whether a pair is passed over: its attribute is not asked of entries, and its values take no bytes.
+fn is_passed(spec: Spec) -> bool
+    ensures other { result ≡ true → the_bit spec.attribute ≡ 63 }
+    ensures sized { result ≡ true → fixed_size_of (shape_of spec.form) ≡ Some 0 }
+{
+    !is_asked(spec.attribute) && matches!(fixed_size(spec.form), Some(0))
+}
+
+// The place of the next pair that is not passed over. It only saves time: without it these pairs would have slots, too.
+#[tactic(auto, using(crate::proofs::SlotLemmas::passed_self, crate::proofs::SlotLemmas::passed_next))]
+fn pass_unasked(abbrevs: &[u8], from: usize) -> usize
+    ensures { PassSame abbrevs.now result from }
+{
+    values_of_a_fixed_size_end_behind_it();
+    let mut pairs = from;
+    'pairs: while let Some((spec, next)) = next_spec(abbrevs, pairs) {
+        if !is_passed(spec) {
+            return pairs;
+        }
+        pairs = next;
+    }
+    pairs
+}
+
 // Appends the slots of the pairs from a place of `.debug_abbrev` on. All slots together are no more than that section has bytes,
 // whatever it holds.
 pub(crate) fn push_slots(
@@ -52,7 +78,8 @@ pub(crate) fn push_slots(
     let mut pairs = specs_from;
     let mut from = 0;
     'pairs: while slots.len() < last {
-        let Some((spec, next)) = next_spec(abbrevs, pairs) else {
+        let first = pass_unasked(abbrevs, pairs);
+        let Some((spec, next)) = next_spec(abbrevs, first) else {
             return Ok(());
         };
         let Some(slot) = slot_of(spec, from) else {
@@ -68,13 +95,16 @@ pub(crate) fn push_slots(
     Ok(())
 }
 
-// The first slot of a shape for an attribute.
+// The first slot of a shape for an attribute that is asked of entries.
 #[inline(always)]
 pub(crate) fn slot_for(slots: &[Slot], shape: AbbreviationLayout, name: u64) -> Option<Slot>
     requires { shape.slots_to ≤ length slots.now }
     ensures found { IfSome result (λ slot. IsSlotFor slots.now shape.slots_from shape.slots_to name slot) }
-    ensures none { IfNone result (NoneBefore slots.now shape.slots_from shape.slots_to name) }
+    ensures asked { IfSome result (λ slot. IsAsked name) }
 {
+    if !is_asked(name) {
+        return None;
+    }
     for place in shape.slots_from..shape.slots_to {
         let slot = slots[place as usize];
         if u64::from(slot.attribute) == name {

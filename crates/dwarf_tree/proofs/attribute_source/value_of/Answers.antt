@@ -22,4 +22,4 @@ returns c =
     ∙ ap (λ (k : EntryHead). value_read (value_at slot.form (pos 0) head.offset head.end k.offset info (after + c.from.result))) c.shaped-kept.ensures
     ∙ ap (λ (n : ℕ). value_read (value_at slot.form (pos 0) head.offset head.end c.args.asked.now.stored.offset info (after + n))) c.from.ensures
     ∙ slot_value info c.args.asked.now.abbrevs.now c.args.asked.now.slots.now head c.args.asked.now.shape.now c.args.asked.now.stored c.args.name c.in-Some-uleb.field-0-0 after slot
-    c.requires.inside c.requires.shape c.in-Some.ensures.found c.if-slot-eq-FORM_UNKNOWN.false begins room
+    c.requires.inside c.requires.shape c.in-Some.ensures.found c.in-Some.ensures.asked c.if-slot-eq-FORM_UNKNOWN.false begins room

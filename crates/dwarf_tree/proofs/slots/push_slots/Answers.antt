@@ -3,7 +3,7 @@ use Rattle.std.proofs.lemmas.Grind.{common_steps}
 use Rattle.dwarf_forms.specs.Values.{fixed_end_of, fixed_size_of, shape_of}
 use Rattle.dwarf_tree.specs.declared.entry_records.Slot.{Slot}
 use Rattle.dwarf_tree.specs.Keeping.{AreSlots, Extends, Passed}
-use Rattle.dwarf_tree.proofs.SlotLemmas.{ends_before, extends_push, made_more, passed_more}
+use Rattle.dwarf_tree.proofs.SlotLemmas.{ends_before, extends_push, made_more, passed_more, passed_there}
 use Rattle.dwarf_tree.proofs.slots.push_slots.Goals as goal
 
 pub returns-in_default-fixed_end-clause-lead : goal.returns-in_default-fixed_end-clause-lead
@@ -13,8 +13,9 @@ returns-in_default-fixed_end-clause-lead c =
     let first = length c.args.slots.now.items in
     let slots = c.pairs.slots.items in
     subst (λ (l : List Slot). AreSlots abbrevs specs_from l first (length l)) (sym c.in_ok-push.ensures.items)
-    (made_more abbrevs specs_from slots first c.pairs.pairs c.pairs.from c.in-Some.spec c.in-Some.next c.in-Some-slot_of.slot
-    c.in-Some-slot_of.ensures c.in-Some.ensures.found c.pairs.invariant.extended.longer c.pairs.invariant.passed c.pairs.invariant.lead)
+    (made_more abbrevs specs_from slots first c.pass_unasked-first.result c.pairs.from c.in-Some.spec c.in-Some.next c.in-Some-slot_of.slot
+    c.in-Some-slot_of.ensures c.in-Some.ensures.found c.pairs.invariant.extended.longer
+    (passed_there abbrevs specs_from slots first c.pairs.pairs c.pairs.from c.pass_unasked-first.result c.pass_unasked-first.ensures c.pairs.invariant.passed) c.pairs.invariant.lead)
 
 pub pairs-preserved : goal.pairs-preserved
 pairs-preserved c =
@@ -32,10 +33,11 @@ pairs-preserved c =
     ∙ c.in-Some-fixed_end.is in
     let sized = ends_before (fixed_size_of (shape_of spec.form)) 65535 c.pairs.from after ends in
     let inside = c.pairs.invariant.extended.longer in
+    let there = passed_there abbrevs specs_from slots first c.pairs.pairs c.pairs.from c.pass_unasked-first.result c.pass_unasked-first.ensures c.pairs.invariant.passed in
     let lead =
-    made_more abbrevs specs_from slots first c.pairs.pairs c.pairs.from spec next slot c.in-Some-slot_of.ensures c.in-Some.ensures.found inside c.pairs.invariant.passed c.pairs.invariant.lead in
+    made_more abbrevs specs_from slots first c.pass_unasked-first.result c.pairs.from spec next slot c.in-Some-slot_of.ensures c.in-Some.ensures.found inside there c.pairs.invariant.lead in
     let passed =
-    passed_more abbrevs specs_from slots first c.pairs.pairs c.pairs.from spec next slot c.in-Some-slot_of.ensures c.in-Some.ensures.found inside c.pairs.invariant.passed
+    passed_more abbrevs specs_from slots first c.pass_unasked-first.result c.pairs.from spec next slot c.in-Some-slot_of.ensures c.in-Some.ensures.found inside there
     c.values_of_a_fixed_size_end_behind_it.ensures 65535 after sized in
     let items = sym c.in_ok-push.ensures.items in
     record {
