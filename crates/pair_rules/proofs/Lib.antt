@@ -5,6 +5,8 @@ mod Given
 mod Keeps
 mod Leading
 mod Matches
+mod MiddleParts
+mod Middles
 mod Occurrences
 mod OwnRules
 mod Partnering

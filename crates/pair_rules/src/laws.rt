@@ -1,12 +1,13 @@
 //! What the definitions of matches, rules, partners and steps come to. Each law is the contract of a function that does
 //! nothing.
-ghost use Rattle.std.specs.Prelude.{◌≡◌, ◌<◌, ◌≤◌, ◌↔◌, ℕ, Bool, true, List, [], length, take, filter, Some, None, Contains, slice_get};
+ghost use Rattle.std.specs.Prelude.{◌≡◌, ◌<◌, ◌≤◌, ◌↔◌, ℕ, Bool, true, false, List, [], length, take, filter, Some, None, Contains, slice_get};
 ghost use Rattle.std.specs.Option.{option_map};
 ghost use Rattle.abi_types.specs.declared.kind.Kind.{Kind};
 ghost use Rattle.abi_types.specs.declared.kind.Group.{Group};
 ghost use Rattle.abi_types.specs.declared.kind.Way.{Way};
 ghost use Rattle.abi_types.specs.declared.place.Place.{Place};
 ghost use Rattle.abi_types.specs.Types.{PlainView};
+ghost use Rattle.abi_types.specs.Forms.{HasForm};
 ghost use Rattle.abi_types.specs.Graphs.{part_at, view_at, IsGraph};
 ghost use Rattle.abi_types.specs.Parts.{like};
 ghost use Rattle.abi_types.specs.ClassLooks.{part_seen, view_seen};
@@ -16,6 +17,7 @@ ghost use Rattle.pair_rules.specs.Same.{same_kind, same_group, same_place};
 ghost use Rattle.pair_rules.specs.Matching.{match_of, number_of, IsMatch};
 ghost use Rattle.pair_rules.specs.TypeRules.{bit_at, params_of, value_at, width_at, rules_asked, breaks, IsBroken};
 ghost use Rattle.pair_rules.specs.Partners.{partner_at, IsPartner};
+ghost use Rattle.pair_rules.specs.Middles.{MeetInTheMiddle};
 ghost use Rattle.pair_rules.specs.Steps.{PlainRoot, Task, Triple, is_marked, breaks_of, next_of, step, IsStep};
 ghost use Rattle.pair_rules.specs.Stable.{AreClasses, StandsFor, IsInside, LeadsLike, classed, related};
 ghost use Rattle.pair_rules.specs.Paths.{Path, Then, PathLeadsTo, root_triple};
@@ -57,6 +59,13 @@ pub fn a_type_may_replace_itself()
 pub fn partners_name_nodes()
     ensures partners { (v w : PlainView) (i j : ℕ) → (partner_at v w i ≡ Some (i, j)) ↔ IsPartner v w i j }
     ensures place { (v w : PlainView) (i : ℕ) (p : ℕ × ℕ) → partner_at v w i ≡ Some p → p.0 ≡ i }
+{}
+
+/// Where a type breaks no rule against a defined middle type, each part of it that has a partner in a third type has one in the
+/// middle type too, and that one has the same partner in the third.
+pub fn parts_meet_in_the_middle()
+    ensures { (v u w : PlainView) (i j : ℕ) → HasForm v → HasForm u → u.declared_only ≡ false → breaks v u ≡ [] → IsPartner v w i j
+        → MeetInTheMiddle v u w i j }
 {}
 
 /// A part leads from one triple to another exactly where the old node is unmarked at its way, the part is there and has a
