@@ -6,7 +6,9 @@ use Rattle.std.proofs.lemmas.Int.{ints, clamps}
 use Rattle.type_reach.specs.declared.facts.Facts.{Facts}
 use Rattle.type_reach.specs.declared.facts.Span.{Span}
 use Rattle.type_reach.specs.Placement.{IsNear}
-use Rattle.type_reach.specs.Facts.{joined, nothing, first_of, IsSpanNear}
+use Rattle.type_reach.specs.declared.role.Role.{Role}
+use Rattle.type_reach.specs.declared.role.Role.TheVariants as role
+use Rattle.type_reach.specs.Facts.{joined, nothing, first_of, span_in, IsSpanNear}
 
 pub near-more : (n m : ℕ) (bit : ℤ) → n ≤ m → IsNear n bit → IsNear m bit
 near-more n m bit le near =
@@ -65,3 +67,25 @@ first-high n [] near ranks = tt
 first-high n (x ∷ xs) near ranks =
     let lt = ranks 0 nothing (omega arith) in
     high-more (x.rank + 1) (n + 1) x.span (omega (arith, lt)) (near 0 nothing (omega arith)).high
+
+pub passed-low : (k : Role) (n : ℕ) (facts : List Facts) (own : Option Span) → All IsSpanNear facts → All (λ (x : Facts). x.rank < n) facts → NearLow (n + 1) own → NearLow (n + 1) (span_in k facts own)
+passed-low role.Wrapper n facts own near ranks near_own = first-low n facts near ranks
+passed-low role.Aggregate n facts own near ranks near_own = near_own
+passed-low role.Function n facts own near ranks near_own = near_own
+passed-low role.Part n facts own near ranks near_own = near_own
+passed-low role.Pointer n facts own near ranks near_own = near_own
+passed-low role.Array n facts own near ranks near_own = near_own
+passed-low role.Enumeration n facts own near ranks near_own = near_own
+passed-low role.Base n facts own near ranks near_own = near_own
+passed-low role.Unknown n facts own near ranks near_own = near_own
+
+pub passed-high : (k : Role) (n : ℕ) (facts : List Facts) (own : Option Span) → All IsSpanNear facts → All (λ (x : Facts). x.rank < n) facts → NearHigh (n + 1) own → NearHigh (n + 1) (span_in k facts own)
+passed-high role.Wrapper n facts own near ranks near_own = first-high n facts near ranks
+passed-high role.Aggregate n facts own near ranks near_own = near_own
+passed-high role.Function n facts own near ranks near_own = near_own
+passed-high role.Part n facts own near ranks near_own = near_own
+passed-high role.Pointer n facts own near ranks near_own = near_own
+passed-high role.Array n facts own near ranks near_own = near_own
+passed-high role.Enumeration n facts own near ranks near_own = near_own
+passed-high role.Base n facts own near ranks near_own = near_own
+passed-high role.Unknown n facts own near ranks near_own = near_own

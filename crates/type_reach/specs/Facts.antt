@@ -181,9 +181,13 @@ member_span d member =
 unfoldable pub own_span : PlainDwarf → ℕ → List Facts → Option Span
 own_span d e facts = spread (map (member_span d) (members_with d.tree e facts))
 
+-- what stands for its type has the span of that, and any other type its own
+abbrev pub span_in : Role → List Facts → Option Span → Option Span
+span_in role.Wrapper facts own = (first_of facts).span
+span_in _ facts own = own
+
 abbrev pub span_for : Role → PlainDwarf → ℕ → List Facts → Option Span
-span_for role.Wrapper d e facts = (first_of facts).span
-span_for _ d e facts = own_span d e facts
+span_for k d e facts = span_in k facts (own_span d e facts)
 
 abbrev pub span_out_of_range : Option Span → Bool
 span_out_of_range None = false
@@ -192,10 +196,13 @@ span_out_of_range (Some s) = is_out_of_range s.low || is_out_of_range s.high
 unfoldable pub member_beyond : PlainDwarf → ℕ × Facts → Bool
 member_beyond d member = is_out_of_range (bit_of d member.0 member.1.size)
 
+abbrev pub beyond_in : Role → List Facts → Bool → Bool
+beyond_in role.Wrapper facts own = (first_of facts).beyond
+beyond_in _ facts own = own
+
 -- a member of the core begins at a bit out of range, as it stands or as a flat member
 abbrev pub beyond_for : Role → PlainDwarf → ℕ → List Facts → Bool
-beyond_for role.Wrapper d e facts = (first_of facts).beyond
-beyond_for _ d e facts = list_any (member_beyond d) (members_with d.tree e facts) || span_out_of_range (own_span d e facts)
+beyond_for k d e facts = beyond_in k facts (list_any (member_beyond d) (members_with d.tree e facts) || span_out_of_range (own_span d e facts))
 
 -- ---- all of them
 

@@ -1,16 +1,14 @@
 // What is made of a type from the same of the types that it holds by value.
 ghost use Rattle.std.specs.Prelude.{◌≡◌, ◌<◌, ◌≤◌, ◌+◌, length, map, drop, All, Some, IfOk, IfSome};
-ghost use Rattle.std.specs.List.{list_any};
 ghost use Rattle.abi_base.specs.Limits.{depth_limit};
 ghost use Rattle.type_reach.specs.References.{role_of as the_role_of, parts_of as the_parts_of};
-ghost use Rattle.type_reach.specs.Placement.{IsNear};
-ghost use Rattle.type_reach.specs.Facts.{above as the_above, total as the_total, rank_in, weight_in, room_of as the_room_of, first_of, own_size as the_own_size, size_for, count_for, weight_for, core_for, aggregate_for, rooms_for, align_from, members_with, member_align, member_beyond, most, own_span, span_for, beyond_for, facts_from, IsSpanNear};
+ghost use Rattle.type_reach.specs.Facts.{above as the_above, total as the_total, rank_in, weight_in, room_of as the_room_of, first_of, own_size as the_own_size, size_for, count_for, weight_for, core_for, aggregate_for, rooms_for, align_from, members_with, member_align, most, span_in, beyond_in, facts_from, IsSpanNear};
 
 use crate::arrays::array_count;
 use crate::constants::{ALIGN_ROOM, POINTER_SIZE};
 use crate::member_totals::{member_totals_of, own_align, span_out_of_range};
 use crate::references::members_among;
-use crate::role::Role;
+use crate::role::{Role, role_of};
 use crate::values::number_at;
 use abi_base::NoMemory;
 use abi_base::dwarf::DW_AT_byte_size;
@@ -29,7 +27,7 @@ pub struct Span {
 /// What is known of a type. Numbers stop at 2^64 - 1, which is above every limit.
 #[derive(Clone, Copy, Debug, PartialEq, Eq)]
 pub struct Facts {
-    // Fields lie in this order: the small ones stand together.
+    // The order of the fields only saves memory: the small ones stand together.
     /// The most steps by value that lead on from it.
     pub rank: u32,
     /// A member of its core begins at a bit out of range, as it stands or as a flat member.
@@ -248,23 +246,9 @@ fn align(dwarf: &Dwarf, e: usize, role: Role, facts: &[Facts], held: u64) -> u64
     own_align(dwarf, e).max(passed.max(held))
 }
 
-// Where the flat members of the core begin.
-fn flat_span(
-    dwarf: &Dwarf,
-    e: usize,
-    role: Role,
-    facts: &[Facts],
-    own: Option<Span>,
-    rank: u32,
-) -> Option<Span>
-    requires own { own ≡ own_span dwarf.now e facts.now }
-    requires low { IfSome own (λ s. IsNear (rank + 1) s.low) }
-    requires high { IfSome own (λ s. IsNear (rank + 1) s.high) }
-    requires near { All IsSpanNear facts.now }
-    requires ranks { All (λ x. x.rank < rank) facts.now }
-    ensures is { result ≡ span_for role dwarf.now e facts.now }
-    ensures low { IfSome result (λ s. IsNear (rank + 1) s.low) }
-    ensures high { IfSome result (λ s. IsNear (rank + 1) s.high) }
+// Where the flat members of the core begin, where these are an entry's own.
+fn flat_span(role: Role, facts: &[Facts], own: Option<Span>) -> Option<Span>
+    ensures { result ≡ span_in role facts.now own }
 {
     let one = first(facts);
     match role {
@@ -273,23 +257,14 @@ fn flat_span(
     }
 }
 
-// Whether a member of the core begins out of range.
-fn beyond(
-    dwarf: &Dwarf,
-    e: usize,
-    role: Role,
-    facts: &[Facts],
-    held: bool,
-    own: Option<Span>,
-) -> bool
-    requires held { held ≡ list_any (member_beyond dwarf.now) (members_with dwarf.now.tree e facts.now) }
-    requires own { own ≡ own_span dwarf.now e facts.now }
-    ensures { result ≡ beyond_for role dwarf.now e facts.now }
+// Whether a member of the core begins out of range, where this says so of an entry's own.
+fn beyond(role: Role, facts: &[Facts], own: bool) -> bool
+    ensures { result ≡ beyond_in role facts.now own }
 {
     let one = first(facts);
     match role {
         Role::Wrapper => one.beyond,
-        _ => held || span_out_of_range(own),
+        _ => own,
     }
 }
 
@@ -299,12 +274,10 @@ pub(crate) fn combine(
     alloc: Global,
     dwarf: &Dwarf,
     e: usize,
-    role: Role,
     parts: &[u32],
     facts: &[Facts],
 ) -> Result<Facts, NoMemory>
     requires inside { e < length dwarf.now.tree.entries }
-    requires role { role ≡ the_role_of dwarf.now.tree e }
     requires parts { parts.now ≡ the_parts_of dwarf.now.tree e }
     requires parts_inside { All (λ c. c < length dwarf.now.tree.entries) parts.now }
     requires ranks { All (λ x. x.rank < depth_limit) facts.now }
@@ -312,6 +285,7 @@ pub(crate) fn combine(
     ensures is { IfOk result (λ x. x ≡ facts_from dwarf.now (Some e) facts.now) }
     ensures near { IfOk result IsSpanNear }
 {
+    let role = role_of(dwarf, e);
     let members = members_among(dwarf, e, role, parts);
     let rank = above(facts);
     let held = member_totals_of(dwarf, members, facts, rank);
@@ -323,8 +297,8 @@ pub(crate) fn combine(
         weight: weight(role, facts),
         align: align(dwarf, e, role, facts, held.align),
         rooms: rooms(role, facts),
-        span: flat_span(dwarf, e, role, facts, held.span, rank),
-        beyond: beyond(dwarf, e, role, facts, held.beyond, held.span),
+        span: flat_span(role, facts, held.span),
+        beyond: beyond(role, facts, held.beyond || span_out_of_range(held.span)),
         core: core(e, role, facts),
         aggregate: aggregate(role, facts),
     })

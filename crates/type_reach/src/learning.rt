@@ -12,40 +12,47 @@ ghost use Rattle.type_reach.specs.Faults.{depth_fault};
 use crate::constants::DEPTH_LIMIT;
 use crate::facts::{Facts, VOID, combine};
 use crate::reached_entries::ReachedEntries;
+use crate::references::steps_among;
 use crate::role::role_of;
-use crate::type_references::{TypeReferences, parts_at, steps_at, widened};
+use crate::type_references::{TypeReferences, parts_at, types_at, widened};
 use abi_base::{Fault, FaultKind, NoMemory, Refusal};
 use dwarf_entries::Dwarf;
 use std::alloc::Global;
 
+// Debug information, the entries of it that were found, and what these lead to.
+#[derive(Clone, Copy)]
+struct FoundTypes<'t, 'a> {
+    dwarf: &'t Dwarf<'a>,
+    found: &'t ReachedEntries,
+    leads: &'t TypeReferences,
+}
+
 // The facts of a type, or none where more steps by value than the budget lead on from it.
 fn learn(
     alloc: Global,
-    dwarf: &Dwarf,
-    found: &ReachedEntries,
-    leads: &TypeReferences,
+    types: &FoundTypes<'_, '_>,
     known: &mut Vec<Option<Facts>>,
     ty: Option<usize>,
     budget: u32,
 ) -> Result<Option<Facts>, NoMemory>
-    requires closed { IsClosed dwarf.now.tree found.now }
-    requires leads { AreTypeReferences dwarf.now.tree found.now leads.now }
-    requires known { AreFacts dwarf.now found.now known.old.items }
-    requires len { length known.old.items ≡ length found.now }
-    requires there { IfSome ty (λ e. Contains found.now e) }
+    requires closed { IsClosed types.now.dwarf.now.tree types.now.found.now }
+    requires leads { AreTypeReferences types.now.dwarf.now.tree types.now.found.now types.now.leads.now }
+    requires known { AreFacts types.now.dwarf.now types.now.found.now known.old.items }
+    requires len { length known.old.items ≡ length types.now.found.now }
+    requires there { IfSome ty (λ e. Contains types.now.found.now e) }
     requires budget { budget ≤ depth_limit }
-    ensures known { OnOk result (AreFacts dwarf.now found.now known.new.items) }
-    ensures len { OnOk result (length known.new.items ≡ length found.now) }
-    ensures facts { IfOk result (λ r. IfSome r (λ x. x ≡ facts_of dwarf.now ty)) }
+    ensures known { OnOk result (AreFacts types.now.dwarf.now types.now.found.now known.new.items) }
+    ensures len { OnOk result (length known.new.items ≡ length types.now.found.now) }
+    ensures facts { IfOk result (λ r. IfSome r (λ x. x ≡ facts_of types.now.dwarf.now ty)) }
     ensures near { IfOk result (λ r. IfSome r IsSpanNear) }
-    ensures few { IfOk result (λ r. IfSome r (λ x. IsNoDeeper dwarf.now.tree budget ty)) }
-    ensures many { IfOk result (λ r. IfNone r (StepsOn dwarf.now.tree (budget + 1) ty)) }
+    ensures few { IfOk result (λ r. IfSome r (λ x. IsNoDeeper types.now.dwarf.now.tree budget ty)) }
+    ensures many { IfOk result (λ r. IfNone r (StepsOn types.now.dwarf.now.tree (budget + 1) ty)) }
 {
     let e = match ty {
         None => return Ok(Some(VOID)),
         Some(e) => e,
     };
-    let number = match found.number(e) {
+    let number = match types.found.number(e) {
         Some(number) => number,
         None => unreachable!(),
     };
@@ -59,28 +66,20 @@ fn learn(
         }
         None => {}
     }
-    let role = role_of(dwarf, e);
-    let parts = parts_at(dwarf, found, leads, number, e);
-    let steps = steps_at(dwarf, found, leads, number, e, role);
+    let parts = parts_at(types.dwarf, types.found, types.leads, number, e);
+    let leads_to = types_at(types.dwarf, types.found, types.leads, number, e);
+    let steps = steps_among(types.dwarf, e, role_of(types.dwarf, e), leads_to);
     let mut of_steps = Vec::with_capacity(alloc, steps.len())?;
     'steps: for k in 0..steps.len() {
         if budget == 0 {
             return Ok(None);
         }
-        match learn(
-            alloc,
-            dwarf,
-            found,
-            leads,
-            known,
-            widened(steps[k]),
-            budget - 1,
-        )? {
+        match learn(alloc, types, known, widened(steps[k]), budget - 1)? {
             Some(one) => of_steps.push(one)?,
             None => return Ok(None),
         }
     }
-    let made = combine(alloc, dwarf, e, role, parts, of_steps.as_slice())?;
+    let made = combine(alloc, types.dwarf, e, parts, of_steps.as_slice())?;
     known[number] = Some(made);
     Ok(Some(made))
 }
@@ -101,31 +100,21 @@ pub fn in_order(alloc: Global, found: &ReachedEntries) -> Result<Vec<usize>, NoM
 // The first entry from which too many steps lead on, if any.
 fn find_deep(
     alloc: Global,
-    dwarf: &Dwarf,
-    found: &ReachedEntries,
-    leads: &TypeReferences,
+    types: &FoundTypes<'_, '_>,
     known: &mut Vec<Option<Facts>>,
 ) -> Result<Option<usize>, NoMemory>
-    requires closed { IsClosed dwarf.now.tree found.now }
-    requires leads { AreTypeReferences dwarf.now.tree found.now leads.now }
-    requires known { AreFacts dwarf.now found.now known.old.items }
-    requires len { length known.old.items ≡ length found.now }
-    ensures known { OnOk result (AreFacts dwarf.now found.now known.new.items) }
-    ensures len { OnOk result (length known.new.items ≡ length found.now) }
-    ensures first { IfOk result (λ r. IfSome r (λ e. IsFirstTooDeep dwarf.now.tree found.now e)) }
-    ensures none { IfOk result (λ r. IfNone r ((e : ℕ) → Contains found.now e → IsTooDeep dwarf.now.tree (Some e) → ⊥)) }
+    requires closed { IsClosed types.now.dwarf.now.tree types.now.found.now }
+    requires leads { AreTypeReferences types.now.dwarf.now.tree types.now.found.now types.now.leads.now }
+    requires known { AreFacts types.now.dwarf.now types.now.found.now known.old.items }
+    requires len { length known.old.items ≡ length types.now.found.now }
+    ensures known { OnOk result (AreFacts types.now.dwarf.now types.now.found.now known.new.items) }
+    ensures len { OnOk result (length known.new.items ≡ length types.now.found.now) }
+    ensures first { IfOk result (λ r. IfSome r (λ e. IsFirstTooDeep types.now.dwarf.now.tree types.now.found.now e)) }
+    ensures none { IfOk result (λ r. IfNone r ((e : ℕ) → Contains types.now.found.now e → IsTooDeep types.now.dwarf.now.tree (Some e) → ⊥)) }
 {
-    let order = in_order(alloc, found)?;
+    let order = in_order(alloc, types.found)?;
     'order: for k in 0..order.len() {
-        match learn(
-            alloc,
-            dwarf,
-            found,
-            leads,
-            known,
-            Some(order[k]),
-            DEPTH_LIMIT,
-        )? {
+        match learn(alloc, types, known, Some(order[k]), DEPTH_LIMIT)? {
             Some(_) => {}
             None => return Ok(Some(order[k])),
         }
@@ -136,22 +125,20 @@ fn find_deep(
 // The facts of all that was found, by number, none of which has too many steps.
 fn collect(
     alloc: Global,
-    dwarf: &Dwarf,
-    found: &ReachedEntries,
-    leads: &TypeReferences,
+    types: &FoundTypes<'_, '_>,
     known: &mut Vec<Option<Facts>>,
 ) -> Result<Vec<Facts>, NoMemory>
-    requires closed { IsClosed dwarf.now.tree found.now }
-    requires leads { AreTypeReferences dwarf.now.tree found.now leads.now }
-    requires known { AreFacts dwarf.now found.now known.old.items }
-    requires len { length known.old.items ≡ length found.now }
-    requires shallow { (e : ℕ) → Contains found.now e → IsTooDeep dwarf.now.tree (Some e) → ⊥ }
-    ensures { IfOk result (λ facts. AreAllFacts dwarf.now found.now facts.items) }
+    requires closed { IsClosed types.now.dwarf.now.tree types.now.found.now }
+    requires leads { AreTypeReferences types.now.dwarf.now.tree types.now.found.now types.now.leads.now }
+    requires known { AreFacts types.now.dwarf.now types.now.found.now known.old.items }
+    requires len { length known.old.items ≡ length types.now.found.now }
+    requires shallow { (e : ℕ) → Contains types.now.found.now e → IsTooDeep types.now.dwarf.now.tree (Some e) → ⊥ }
+    ensures { IfOk result (λ facts. AreAllFacts types.now.dwarf.now types.now.found.now facts.items) }
 {
-    let mut facts = Vec::with_capacity(alloc, found.len())?;
-    'found: for number in 0..found.len() {
-        let e = found.at(number);
-        match learn(alloc, dwarf, found, leads, known, Some(e), DEPTH_LIMIT)? {
+    let mut facts = Vec::with_capacity(alloc, types.found.len())?;
+    'found: for number in 0..types.found.len() {
+        let e = types.found.at(number);
+        match learn(alloc, types, known, Some(e), DEPTH_LIMIT)? {
             Some(one) => facts.push(one)?,
             None => unreachable!(),
         }
@@ -172,8 +159,13 @@ pub fn learn_all(
     ensures facts { IfOk result (λ facts. AreAllFacts dwarf.now found.now facts.items) }
     ensures judged { (roots : List ℕ) → ((r : ℕ) → Contains roots r → r < length dwarf.now.tree.entries) → IsWalk dwarf.now.tree roots found.now → Judges result (depth_fault dwarf.now.tree roots) }
 {
+    let types = FoundTypes {
+        dwarf,
+        found,
+        leads,
+    };
     let mut known = Vec::from_elem(alloc, None, found.len())?;
-    match find_deep(alloc, dwarf, found, leads, &mut known)? {
+    match find_deep(alloc, &types, &mut known)? {
         Some(e) => {
             return Err(Refusal::Fault(Fault {
                 kind: FaultKind::TooDeep,
@@ -182,7 +174,7 @@ pub fn learn_all(
         }
         None => {}
     }
-    Ok(collect(alloc, dwarf, found, leads, &mut known)?)
+    Ok(collect(alloc, &types, &mut known)?)
 }
 
 /// The facts of a type that was found, of those of all that was.

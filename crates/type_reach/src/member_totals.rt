@@ -1,11 +1,12 @@
 // What the members of an aggregate come to, each beside the facts of its type.
 ghost use Rattle.std.specs.Prelude.{◌≡◌, ◌<◌, ◌≤◌, ◌+◌, ◌||◌, length, map, zip, All, IfSome, ◌+ℤ◌};
 ghost use Rattle.std.specs.List.{list_any};
+ghost use Rattle.abi_base.specs.Limits.{depth_limit};
 ghost use Rattle.type_reach.specs.Placement.{bit_of as the_bit_of, is_nameless as the_member_is_nameless, IsNear};
 ghost use Rattle.type_reach.specs.Facts.{own_align as the_own_align, member_align as the_member_align, most as the_most, moved_span as the_moved_span, joined as the_joined, member_span as the_member_span, spread as the_spread, span_out_of_range as the_span_is_beyond, member_beyond as the_member_is_beyond, IsSpanNear};
 
 use crate::facts::{Facts, Span};
-use crate::placement::{bit_of, is_nameless, is_out_of_range};
+use crate::placement::{is_nameless, is_out_of_range, near_bit_of};
 use crate::values::number_at;
 use abi_base::dwarf::DW_AT_alignment;
 use dwarf_entries::Dwarf;
@@ -38,7 +39,7 @@ fn member_align(dwarf: &Dwarf, m: usize, of_type: &Facts, nameless: bool) -> u64
 fn later(by: i128, bit: i128, rank: u32) -> i128
     requires by { IsNear 1 by }
     requires bit { IsNear (rank + 1) bit }
-    requires rank { rank < 1000 }
+    requires rank { rank < depth_limit }
     ensures is { result ≡ by +ℤ bit }
     ensures near { IsNear (rank + 2) result }
 {
@@ -50,7 +51,7 @@ fn moved_span(by: i128, span: Option<Span>, rank: u32) -> Option<Span>
     requires by { IsNear 1 by }
     requires low { IfSome span (λ s. IsNear (rank + 1) s.low) }
     requires high { IfSome span (λ s. IsNear (rank + 1) s.high) }
-    requires rank { rank < 1000 }
+    requires rank { rank < depth_limit }
     ensures is { result ≡ the_moved_span by span }
     ensures low { IfSome result (λ s. IsNear (rank + 2) s.low) }
     ensures high { IfSome result (λ s. IsNear (rank + 2) s.high) }
@@ -87,7 +88,7 @@ fn member_span(dwarf: &Dwarf, m: usize, of_type: &Facts, bit: i128, nameless: bo
     requires bit_near { IsNear 1 bit }
     requires nameless { nameless ≡ the_member_is_nameless dwarf.now m }
     requires near { IsSpanNear of_type.now }
-    requires rank { of_type.now.rank < 1000 }
+    requires rank { of_type.now.rank < depth_limit }
     ensures is { result ≡ the_member_span dwarf.now (m, of_type.now) }
     ensures low { IfSome result (λ s. IsNear (of_type.now.rank + 2) s.low) }
     ensures high { IfSome result (λ s. IsNear (of_type.now.rank + 2) s.high) }
@@ -145,7 +146,7 @@ pub(crate) fn member_totals_of(
     requires inside { All (λ m. m < length dwarf.now.tree.entries) members.now }
     requires near { All IsSpanNear of_types.now }
     requires ranks { All (λ x. x.rank < rank) of_types.now }
-    requires rank { rank ≤ 1000 }
+    requires rank { rank ≤ depth_limit }
     ensures align { result.align ≡ the_most (map (the_member_align dwarf.now) (zip members.now of_types.now)) }
     ensures span { result.span ≡ the_spread (map (the_member_span dwarf.now) (zip members.now of_types.now)) }
     ensures low { IfSome result.span (λ s. IsNear (rank + 1) s.low) }
@@ -160,7 +161,7 @@ pub(crate) fn member_totals_of(
         k -= 1;
         let m = members[k] as usize;
         let of_type = of_types[k];
-        let bit = bit_of(dwarf, m, of_type.size);
+        let bit = near_bit_of(dwarf, m, of_type.size);
         let nameless = is_nameless(dwarf, m);
         align = member_align(dwarf, m, &of_type, nameless).max(align);
         span = joined(member_span(dwarf, m, &of_type, bit, nameless), span);

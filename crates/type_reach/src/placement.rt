@@ -41,9 +41,9 @@ pub fn width_of(dwarf: &Dwarf, m: usize) -> u64
     number_at(dwarf, m, DW_AT_bit_size)
 }
 
-/// The bit at which a member begins, counted from the begin of its aggregate, where its type has a size in bytes.
+// The bit at which a member begins. It is near 0, so that sums of such bits do not overflow.
 #[tactic(auto, unfolding(crate::specs::Placement::bit_of))]
-pub fn bit_of(dwarf: &Dwarf, m: usize, size: u64) -> i128
+pub(crate) fn near_bit_of(dwarf: &Dwarf, m: usize, size: u64) -> i128
     requires { m < length dwarf.now.tree.entries }
     ensures is { result ≡ the_bit_of dwarf.now m size }
     ensures near { IsNear 1 result }
@@ -60,6 +60,15 @@ pub fn bit_of(dwarf: &Dwarf, m: usize, size: u64) -> i128
     } else {
         bit
     }
+}
+
+/// The bit at which a member begins, counted from the begin of its aggregate, where its type has a size in bytes.
+pub fn bit_of(dwarf: &Dwarf, m: usize, size: u64) -> i128
+    requires { m < length dwarf.now.tree.entries }
+    ensures is { result ≡ the_bit_of dwarf.now m size }
+    ensures near { IsNear 1 result }
+{
+    near_bit_of(dwarf, m, size)
 }
 
 /// Whether a bit is not from 0 to 2^63 - 1.

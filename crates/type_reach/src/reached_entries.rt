@@ -13,7 +13,8 @@ use std::marker::Model;
 pub struct ReachedEntries {
     // Positions take 32 bits, since there are fewer than 2^32 entries.
     entries: Vec<u32>,
-    // For each so many entries of the tree, how many that were found stand before them.
+    // For each so many entries of the tree, how many that were found stand before them. They only save time: whatever they are, the
+    // same is found.
     hints: Vec<u32>,
 }
 
@@ -29,7 +30,7 @@ impl Model for ReachedEntries {
 }
 
 impl ReachedEntries {
-    // The entries that are marked, with room for so many.
+    // The entries that are marked. The room only saves time: more or fewer may be marked.
     pub(crate) fn marked(
         alloc: Global,
         marks: &[bool],

@@ -1,6 +1,6 @@
 // The types to which entries lead, and their parts.
 ghost use Rattle.std.specs.Prelude.{◌≡◌, ◌<◌, length, All, IfOk, IfSome};
-ghost use Rattle.type_reach.specs.References.{role_of as the_role_of, type_of as the_type_of, body_of as the_body_of, parts_of as the_parts_of, members_of as the_members_of, has_type as the_role_has_a_type, holds_none as the_role_holds_none};
+ghost use Rattle.type_reach.specs.References.{role_of as the_role_of, type_of as the_type_of, body_of as the_body_of, parts_of as the_parts_of, members_of as the_members_of, types_of as the_types_of, steps_of as the_steps_of, has_type as the_role_has_a_type, holds_none as the_role_holds_none};
 
 use crate::role::{Role, is_signed, role_of};
 use abi_base::NoMemory;
@@ -67,6 +67,21 @@ pub fn members_among<'p>(dwarf: &Dwarf, e: usize, role: Role, parts: &'p [u32]) 
         Role::Aggregate => { if dwarf.is_declaration(e) { &[] } else { parts } }
         _ => &[],
     }
+}
+
+/// Those of the types to which an entry leads that it holds by value.
+#[tactic(auto, unfolding(crate::specs::References::steps_of))]
+pub(crate) fn steps_among<'l>(
+    dwarf: &Dwarf,
+    e: usize,
+    role: Role,
+    types: &'l [Option<u32>],
+) -> &'l [Option<u32>]
+    requires role { role ≡ the_role_of dwarf.now.tree e }
+    requires types { types.now ≡ the_types_of dwarf.now.tree e }
+    ensures { result.now ≡ the_steps_of dwarf.now.tree e }
+{
+    if holds_none(role) { &[] } else { types }
 }
 
 /// Whether an entry of a role has a type itself.

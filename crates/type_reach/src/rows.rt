@@ -33,7 +33,7 @@ fn begin(ends: &[usize], number: usize) -> usize
 }
 
 impl<T> Rows<T> {
-    /// No row, and room to note the ends of so many.
+    /// No row. The room to note the ends of so many only saves time.
     pub fn with_capacity(alloc: Global, rows: usize) -> Result<Rows<T>, NoMemory>
         ensures { IfOk result (λ rows. rows ≡ []) }
     {
@@ -74,7 +74,7 @@ impl<T> Rows<T> {
         }
     }
 
-    /// Gives back the room that is not used.
+    /// Gives back the room that is not used. It only saves memory: the rows stay the same.
     pub fn shrink_to_fit(&mut self)
         ensures { self.new ≡ self.old }
     {

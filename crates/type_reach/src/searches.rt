@@ -1,11 +1,12 @@
-// Where an entry stands among entries in order. A hint only makes a search short: what is found does not depend on it.
+// Where an entry stands among entries in order. Hints only save time: what is found does not depend on them, so no clause speaks
+// of them.
 ghost use Rattle.std.specs.Prelude.{◌≡◌, ◌<◌, length, nat_eq, position, Some, IfSome};
 ghost use Rattle.std.specs.List.Sorted.{IsStrictlyIncreasing};
 
-// How many entries of the tree share a hint.
+// How many entries of the tree share a hint. The number says nothing but how much time a search takes.
 pub(crate) const BETWEEN_HINTS: usize = 16;
 
-// The hint for an entry: where it stands, or up to so many places before.
+// The hint for an entry: where it stands, or up to so many places before. It promises nothing, and only saves time.
 #[inline]
 pub(crate) fn hint_for(hints: &[u32], e: usize) -> usize {
     match hints.get(e / BETWEEN_HINTS) {
@@ -25,7 +26,7 @@ fn searched(entries: &[u32], e: usize) -> Option<usize>
     }
 }
 
-// Where an entry stands, if not far behind a hint.
+// Where an entry stands, if not far behind a hint. None says nothing.
 fn hinted(entries: &[u32], e: usize, hint: usize) -> Option<usize>
     requires { IsStrictlyIncreasing entries.now }
     ensures { IfSome result (λ place. position (nat_eq e) entries.now ≡ Some place) }

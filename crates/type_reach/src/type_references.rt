@@ -1,12 +1,12 @@
 // What the entries that were found lead to, kept once.
 ghost use Rattle.std.specs.Prelude.{◌≡◌, ◌<◌, ◌++◌, ◌^◌, true, length, slice_get, slice_index_or, All, Some, IfOk, OnOk, IfSome};
-ghost use Rattle.type_reach.specs.References.{role_of as the_role_of, type_of as the_type_of, parts_of as the_parts_of, members_of as the_members_of, has_type as the_role_has_a_type, own_types, types_of as the_types_of, steps_of as the_steps_of};
+ghost use Rattle.type_reach.specs.References.{role_of as the_role_of, type_of as the_type_of, parts_of as the_parts_of, members_of as the_members_of, has_type as the_role_has_a_type, own_types, types_of as the_types_of};
 ghost use Rattle.type_reach.specs.ByValue.{IsClosed};
 ghost use Rattle.type_reach.specs.TypeReferences.{AreTypeReferences};
 
 use crate::reached_entries::ReachedEntries;
-use crate::references::{has_type, holds_none, parts_of, type_of};
-use crate::role::{Role, role_of};
+use crate::references::{has_type, parts_of, type_of};
+use crate::role::role_of;
 use crate::rows::Rows;
 use abi_base::NoMemory;
 use dwarf_entries::Dwarf;
@@ -148,28 +148,6 @@ pub fn types_at<'l>(
     ensures inside { All (λ ty. IfSome ty (λ f. f < length dwarf.now.tree.entries)) result.now }
 {
     leads.types.row(number)
-}
-
-/// The types that an entry of a role holds by value.
-#[tactic(auto, unfolding(crate::specs::References::steps_of))]
-pub(crate) fn steps_at<'l>(
-    dwarf: &Dwarf,
-    found: &ReachedEntries,
-    leads: &'l TypeReferences,
-    number: usize,
-    e: usize,
-    role: Role,
-) -> &'l [Option<u32>]
-    requires leads { AreTypeReferences dwarf.now.tree found.now leads.now }
-    requires at { slice_get found.now number ≡ Some e }
-    requires role { role ≡ the_role_of dwarf.now.tree e }
-    ensures { result.now ≡ the_steps_of dwarf.now.tree e }
-{
-    if holds_none(role) {
-        &[]
-    } else {
-        types_at(dwarf, found, leads, number, e)
-    }
 }
 
 /// The type that an entry has itself, of those to which it leads.

@@ -13,93 +13,93 @@ use Rattle.type_reach.proofs.FactLemmas.{facts_of-void, rank_of, rank-most, rank
 use Rattle.type_reach.proofs.learning.+learn.Goals as goal
 
 pub returns-in-None-clause-facts : goal.returns-in-None-clause-facts
-returns-in-None-clause-facts t c = sym (ap (facts_of c.args.dwarf.now) c.in-None.is ∙ facts_of-void c.args.dwarf.now)
+returns-in-None-clause-facts t c = sym (ap (facts_of c.args.types.now.dwarf.now) c.in-None.is ∙ facts_of-void c.args.types.now.dwarf.now)
 
 pub returns-in-None-clause-few : goal.returns-in-None-clause-few
-returns-in-None-clause-few t c = λ on. void_ends c.args.dwarf.now.tree (c.args.budget + 1) c.args.ty (omega arith) c.in-None.is on
+returns-in-None-clause-few t c = λ on. void_ends c.args.types.now.dwarf.now.tree (c.args.budget + 1) c.args.ty (omega arith) c.in-None.is on
 
 pub unreachable-requires : goal.unreachable-requires
 unreachable-requires t c =
-    let found = c.args.found.now in
+    let found = c.args.types.now.found.now in
     let there = subst (λ o. IfSome o (λ x. Contains found x)) c.in-Some.is c.requires.there in
     number_there found c.in-Some.e there (sym c.in-None-number.is ∙ c.number.ensures.number)
 
 pub returns-then-before-budget-clause-facts : goal.returns-then-before-budget-clause-facts
 returns-then-before-budget-clause-facts t c =
-    let d = c.args.dwarf.now in
-    let at = number_is c.args.found.now c.in-Some.e c.in-Some-number.number (sym c.in-Some-number.is ∙ c.number.ensures.number) in
-    let known = known_there d c.args.found.now c.args.known.now.items c.in-Some-number.number c.in-Some.e c.index.result.now c.in-Some-index.before c.requires.known c.requires.len at c.index.ensures c.in-Some-index.is in
+    let d = c.args.types.now.dwarf.now in
+    let at = number_is c.args.types.now.found.now c.in-Some.e c.in-Some-number.number (sym c.in-Some-number.is ∙ c.number.ensures.number) in
+    let known = known_there d c.args.types.now.found.now c.args.known.now.items c.in-Some-number.number c.in-Some.e c.index.result.now c.in-Some-index.before c.requires.known c.requires.len at c.index.ensures c.in-Some-index.is in
     known.is ∙ ap (facts_of d) (sym c.in-Some.is)
 
 pub returns-then-before-budget-clause-near : goal.returns-then-before-budget-clause-near
 returns-then-before-budget-clause-near t c =
-    let d = c.args.dwarf.now in
-    let at = number_is c.args.found.now c.in-Some.e c.in-Some-number.number (sym c.in-Some-number.is ∙ c.number.ensures.number) in
-    let known = known_there d c.args.found.now c.args.known.now.items c.in-Some-number.number c.in-Some.e c.index.result.now c.in-Some-index.before c.requires.known c.requires.len at c.index.ensures c.in-Some-index.is in
+    let d = c.args.types.now.dwarf.now in
+    let at = number_is c.args.types.now.found.now c.in-Some.e c.in-Some-number.number (sym c.in-Some-number.is ∙ c.number.ensures.number) in
+    let known = known_there d c.args.types.now.found.now c.args.known.now.items c.in-Some-number.number c.in-Some.e c.index.result.now c.in-Some-index.before c.requires.known c.requires.len at c.index.ensures c.in-Some-index.is in
     known.near
 
 pub returns-then-before-budget-clause-few : goal.returns-then-before-budget-clause-few
 returns-then-before-budget-clause-few t c = λ on.
-    let d = c.args.dwarf.now in
-    let at = number_is c.args.found.now c.in-Some.e c.in-Some-number.number (sym c.in-Some-number.is ∙ c.number.ensures.number) in
-    let known = known_there d c.args.found.now c.args.known.now.items c.in-Some-number.number c.in-Some.e c.index.result.now c.in-Some-index.before c.requires.known c.requires.len at c.index.ensures c.in-Some-index.is in
+    let d = c.args.types.now.dwarf.now in
+    let at = number_is c.args.types.now.found.now c.in-Some.e c.in-Some-number.number (sym c.in-Some-number.is ∙ c.number.ensures.number) in
+    let known = known_there d c.args.types.now.found.now c.args.known.now.items c.in-Some-number.number c.in-Some.e c.index.result.now c.in-Some-index.before c.requires.known c.requires.len at c.index.ensures c.in-Some-index.is in
     let most = rank-most d (c.args.budget + 1) (Some c.in-Some.e) known.shallow (subst (StepsOn d.tree (c.args.budget + 1)) c.in-Some.is on) in
     let is : c.in-Some-index.before.rank ≡ rank_of d (Some c.in-Some.e) = ap (λ (x : Facts). x.rank) known.is in
     omega (arith, most, is, c.if-before-budget.true)
 
 pub returns-else-before-budget-clause-many : goal.returns-else-before-budget-clause-many
 returns-else-before-budget-clause-many t c =
-    let d = c.args.dwarf.now in
-    let at = number_is c.args.found.now c.in-Some.e c.in-Some-number.number (sym c.in-Some-number.is ∙ c.number.ensures.number) in
-    let known = known_there d c.args.found.now c.args.known.now.items c.in-Some-number.number c.in-Some.e c.index.result.now c.in-Some-index.before c.requires.known c.requires.len at c.index.ensures c.in-Some-index.is in
+    let d = c.args.types.now.dwarf.now in
+    let at = number_is c.args.types.now.found.now c.in-Some.e c.in-Some-number.number (sym c.in-Some-number.is ∙ c.number.ensures.number) in
+    let known = known_there d c.args.types.now.found.now c.args.known.now.items c.in-Some-number.number c.in-Some.e c.index.result.now c.in-Some-index.before c.requires.known c.requires.len at c.index.ensures c.in-Some-index.is in
     let is : c.in-Some-index.before.rank ≡ rank_of d (Some c.in-Some.e) = ap (λ (x : Facts). x.rank) known.is in
     subst (StepsOn d.tree (c.args.budget + 1)) (sym c.in-Some.is) (StepsOn-fewer d.tree (c.args.budget + 1) (rank_of d (Some c.in-Some.e)) (Some c.in-Some.e) (omega (arith, is, c.if-before-budget.false)) (rank-leads d (Some c.in-Some.e) known.shallow))
 
-pub role_of-role-requires : goal.role_of-role-requires
-role_of-role-requires t c = c.requires.closed.inside c.in-Some.e (subst (λ o. IfSome o (λ x. Contains c.args.found.now x)) c.in-Some.is c.requires.there)
+pub role_of-requires : goal.role_of-requires
+role_of-requires t c = c.requires.closed.inside c.in-Some.e (subst (λ o. IfSome o (λ x. Contains c.args.types.now.found.now x)) c.in-Some.is c.requires.there)
 
 pub parts_at-parts-requires-clause-at : goal.parts_at-parts-requires-clause-at
-parts_at-parts-requires-clause-at t c = number_is c.args.found.now c.in-Some.e c.in-Some-number.number (sym c.in-Some-number.is ∙ c.number.ensures.number)
+parts_at-parts-requires-clause-at t c = number_is c.args.types.now.found.now c.in-Some.e c.in-Some-number.number (sym c.in-Some-number.is ∙ c.number.ensures.number)
 
-pub steps_at-steps-requires-clause-at : goal.steps_at-steps-requires-clause-at
-steps_at-steps-requires-clause-at t c = number_is c.args.found.now c.in-Some.e c.in-Some-number.number (sym c.in-Some-number.is ∙ c.number.ensures.number)
+pub types_at-leads_to-requires-clause-at : goal.types_at-leads_to-requires-clause-at
+types_at-leads_to-requires-clause-at t c = number_is c.args.types.now.found.now c.in-Some.e c.in-Some-number.number (sym c.in-Some-number.is ∙ c.number.ensures.number)
 
 pub returns-then-budget-eq0-clause-many : goal.returns-then-budget-eq0-clause-many
 returns-then-budget-eq0-clause-many t c =
-    let d = c.args.dwarf.now in
-    let items = c.steps_at-steps.result.now in
+    let d = c.args.types.now.dwarf.now in
+    let items = c.steps_among-steps.result.now in
     let lt : c.steps.k < length items = c.steps-test.true in
     let s : Type_ = get_or items c.steps.k None in
-    let has = step_at d.tree c.in-Some.e items c.steps.k s c.steps_at-steps.ensures lt (get_or_default items c.steps.k None s lt) in
+    let has = step_at d.tree c.in-Some.e items c.steps.k s c.steps_among-steps.ensures lt (get_or_default items c.steps.k None s lt) in
     let one : suc 0 ≡ c.args.budget + 1 = omega (arith, c.if-budget-eq0.true) in
     subst (StepsOn d.tree (c.args.budget + 1)) (sym c.in-Some.is) (subst (λ n. StepsOn d.tree n (Some c.in-Some.e)) one (StepsOn-more d.tree 0 (Some c.in-Some.e) s has (StepsOn-none d.tree s)))
 
 pub learn-requires : goal.learn-requires
 learn-requires t c =
-    let d = c.args.dwarf.now in
-    let there = subst (λ o. IfSome o (λ x. Contains c.args.found.now x)) c.in-Some.is c.requires.there in
-    let items = c.steps_at-steps.result.now in
+    let d = c.args.types.now.dwarf.now in
+    let there = subst (λ o. IfSome o (λ x. Contains c.args.types.now.found.now x)) c.in-Some.is c.requires.there in
+    let items = c.steps_among-steps.result.now in
     let lt : c.steps.k < length items = c.steps-test.true in
     let s = c.widened.result in
-    let has = step_at d.tree c.in-Some.e items c.steps.k s c.steps_at-steps.ensures lt (c.widened.ensures ∙ get_or_default items c.steps.k None s lt) in
+    let has = step_at d.tree c.in-Some.e items c.steps.k s c.steps_among-steps.ensures lt (c.widened.ensures ∙ get_or_default items c.steps.k None s lt) in
     let some : 0 < c.args.budget = omega (arith, c.if-budget-eq0.false) in
-    (omega (arith, c.decreases, some), (c.requires.closed, (c.requires.leads, (c.steps.invariant.known, (c.steps.invariant.len, (step_there d.tree c.args.found.now c.in-Some.e s c.requires.closed there has, omega (arith, c.requires.budget)))))))
+    (omega (arith, c.decreases, some), (c.requires.closed, (c.requires.leads, (c.steps.invariant.known, (c.steps.invariant.len, (step_there d.tree c.args.types.now.found.now c.in-Some.e s c.requires.closed there has, omega (arith, c.requires.budget)))))))
 
 pub returns-in-None-2-clause-many : goal.returns-in-None-2-clause-many
 returns-in-None-2-clause-many t c =
-    let d = c.args.dwarf.now in
-    let items = c.steps_at-steps.result.now in
+    let d = c.args.types.now.dwarf.now in
+    let items = c.steps_among-steps.result.now in
     let lt : c.steps.k < length items = c.steps-test.true in
     let s = c.widened.result in
-    let has = step_at d.tree c.in-Some.e items c.steps.k s c.steps_at-steps.ensures lt (c.widened.ensures ∙ get_or_default items c.steps.k None s lt) in
+    let has = step_at d.tree c.in-Some.e items c.steps.k s c.steps_among-steps.ensures lt (c.widened.ensures ∙ get_or_default items c.steps.k None s lt) in
     let on = subst (λ o. IfNone o (StepsOn d.tree (c.args.budget - 1 + 1) s)) c.in-None-2.is c.in_ok-one.ensures.many in
     let is : suc (c.args.budget - 1 + 1) ≡ c.args.budget + 1 = omega (arith, c.if-budget-eq0.false) in
     subst (StepsOn d.tree (c.args.budget + 1)) (sym c.in-Some.is) (subst (λ n. StepsOn d.tree n (Some c.in-Some.e)) is (StepsOn-more d.tree (c.args.budget - 1 + 1) (Some c.in-Some.e) s has on))
 
 pub steps-preserved : goal.steps-preserved
 steps-preserved t c =
-    let d = c.args.dwarf.now in
-    let items = c.steps_at-steps.result.now in
+    let d = c.args.types.now.dwarf.now in
+    let items = c.steps_among-steps.result.now in
     let k = c.steps.k in
     let lt : k < length items = c.steps-test.true in
     let s = c.widened.result in
@@ -123,23 +123,23 @@ steps-preserved t c =
     }
 
 pub combine-requires-clause-inside : goal.combine-requires-clause-inside
-combine-requires-clause-inside t c = c.requires.closed.inside c.in-Some.e (subst (λ o. IfSome o (λ x. Contains c.args.found.now x)) c.in-Some.is c.requires.there)
+combine-requires-clause-inside t c = c.requires.closed.inside c.in-Some.e (subst (λ o. IfSome o (λ x. Contains c.args.types.now.found.now x)) c.in-Some.is c.requires.there)
 
 pub returns-clause-known : goal.returns-clause-known
 returns-clause-known t c =
-    let d = c.args.dwarf.now in
-    let at = number_is c.args.found.now c.in-Some.e c.in-Some-number.number (sym c.in-Some-number.is ∙ c.number.ensures.number) in
-    let made = IsLearned-end d c.args.budget c.in-Some.e c.steps.k c.steps_at-steps.result.now c.steps.of_steps.items c.in_ok-made.made c.requires.budget c.steps_at-steps.ensures c.steps-test.false c.steps.invariant.facts c.steps.invariant.few (c.in_ok-made.ensures.is ∙ ap (facts_from d (Some c.in-Some.e)) c.as_slice.ensures.value) in
-    AreFacts-more d c.args.found.now c.steps.known.items c.in-Some-number.number c.in-Some.e c.in_ok-made.made c.steps.invariant.known at made.is made.shallow c.in_ok-made.ensures.near
+    let d = c.args.types.now.dwarf.now in
+    let at = number_is c.args.types.now.found.now c.in-Some.e c.in-Some-number.number (sym c.in-Some-number.is ∙ c.number.ensures.number) in
+    let made = IsLearned-end d c.args.budget c.in-Some.e c.steps.k c.steps_among-steps.result.now c.steps.of_steps.items c.in_ok-made.made c.requires.budget c.steps_among-steps.ensures c.steps-test.false c.steps.invariant.facts c.steps.invariant.few (c.in_ok-made.ensures.is ∙ ap (facts_from d (Some c.in-Some.e)) c.as_slice.ensures.value) in
+    AreFacts-more d c.args.types.now.found.now c.steps.known.items c.in-Some-number.number c.in-Some.e c.in_ok-made.made c.steps.invariant.known at made.is made.shallow c.in_ok-made.ensures.near
 
 pub returns-clause-facts : goal.returns-clause-facts
 returns-clause-facts t c =
-    let d = c.args.dwarf.now in
-    let made = IsLearned-end d c.args.budget c.in-Some.e c.steps.k c.steps_at-steps.result.now c.steps.of_steps.items c.in_ok-made.made c.requires.budget c.steps_at-steps.ensures c.steps-test.false c.steps.invariant.facts c.steps.invariant.few (c.in_ok-made.ensures.is ∙ ap (facts_from d (Some c.in-Some.e)) c.as_slice.ensures.value) in
+    let d = c.args.types.now.dwarf.now in
+    let made = IsLearned-end d c.args.budget c.in-Some.e c.steps.k c.steps_among-steps.result.now c.steps.of_steps.items c.in_ok-made.made c.requires.budget c.steps_among-steps.ensures c.steps-test.false c.steps.invariant.facts c.steps.invariant.few (c.in_ok-made.ensures.is ∙ ap (facts_from d (Some c.in-Some.e)) c.as_slice.ensures.value) in
     made.is ∙ ap (facts_of d) (sym c.in-Some.is)
 
 pub returns-clause-few : goal.returns-clause-few
 returns-clause-few t c =
-    let d = c.args.dwarf.now in
-    let made = IsLearned-end d c.args.budget c.in-Some.e c.steps.k c.steps_at-steps.result.now c.steps.of_steps.items c.in_ok-made.made c.requires.budget c.steps_at-steps.ensures c.steps-test.false c.steps.invariant.facts c.steps.invariant.few (c.in_ok-made.ensures.is ∙ ap (facts_from d (Some c.in-Some.e)) c.as_slice.ensures.value) in
+    let d = c.args.types.now.dwarf.now in
+    let made = IsLearned-end d c.args.budget c.in-Some.e c.steps.k c.steps_among-steps.result.now c.steps.of_steps.items c.in_ok-made.made c.requires.budget c.steps_among-steps.ensures c.steps-test.false c.steps.invariant.facts c.steps.invariant.few (c.in_ok-made.ensures.is ∙ ap (facts_from d (Some c.in-Some.e)) c.as_slice.ensures.value) in
     λ on. made.few (subst (StepsOn d.tree (c.args.budget + 1)) c.in-Some.is on)

@@ -4,7 +4,7 @@ use Rattle.type_reach.proofs.learning.collect.Given as goal
 
 abbrev pub invariant-found : goal.invariant-found
 invariant-found l = record {
-  known : AreFacts l.dwarf l.found l.known.items;
-  len : length l.known.items ≡ length l.found;
-  facts : l.facts.items ≡ map (λ (e : ℕ). facts_of l.dwarf (Some e)) (take l.number l.found);
+  known : AreFacts l.types.dwarf.now l.types.found.now l.known.items;
+  len : length l.known.items ≡ length l.types.found.now;
+  facts : l.facts.items ≡ map (λ (e : ℕ). facts_of l.types.dwarf.now (Some e)) (take l.number l.types.found.now);
 }
