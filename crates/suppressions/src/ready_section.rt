@@ -171,7 +171,11 @@ impl<'r> ReadyRules<'r> {
         ensures some { IsOneOfHandle self.old (plain_subject subject.now) (plain_handle handle.entry) result }
         ensures same { self.new ≡ self.old }
     {
-        one_holds(self.sections.as_mut_slice(), self.order.find(handle), subject)
+        one_holds(
+            self.sections.as_mut_slice(),
+            self.order.find(handle),
+            subject,
+        )
     }
 
     /// Whether some section speaks of a subject and all its properties hold.
@@ -179,7 +183,9 @@ impl<'r> ReadyRules<'r> {
         ensures some { result ≡ some_section_holds self.old (plain_subject subject.now) }
         ensures same { self.new ≡ self.old }
     {
-        if self.holds_at(Handle::Any, subject) || self.holds_at(Handle::Name(subject.name), subject) {
+        if self.holds_at(Handle::Any, subject)
+            || self.holds_at(Handle::Name(subject.name), subject)
+        {
             return true;
         }
         if let Some(symbol) = subject.symbol {
