@@ -12,8 +12,8 @@ use crate::certified_pair::{
 use crate::refused::{Refused, RefusedKind};
 use abi_types::Export;
 
-// What stands behind a symbol's number on the bind line that begins with it, by binary search.
-fn line_of(lines: &[(u32, u32)], symbol: u32) -> Option<u32>
+/// What stands behind a symbol's number on the bind line that begins with it, by binary search.
+pub fn line_of(lines: &[(u32, u32)], symbol: u32) -> Option<u32>
     requires { Ascend first_cmp lines.now }
     ensures { result ≡ the_line_of lines.now symbol }
 {

@@ -1,20 +1,22 @@
 //! What an accepted certificate proves. Each law is the contract of a function that does nothing.
 ghost use Rattle.std.specs.Prelude.{◌≡◌, ◌<◌, ◌↔◌, ℕ, true, List, Option, Some, None, Contains, slice_get};
+ghost use Rattle.abi_types.specs.declared.library.Marks.{Marks};
 ghost use Rattle.abi_types.specs.Graphs.{IsGraph};
 ghost use Rattle.abi_types.specs.Libraries.{AreNumbered};
 ghost use Rattle.pair_rules.specs.Steps.{PlainRoot};
 ghost use Rattle.pair_rules.specs.Stable.{AreEven};
 ghost use Rattle.pair_rules.specs.Closed.{IsClosed, HoldsRoots};
 ghost use Rattle.accesses.specs.LeafPlaces.{LeavesStay};
-ghost use Rattle.cert_text.specs.Certs.{PairLine, PlainCert1};
+ghost use Rattle.cert_text.specs.Certs.{PairLine, PlainCert, PlainCert1};
 ghost use Rattle.cert_check.specs.Agreed.{AreValid, IsAgreed};
-ghost use Rattle.cert_check.specs.Compatible.{Sides, IsCompatible, task_of, typed_roots};
+ghost use Rattle.cert_check.specs.Compatible.{Sides, IsCompatible, sides, task_of, typed_roots};
 ghost use Rattle.cert_check.specs.TypedPairs.{IsTypedPair, HasTypes};
 ghost use Rattle.cert_check.specs.Accepted.{Case, Place, IsAccepted, IsFirstFailing, is_line, line_of, places};
 ghost use Rattle.cert_check.specs.Given.{StandInOrder};
 ghost use Rattle.cert_check.specs.ProvedConditions.{KeepsAll};
 ghost use Rattle.cert_check.specs.Relation.{relation_of};
 ghost use Rattle.cert_check.specs.FirstVersion.{AreOneMark, IsAccepted1, migrated_case};
+ghost use Rattle.cert_check.specs.Unmarked.{MarkNothing};
 
 use accesses::laws::{compatible_is_that_all_accesses_land, leaves_stay};
 use pair_rules::laws::{steps_lead_to_nodes, what_stands_for_classes_closes};
@@ -85,6 +87,15 @@ pub fn roots_are_typed_pairs()
 /// Where the rules mark the same nodes at both ways, a certificate of version 1 that is accepted is accepted once it is migrated.
 pub fn a_migrated_certificate_is_accepted()
     ensures { (s : Sides) (c : PlainCert1) → AreOneMark s → IsAccepted1 s c → IsAccepted (migrated_case s c) }
+{
+    steps_lead_to_nodes();
+}
+
+/// A certificate that is accepted with marks that mark nothing is accepted with any others that mark nothing, if they are of the
+/// same rule text.
+pub fn marks_of_nothing_are_alike()
+    ensures { (s : Sides) (m : Marks) (c : PlainCert) → MarkNothing s.marks → MarkNothing m → s.marks.digest ≡ m.digest
+        → IsAccepted (record { sides = s; cert = c }) → IsAccepted (record { sides = sides s.old s.new m; cert = c }) }
 {
     steps_lead_to_nodes();
 }
