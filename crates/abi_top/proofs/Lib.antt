@@ -1,3 +1,4 @@
+mod Agreeing
 mod Clauses
 mod ParsedArguments
 mod Printed

@@ -21,7 +21,7 @@ ghost use Rattle.commands.specs.Served.{AreServed, AreUnfailed, IsVerdict};
 ghost use Rattle.commands.specs.Texts.{read_fault_text, unreadable_text};
 ghost use Rattle.commands.specs.declared.input.Input.{Input as AnyInput};
 ghost use Rattle.commands.specs.declared.outcome.Outcome.{Outcome as AnyOutcome};
-ghost use Rattle.library_check.specs.Checks.{Compatible, IsCertificateText, IsReportText};
+ghost use Rattle.library_check.specs.Checks.{Agreed, Compatible, IsCertificateText, IsReportText};
 ghost use Rattle.library_check.specs.Relations.{IsRelationText};
 ghost use Rattle.library_check.specs.Remarks.{remark_on};
 ghost use Rattle.library_check.specs.Verifications.{IsAcceptedText, IsRefusedText};
@@ -39,7 +39,7 @@ use abi_base::{Inputs, NoMemory, Sink, write_all};
 use cli_args::laws::a_trial_is_of_a_count;
 use cli_args::{ParsedArguments, Request, parse_arguments};
 use commands::{Answer, File, Input, Outcome, Verdict, answer_with};
-use library_check::laws::a_file_may_replace_itself;
+use library_check::laws::{a_file_may_replace_itself, compatible_is_that_accesses_agree};
 use report::Listener;
 use std::alloc::Global;
 
@@ -88,6 +88,17 @@ pub fn run<'a, I: Inputs, S: Sink>(
     ensures no { let call : Call = call_of I.told I.faults I.given I.started (map voice listeners.items) words.entry.now inputs.old inputs.new in
         (untyped : Option AnyRemark) → result.outcome ≡ Outcome.Judged Verdict.No untyped
         → OnCheck call (λ report old new rules. (Compatible old new rules → ⊥) × (untyped ≡ Some (remark_on old new)) × (text : List ℕ) × IsReportText (wanted_voices report call.voices) old new rules text × Appends (S.held sink.old) (S.held sink.new) text) }
+
+    // Yes, as a program sees it that was compiled against the old library: the sonames are equal, each export that is compared binds
+    // to one that keeps the rules of exports, and whatever the program may reach from the type of such an export, by results,
+    // parameters, pointers, elements and members, it finds in the new library at the same bit of the same object, in agreement. And
+    // on no this is not so. With `complete`, `check` says yes exactly where the libraries agree on all such accesses.
+    ensures yes_agreed { let call : Call = call_of I.told I.faults I.given I.started (map voice listeners.items) words.entry.now inputs.old inputs.new in
+        (untyped : Option AnyRemark) → result.outcome ≡ Outcome.Judged Verdict.Yes untyped
+        → OnCheck call (λ report old new rules. Agreed old new rules) ⊎ OnVerify call (λ old new rules certificate. Agreed old new rules) }
+    ensures no_agreed { let call : Call = call_of I.told I.faults I.given I.started (map voice listeners.items) words.entry.now inputs.old inputs.new in
+        (untyped : Option AnyRemark) → result.outcome ≡ Outcome.Judged Verdict.No untyped
+        → OnCheck call (λ report old new rules. Agreed old new rules → ⊥) }
 
     // A library may replace itself, whatever a rule file leaves out: where both names tell the same bytes, the answer is not no.
     ensures itself { (rules : Option (List ℕ)) (report : AnyStyle) (old_name new_name bytes : List ℕ) (untyped : Option AnyRemark) → arguments_by (texts words.entry.now) ≡ requested (check rules report old_name new_name)
@@ -168,6 +179,7 @@ pub fn run<'a, I: Inputs, S: Sink>(
         → map plain_file result.files.items ≡ files_of (places_of (command_of (map voice listeners.items) asked).inputs) }
 {
     a_file_may_replace_itself();
+    compatible_is_that_accesses_agree();
     match answer_to(alloc, words, inputs, listeners) {
         Err(NoMemory) => Ended {
             outcome: Outcome::NoMemory,

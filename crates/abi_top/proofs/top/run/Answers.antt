@@ -4,8 +4,9 @@ use Rattle.abi_base.specs.Causes.{AppendsFront}
 use Rattle.abi_top.specs.Answer.{Call, Answers}
 use Rattle.cli_args.specs.Words.{texts}
 use Rattle.commands.specs.Reading.{reading_of}
+use Rattle.abi_top.proofs.Agreeing.{yes_agreed, no_agreed}
 use Rattle.abi_top.proofs.ParsedArguments.{complete_says, fault_says}
-use Rattle.abi_top.proofs.Clauses.{yes_says, no_says, refused_says, itself_says}
+use Rattle.abi_top.proofs.Clauses.{yes_says, no_says, refused_says, done_says, itself_says}
 use Rattle.abi_top.proofs.top.run.Goals as goal
 
 pub returns-in-Ok-write_all-clause-yes : goal.returns-in-Ok-write_all-clause-yes
@@ -24,6 +25,18 @@ returns-in-Ok-write_all-clause-no g c = λ untyped is.
     let answers = subst (λ o. Answers call o c.in-Ok.answer.text.items) is c.in-Ok.ensures.answers in
     no_says call untyped c.in-Ok.answer.text.items A whole answers
 
+pub returns-in-Ok-write_all-clause-yes_agreed : goal.returns-in-Ok-write_all-clause-yes_agreed
+returns-in-Ok-write_all-clause-yes_agreed g c = λ untyped is.
+    let call : Call = record { words = texts c.args.words.now; voices = map (λ b. (goal.Listener-dyn g (b.vtable, b.value)).voice b.value) c.args.listeners.items; reading = reading_of g.I.Inputs.told g.I.Inputs.faults g.I.Inputs.given g.I.Inputs.started c.args.inputs.now c.answer_to.new.inputs } in
+    let answers = subst (λ o. Answers call o c.in-Ok.answer.text.items) is c.in-Ok.ensures.answers in
+    yes_agreed c.compatible_is_that_accesses_agree.ensures.exact call untyped c.in-Ok.answer.text.items answers
+
+pub returns-in-Ok-write_all-clause-no_agreed : goal.returns-in-Ok-write_all-clause-no_agreed
+returns-in-Ok-write_all-clause-no_agreed g c = λ untyped is.
+    let call : Call = record { words = texts c.args.words.now; voices = map (λ b. (goal.Listener-dyn g (b.vtable, b.value)).voice b.value) c.args.listeners.items; reading = reading_of g.I.Inputs.told g.I.Inputs.faults g.I.Inputs.given g.I.Inputs.started c.args.inputs.now c.answer_to.new.inputs } in
+    let answers = subst (λ o. Answers call o c.in-Ok.answer.text.items) is c.in-Ok.ensures.answers in
+    no_agreed c.compatible_is_that_accesses_agree.ensures.exact call untyped c.in-Ok.answer.text.items answers
+
 pub returns-in-Ok-write_all-clause-refused : goal.returns-in-Ok-write_all-clause-refused
 returns-in-Ok-write_all-clause-refused g c = λ untyped is.
     let call : Call = record { words = texts c.args.words.now; voices = map (λ b. (goal.Listener-dyn g (b.vtable, b.value)).voice b.value) c.args.listeners.items; reading = reading_of g.I.Inputs.told g.I.Inputs.faults g.I.Inputs.given g.I.Inputs.started c.args.inputs.now c.answer_to.new.inputs } in
@@ -31,6 +44,14 @@ returns-in-Ok-write_all-clause-refused g c = λ untyped is.
     let whole : A c.in-Ok.answer.text.items = subst A c.deref.ensures.value c.in-Ok-write_all.ensures.whole in
     let answers = subst (λ o. Answers call o c.in-Ok.answer.text.items) is c.in-Ok.ensures.answers in
     refused_says call untyped c.in-Ok.answer.text.items A whole answers
+
+pub returns-in-Ok-write_all-clause-done : goal.returns-in-Ok-write_all-clause-done
+returns-in-Ok-write_all-clause-done g c = λ untyped is.
+    let call : Call = record { words = texts c.args.words.now; voices = map (λ b. (goal.Listener-dyn g (b.vtable, b.value)).voice b.value) c.args.listeners.items; reading = reading_of g.I.Inputs.told g.I.Inputs.faults g.I.Inputs.given g.I.Inputs.started c.args.inputs.now c.answer_to.new.inputs } in
+    let A : List ℕ → Type 0 = λ t. Appends (g.S.Sink.held c.args.sink.now) (g.S.Sink.held c.write_all.new.sink) t in
+    let whole : A c.in-Ok.answer.text.items = subst A c.deref.ensures.value c.in-Ok-write_all.ensures.whole in
+    let answers = subst (λ o. Answers call o c.in-Ok.answer.text.items) is c.in-Ok.ensures.answers in
+    done_says call untyped c.in-Ok.answer.text.items A whole answers
 
 pub returns-in-Ok-write_all-clause-itself : goal.returns-in-Ok-write_all-clause-itself
 returns-in-Ok-write_all-clause-itself g c = λ rules_name report old_name new_name bytes untyped asked old_told new_told is.
