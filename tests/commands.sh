@@ -7,7 +7,7 @@
 #   ABI=/path/of/abi tests/commands.sh    takes another one
 set -eu
 title="commands"
-tools="gcc readelf sha256sum awk"
+tools="gcc readelf sha256sum awk timeout"
 crate=abi_cli
 . "$(dirname "$0")/common.bash"
 
@@ -222,7 +222,10 @@ expect "a trial of one" 0 trial 1
 wanted "trial 1000 yes exports 1000 lines 3122" "digest bdd0473355c1c12cd7a3be0b9ccd2d3d1aa0cba2e204815c89fb51498ecdbe23"
 expect "a trial of a thousand" 0 trial 1000
 expect "a trial of a thousand, behind --" 0 trial -- 1000
-answers "a trial of fifty thousand" 0 trial 50000
+# The largest trial ends within a minute.
+ended=0
+timeout 60 "$program" trial 50000 >got 2>errors || ended=$?
+[ "$ended" -eq 0 ] && [ ! -s errors ] || fail "a trial of fifty thousand: status $ended after a minute at most"
 head -n 1 got | grep -qx "trial 50000 yes exports 50000 lines 156002" || fail "a trial of fifty thousand: $(cat got)"
 passed "a trial of fifty thousand"
 finished

@@ -1,0 +1,160 @@
+// Types in plain numbers, which are easily made, changed and compared.
+use abi_types::{Group, Kind};
+
+/// Of which sort a part is.
+#[derive(Clone, Copy, Debug, PartialEq, Eq)]
+pub(crate) enum Sort {
+    Member,
+    Enumerator,
+    Target,
+    Element,
+    Outcome,
+    Param,
+}
+
+/// A part of a type. Fields that its sort does not use hold 0.
+#[derive(Clone, Copy)]
+pub(crate) struct Piece {
+    pub(crate) sort: Sort,
+    /// 0 where it has no name.
+    pub(crate) name: u8,
+    pub(crate) bit: u64,
+    pub(crate) width: u64,
+    pub(crate) value: u64,
+    /// The register of a result or of a parameter: 0 for none, 1 to 99 for the general ones, 100 and more for the vector ones.
+    pub(crate) place: u8,
+    /// The number of the type that it names.
+    pub(crate) to: usize,
+}
+
+/// The parts of a type, each of which may be missing. Those of a function are its result and then its parameters.
+pub(crate) type Pieces = [Option<Piece>; 3];
+
+/// What a type looks like. Fields that its kind does not use hold 0.
+#[derive(Clone, Copy)]
+pub(crate) struct Shape {
+    pub(crate) kind: Kind,
+    pub(crate) declared_only: bool,
+    /// 0 where it has no tag.
+    pub(crate) tag: u8,
+    pub(crate) size: u64,
+    pub(crate) group: Group,
+    pub(crate) align: u64,
+    pub(crate) count: u64,
+    pub(crate) variadic: bool,
+    pub(crate) pieces: Pieces,
+}
+
+/// No parts.
+pub(crate) const NO_PIECES: Pieces = [None, None, None];
+
+fn piece_of(sort: Sort, to: usize) -> Piece {
+    Piece {
+        sort,
+        name: 0,
+        bit: 0,
+        width: 0,
+        value: 0,
+        place: 0,
+        to,
+    }
+}
+
+pub(crate) fn member(name: u8, bit: u64, to: usize) -> Option<Piece> {
+    let mut piece = piece_of(Sort::Member, to);
+    piece.name = name;
+    piece.bit = bit;
+    Some(piece)
+}
+
+pub(crate) fn enumerator(name: u8, value: u64) -> Option<Piece> {
+    let mut piece = piece_of(Sort::Enumerator, 0);
+    piece.name = name;
+    piece.value = value;
+    Some(piece)
+}
+
+pub(crate) fn outcome(place: u8, to: usize) -> Option<Piece> {
+    let mut piece = piece_of(Sort::Outcome, to);
+    piece.place = place;
+    Some(piece)
+}
+
+pub(crate) fn param(place: u8, to: usize) -> Option<Piece> {
+    let mut piece = piece_of(Sort::Param, to);
+    piece.place = place;
+    Some(piece)
+}
+
+/// A type of a kind with a size and parts, and nothing in its other fields.
+pub(crate) fn shape_of(kind: Kind, size: u64, pieces: Pieces) -> Shape {
+    Shape {
+        kind,
+        declared_only: false,
+        tag: 0,
+        size,
+        group: Group::Bool,
+        align: 0,
+        count: 0,
+        variadic: false,
+        pieces,
+    }
+}
+
+pub(crate) fn void() -> Shape {
+    shape_of(Kind::Void, 0, NO_PIECES)
+}
+
+pub(crate) fn scalar(size: u64, group: Group) -> Shape {
+    let mut scalar = shape_of(Kind::Scalar, size, NO_PIECES);
+    scalar.group = group;
+    scalar
+}
+
+pub(crate) fn pointer(to: usize) -> Shape {
+    shape_of(
+        Kind::Pointer,
+        8,
+        [Some(piece_of(Sort::Target, to)), None, None],
+    )
+}
+
+/// An array of so many elements, whose size is still to be found.
+pub(crate) fn array(count: u64, to: usize) -> Shape {
+    let mut array = shape_of(
+        Kind::Array,
+        0,
+        [Some(piece_of(Sort::Element, to)), None, None],
+    );
+    array.count = count;
+    array
+}
+
+/// A structure that is declared only.
+pub(crate) fn declared(tag: u8) -> Shape {
+    let mut declared = shape_of(Kind::Structure, 0, NO_PIECES);
+    declared.declared_only = true;
+    declared.tag = tag;
+    declared
+}
+
+// The size of the elements of an array that stands behind these types.
+fn element_size(types: &[Shape], array: &Shape) -> u64 {
+    let [first, _, _] = array.pieces;
+    match first {
+        None => 0,
+        Some(piece) => match types.get(piece.to) {
+            None => 0,
+            Some(element) => element.size,
+        },
+    }
+}
+
+/// The type as it stands behind these types: an array has the size of its elements together.
+pub(crate) fn whole(types: &[Shape], shape: &Shape) -> Shape {
+    let mut whole = *shape;
+    if whole.kind == Kind::Array {
+        whole.size = whole.count.wrapping_mul(element_size(types, shape));
+    }
+    whole
+}
