@@ -65,7 +65,11 @@ fn lines_have_numbers(
 }
 
 // The certificate that two certificates compose, by the representatives of the middle library's entries.
-fn composed(alloc: Global, ground: &CertifiedChain, middles: &[(u64, u64)]) -> Result<Cert, NoMemory>
+fn composed(
+    alloc: Global,
+    ground: &CertifiedChain,
+    middles: &[(u64, u64)],
+) -> Result<Cert, NoMemory>
     requires chain { IsChain (chain_of ground.now) }
     requires rises { IsNonDecreasingBy first_of middles.now }
     requires exact { (m : ℕ × ℕ) → Contains middles.now m ↔ IsMiddle (chain_of ground.now) m }

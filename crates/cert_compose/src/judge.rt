@@ -25,7 +25,11 @@ fn lost(kind: RefusedKind, at: u64) -> ComposeRefusal
 }
 
 /// Ok where nothing is lost, else the first that is.
-pub fn judge(alloc: Global, ground: &CertifiedChain, middles: &[(u64, u64)]) -> Result<(), ComposeRefusal>
+pub fn judge(
+    alloc: Global,
+    ground: &CertifiedChain,
+    middles: &[(u64, u64)],
+) -> Result<(), ComposeRefusal>
     requires chain { IsChain (chain_of ground.now) }
     requires rises { IsNonDecreasingBy first_of middles.now }
     requires exact { (m : ℕ × ℕ) → Contains middles.now m ↔ IsMiddle (chain_of ground.now) m }

@@ -66,7 +66,10 @@ struct Link<'x, 'b, 'c> {
 }
 
 // What an export binds to, where it binds in the last library to what it binds to through the middle one.
-fn link_of<'x, 'b, 'c>(ground: &CertifiedChain<'x, '_, 'b, 'c>, export: &Export) -> Option<Link<'x, 'b, 'c>>
+fn link_of<'x, 'b, 'c>(
+    ground: &CertifiedChain<'x, '_, 'b, 'c>,
+    export: &Export,
+) -> Option<Link<'x, 'b, 'c>>
     ensures { MatchOption result (BindsThrough (chain_of ground.now) (plain_export export.now) → ⊥) (λ link. IsLink (chain_of ground.now) (plain_export export.now) (plain_export link.between.now) (plain_export link.partner.now)) }
 {
     let between = match bound_to(export, ground.middle) {
