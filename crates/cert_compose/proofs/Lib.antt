@@ -1,0 +1,14 @@
+mod NodeLemmas
+mod LineLemmas
+mod Accepting
+mod RunLemmas
+mod JoinLemmas
+mod OrderLemmas
+mod LinkLemmas
+mod TestLemmas
+mod LossLemmas
+mod JudgeLemmas
+mod BindLemmas
+mod MadeLemmas
+mod OneList
+mod OneCert

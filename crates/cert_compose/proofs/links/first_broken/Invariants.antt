@@ -1,0 +1,7 @@
+use Rattle.std.proofs.Common.{ℕ, ◌<◌}
+use Rattle.cert_compose.specs.Between.{KeepsRules}
+use Rattle.cert_compose.specs.CertifiedChain.{chain_of}
+use Rattle.cert_compose.proofs.links.first_broken.Given as goal
+
+abbrev pub invariant-loop-k : goal.invariant-loop-k
+invariant-loop-k l = (j : ℕ) → j < l.k → KeepsRules (chain_of l.ground) j

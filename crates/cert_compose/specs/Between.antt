@@ -1,0 +1,59 @@
+-- What may be lost where a middle library is left out.
+use Rattle.std.specs.Prelude.{◌≡◌, ◌&&◌, not, ℕ, Bool, true, false, [], Some, slice_get}
+use Rattle.abi_types.specs.declared.kind.Way.{Way}
+use Rattle.abi_types.specs.Exports.{PlainExport}
+use Rattle.abi_types.specs.Types.{PlainView}
+use Rattle.abi_types.specs.Graphs.{view_at}
+use Rattle.pair_rules.specs.TypeRules.{breaks}
+use Rattle.elf_bind.specs.Binding.{bind_to}
+use Rattle.cert_check.specs.Compatible.{bound, is_typed, KeepsExport}
+use Rattle.cert_check.specs.Relation.{relation_of}
+use Rattle.cert_compose.specs.Chains.{PlainChain, near, near_case, next_case}
+
+-- the first export binds to `f`, `f` binds in the last library to `g`, and so does the first export
+pub record IsLink (ch : PlainChain) (e f g : PlainExport) : Type 0 where
+  pub one : bound (near ch) e ≡ Some f
+  pub place : ℕ
+  pub other : bind_to ch.last.exports f ≡ Some place
+  pub straight : bind_to ch.last.exports e ≡ Some place
+  pub at : slice_get ch.last.exports place ≡ Some g
+
+-- it binds in the last library to what it binds to through the middle one
+pub record BindsThrough (ch : PlainChain) (e : PlainExport) : Type 0 where
+  pub between : PlainExport
+  pub partner : PlainExport
+  pub link : IsLink ch e between partner
+
+abbrev pub KeepsBinding : PlainChain → ℕ → Type 0
+KeepsBinding ch k = (e : PlainExport) → slice_get ch.first.exports k ≡ Some e → BindsThrough ch e
+
+-- it keeps the rules of exports against what it binds to there
+abbrev pub KeepsRules : PlainChain → ℕ → Type 0
+KeepsRules ch k = (e f g : PlainExport) → slice_get ch.first.exports k ≡ Some e → IsLink ch e f g → KeepsExport e g
+
+-- where it and that one have types, the one between has a type
+abbrev pub KeepsTyped : PlainChain → ℕ → Type 0
+KeepsTyped ch k = (e f g : PlainExport) → slice_get ch.first.exports k ≡ Some e → IsLink ch e f g → is_typed e ≡ true → is_typed g ≡ true → is_typed f ≡ true
+
+-- the type between two definitions is a declaration alone
+abbrev pub hides : PlainView → PlainView → PlainView → Bool
+hides v u w = u.declared_only && not v.declared_only && not w.declared_only
+
+-- the first and the second node are related by the first certificate, and the second and the third by the second, at one way
+pub record AreRelated (ch : PlainChain) (e f g : ℕ) (way : Way) : Type 0 where
+  pub one : relation_of (near_case ch) (record { old = e; new = f; way = way }) ≡ true
+  pub other : relation_of (next_case ch) (record { old = f; new = g; way = way }) ≡ true
+
+-- what is related to the node through the middle library is not hidden there, and keeps the rules of types
+pub record KeepsType (ch : PlainChain) (e f g : ℕ) : Type 0 where
+  pub shown : hides (view_at ch.first.graph e) (view_at ch.middle.graph f) (view_at ch.last.graph g) ≡ false
+  pub keeps : breaks (view_at ch.first.graph e) (view_at ch.last.graph g) ≡ []
+
+abbrev pub KeepsTypes : PlainChain → ℕ → Type 0
+KeepsTypes ch e = (f g : ℕ) (way : Way) → AreRelated ch e f g way → KeepsType ch e f g
+
+pub record NothingBetween (ch : PlainChain) : Type 0 where
+  pub bindings : (k : ℕ) → KeepsBinding ch k
+  pub rules : (k : ℕ) → KeepsRules ch k
+  pub typed : (k : ℕ) → KeepsTyped ch k
+  pub types : (e : ℕ) → KeepsTypes ch e

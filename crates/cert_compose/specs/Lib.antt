@@ -1,0 +1,9 @@
+pub mod Chains
+pub mod Composed
+pub mod Between
+pub mod Joins
+pub mod Middles
+pub mod CertifiedChain
+pub mod Losses
+pub mod Refusals
+pub mod Binds

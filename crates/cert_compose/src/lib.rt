@@ -1,0 +1,20 @@
+//! Certificates joined: from one that a middle library may stand in the place of a first one, and one that a last library may
+//! stand in the place of the middle one, the certificate that the last may stand in the place of the first.
+#![tactic(auto)]
+
+mod binds;
+mod certified_chain;
+mod composing;
+mod joins;
+mod judge;
+pub mod laws;
+mod lines;
+mod links;
+mod middles;
+mod parts;
+mod refusal;
+mod types;
+
+pub use certified_chain::Chain;
+pub use composing::compose;
+pub use refusal::ComposeRefusal;

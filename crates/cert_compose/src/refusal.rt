@@ -1,0 +1,24 @@
+// Why two certificates compose none.
+ghost use Rattle.std.specs.Prelude.{◌≡◌};
+ghost use Rattle.cert_compose.specs.declared.refusal.ComposeRefusal.TheVariants.{NoMemory as OutOfMemory};
+
+use abi_base::NoMemory;
+use cert_check::Refused;
+
+/// Why two certificates compose none.
+#[derive(Clone, Copy, Debug)]
+pub enum ComposeRefusal {
+    /// What is lost where the middle library is left out: `at` is the symbol of an export of the first library, or the entry of
+    /// one of its types.
+    Between(Refused),
+    /// There is no memory for the composed certificate.
+    NoMemory,
+}
+
+impl From<NoMemory> for ComposeRefusal {
+    ghost from_gives = { λ _ e. e ≡ OutOfMemory };
+
+    fn from(_: NoMemory) -> Self {
+        ComposeRefusal::NoMemory
+    }
+}
