@@ -1,0 +1,8 @@
+mod FindLemmas
+mod JoinLemmas
+mod LawLemmas
+mod ListLemmas
+mod OrderLemmas
+mod OverlapLemmas
+mod StructureLemmas
+mod SweepLemmas

@@ -1,0 +1,20 @@
+//! The layout of a structure: the rows of its members, holes, padding and overlaps, and their lines.
+#![tactic(auto)]
+
+mod extent;
+mod find;
+mod fitting;
+pub mod laws;
+mod lines;
+mod overlaps;
+mod row;
+mod rows;
+mod structure;
+
+pub use find::find_tag;
+pub use lines::layout_lines;
+pub use row::LayoutRow;
+pub use structure::layout;
+
+#[cfg(test)]
+mod tests;

@@ -1,0 +1,88 @@
+// The members of a structure of a graph, and its layout.
+ghost use Rattle.std.specs.Prelude.{◌≡◌, ◌<◌, ◌≤◌, ◌^◌, ℕ, length, IfOk, IfSome, Some};
+ghost use Rattle.abi_types.specs.Graphs.{part_at, to_of, view_at};
+ghost use Rattle.abi_types.specs.Parts.{plain_part};
+ghost use Rattle.type_print.specs.Rows.{AreRows};
+ghost use Rattle.type_print.specs.Structures.{bits_of as the_bits_of, extent_in, members_of as the_members_of, width_in};
+
+use crate::extent::Extent;
+use crate::row::LayoutRow;
+use crate::rows::rows_of;
+use abi_base::NoMemory;
+use abi_types::{Graph, Index, Part, View};
+use std::alloc::Global;
+
+// The size of a type in bits.
+fn bits_of<Ix: Index>(view: &View<Ix>) -> u64
+    requires { view.now.size ≤ 2 ^ 60 }
+    ensures { result ≡ the_bits_of view.now }
+{
+    8 * view.size
+}
+
+// The width of a member in bits: that of a bit field, or else that of its type.
+fn width_of<Ix: Index>(graph: &Graph<Ix>, width: u64, to: Ix) -> u64
+    requires { Ix.number_of to < length graph.now }
+    ensures { result ≡ width_in graph.now width (Ix.number_of to) }
+{
+    if width > 0 {
+        return width;
+    }
+    graph.known();
+    let view = graph.view(to);
+    bits_of(view)
+}
+
+// Where a member stands.
+fn extent_of<Ix: Index>(graph: &Graph<Ix>, position: usize, part: &Part<Ix>) -> Extent
+    requires { IfSome (to_of (plain_part Ix.number_of part.now)) (λ to. to < length graph.now) }
+    ensures { result ≡ extent_in graph.now position (plain_part Ix.number_of part.now) }
+{
+    match part {
+        Part::Member { bit, width, to, .. } => Extent {
+            part: position,
+            bit: *bit,
+            width: width_of(graph, *width, *to),
+        },
+        _ => Extent {
+            part: position,
+            bit: 0,
+            width: 0,
+        },
+    }
+}
+
+// Where the members of a structure stand.
+fn members_of<Ix: Index>(
+    alloc: Global,
+    graph: &Graph<Ix>,
+    view: &View<Ix>,
+) -> Result<Vec<Extent>, NoMemory>
+    requires { (k to : ℕ) → to_of (part_at view.now k) ≡ Some to → to < length graph.now }
+    ensures { IfOk result (λ members. members.items ≡ the_members_of graph.now view.now) }
+{
+    let mut members = Vec::new(alloc);
+    for position in 0..view.parts_len() {
+        members.push(extent_of(graph, position, view.part(position)))?;
+    }
+    Ok(members)
+}
+
+/// The layout of a structure that is defined: its members in order, and where none overlap and none ends outside, the holes
+/// between them and the padding behind them; else the overlaps and the members that end outside after them. A position of a row
+/// is that of a part of the structure's view. It fails only when memory runs out.
+pub fn layout<Ix: Index>(
+    alloc: Global,
+    graph: &Graph<Ix>,
+    ix: Ix,
+) -> Result<Vec<LayoutRow>, NoMemory>
+    requires { Ix.number_of ix < length graph.now }
+    ensures rows { IfOk result (λ rows. AreRows (the_members_of graph.now (view_at graph.now (Ix.number_of ix))) (the_bits_of (view_at graph.now (Ix.number_of ix))) rows.items) }
+{
+    graph.known();
+    let view = graph.view(ix);
+    let bits = bits_of(view);
+    let members = members_of(alloc, graph, view)?;
+    let rows = rows_of(alloc, members, bits)?;
+    Ok(rows)
+}
