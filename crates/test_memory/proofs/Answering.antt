@@ -1,17 +1,20 @@
 -- Over two libraries that fit in memory, `check` has a verdict, and which one it is says whether the new library may replace the
 -- old one.
 use Rattle.std.proofs.Common.{◌≡◌, ◌≢◌, ◌↔◌, ◌≤◌, ◌+◌, ℕ, min, length, List, [], ◌∷◌, Option, Some, None, IsSome, refl, sym, ◌∙◌, ap, subst, arith}
-use Rattle.std.specs.Prelude.{codes}
-use Rattle.abi_base.specs.Causes.{Rose}
+use Rattle.std.specs.Prelude.{codes, map}
+use Rattle.abi_base.specs.Causes.{Rose, SameCounts}
 use Rattle.abi_base.specs.Limits.{sink_room}
 use Rattle.abi_base.specs.declared.remark.Remark.{Remark}
 use Rattle.abi_top.specs.Answer.{Answers, Asks, AsksForTold, Call, HasRoom, row_of}
+use Rattle.abi_top.specs.Rows.{library_at, rules_at}
 use Rattle.abi_top.specs.Says.{CheckSays, check_says}
 use Rattle.cli_args.specs.ParsedArguments.{PlainRequest, arguments_by, check, request, usage, help}
-use Rattle.commands.specs.Commands.{places_of}
-use Rattle.commands.specs.Reading.{AreTold}
+use Rattle.cli_args.specs.Words.{IsNoOption}
+use Rattle.commands.specs.Commands.{named, places_of}
+use Rattle.commands.specs.declared.input.Input.TheVariants.{Old, New}
+use Rattle.commands.specs.Reading.{AreTold, reading_of}
 use Rattle.commands.specs.Replies.{Replies}
-use Rattle.commands.specs.Served.{AreServed, IsVerdict}
+use Rattle.commands.specs.Served.{AreServed, IsServed, IsVerdict}
 use Rattle.commands.specs.declared.outcome.Outcome.{Outcome}
 use Rattle.commands.specs.declared.outcome.Outcome.TheVariants.{Judged, Unreadable, ReadFault, Help, Usage, NoMemory, WriteFault}
 use Rattle.commands.specs.declared.verdict.Verdict.{Verdict}
@@ -28,6 +31,12 @@ use Rattle.test_memory.specs.Memory.{FitsInMemory}
 -- what the words ask for
 abbrev pub this_check : PlainRequest
 this_check = check None Text (codes "old") (codes "new")
+
+pub no_option_old : IsNoOption (codes "old")
+no_option_old same = cc
+
+pub no_option_new : IsNoOption (codes "new")
+no_option_new same = cc
 
 -- a count that stands at 0 did not rise
 pub not_risen : (before now : ℕ) → before ≡ 0 → now ≡ before → Rose before now → ⊥
@@ -74,9 +83,10 @@ module _ (call : Call) (old new : List ℕ) (fits : FitsInMemory old new) (unhea
   pub are_served : rule_fault [] ≡ None → call.reading.told (codes "old") ≡ Some old → call.reading.told (codes "new") ≡ Some new
       → ((name : List ℕ) → Rose (call.reading.before name) (call.reading.after name) → ⊥) → AreServed call.reading (row_of call this_check).inputs (all_bytes old new)
   are_served no_rules old_told new_told unfailed =
-      let old_served = record { told = old_told; short = fits.old_short; faultless = fits.old_readable; unfailed = unfailed (codes "old") } in
-      let new_served = record { told = new_told; short = fits.new_short; faultless = fits.new_readable; unfailed = unfailed (codes "new") } in
-      (old_served, (new_served, (record { told = refl; short = omega arith; faultless = no_rules; unfailed = tt }, tt)))
+      let old_served : IsServed call.reading (library_at Old (named (codes "old"))) old = record { told = old_told; short = fits.old_short; faultless = fits.old_readable; unfailed = unfailed (codes "old") } in
+      let new_served : IsServed call.reading (library_at New (named (codes "new"))) new = record { told = new_told; short = fits.new_short; faultless = fits.new_readable; unfailed = unfailed (codes "new") } in
+      let rules_served : IsServed call.reading (rules_at None) [] = record { told = refl; short = omega arith; faultless = no_rules; unfailed = tt } in
+      (old_served, (new_served, (rules_served, tt)))
 
   pub asks_for_told : call.reading.told (codes "old") ≡ Some old → call.reading.told (codes "new") ≡ Some new → AsksForTold call
   asks_for_told old_told new_told = λ asked other.
@@ -119,9 +129,32 @@ module _ (old new : List ℕ) where
   by_verdict Refused text says = absurd says
   by_verdict Done text says = absurd says
 
-module _ (call : Call) (old new : List ℕ) (fits : FitsInMemory old new) (unheard : call.voices ≡ []) (is : arguments_by call.words ≡ request this_check) where
-  pub is_exact : (outcome : Outcome) (P : List ℕ → Type 0) → IsVerdict (row_of call this_check).says (all_bytes old new) outcome P → IsExact old new outcome
-  is_exact outcome P on =
-      let says = said call old new fits unheard is on.verdict on.untyped on.text on.said in
-      let same : with_remark old new on.verdict ≡ outcome = ap (λ (u : Option Remark). Judged on.verdict u) (sym says.1) ∙ sym on.is in
-      subst (IsExact old new) same (by_verdict old new on.verdict on.text says.0)
+is_exact : (call : Call) (old new : List ℕ) (fits : FitsInMemory old new) (unheard : call.voices ≡ []) (is : arguments_by call.words ≡ request this_check)
+    (outcome : Outcome) (P : List ℕ → Type 0) → IsVerdict (row_of call this_check).says (all_bytes old new) outcome P → IsExact old new outcome
+is_exact call old new fits unheard is outcome P on =
+    let says = said call old new fits unheard is on.verdict on.untyped on.text on.said in
+    let same : with_remark old new on.verdict ≡ outcome = ap (λ (u : Option Remark). Judged on.verdict u) (sym says.1) ∙ sym on.is in
+    subst (λ (o : Outcome). IsExact old new o) same (by_verdict old new on.verdict on.text says.0)
+
+-- ---- what a run promises, put together
+
+module _ {I L : Type 0} (told : I → List ℕ → Option (List ℕ)) (faults : I → List ℕ → ℕ) (given started : I → ℕ) (voice : L → Voice) (listeners : List L)
+    (words : List (List ℕ)) (first last : I) (old new : List ℕ) (outcome : Outcome) (P : List ℕ → Type 0) (before after : ℕ) where
+  abbrev pub the_call : Call
+  the_call = record { words = words; voices = map voice listeners; reading = reading_of told faults given started first last }
+
+  -- the clause on right words, readable inputs, and devices that did not fail
+  abbrev pub IsComplete : Type 0
+  IsComplete = (asked : PlainRequest) (all : List (List ℕ)) → arguments_by words ≡ request asked → AreServed the_call.reading (row_of the_call asked).inputs all
+      → (Rose before after → ⊥) → outcome ≢ NoMemory → IsVerdict (row_of the_call asked).says all outcome P
+
+  pub exact : IsComplete → (AsksForTold the_call → SameCounts (faults first) (faults last)) → (HasRoom the_call sink_room → after ≡ before)
+      → listeners ≡ [] → arguments_by words ≡ request this_check → rule_fault [] ≡ None
+      → told first (codes "old") ≡ Some old → told first (codes "new") ≡ Some new → ((name : List ℕ) → faults first name ≡ 0) → before ≡ 0
+      → outcome ≢ NoMemory → FitsInMemory old new → IsExact old new outcome
+  exact complete steady steady_sink none_heard is no_rules old_told new_told none none_of_sink memory fits =
+      let unheard : map voice listeners ≡ [] = ap (λ (l : List L). map voice l) none_heard in
+      let same = steady (asks_for_told the_call old new fits unheard is old_told new_told) in
+      let served = are_served the_call old new fits unheard is no_rules old_told new_told (λ name. not_risen (faults first name) (faults last name) (none name) (same name)) in
+      let still = steady_sink (has_room the_call old new fits unheard is served) in
+      is_exact the_call old new fits unheard is outcome P (complete this_check (all_bytes old new) is served (not_risen before after none_of_sink still) memory)
