@@ -274,6 +274,39 @@ def test_a_supplementary_file_beside_a_debug_file(two: tuple[list[Path], list[Pa
     assert exports(joined) == exports(whole[0])
 
 
+def test_a_supplementary_file_beside_a_debug_file_that_is_found_by_its_name(two: tuple[list[Path], list[Path], Path],
+                                                                            tmp_path: Path) -> None:
+    """There is no folder of build ids: `.gnu_debuglink` leads to the debug file, and that to the supplementary file beside it."""
+    whole, kept, common = two
+    root = tmp_path / "root"
+    place = root / "usr/lib/debug/usr/lib/whole.debug"
+    stripped = split(kept[0], place)
+    (root / "usr/lib").mkdir(exist_ok=True)
+    library = stripped.rename(root / "usr/lib/whole.so")
+    joined = tmp_path / "joined.so"
+    refused(tool("join-debug", "--root", root, library, joined), 1, "there is no supplementary file", joined)
+    supplementary = root / "usr/lib/debug/.dwz" / common.name
+    supplementary.parent.mkdir()
+    common.rename(supplementary)
+    assert tool("join-debug", "--root", root, library, joined).status == 0
+    assert exports(joined) == exports(whole[0])
+
+
+@pytest.mark.parametrize("compression", ("zlib", "zstd"))
+def test_compressed_debug_and_supplementary_files_are_inflated(build: Build, tmp_path: Path, compression: str) -> None:
+    many = "".join(f"int many_functions_{one}(struct shape *s) {{ return s->at->x; }}\n" for one in range(60))
+    parted = [build(f"{number}.so", text + many, "-g") for number, text in ((1, FIRST), (2, SECOND))]
+    before = exports(parted[0])
+    common = tmp_path / "common.debug"
+    shared(parted, common)
+    stripped = split(parted[0], tmp_path / "plain.debug", link=False)
+    for file in (common, tmp_path / "plain.debug"):
+        done("objcopy", f"--compress-debug-sections={compression}", file)
+        assert "C" in "".join(sections(file).values())
+    assert tool("join-debug", stripped, tmp_path / "joined.so", tmp_path / "plain.debug").status == 0
+    assert exports(tmp_path / "joined.so") == before
+
+
 def test_a_wrong_supplementary_file_is_refused(two: tuple[list[Path], list[Path], Path], build: Build, tmp_path: Path) -> None:
     _, kept, common = two
     joined = tmp_path / "joined.so"
