@@ -1,4 +1,4 @@
-// What base types and enumerators say.
+// The encodings of base types and the values of enumerators.
 ghost use Rattle.std.specs.Prelude.{◌≡◌, ◌<◌, length, All, Some, IfOk};
 ghost use Rattle.std.specs.List.{list_all};
 ghost use Rattle.abi_base.specs.Dwarf.{dw_tag_enumerator};
@@ -74,7 +74,7 @@ pub(crate) fn good_enumerators(alloc: Global, dwarf: &Dwarf, e: usize) -> Result
     Ok(are_good_enumerators(dwarf, enumerators.as_slice()))
 }
 
-// Whether a name is one of a floating-point number of 128 bits.
+// Whether a name is that of a floating-point type of 128 bits.
 fn is_quad_name(name: &[u8]) -> bool
     ensures { result ≡ the_name_is_of_a_quad name.now }
 {

@@ -10,13 +10,13 @@ ghost use Rattle.type_reach.specs.PeeledCores.{StandsForNone};
 ghost use Rattle.type_reach.specs.Flat.{moved, flat_of};
 ghost use Rattle.type_graph.specs.Placed.{replacing as the_replacing, plain_members};
 
+use crate::judged::JudgedTypes;
 use abi_base::NoMemory;
 use dwarf_entries::Dwarf;
 use type_reach::constants::DEPTH_LIMIT;
 use type_reach::laws::laws_of_types;
 use type_reach::{
-    ReachedEntries, Summary, TypeReferences, bit_of, member_type, members_among, parts_at, role_of,
-    summary_at, types_at, width_of,
+    Summary, bit_of, member_type, members_among, parts_at, role_of, summary_at, types_at, width_of,
 };
 
 /// A flat member: the bit at which it begins, how wide it is as a bit field, and its type.
@@ -34,11 +34,12 @@ pub(crate) struct Start {
     pub(crate) bit: i128,
 }
 
-// Where a member begins, by what is kept of its type.
+// Where a member begins, from the summary of its type. Each structure around it is one more step by value, so no member stands in
+// more than `depth_limit` of them, and the sum of their places does not overflow.
 fn start_of(dwarf: &Dwarf, m: usize, of_type: &Summary, base: Start, depth: u32) -> Start
     requires inside { m < length dwarf.now.tree.entries }
     requires base { IsNear depth base.bit }
-    requires depth { depth < 1000 }
+    requires depth { depth ≤ depth_limit }
     ensures is { result.bit ≡ base.bit +ℤ the_bit_of dwarf.now m of_type.now.size }
     ensures near { IsNear (depth + 1) result.bit }
 {
@@ -47,7 +48,7 @@ fn start_of(dwarf: &Dwarf, m: usize, of_type: &Summary, base: Start, depth: u32)
     }
 }
 
-// The structure or union whose members replace a nameless member, by what is kept of its type.
+// The structure or union whose members replace a nameless member, from the summary of its type.
 fn replacing(of_type: &Summary) -> Option<usize>
     ensures { result ≡ the_replacing of_type.now }
 {
@@ -58,37 +59,35 @@ fn replacing(of_type: &Summary) -> Option<usize>
     }
 }
 
-// Puts the flat members of a structure or a union last, each so much later.
+/// Appends the flat members of a structure or a union, each moved by `base`. At most `budget` steps by value lead on from it.
 pub(crate) fn push_flat<'a>(
-    dwarf: &Dwarf<'a>,
-    found: &ReachedEntries,
-    leads: &TypeReferences,
-    summaries: &[Summary],
+    types: &JudgedTypes<'_, 'a>,
     out: &mut Vec<Placed<'a>>,
     c: usize,
     base: Start,
     budget: u32,
 ) -> Result<(), NoMemory>
-    requires closed { IsClosed dwarf.now.tree found.now }
-    requires leads { AreTypeReferences dwarf.now.tree found.now leads.now }
-    requires summaries { AreSummaries dwarf.now found.now summaries.now }
-    requires there { Contains found.now c }
-    requires last { StandsForNone dwarf.now c }
-    requires low { (facts_of dwarf.now (Some c)).rank ≤ budget }
+    requires closed { IsClosed types.now.dwarf.now.tree types.now.found.now }
+    requires leads { AreTypeReferences types.now.dwarf.now.tree types.now.found.now types.now.leads.now }
+    requires summaries { AreSummaries types.now.dwarf.now types.now.found.now types.now.summaries.now }
+    requires there { Contains types.now.found.now c }
+    requires last { StandsForNone types.now.dwarf.now c }
+    requires low { (facts_of types.now.dwarf.now (Some c)).rank ≤ budget }
     requires budget { budget ≤ depth_limit }
     requires base { IsNear (depth_limit - budget) base.bit }
-    ensures { OnOk result (plain_members out.new.items ≡ plain_members out.old.items ++ map (moved base.bit) (flat_of dwarf.now (Some c))) }
+    ensures { OnOk result (plain_members out.new.items ≡ plain_members out.old.items ++ map (moved base.bit) (flat_of types.now.dwarf.now (Some c))) }
 {
     laws_of_types();
     let depth = DEPTH_LIMIT - budget;
-    let number = found.number_of(c);
-    let parts = parts_at(dwarf, found, leads, number, c);
-    let types = types_at(dwarf, found, leads, number, c);
+    let dwarf = types.dwarf;
+    let number = types.found.number_of(c);
+    let parts = parts_at(dwarf, types.found, types.leads, number, c);
+    let leads_to = types_at(dwarf, types.found, types.leads, number, c);
     let members = members_among(dwarf, c, role_of(dwarf, c), parts);
     'members: for k in 0..members.len() {
         let m = members[k] as usize;
-        let to = member_type(dwarf, c, members, types, k);
-        let of_type = summary_at(dwarf, found, summaries, to);
+        let to = member_type(dwarf, c, members, leads_to, k);
+        let of_type = summary_at(dwarf, types.found, types.summaries, to);
         let start = start_of(dwarf, m, &of_type, base, depth);
         if let Some(name) = dwarf.name_of(m) {
             let width = width_of(dwarf, m);
@@ -101,16 +100,7 @@ pub(crate) fn push_flat<'a>(
             continue;
         }
         match replacing(&of_type) {
-            Some(inner) => push_flat(
-                dwarf,
-                found,
-                leads,
-                summaries,
-                out,
-                inner,
-                start,
-                budget - 1,
-            )?,
+            Some(inner) => push_flat(types, out, inner, start, budget - 1)?,
             None => {}
         }
     }

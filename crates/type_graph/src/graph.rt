@@ -1,9 +1,10 @@
-// The graph of what is reached.
+// The graph of the reached types.
 ghost use Rattle.std.specs.Prelude.{◌≡◌, ◌<◌, length, All, IfOk};
 ghost use Rattle.abi_base.specs.Outcome.{Judges};
 ghost use Rattle.type_reach.specs.Faults.{types_fault};
 ghost use Rattle.type_graph.specs.Nodes.{made_nodes, nodes_of};
 
+use crate::judged::JudgedTypes;
 use crate::judging::{ask_shapes, ask_sizes};
 use crate::laws::the_nodes_are_a_graph;
 use crate::nodes::nodes;
@@ -13,7 +14,7 @@ use dwarf_entries::Dwarf;
 use std::alloc::Global;
 use type_reach::{learn_all, reached, summaries_of, type_references_of};
 
-// The nodes of what is reached from the roots. What was learnt of the types is let go with the call.
+// The nodes of the types that the roots reach. The facts of the types live only as long as this call.
 fn reached_nodes<'a, Ix: Index>(
     alloc: Global,
     dwarf: &Dwarf<'a>,
@@ -39,13 +40,19 @@ fn reached_nodes<'a, Ix: Index>(
     }
     let summaries = summaries_of(alloc, dwarf, &found, facts.as_slice())?;
     drop(facts);
-    let nodes = nodes(alloc, dwarf, &found, &leads, summaries.as_slice())?;
+    let types = JudgedTypes {
+        dwarf,
+        found: &found,
+        leads: &leads,
+        summaries: summaries.as_slice(),
+    };
+    let nodes = nodes(alloc, &types)?;
     Ok(nodes)
 }
 
-/// The types that are reached from the roots, as a graph: the node of void, and then one for each reached entry, in order of
-/// offset; its functions have no call places yet. The fault is the first one of their shapes, in order of offset, then of their
-/// depths, then of their sizes.
+/// The graph of the types that the roots reach: the node of void, then one for each reached entry in order of offset. Functions
+/// have no call places yet. The fault is the first one of a shape in order of offset, else the first one of a depth, else the
+/// first one of a size.
 pub fn raw_graph<'a, Ix: Index>(
     alloc: Global,
     dwarf: &Dwarf<'a>,

@@ -1,4 +1,4 @@
-// The faults of reached types, each row in order of offset.
+// The faults of reached types: of their shapes and of their sizes, each in order of offset.
 ghost use Rattle.std.specs.Prelude.{◌≡◌, ◌<◌, length, map, All, Some, IfOk, IfSome};
 ghost use Rattle.abi_base.specs.Outcome.{first, Judges, Settles};
 ghost use Rattle.type_reach.specs.References.{parts_of, types_of};
@@ -19,7 +19,7 @@ use std::alloc::Global;
 use type_reach::laws::laws_of_types;
 use type_reach::{Facts, ReachedEntries, TypeReferences, facts_by_number, parts_at, types_at};
 
-// The fault of an entry's shape.
+// The fault of an entry's shape, if any.
 #[tactic(auto, unfolding(type_reach::specs::Faults::shape_fault))]
 fn shape_fault_of(
     alloc: Global,
@@ -44,7 +44,7 @@ fn shape_fault_of(
     }))
 }
 
-/// Asks the shapes of entries that were found, in their order.
+/// Checks the shapes of the entries that were found, in their order.
 pub(crate) fn ask_shapes(
     alloc: Global,
     dwarf: &Dwarf,
@@ -67,7 +67,7 @@ pub(crate) fn ask_shapes(
     Ok(())
 }
 
-// Whether facts pass the limits.
+// Whether facts exceed a limit.
 fn are_too_large(facts: &Facts) -> bool
     ensures { result ≡ the_facts_are_too_large facts.now }
 {
@@ -89,7 +89,7 @@ fn is_too_large(dwarf: &Dwarf, e: usize, facts: &Facts) -> bool
     are_too_large(facts)
 }
 
-// The fault of an entry's size.
+// The fault of an entry's size, if any.
 #[tactic(auto, unfolding(type_reach::specs::Faults::large_fault))]
 fn large_fault_of(dwarf: &Dwarf, e: usize, facts: &Facts) -> Option<Fault>
     requires inside { e < length dwarf.now.tree.entries }
@@ -106,7 +106,7 @@ fn large_fault_of(dwarf: &Dwarf, e: usize, facts: &Facts) -> Option<Fault>
     })
 }
 
-/// Asks the sizes of entries that were found, in their order.
+/// Checks the sizes of the entries that were found, in their order.
 pub(crate) fn ask_sizes(dwarf: &Dwarf, found: &ReachedEntries, facts: &[Facts]) -> Result<(), Fault>
     requires closed { IsClosed dwarf.now.tree found.now }
     requires facts { AreAllFacts dwarf.now found.now facts.now }

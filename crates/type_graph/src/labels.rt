@@ -1,4 +1,4 @@
-// The names by which types are spoken of.
+// The names of types.
 ghost use Rattle.std.specs.Prelude.{◌≡◌, ◌<◌, ◌++◌, length, map, IfOk, OnOk, IfSome, None};
 ghost use Rattle.abi_types.specs.Plain.{plain_label};
 ghost use Rattle.dwarf_entries.specs.Chains.{name_of};
@@ -19,7 +19,7 @@ use std::alloc::Global;
 use type_reach::laws::laws_of_types;
 use type_reach::{Role, is_signed, role_of, type_of};
 
-/// The name of an entry, or the empty one.
+/// The name of an entry; empty where it has none.
 pub(crate) fn name_or_empty<'a>(dwarf: &Dwarf<'a>, e: usize) -> &'a [u8]
     requires { e < length dwarf.now.tree.entries }
     ensures { result.now ≡ text_or_empty (name_of dwarf.now e) }
@@ -30,7 +30,7 @@ pub(crate) fn name_or_empty<'a>(dwarf: &Dwarf<'a>, e: usize) -> &'a [u8]
     }
 }
 
-// What kind of name an entry of a tag is spoken of by.
+// The kind of name that an entry of a tag gives; none where it gives no name.
 #[tactic(auto, unfolding(type_reach::specs::Flat::label_kind))]
 fn label_kind(tag: u64) -> Option<LabelKind>
     ensures { result ≡ the_label_kind tag }
@@ -45,7 +45,7 @@ fn label_kind(tag: u64) -> Option<LabelKind>
     }
 }
 
-// Puts the name last that an entry gives itself.
+// Appends the name that an entry gives itself, if any.
 #[tactic(auto, unfolding(type_reach::specs::Flat::own_label))]
 fn push_label<'a>(dwarf: &Dwarf<'a>, labels: &mut Vec<Label<'a>>, e: usize) -> Result<(), NoMemory>
     requires { e < length dwarf.now.tree.entries }
@@ -79,7 +79,7 @@ fn passed_to(dwarf: &Dwarf, e: usize) -> Option<usize>
     }
 }
 
-/// The names of the typedefs on the way to the core of a type, and the core's own, in this order.
+/// The names of the typedefs from a type to its core, then the core's own.
 pub(crate) fn labels_of<'a>(
     alloc: Global,
     dwarf: &Dwarf<'a>,

@@ -1,4 +1,4 @@
-//! What the definitions come to. Each law is the contract of a function that does nothing.
+//! Laws of the definitions. Each law is the contract of a function that does nothing.
 ghost use Rattle.std.specs.Prelude.{◌≡◌, ◌<◌, ℕ, List, true, false, length, nat_eq, Contains, Some, None};
 ghost use Rattle.std.specs.List.{IsDistinct};
 ghost use Rattle.abi_types.specs.Graphs.{IsGraph};

@@ -1,14 +1,18 @@
-//! The types that are reached from functions and variables, as a graph of views: a node for each reached entry and for void.
+//! The graph of the types that functions and variables reach: a node for each reached entry, and one for void.
 #![tactic(auto)]
 
 mod enumerations;
 mod flatten;
 mod graph;
+mod judged;
 mod judging;
 mod labels;
 pub mod laws;
 mod limits;
 mod nodes;
+mod parts;
 mod shapes;
+mod sharing;
+mod views;
 
 pub use graph::raw_graph;

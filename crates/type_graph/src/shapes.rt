@@ -69,7 +69,7 @@ fn is_small(number: Option<u64>) -> bool
     }
 }
 
-// Whether an attribute is not there, or is such a constant.
+// Whether an attribute is missing, or is a constant from 0 to 2^63 - 1.
 fn is_natural_small(dwarf: &Dwarf, e: usize, name: u64) -> bool
     requires { e < length dwarf.now.tree.entries }
     ensures { result ≡ the_value_is_small dwarf.now.tree e name }
@@ -114,7 +114,7 @@ fn has_byte(dwarf: &Dwarf, m: usize) -> bool
     }
 }
 
-// Whether what says at which bit a member begins can be read.
+// Whether the attributes that place a member can be read.
 #[tactic(auto, unfolding(type_reach::specs::Shapes::has_place))]
 fn has_place(dwarf: &Dwarf, m: usize) -> bool
     requires { m < length dwarf.now.tree.entries }
@@ -171,7 +171,7 @@ fn has_size_unless_declared(dwarf: &Dwarf, e: usize) -> bool
     dwarf.is_declaration(e) || has_size(dwarf, e)
 }
 
-// Whether what an entry says as one of its role can be read.
+// Whether the attributes of an entry of a role can be read.
 fn has_shape_of_role(
     alloc: Global,
     dwarf: &Dwarf,
@@ -196,7 +196,7 @@ fn has_shape_of_role(
     }
 }
 
-/// Whether an entry has the shape of a type: all types that it leads to are types, and what it says can be read.
+/// Whether an entry has the shape of a type: each type that it refers to is a type, and its attributes can be read.
 #[tactic(auto, unfolding(type_reach::specs::Shapes::has_shape))]
 pub(crate) fn has_shape(
     alloc: Global,

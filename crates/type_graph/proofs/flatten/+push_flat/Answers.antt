@@ -25,42 +25,42 @@ members_among-members-requires-clause-inside t c = c.requires.closed.inside c.ar
 
 pub summary_at-of_type-requires-clause-there : goal.summary_at-of_type-requires-clause-there
 summary_at-of_type-requires-clause-there t c =
-    let d = c.args.dwarf.now in
+    let d = c.args.types.now.dwarf.now in
     let items = c.members_among-members.result.now in
     let m : ℕ = get_or items c.members.k 0 in
     let has = subst (λ xs. Contains xs m) c.members_among-members.ensures.members (at-place items c.members.k c.members-test.true) in
-    subst (IsFound c.args.found.now) (sym c.member_type-to.ensures) (member_found d (c.laws_of_types.ensures d) c.args.found.now c.requires.closed c.requires.summaries.shallow c.args.c m c.requires.there has)
+    subst (IsFound c.args.types.now.found.now) (sym c.member_type-to.ensures) (member_found d (c.laws_of_types.ensures d) c.args.types.now.found.now c.requires.closed c.requires.summaries.shallow c.args.c m c.requires.there has)
 
 pub overflow_sub-budget : goal.overflow_sub-budget
 overflow_sub-budget t c =
-    let d = c.args.dwarf.now in
+    let d = c.args.types.now.dwarf.now in
     let items = c.members_among-members.result.now in
     let m : ℕ = get_or items c.members.k 0 in
     let has = subst (λ xs. Contains xs m) c.members_among-members.ensures.members (at-place items c.members.k c.members-test.true) in
     let of_type = c.summary_at-of_type.ensures ∙ ap (λ r. summary_of (facts_of d r)) c.member_type-to.ensures in
-    let is = nested-is d (c.laws_of_types.ensures d) c.args.found.now c.requires.closed c.requires.summaries.shallow c.args.c m c.in-Some-replacing.inner c.requires.there has (sym (c.replacing.ensures ∙ ap replacing of_type) ∙ c.in-Some-replacing.is) in
+    let is = nested-is d (c.laws_of_types.ensures d) c.args.types.now.found.now c.requires.closed c.requires.summaries.shallow c.args.c m c.in-Some-replacing.inner c.requires.there has (sym (c.replacing.ensures ∙ ap replacing of_type) ∙ c.in-Some-replacing.is) in
     omega (arith, is.low, c.requires.low)
 
 pub push_flat-requires : goal.push_flat-requires
 push_flat-requires t c =
-    let d = c.args.dwarf.now in
+    let d = c.args.types.now.dwarf.now in
     let items = c.members_among-members.result.now in
     let m : ℕ = get_or items c.members.k 0 in
     let has = subst (λ xs. Contains xs m) c.members_among-members.ensures.members (at-place items c.members.k c.members-test.true) in
     let of_type = c.summary_at-of_type.ensures ∙ ap (λ r. summary_of (facts_of d r)) c.member_type-to.ensures in
-    let is = nested-is d (c.laws_of_types.ensures d) c.args.found.now c.requires.closed c.requires.summaries.shallow c.args.c m c.in-Some-replacing.inner c.requires.there has (sym (c.replacing.ensures ∙ ap replacing of_type) ∙ c.in-Some-replacing.is) in
+    let is = nested-is d (c.laws_of_types.ensures d) c.args.types.now.found.now c.requires.closed c.requires.summaries.shallow c.args.c m c.in-Some-replacing.inner c.requires.there has (sym (c.replacing.ensures ∙ ap replacing of_type) ∙ c.in-Some-replacing.is) in
     let deeper : depth_limit - c.args.budget + 1 ≡ depth_limit - (c.args.budget - 1) = omega (arith, is.low, c.requires.low, c.requires.budget) in
     (omega (arith, c.decreases, is.low, c.requires.low), (c.requires.closed, (c.requires.leads, (c.requires.summaries, (is.there, (is.last, (omega (arith, is.low, c.requires.low), (omega (arith, c.requires.budget), subst (λ n. IsNear n c.start_of-start.result.bit) deeper c.start_of-start.ensures.near))))))))
 
 pub members-preserved : goal.members-preserved
 members-preserved t c =
-    let d = c.args.dwarf.now in
+    let d = c.args.types.now.dwarf.now in
     let laws = c.laws_of_types.ensures d in
     let items = c.members_among-members.result.now in
     let m : ℕ = get_or items c.members.k 0 in
     let has = subst (λ xs. Contains xs m) c.members_among-members.ensures.members (at-place items c.members.k c.members-test.true) in
     let of_type = c.summary_at-of_type.ensures ∙ ap (λ r. summary_of (facts_of d r)) c.member_type-to.ensures in
-    let shallow = member_shallow d laws c.args.found.now c.requires.closed c.requires.summaries.shallow c.args.c m c.requires.there has in
+    let shallow = member_shallow d laws c.args.types.now.found.now c.requires.closed c.requires.summaries.shallow c.args.c m c.requires.there has in
     let no_name : name_of d m ≡ None = sym c.name_of.ensures ∙ ap option_copied c.in_default.is in
     let bit : c.start_of-start.result.bit ≡ c.args.base.bit +ℤ declared_bit d m = c.start_of-start.ensures.is ∙ ap (λ (x : Summary). c.args.base.bit +ℤ bit_of d m x.size) of_type in
     let put : List Flat = plain_members c.members.out.items in
@@ -80,5 +80,5 @@ members-preserved t c =
 
 pub returns : goal.returns
 returns t c =
-    let d = c.args.dwarf.now in
+    let d = c.args.types.now.dwarf.now in
     IsPut-end d (c.laws_of_types.ensures d) (plain_members c.args.out.now.items) c.args.base.bit c.args.c c.members_among-members.result.now c.members.k (plain_members c.members.out.items) c.members.invariant c.members-test.false c.members_among-members.ensures.members (c.requires.summaries.shallow c.args.c c.requires.there) c.requires.last

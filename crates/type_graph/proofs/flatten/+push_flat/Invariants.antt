@@ -3,7 +3,7 @@ use Rattle.type_graph.proofs.FlattenLemmas.{IsPut}
 use Rattle.type_graph.proofs.flatten.+push_flat.Given as goal
 
 abbrev pub invariant-members : goal.invariant-members
-invariant-members l = IsPut l.dwarf (plain_members l.fn.out.items) l.base.bit l.members l.k (plain_members l.out.items)
+invariant-members l = IsPut l.types.dwarf.now (plain_members l.fn.out.items) l.base.bit l.members l.k (plain_members l.out.items)
 
 abbrev pub decreases-push_flat : goal.decreases-push_flat
 decreases-push_flat l = l.budget

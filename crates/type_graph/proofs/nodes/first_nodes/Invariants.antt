@@ -3,4 +3,4 @@ use Rattle.type_graph.specs.Sharing.{first_node}
 use Rattle.type_graph.proofs.nodes.first_nodes.Given as goal
 
 abbrev pub invariant-found : goal.invariant-found
-invariant-found g l = l.nodes ≡ first_node l.dwarf l.found None ∷ map (λ (e : ℕ). first_node l.dwarf l.found (Some e)) (take l.number l.found)
+invariant-found g l = l.nodes ≡ first_node l.types.dwarf.now l.types.found.now None ∷ map (λ (e : ℕ). first_node l.types.dwarf.now l.types.found.now (Some e)) (take l.number l.types.found.now)

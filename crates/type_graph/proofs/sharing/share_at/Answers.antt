@@ -6,12 +6,12 @@ use Rattle.type_reach.specs.Flat.{core_of}
 use Rattle.type_reach.specs.PeeledCores.{IsFound}
 use Rattle.type_graph.proofs.ListLemmas.{slice_get_contains}
 use Rattle.type_graph.proofs.SharingLemmas.{one-shared}
-use Rattle.type_graph.proofs.nodes.share_at.Goals as goal
+use Rattle.type_graph.proofs.sharing.share_at.Goals as goal
 
 pub number_of-core-requires : goal.number_of-core-requires
 number_of-core-requires g c =
-    let d = c.args.dwarf.now in
-    let found = c.args.found.now in
+    let d = c.args.types.now.dwarf.now in
+    let found = c.args.types.now.found.now in
     let laws = c.laws_of_types.ensures d in
     let there = slice_get_contains found c.args.number c.at-e.result c.at-e.ensures in
     let is : core_of d (Some c.at-e.result) ≡ Some c.in-Some.c = ap (λ (x : Summary). x.core) (sym c.summary_by_number-own.ensures) ∙ c.in-Some.is in
@@ -19,13 +19,13 @@ number_of-core-requires g c =
 
 pub share_from-requires-clause-from : goal.share_from-requires-clause-from
 share_from-requires-clause-from g c =
-    let inside = slice_get_within c.args.found.now c.number_of-core.result c.in-Some.c c.number_of-core.ensures in
+    let inside = slice_get_within c.args.types.now.found.now c.number_of-core.result c.in-Some.c c.number_of-core.ensures in
     omega (arith, inside, c.requires.nodes.many)
 
 pub returns-in_ok-share_from-in-Some : goal.returns-in_ok-share_from-in-Some
 returns-in_ok-share_from-in-Some g c =
-    let d = c.args.dwarf.now in
-    let found = c.args.found.now in
+    let d = c.args.types.now.dwarf.now in
+    let found = c.args.types.now.found.now in
     let laws = c.laws_of_types.ensures d in
     let there = slice_get_contains found c.args.number c.at-e.result c.at-e.ensures in
     let is : core_of d (Some c.at-e.result) ≡ Some c.in-Some.c = ap (λ (x : Summary). x.core) (sym c.summary_by_number-own.ensures) ∙ c.in-Some.is in

@@ -1,9 +1,0 @@
-use Rattle.std.proofs.Common.{arith}
-use Rattle.type_graph.proofs.SharingLemmas.{none-shared, all-shared}
-use Rattle.type_graph.proofs.nodes.share_parts.Goals as goal
-
-pub shared-init : goal.shared-init
-shared-init g c = none-shared c.args.dwarf.now c.args.found.now c.args.nodes.items c.requires.nodes
-
-pub returns : goal.returns
-returns g c = all-shared c.args.dwarf.now c.args.found.now c.shared.number c.shared.nodes.items c.shared.invariant (omega (arith, c.shared-test.false, c.len-number-end.ensures))
