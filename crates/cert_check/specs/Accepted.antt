@@ -1,4 +1,4 @@
--- When a certificate is accepted: places in their order, and what is asked at each.
+-- When a certificate is accepted: places in their order, each with its condition.
 use Rattle.std.specs.Prelude.{◌≡◌, ◌+◌, ◌==◌, ◌&&◌, ℕ, Bool, true, false, List, [], ◌∷◌, ◌++◌, length, map, flat_map, find, slice_get, option_map, unwrap_or, Option, Some, None, Result, Ok, Err}
 use Rattle.std.specs.List.{range_with_len, list_any, AllByRecursion}
 use Rattle.std.specs.Bool.{beq}
@@ -58,7 +58,7 @@ new_class c = class_in c.sides.new.graph c.cert.alike_new
 abbrev pub listed : Case → Triple → Bool
 listed c x = is_line c.cert.pairs (x.old, x.new, x.way)
 
--- ---- what is asked
+-- ---- the conditions
 
 -- the bind lines at a symbol number are right: an export that is compared binds, and its line says to what; and the number on
 -- a line is that of such an export
@@ -128,7 +128,7 @@ pub data Place : Type 0 where
   Rule : (number : ℕ) → Place
   Partners : (number : ℕ) → Place
 
--- what is asked at a place
+-- the condition of a place
 abbrev pub Keeps : Case → Place → Type 0
 Keeps c OldDigest = c.cert.old_digest ≡ c.sides.old.digest
 Keeps c NewDigest = c.cert.new_digest ≡ c.sides.new.digest

@@ -1,4 +1,4 @@
--- When a new library may stand in the place of an old one.
+-- When a new library may replace an old one.
 use Rattle.std.specs.Prelude.{◌≡◌, ◌==◌, ◌&&◌, not, ℕ, Bool, false, if◌then◌else◌, List, [], ◌∷◌, length, filter_map, slice_get, slice_index_or, option_and_then, Option, Some, None}
 use Rattle.std.specs.List.{range_with_len}
 use Rattle.abi_types.specs.declared.library.Marks.{Marks}

@@ -20,7 +20,7 @@ same_label_kind one other = false
 abbrev pub same_label : PlainLabel → PlainLabel → Bool
 same_label one other = same_label_kind one.kind other.kind && bytes_eq one.name other.name
 
--- two parts are equal but for the nodes that they name, and these are of one class
+-- two parts are equal in all but the nodes that they name, and these are of one class
 abbrev pub same_part : (ℕ → ℕ) → PlainPart → PlainPart → Bool
 same_part class (Member name bit width to) (Member name' bit' width' to') = bytes_eq name name' && bit == bit' && width == width' && class to == class to'
 same_part class (Enumerator name value) (Enumerator name' value') = bytes_eq name name' && value == value'

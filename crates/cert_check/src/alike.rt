@@ -20,7 +20,7 @@ fn is_own(lines: &[(u64, u64)], entry: u64) -> bool
     line_of(lines, entry).is_none()
 }
 
-// Whether the alike line at a position keeps what is asked of it.
+// Whether the alike line at a position meets its condition.
 fn keeps_alike_line<Ix: Index>(library: &Library<Ix>, lines: &[(u64, u64)], k: usize) -> bool
     requires inside { k < length lines.now }
     requires ascend { Ascend first_cmp lines.now }

@@ -22,7 +22,7 @@ use accesses::laws::{compatible_is_that_all_accesses_land, leaves_stay};
 use pair_rules::laws::{steps_lead_to_nodes, what_stands_for_classes_closes};
 
 /// Where old nodes with equal labels are marked alike at each way, an accepted certificate proves that the new library may
-/// stand in the place of the old one.
+/// replace the old one.
 pub fn an_accepted_certificate_is_a_proof()
     ensures { (c : Case) → AreNumbered c.sides.old.exports → IsGraph c.sides.old.graph → IsGraph c.sides.new.graph
         → AreEven (task_of c.sides) → IsAccepted c → IsCompatible c.sides }

@@ -1,4 +1,4 @@
-// Whether two nodes look alike, but for the nodes that their parts name, which are of one class.
+// Whether two nodes look alike: they are equal in all but the nodes that their parts name, and these are of one class.
 ghost use Rattle.std.specs.Prelude.{◌≡◌, ◌<◌, ◌==◌, ◌↔◌, IsTrue, length, map};
 ghost use Rattle.std.specs.Bool.{beq};
 ghost use Rattle.std.specs.Str.{bytes_eq};
@@ -98,7 +98,7 @@ fn same_class<Ix: Index>(graph: &Graph<Ix>, lines: &[(u64, u64)], one: Ix, other
     class_of(graph, lines, one) == class_of(graph, lines, other)
 }
 
-// Whether two parts are equal but for the nodes that they name, and these are of one class.
+// Whether two parts are equal in all but the nodes that they name, and these are of one class.
 fn same_part<Ix: Index>(
     graph: &Graph<Ix>,
     lines: &[(u64, u64)],
@@ -213,7 +213,7 @@ fn same_call(one: &Call, other: &Call) -> bool
     same_place(one.outcome(), other.outcome()) && same_params(one.params(), other.params())
 }
 
-/// Whether two nodes have the same labels, and the same views but for the nodes that parts name, which are of one class
+/// Whether two nodes have the same labels, and views that are equal in all but the nodes that parts name, which are of one class
 /// position by position.
 pub fn look_alike<Ix: Index>(graph: &Graph<Ix>, lines: &[(u64, u64)], one: Ix, other: Ix) -> bool
     requires one { Ix.number_of one < length graph.now }

@@ -1,22 +1,19 @@
 -- Lines in order have no fault.
-use Rattle.std.proofs.Common.{◌≡◌, ◌<◌, ◌≤◌, ◌+◌, ◌*◌, ◌^◌, ◌&&◌, ◌⊎◌, inl, inr, nat_lt, not, ◌||◌, ℕ, zero, suc, Bool, true, false, cond, List, [], ◌∷◌, ◌++◌, length, get_or, map, Option, Some, None, refl, sym, ◌∙◌, ap, subst, arith, lit<, lit≤}
+use Rattle.std.proofs.Common.{◌≡◌, ◌<◌, ◌≤◌, ◌+◌, nat_lt, ℕ, suc, Bool, true, false, List, [], ◌∷◌, ◌++◌, get_or, map, Option, Some, None, refl, sym, ◌∙◌, subst, arith, lit<, lit≤}
 use Rattle.std.specs.List.{All, AllPairs}
 use Rattle.std.specs.Ordering.{nat_cmp, bool_cmp, ordering_then}
 use Rattle.std.specs.declared.cmp.Ordering.{Ordering}
 use Rattle.std.specs.declared.cmp.Ordering.TheVariants.{Less, Equal, Greater}
 use Rattle.std.proofs.lemmas.Cmp.{ranked}
 use Rattle.std.proofs.lemmas.Bool.{lt-ltb}
-use Rattle.std.proofs.lemmas.List.{get_or-map, length-map}
-use Rattle.std.proofs.lemmas.List.Elements.{All-append, All-map, All-weaker, All-nil}
+use Rattle.std.proofs.lemmas.List.Elements.{All-append, All-map, All-weaker}
 use Rattle.std.proofs.lemmas.List.Kept.{AllPairs-cons}
 use Rattle.abi_types.specs.declared.kind.Way.{Way}
 use Rattle.abi_types.specs.declared.kind.Way.TheVariants.{Direct, Pointer}
 use Rattle.cert_text.specs.Certs.{PlainCert, PairLine, IsCert, first_cmp, pair_cmp, is_pointer}
-use Rattle.cert_text.specs.Grammar.{HasNumbers, spelling, body, bind_of, alike_old_of, alike_new_of, pair_of}
-use Rattle.cert_text.specs.Forms.{form_of}
-use Rattle.cert_text.specs.Faults.{rank, may_follow, is_end, is_above, before_then, way_before, order_fault, body_fault, end_fault}
+use Rattle.cert_text.specs.Grammar.{HasNumbers, IsWay, spelling, body, bind_of, alike_old_of, alike_new_of, pair_of}
+use Rattle.cert_text.specs.Faults.{rank, may_follow, is_end, is_above, before_then, way_before, order_fault, body_fault}
 use Rattle.cert_text.specs.declared.line.Version.{Version}
-use Rattle.cert_text.specs.declared.line.Version.TheVariants.{One, Two}
 use Rattle.cert_text.specs.declared.line.Line.{Line}
 use Rattle.cert_text.specs.declared.line.Line.TheVariants.{Bind, AlikeOld, AlikeNew, Pair, End}
 use Rattle.cert_text.proofs.OrderLemmas.{lex_less, lex_same}
@@ -136,18 +133,22 @@ bodies c =
 pub body_bodies : (c : PlainCert) → All IsBody (body c)
 body_bodies c = subst (All IsBody) (sym (body-groups c)) (bodies c)
 
-numbers_of : (c : PlainCert) → IsCert c → All (HasNumbers Two) (groups c.binds c.alike_old c.alike_new c.pairs)
+-- the ways of its pair lines are those that a version has
+abbrev pub HasWays : Version → PlainCert → Type 0
+HasWays v c = All (λ (line : PairLine). IsWay v line.2) c.pairs
+
+numbers_of : (v : Version) (c : PlainCert) → IsCert c → HasWays v c → All (HasNumbers v) (groups c.binds c.alike_old c.alike_new c.pairs)
 unfolding groups
-numbers_of c kept =
-    let P = HasNumbers Two in
+numbers_of v c kept ways =
+    let P = HasNumbers v in
     let n = kept.numbers in
     All-append P (map bind_of c.binds) (map alike_old_of c.alike_old ++ (map alike_new_of c.alike_new ++ map pair_of c.pairs)) (All-map P bind_of c.binds n.binds)
     (All-append P (map alike_old_of c.alike_old) (map alike_new_of c.alike_new ++ map pair_of c.pairs) (All-map P alike_old_of c.alike_old n.alike_old)
     (All-append P (map alike_new_of c.alike_new) (map pair_of c.pairs) (All-map P alike_new_of c.alike_new n.alike_new)
-    (All-map P pair_of c.pairs (λ k d lt. let line = n.pairs k d lt in (line.0, line.1, tt)))))
+    (All-map P pair_of c.pairs (λ k d lt. let line = n.pairs k d lt in (line.0, line.1, ways k d lt)))))
 
-pub body_numbers : (c : PlainCert) → IsCert c → All (HasNumbers Two) (body c)
-body_numbers c kept = subst (All (HasNumbers Two)) (sym (body-groups c)) (numbers_of c kept)
+pub body_numbers : (v : Version) (c : PlainCert) → IsCert c → HasWays v c → All (HasNumbers v) (body c)
+body_numbers v c kept ways = subst (All (HasNumbers v)) (sym (body-groups c)) (numbers_of v c kept ways)
 
 -- ---- a run of lines
 

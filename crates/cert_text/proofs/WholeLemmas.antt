@@ -1,13 +1,12 @@
--- The text of a certificate has no fault, and is that of no other certificate.
-use Rattle.std.proofs.Common.{◌≡◌, ◌<◌, ◌≤◌, ◌+◌, ◌*◌, ◌^◌, ℕ, zero, suc, Bool, true, false, List, [], ◌∷◌, ◌++◌, length, get_or, map, Option, Some, None, refl, sym, ◌∙◌, ap, subst, arith, append_assoc, append-nil}
+-- The text of a certificate of either version has no fault, and is that of no other certificate of the version.
+use Rattle.std.proofs.Common.{◌≡◌, ◌+◌, ℕ, suc, Bool, true, List, [], ◌∷◌, ◌++◌, get_or, map, Option, Some, None, refl, sym, ◌∙◌, ap, arith, append_assoc, append-nil}
 use Rattle.std.specs.Prelude.{codes, is_some, filter_map}
-use Rattle.std.specs.List.{All, AllPairs, flat_map}
+use Rattle.std.specs.List.{All}
 use Rattle.std.proofs.lemmas.List.Concat.{flat_map-append}
 use Rattle.std.proofs.lemmas.List.Elements.{All-append, All-map, All-weaker, All-cons, All-nil}
 use Rattle.std.proofs.lemmas.Option.{same_Some}
-use Rattle.hex.specs.Hex.{encode_lower}
-use Rattle.cert_text.specs.Certs.{PlainCert, PairLine, IsCert, IsDigest}
-use Rattle.cert_text.specs.Grammar.{HasNumbers, IsSpelled, spelling, head, head_lines, body, text_of, lined, answer, digest_line, bind_of, alike_old_of, alike_new_of, pair_of}
+use Rattle.cert_text.specs.Certs.{PlainCert, PlainCert1, PairLine, IsCert, IsDigest, as_direct, with_ways, without_way}
+use Rattle.cert_text.specs.Grammar.{HasNumbers, IsWay, IsSpelled, IsSpelled1, IsSpelledIn, spelling, head, body, text_of, lined, answer, digest_line, bind_of, alike_old_of, alike_new_of, pair_of}
 use Rattle.cert_text.specs.Forms.{form_of, digest_behind}
 use Rattle.cert_text.specs.Faults.{Parts, parts, head_fault, head_tests, body_fault, fault_of, answer_test, digest_test}
 use Rattle.cert_text.specs.declared.line.Version.{Version}
@@ -16,7 +15,6 @@ use Rattle.cert_text.specs.declared.line.Line.{Line}
 use Rattle.cert_text.specs.declared.line.Line.TheVariants.{Bind, AlikeOld, AlikeNew, Pair, End}
 use Rattle.cert_text.proofs.NumberLemmas.{digest_some}
 use Rattle.cert_text.proofs.BodyLemmas.{groups, body-groups}
-use Rattle.cert_text.proofs.ReadingLemmas.{Follows}
 use Rattle.cert_text.proofs.CompleteLemmas.{form_read}
 use Rattle.cert_text.proofs.LinedLemmas.{AreClear, is_clear, answer_clear, digest_clear, line_clear, parts-lined}
 use Rattle.cert_text.proofs.RunLemmas.{run, body_in_order, body_bodies, body_numbers}
@@ -24,45 +22,42 @@ use Rattle.cert_text.proofs.RunLemmas.{run, body_in_order, body_bodies, body_num
 -- ---- the lines of the text
 
 -- the lines behind the first four
-abbrev tail : PlainCert → List (List ℕ)
-tail c = map (spelling Two) (body c) ++ spelling Two End ∷ []
+abbrev tail : Version → PlainCert → List (List ℕ)
+tail v c = map (spelling v) (body c) ++ spelling v End ∷ []
 
-abbrev all_lines : PlainCert → List (List ℕ)
-all_lines c = head Two c ++ tail c
+abbrev all_lines : Version → PlainCert → List (List ℕ)
+all_lines v c = head v c ++ tail v c
 
-feed : List ℕ → List ℕ
-feed line = line ++ 10 ∷ []
-
-as_lines : (c : PlainCert) → text_of Two c ≡ lined (all_lines c) ++ []
+as_lines : (v : Version) (c : PlainCert) → text_of v c ≡ lined (all_lines v c) ++ []
 unfolding text_of
-as_lines c =
+as_lines v c =
     let f : List ℕ → List ℕ = λ line. line ++ 10 ∷ [] in
-    let inner : lined (map (spelling Two) (body c)) ++ lined (spelling Two End ∷ []) ≡ lined (tail c) = sym (flat_map-append f (map (spelling Two) (body c)) (spelling Two End ∷ [])) in
-    ap (λ (xs : List ℕ). lined (head Two c) ++ xs) inner ∙ sym (flat_map-append f (head Two c) (tail c)) ∙ sym (append-nil (lined (all_lines c)))
+    let inner : lined (map (spelling v) (body c)) ++ lined (spelling v End ∷ []) ≡ lined (tail v c) = sym (flat_map-append f (map (spelling v) (body c)) (spelling v End ∷ [])) in
+    ap (λ (xs : List ℕ). lined (head v c) ++ xs) inner ∙ sym (flat_map-append f (head v c) (tail v c)) ∙ sym (append-nil (lined (all_lines v c)))
 
-head_clear : (c : PlainCert) → AreClear (head Two c)
-head_clear c =
+head_clear : (v : Version) (c : PlainCert) → AreClear (head v c)
+head_clear v c =
     let P : List ℕ → Type 0 = λ text. is_clear text ≡ true in
     let rules = digest_line (codes "rules ") c.rules_digest ∷ [] in
     let new = digest_line (codes "new ") c.new_digest ∷ rules in
     let old = digest_line (codes "old ") c.old_digest ∷ new in
-    All-cons P (answer Two) old (answer_clear Two)
+    All-cons P (answer v) old (answer_clear v)
     (All-cons P (digest_line (codes "old ") c.old_digest) new (digest_clear (codes "old ") c.old_digest refl)
     (All-cons P (digest_line (codes "new ") c.new_digest) rules (digest_clear (codes "new ") c.new_digest refl)
     (All-cons P (digest_line (codes "rules ") c.rules_digest) [] (digest_clear (codes "rules ") c.rules_digest refl) (All-nil P))))
 
-lines_clear : (c : PlainCert) → IsCert c → AreClear (all_lines c)
-lines_clear c kept =
+lines_clear : (v : Version) (c : PlainCert) → All (HasNumbers v) (body c) → AreClear (all_lines v c)
+lines_clear v c numbers =
     let P : List ℕ → Type 0 = λ text. is_clear text ≡ true in
-    All-append P (head Two c) (tail c) (head_clear c)
-    (All-append P (map (spelling Two) (body c)) (spelling Two End ∷ []) (All-map P (spelling Two) (body c) (All-weaker (HasNumbers Two) (λ x. P (spelling Two x)) (line_clear Two) (body c) (body_numbers c kept)))
-    (All-cons P (spelling Two End) [] refl (All-nil P)))
+    All-append P (head v c) (tail v c) (head_clear v c)
+    (All-append P (map (spelling v) (body c)) (spelling v End ∷ []) (All-map P (spelling v) (body c) (All-weaker (HasNumbers v) (λ x. P (spelling v x)) (line_clear v) (body c) numbers))
+    (All-cons P (spelling v End) [] (line_clear v End tt) (All-nil P)))
 
-parts_are : (bytes : List ℕ) (c : PlainCert) → IsSpelled bytes c → parts bytes ≡ record { lines = all_lines c; rest = [] }
+parts_are : (v : Version) (bytes : List ℕ) (c : PlainCert) → IsSpelledIn v bytes c → parts bytes ≡ record { lines = all_lines v c; rest = [] }
 unfolding parts
-parts_are bytes c spelled =
-    ap parts (spelled.is ∙ as_lines c) ∙ parts-lined (all_lines c) [] (lines_clear c spelled.kept)
-    ∙ ap (λ (lines : List (List ℕ)). let p : Parts = record { lines = lines; rest = [] } in p) (append-nil (all_lines c))
+parts_are v bytes c spelled =
+    ap parts (spelled.is ∙ as_lines v c) ∙ parts-lined (all_lines v c) [] (lines_clear v c spelled.lines)
+    ∙ ap (λ (lines : List (List ℕ)). let p : Parts = record { lines = lines; rest = [] } in p) (append-nil (all_lines v c))
 
 -- ---- no fault
 
@@ -74,29 +69,33 @@ head_over : (v : Version) (number : ℕ) (lines : List (List ℕ)) (rest : List 
 unfolding head_fault
 head_over v number lines rest = refl
 
+answer_right : (v : Version) → answer_test v (answer v) ≡ true
+answer_right One = refl
+answer_right Two = refl
+
 digest_right : (word digest : List ℕ) → IsDigest digest → digest_test word (digest_line word digest) ≡ true
 digest_right word digest is = ap is_some (digest_some word digest is)
 
-no_body_fault : (c : PlainCert) → IsCert c → body_fault Two 5 None (tail c) [] ≡ None
-no_body_fault c kept = run Two 5 None (body c) refl (body_numbers c kept) (body_bodies c) (λ k d lt. tt) (body_in_order c kept)
+no_body_fault : (v : Version) (c : PlainCert) → IsCert c → All (HasNumbers v) (body c) → body_fault v 5 None (tail v c) [] ≡ None
+no_body_fault v c kept numbers = run v 5 None (body c) refl numbers (body_bodies c) (λ k d lt. tt) (body_in_order c kept)
 
-no_fault : (c : PlainCert) → IsCert c → head_fault Two 1 (head_tests Two) (all_lines c) [] ≡ None
-no_fault c kept =
+no_fault : (v : Version) (c : PlainCert) → IsCert c → All (HasNumbers v) (body c) → head_fault v 1 (head_tests v) (all_lines v c) [] ≡ None
+no_fault v c kept numbers =
     let n = kept.numbers in
-    head_step Two 1 (answer_test Two) _ (answer Two) _ [] refl
-    ∙ head_step Two 2 (digest_test (codes "old ")) _ (digest_line (codes "old ") c.old_digest) _ [] (digest_right (codes "old ") c.old_digest n.old_digest)
-    ∙ head_step Two 3 (digest_test (codes "new ")) _ (digest_line (codes "new ") c.new_digest) _ [] (digest_right (codes "new ") c.new_digest n.new_digest)
-    ∙ head_step Two 4 (digest_test (codes "rules ")) [] (digest_line (codes "rules ") c.rules_digest) (tail c) [] (digest_right (codes "rules ") c.rules_digest n.rules_digest)
-    ∙ head_over Two 5 (tail c) [] ∙ no_body_fault c kept
+    head_step v 1 (answer_test v) _ (answer v) _ [] (answer_right v)
+    ∙ head_step v 2 (digest_test (codes "old ")) _ (digest_line (codes "old ") c.old_digest) _ [] (digest_right (codes "old ") c.old_digest n.old_digest)
+    ∙ head_step v 3 (digest_test (codes "new ")) _ (digest_line (codes "new ") c.new_digest) _ [] (digest_right (codes "new ") c.new_digest n.new_digest)
+    ∙ head_step v 4 (digest_test (codes "rules ")) [] (digest_line (codes "rules ") c.rules_digest) (tail v c) [] (digest_right (codes "rules ") c.rules_digest n.rules_digest)
+    ∙ head_over v 5 (tail v c) [] ∙ no_body_fault v c kept numbers
 
-pub what_is_spelled_has_no_fault : (bytes : List ℕ) (c : PlainCert) → IsSpelled bytes c → fault_of Two bytes ≡ None
+spelled_has_no_fault : (v : Version) (bytes : List ℕ) (c : PlainCert) → IsSpelledIn v bytes c → fault_of v bytes ≡ None
 unfolding fault_of
-what_is_spelled_has_no_fault bytes c spelled = ap (λ (p : Parts). head_fault Two 1 (head_tests Two) p.lines p.rest) (parts_are bytes c spelled) ∙ no_fault c spelled.kept
+spelled_has_no_fault v bytes c spelled = ap (λ (p : Parts). head_fault v 1 (head_tests v) p.lines p.rest) (parts_are v bytes c spelled) ∙ no_fault v c spelled.kept spelled.lines
 
 -- ---- one certificate
 
-same_lines : (bytes : List ℕ) (c d : PlainCert) → IsSpelled bytes c → IsSpelled bytes d → all_lines c ≡ all_lines d
-same_lines bytes c d one other = ap (λ (p : Parts). p.lines) (sym (parts_are bytes c one) ∙ parts_are bytes d other)
+same_lines : (v : Version) (bytes : List ℕ) (c d : PlainCert) → IsSpelledIn v bytes c → IsSpelledIn v bytes d → all_lines v c ≡ all_lines v d
+same_lines v bytes c d one other = ap (λ (p : Parts). p.lines) (sym (parts_are v bytes c one) ∙ parts_are v bytes d other)
 
 same_digest : (word one other : List ℕ) → IsDigest one → IsDigest other → digest_line word one ≡ digest_line word other → one ≡ other
 same_digest word one other is is' e = same_Some one other (sym (digest_some word one is) ∙ ap (digest_behind word) e ∙ digest_some word other is')
@@ -105,21 +104,21 @@ line_or : Option Line → Line
 line_or None = End
 line_or (Some line) = line
 
-abbrev read : List ℕ → Line
-read text = line_or (form_of Two text)
+abbrev read : Version → List ℕ → Line
+read v text = line_or (form_of v text)
 
-read_line : (line : Line) → HasNumbers Two line → read (spelling Two line) ≡ line
+read_line : (v : Version) (line : Line) → HasNumbers v line → read v (spelling v line) ≡ line
 unfolding line_or
-read_line line has = ap line_or (form_read Two line has)
+read_line v line has = ap line_or (form_read v line has)
 
-read_lines : (xs : List Line) → All (HasNumbers Two) xs → map read (map (spelling Two) xs ++ spelling Two End ∷ []) ≡ xs ++ End ∷ []
-read_lines [] all = ap (λ (line : Line). line ∷ []) (read_line End tt)
-read_lines (x ∷ xs) all =
-    ap (λ (line : Line). line ∷ map read (map (spelling Two) xs ++ spelling Two End ∷ [])) (read_line x (all 0 x (omega arith)))
-    ∙ ap (λ (rest : List Line). x ∷ rest) (read_lines xs (λ k d lt. all (suc k) d (omega (arith, lt))))
+read_lines : (v : Version) (xs : List Line) → All (HasNumbers v) xs → map (read v) (map (spelling v) xs ++ spelling v End ∷ []) ≡ xs ++ End ∷ []
+read_lines v [] all = ap (λ (line : Line). line ∷ []) (read_line v End tt)
+read_lines v (x ∷ xs) all =
+    ap (λ (line : Line). line ∷ map (read v) (map (spelling v) xs ++ spelling v End ∷ [])) (read_line v x (all 0 x (omega arith)))
+    ∙ ap (λ (rest : List Line). x ∷ rest) (read_lines v xs (λ k d lt. all (suc k) d (omega (arith, lt))))
 
-same_bodies : (c d : PlainCert) → IsCert c → IsCert d → tail c ≡ tail d → body c ++ End ∷ [] ≡ body d ++ End ∷ []
-same_bodies c d one other e = sym (read_lines (body c) (body_numbers c one)) ∙ ap (map read) e ∙ read_lines (body d) (body_numbers d other)
+same_bodies : (v : Version) (c d : PlainCert) → All (HasNumbers v) (body c) → All (HasNumbers v) (body d) → tail v c ≡ tail v d → body c ++ End ∷ [] ≡ body d ++ End ∷ []
+same_bodies v c d one other e = sym (read_lines v (body c) one) ∙ ap (map (read v)) e ∙ read_lines v (body d) other
 
 -- what the lines of one kind say
 as_bind : Line → Option (ℕ × ℕ)
@@ -199,16 +198,62 @@ rest_of : List (List ℕ) → List (List ℕ)
 rest_of [] = []
 rest_of (x ∷ xs) = xs
 
-pub a_text_is_of_one_certificate : (bytes : List ℕ) (c d : PlainCert) → IsSpelled bytes c → IsSpelled bytes d → c ≡ d
+spelled_is_one : (v : Version) (bytes : List ℕ) (c d : PlainCert) → IsSpelledIn v bytes c → IsSpelledIn v bytes d → c ≡ d
 unfolding line_at rest_of
-a_text_is_of_one_certificate bytes c d one other =
-    let lines = same_lines bytes c d one other in
+spelled_is_one v bytes c d one other =
+    let lines = same_lines v bytes c d one other in
     let n = one.kept.numbers in
     let m = other.kept.numbers in
     let old : digest_line (codes "old ") c.old_digest ≡ digest_line (codes "old ") d.old_digest = ap (line_at 1) lines in
     let new : digest_line (codes "new ") c.new_digest ≡ digest_line (codes "new ") d.new_digest = ap (line_at 2) lines in
     let rules : digest_line (codes "rules ") c.rules_digest ≡ digest_line (codes "rules ") d.rules_digest = ap (line_at 3) lines in
-    let tails : tail c ≡ tail d = ap (λ (xs : List (List ℕ)). rest_of (rest_of (rest_of (rest_of xs)))) lines in
-    let bodies = same_bodies c d one.kept other.kept tails in
+    let tails : tail v c ≡ tail v d = ap (λ (xs : List (List ℕ)). rest_of (rest_of (rest_of (rest_of xs)))) lines in
+    let bodies = same_bodies v c d one.lines other.lines tails in
     same_fields c d (same_digest (codes "old ") c.old_digest d.old_digest n.old_digest m.old_digest old) (same_digest (codes "new ") c.new_digest d.new_digest n.new_digest m.new_digest new) (same_digest (codes "rules ") c.rules_digest d.rules_digest n.rules_digest m.rules_digest rules)
     (sym (binds_in c) ∙ ap (filter_map as_bind) bodies ∙ binds_in d) (sym (olds_in c) ∙ ap (filter_map as_old) bodies ∙ olds_in d) (sym (news_in c) ∙ ap (filter_map as_new) bodies ∙ news_in d) (sym (pairs_in c) ∙ ap (filter_map as_pair) bodies ∙ pairs_in d)
+
+-- ---- version 2
+
+in_two : (bytes : List ℕ) (c : PlainCert) → IsSpelled bytes c → IsSpelledIn Two bytes c
+in_two bytes c spelled = record { kept = spelled.kept; lines = body_numbers Two c spelled.kept (λ k d lt. tt); is = spelled.is }
+
+pub what_is_spelled_has_no_fault : (bytes : List ℕ) (c : PlainCert) → IsSpelled bytes c → fault_of Two bytes ≡ None
+what_is_spelled_has_no_fault bytes c spelled = spelled_has_no_fault Two bytes c (in_two bytes c spelled)
+
+pub a_text_is_of_one_certificate : (bytes : List ℕ) (c d : PlainCert) → IsSpelled bytes c → IsSpelled bytes d → c ≡ d
+a_text_is_of_one_certificate bytes c d one other = spelled_is_one Two bytes c d (in_two bytes c one) (in_two bytes d other)
+
+-- ---- version 1
+
+direct_ways : (pairs : List (ℕ × ℕ)) → All (λ (line : PairLine). IsWay One line.2) (map as_direct pairs)
+direct_ways pairs = All-map (λ (line : PairLine). IsWay One line.2) as_direct pairs (λ k d lt. refl)
+
+in_one : (bytes : List ℕ) (c : PlainCert1) → IsSpelled1 bytes c → IsSpelledIn One bytes (with_ways c)
+in_one bytes c spelled = record { kept = spelled.kept.is; lines = body_numbers One (with_ways c) spelled.kept.is (direct_ways c.pairs); is = spelled.is }
+
+without : (pairs : List (ℕ × ℕ)) → map without_way (map as_direct pairs) ≡ pairs
+without [] = refl
+without (x ∷ pairs) = ap (λ (rest : List (ℕ × ℕ)). x ∷ rest) (without pairs)
+
+-- the certificate of version 1 whose pairs are those without their ways
+back : PlainCert → PlainCert1
+back c = record {
+  old_digest = c.old_digest;
+  new_digest = c.new_digest;
+  rules_digest = c.rules_digest;
+  binds = c.binds;
+  alike_old = c.alike_old;
+  alike_new = c.alike_new;
+  pairs = map without_way c.pairs;
+}
+
+with_pairs : PlainCert1 → List (ℕ × ℕ) → PlainCert1
+with_pairs c pairs = record c { pairs = pairs }
+
+back_again : (c : PlainCert1) → back (with_ways c) ≡ c
+unfolding back with_pairs
+back_again c = ap (with_pairs c) (without c.pairs)
+
+pub a_text_is_of_one_certificate_of_version_1 : (bytes : List ℕ) (c d : PlainCert1) → IsSpelled1 bytes c → IsSpelled1 bytes d → c ≡ d
+a_text_is_of_one_certificate_of_version_1 bytes c d one other =
+    sym (back_again c) ∙ ap back (spelled_is_one One bytes (with_ways c) (with_ways d) (in_one bytes c one) (in_one bytes d other)) ∙ back_again d

@@ -3,8 +3,8 @@ ghost use Rattle.std.specs.Prelude.{◌≡◌, ◌↔◌, ℕ, List, None, Some}
 ghost use Rattle.cert_text.specs.declared.line.Version.{Version};
 ghost use Rattle.cert_text.specs.declared.line.Version.TheVariants.{Two};
 ghost use Rattle.cert_text.specs.declared.line.Line.{Line};
-ghost use Rattle.cert_text.specs.Certs.{PlainCert};
-ghost use Rattle.cert_text.specs.Grammar.{IsLine, IsSpelled};
+ghost use Rattle.cert_text.specs.Certs.{PlainCert, PlainCert1};
+ghost use Rattle.cert_text.specs.Grammar.{IsLine, IsSpelled, IsSpelled1};
 ghost use Rattle.cert_text.specs.Forms.{form_of};
 ghost use Rattle.cert_text.specs.Faults.{fault_of};
 
@@ -21,4 +21,9 @@ pub fn what_is_spelled_has_no_fault()
 /// A text is that of at most one certificate.
 pub fn a_text_is_of_one_certificate()
     ensures { (bytes : List ℕ) (c d : PlainCert) → IsSpelled bytes c → IsSpelled bytes d → c ≡ d }
+{}
+
+/// A text is that of at most one certificate of version 1.
+pub fn a_text_is_of_one_certificate_of_version_1()
+    ensures { (bytes : List ℕ) (c d : PlainCert1) → IsSpelled1 bytes c → IsSpelled1 bytes d → c ≡ d }
 {}

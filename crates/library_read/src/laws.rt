@@ -35,7 +35,7 @@ pub fn readable_files_are_libraries()
 }
 
 /// In a file without a fault the types that its exports reach have nodes: one for each reached entry and one for void, and no
-/// others. With the places of calls they are the same but for those places, which are the ones of each node's function.
+/// others. With the places of calls they differ in those places alone, which are the ones of each node's function.
 pub fn nodes_stand_for_what_exports_reach()
     ensures nodes { (f : List ℕ) → library_fault f ≡ None → AreNodesOf (debug_of f) (roots_of f) (uncalled_graph_of f) }
     ensures graph { (f : List ℕ) → length f ≤ input_limit → library_fault f ≡ None → IsGraph (graph_of f) }

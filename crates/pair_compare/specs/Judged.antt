@@ -9,7 +9,7 @@ use Rattle.pair_compare.specs.reports.Reports.{IsRightReport}
 use Rattle.pair_compare.specs.declared.comparing.Comparison.{Comparison}
 use Rattle.pair_compare.specs.declared.comparing.Comparison.TheVariants.{Compatible, Broken}
 
--- The new library may stand in the place of the old one. The certificate is the one of these two, and it is accepted.
+-- The new library may replace the old one. The certificate is the one of these two, and it is accepted.
 pub record IsProved (s : Sides) (cert : PlainCert) : Type 0 where
   pub compatible : IsCompatible s
   pub certificate : IsCertificateOf s cert

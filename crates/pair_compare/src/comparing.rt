@@ -23,13 +23,13 @@ use type_classes::{alike, alike_beside};
 /// What the comparison of two libraries tells.
 #[derive(Drop)]
 pub enum Comparison {
-    /// The new library may stand in the place of the old one, and this certificate proves it.
+    /// The new library may replace the old one, and this certificate proves it.
     Compatible(Cert),
     /// It may not, and these are the rows of the report: all that is broken.
     Broken(List<Row>),
 }
 
-/// Whether the new library may stand in the place of the old one, but for what is marked: the certificate where it may, else
+/// Whether the new library may replace the old one in all that is not marked: the certificate where it may, else
 /// the rows of the report. `unmarked` marks nothing. Each comparison of two types is a step, and there are no more of them than
 /// pairs of an old and a new type at two ways, also where memory runs out.
 pub fn compare<L: Ledger>(

@@ -60,7 +60,7 @@ pub fn typed_pairs_can_be_explored()
     roots_are_typed_pairs();
 }
 
-/// Two libraries and marks have one right answer: what is told of them is fixed by what was read.
+/// Two libraries and marks have one right answer: what was read decides it.
 pub fn two_libraries_have_one_right_answer()
     ensures { (s : Sides) (one other : Comparison) → IsGraph s.old.graph → IsGraph s.new.graph → IsRight s one → IsRight s other → one ≡ other }
 {

@@ -1,4 +1,4 @@
-//! Whether a new library may stand in the place of an old one: with a certificate where it may, and with the rows of a report
+//! Whether a new library may replace an old one: with a certificate where it may, and with the rows of a report
 //! where it may not.
 #![tactic(auto)]
 

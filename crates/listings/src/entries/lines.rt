@@ -58,7 +58,7 @@ fn lines_of(alloc: Global, sections: &Sections<'_>) -> Result<String, Refusal>
 }
 
 /// A line for each debugging information entry of a library, in order of offset: its offset, its depth, and its tag in
-/// hexadecimal. The fault is the first one of its header and its sections, and then of its units and entries; no other is asked.
+/// hexadecimal. The fault is the first one of its header and its sections, and then of its units and entries; no other is looked for.
 #[tactic(auto, unfolding(crate::specs::entries::EntryLines::listing_fault, crate::specs::entries::EntryLines::listing_of))]
 pub fn entry_lines(alloc: Global, library: &[u8]) -> Result<String, Refusal>
     requires { length library.now ≤ input_limit }

@@ -26,7 +26,7 @@ pub fn a_certificate_is_one()
     ensures { (s : Sides) (one other : PlainCert) → IsCertificateOf s one → IsCertificateOf s other → one ≡ other }
 {}
 
-/// Where the new library may stand in the place of the old one, and nodes that are alike are marked alike, the certificate of
+/// Where the new library may replace the old one, and nodes that are alike are marked alike, the certificate of
 /// the two is accepted: it is a proof that can be checked.
 pub fn the_certificate_of_the_compatible_is_accepted()
     ensures { (s : Sides) (c : PlainCert) → AreLibraries s → AreMarkedAlike (task_of s) → IsCompatible s → IsCertificateOf s c

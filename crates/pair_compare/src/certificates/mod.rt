@@ -1,4 +1,4 @@
-//! The certificate that a new library may stand in the place of an old one, made from a search that found no break.
+//! The certificate that a new library may replace an old one, made from a search that found no break.
 
 mod alike;
 mod binds;

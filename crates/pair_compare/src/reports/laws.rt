@@ -57,7 +57,7 @@ pub fn told_rows_are_right()
     paths_lead_to_nodes();
 }
 
-/// There is no row at all exactly where the new library may stand in the place of the old one.
+/// There is no row at all exactly where the new library may replace the old one.
 pub fn no_row_is_compatible()
     ensures { (s : Sides) (visits : List Visit) (broken : List (ℕ × Broken)) → IsExplored (task_of s) visits broken →
         (export_rows s ++ type_rows s visits broken ≡ []) ↔ IsCompatible s }

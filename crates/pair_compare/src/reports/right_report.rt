@@ -15,7 +15,7 @@ use report::Row;
 use std::alloc::Global;
 
 /// The rows of all breaks between two libraries, of whose types `explored` says what an exploration over the classes of alike
-/// ones found. There is one right report, and none has a row exactly where the new library may stand in the place of the old one.
+/// ones found. There is one right report, and none has a row exactly where the new library may replace the old one.
 pub fn report_rows(
     alloc: Global,
     pair: &BoundPair,
