@@ -1,18 +1,18 @@
 -- The rows of members in order are those of the members; and where members meet, an overlap is there.
-use Rattle.std.proofs.Common.{◌≡◌, ◌<◌, ◌≤◌, ◌+◌, ℕ, zero, suc, Bool, true, false, List, [], ◌∷◌, ◌++◌, length, map, min, max, ◌⊎◌, inl, inr, refl, sym, ◌∙◌, ap, subst, arith}
+use Rattle.std.proofs.Common.{◌≡◌, ◌<◌, ◌≤◌, ◌+◌, ℕ, Bool, true, false, List, [], ◌∷◌, ◌++◌, length, map, min, max, ◌⊎◌, inl, inr, refl, sym, ◌∙◌, ap, subst, arith}
 use Rattle.std.specs.Prelude.{◌==◌, ◌&&◌}
-use Rattle.std.specs.List.{AllPairs, Contains}
-use Rattle.std.specs.List.Sorted.{IsSorted, IsPermutation}
+use Rattle.std.specs.List.{Contains}
+use Rattle.std.specs.List.Sorted.{IsPermutation}
 use Rattle.std.proofs.lemmas.Bool.{cases_lt, and_parts, and_cases, eqb-true, eqb-false}
 use Rattle.std.proofs.lemmas.List.{nil_from_length}
 use Rattle.std.proofs.lemmas.List.Elements.{Contains-append_left, Contains-append_right, Contains-append_cases}
 use Rattle.type_print.specs.declared.extent.Extent.{Extent}
 use Rattle.type_print.specs.declared.row.LayoutRow.{LayoutRow}
 use Rattle.type_print.specs.declared.row.LayoutRow.TheVariants.{Member, Hole, Padding, Overlap, Outside}
-use Rattle.type_print.specs.Members.{end_of, Holds, IsHeld, Meet, IsBelow, rank_of, member_key, Precedes, AreInOrder, extent_cmp, AreNumbered, NamesAll, row_of}
+use Rattle.type_print.specs.Members.{end_of, IsHeld, Meet, IsBelow, rank_of, member_key, Precedes, AreInOrder, AreNumbered, NamesAll, row_of}
 use Rattle.type_print.specs.Rows.{Fits, IsHole, IsPadding, IsOverlap, IsOutside, IsOverlapRow, IsOutsideRow, IsFittingRow, IsRow, key_of, AreExactly, AreRows}
 use Rattle.type_print.proofs.ListLemmas.{in_none, in_head, in_tail, in_cases, in_map, in_map_cases, pairs_append, pairs_map}
-use Rattle.type_print.proofs.OrderLemmas.{below_not_both, below_not_itself, below_trans, section_below, precede_cases, in_order, back, forth, names_itself}
+use Rattle.type_print.proofs.OrderLemmas.{below_not_both, below_not_itself, below_trans, section_below, precede_cases, back, forth, names_itself}
 
 -- ---- the first member that meets another
 

@@ -1,5 +1,5 @@
 -- The laws of layouts.
-use Rattle.std.proofs.Common.{◌≡◌, ◌≢◌, ◌<◌, ◌≤◌, ◌+◌, ◌-◌, ℕ, zero, suc, Bool, true, false, List, [], ◌∷◌, length, get_or, ◌⊎◌, inl, inr, refl, sym, ◌∙◌, ap, subst, arith}
+use Rattle.std.proofs.Common.{◌≡◌, ◌<◌, ◌≤◌, ◌+◌, ◌-◌, ℕ, zero, suc, true, List, [], ◌∷◌, length, ◌⊎◌, inl, inr, refl, sym, ◌∙◌, ap, subst, arith}
 use Rattle.std.specs.List.{AllPairs, Contains}
 use Rattle.std.proofs.lemmas.Bool.{cases_lt, cases_order, both_ways}
 use Rattle.std.proofs.lemmas.List.{get_or_default}
@@ -7,9 +7,9 @@ use Rattle.std.proofs.lemmas.List.Elements.{Contains-get_or}
 use Rattle.type_print.specs.declared.extent.Extent.{Extent}
 use Rattle.type_print.specs.declared.row.LayoutRow.{LayoutRow}
 use Rattle.type_print.specs.declared.row.LayoutRow.TheVariants.{Member, Hole, Padding, Overlap, Outside}
-use Rattle.type_print.specs.Members.{end_of, Holds, IsHeld, Meet, IsBelow, Precedes, AreNumbered, NamesAll, row_of}
-use Rattle.type_print.specs.Rows.{Fits, IsHole, IsPadding, IsRow, key_of, AreExactly, AreRows, is_clash}
-use Rattle.type_print.specs.Laws.{Lies, RowHolds, row_end, row_at, StandsOnce, IsClean, CoverEachBitOnce, CleanRowsCoverEachBitOnce, NameClashes, RowsNameClashes, RowsAreDetermined}
+use Rattle.type_print.specs.Members.{Holds, IsHeld, IsBelow, AreNumbered, row_of}
+use Rattle.type_print.specs.Rows.{Fits, IsHole, IsPadding, IsRow, key_of, AreRows}
+use Rattle.type_print.specs.Laws.{Lies, RowHolds, row_end, row_at, IsClean, CoverEachBitOnce, RowsNameClashes, RowsAreDetermined}
 use Rattle.type_print.proofs.ListLemmas.{in_none, in_head, in_tail, in_cases, pairs_head, pairs_tail}
 use Rattle.type_print.proofs.OrderLemmas.{below_not_both, below_not_itself, precede_cases, names_itself, same_member}
 use Rattle.type_print.proofs.SweepLemmas.{held_head, held_tail, held_cases}

@@ -1,8 +1,8 @@
 -- The sweep for overlaps, and the members that end past the size.
-use Rattle.std.proofs.Common.{◌≡◌, ◌<◌, ◌≤◌, ◌+◌, ◌-◌, ℕ, zero, suc, Bool, true, false, List, [], ◌∷◌, ◌++◌, length, get_or, min, max, ◌⊎◌, inl, inr, refl, sym, ◌∙◌, ap, subst, arith}
-use Rattle.std.specs.Prelude.{◌==◌, ◌||◌, nat_lt, cond}
-use Rattle.std.specs.List.{AllPairs, Contains}
-use Rattle.std.proofs.lemmas.Bool.{cases_lt, cases_order, cases_Bool, lt-ltb, le-ltb, ltb-true, ltb-false, eq-eqb, ne_eqb, both_ways}
+use Rattle.std.proofs.Common.{◌≡◌, ◌<◌, ◌≤◌, ◌+◌, ℕ, Bool, true, false, List, [], ◌∷◌, ◌++◌, length, ◌⊎◌, inl, inr, refl, sym, ◌∙◌, ap, subst, arith}
+use Rattle.std.specs.Prelude.{◌==◌, ◌||◌, cond}
+use Rattle.std.specs.List.{Contains}
+use Rattle.std.proofs.lemmas.Bool.{cases_lt, cases_order, lt-ltb, le-ltb, eq-eqb, ne_eqb}
 use Rattle.std.proofs.lemmas.List.{get_or_default}
 use Rattle.std.proofs.lemmas.List.Elements.{Contains-get_or, Contains-append_left, Contains-append_right, Contains-append_cases}
 use Rattle.type_print.specs.declared.extent.Extent.{Extent}
@@ -11,8 +11,8 @@ use Rattle.type_print.specs.declared.row.LayoutRow.TheVariants.{Member, Hole, Pa
 use Rattle.type_print.specs.Members.{end_of, Holds, Meet, IsBelow, member_key, Precedes, AreInOrder, no_member, member_at, NamesAll}
 use Rattle.type_print.specs.Rows.{IsOverlap, IsOutside, IsOverlapRow, IsOutsideRow, key_of, AreExactly}
 use Rattle.type_print.specs.Sweeps.{overlap_rows, outside_rows}
-use Rattle.type_print.proofs.ListLemmas.{in_none, in_head, in_tail, in_one, in_cases, pairs_none, pairs_one, pairs_append}
-use Rattle.type_print.proofs.OrderLemmas.{below_not_both, below_not_itself, precede_cases, precede_in, same_member}
+use Rattle.type_print.proofs.ListLemmas.{in_none, in_head, in_one, pairs_none, pairs_one, pairs_append}
+use Rattle.type_print.proofs.OrderLemmas.{below_not_both, below_not_itself, precede_in, same_member}
 
 abbrev below_key : List Extent → LayoutRow → LayoutRow → Type 0
 below_key all a b = IsBelow (key_of all a) (key_of all b)

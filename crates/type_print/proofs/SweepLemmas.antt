@@ -1,16 +1,16 @@
 -- The sweep over members that fit: a row more, a member less.
-use Rattle.std.proofs.Common.{◌≡◌, ◌<◌, ◌≤◌, ◌+◌, ◌-◌, ℕ, zero, suc, Bool, true, false, List, [], ◌∷◌, ◌++◌, length, drop, Option, Some, None, max, ◌⊎◌, inl, inr, refl, sym, ◌∙◌, ap, subst, arith, append_assoc}
+use Rattle.std.proofs.Common.{◌≡◌, ◌<◌, ◌≤◌, ◌+◌, ◌-◌, ℕ, Bool, true, false, List, [], ◌∷◌, ◌++◌, length, drop, Option, Some, None, max, ◌⊎◌, inl, inr, refl, sym, ◌∙◌, ap, subst, arith, append_assoc}
 use Rattle.std.specs.Prelude.{nat_lt}
 use Rattle.std.specs.List.{AllPairs, Contains}
 use Rattle.std.proofs.lemmas.Bool.{cases_lt, cases_order, ltb-true, ltb-false, lt-ltb, le-ltb, cond-true, cond-false}
-use Rattle.std.proofs.lemmas.List.{append-nil, drop_more}
+use Rattle.std.proofs.lemmas.List.{drop_more}
 use Rattle.type_print.specs.declared.extent.Extent.{Extent}
 use Rattle.type_print.specs.declared.row.LayoutRow.{LayoutRow}
 use Rattle.type_print.specs.declared.row.LayoutRow.TheVariants.{Member, Hole, Padding, Overlap, Outside}
-use Rattle.type_print.specs.Members.{Holds, IsHeld, Meet, Key, IsBelow, rank_of, member_key, Precedes, AreInOrder, row_of, member_at, no_member}
-use Rattle.type_print.specs.Rows.{Fits, IsHole, IsPadding, IsFittingRow, key_of, AreExactly}
+use Rattle.type_print.specs.Members.{Holds, IsHeld, Key, IsBelow, rank_of, member_key, Precedes, AreInOrder, row_of, member_at, no_member}
+use Rattle.type_print.specs.Rows.{Fits, IsFittingRow, key_of, AreExactly}
 use Rattle.type_print.specs.Sweeps.{next_bit, gap_end, gap_row, padding_rows, Follows, FitsFrom, IsHoleFrom, IsPaddingFrom, IsRowFrom, AreRowsFrom, IsSwept}
-use Rattle.type_print.proofs.ListLemmas.{in_none, in_head, in_tail, in_one, in_cases, pairs_none, pairs_head, pairs_tail, pairs_cons, pairs_one, pairs_stronger}
+use Rattle.type_print.proofs.ListLemmas.{in_none, in_head, in_tail, in_cases, pairs_none, pairs_head, pairs_tail, pairs_cons, pairs_stronger}
 
 -- ---- bits that members hold
 

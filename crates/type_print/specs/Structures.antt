@@ -7,6 +7,8 @@ use Rattle.abi_types.specs.declared.kind.Kind.TheVariants as kind
 use Rattle.abi_types.specs.Types.{PlainPart, Member, PlainView, PlainNode}
 use Rattle.abi_types.specs.Graphs.{node_at, part_at, view_at}
 use Rattle.type_print.specs.declared.extent.Extent.{Extent}
+use Rattle.type_print.specs.declared.row.LayoutRow.{LayoutRow}
+use Rattle.type_print.specs.Rows.{AreRows}
 
 -- the size of a type in bits
 abbrev pub bits_of : PlainView → ℕ
@@ -23,6 +25,18 @@ extent_in nodes position other = record { part = position; bit = 0; width = 0 }
 -- the members of a structure, each where it stands
 unfoldable pub members_of : List PlainNode → PlainView → List Extent
 members_of nodes v = map (λ k. extent_in nodes k (part_at v k)) (range_with_len 0 (length v.parts))
+
+-- ---- the structure of a node
+
+abbrev pub members_at : List PlainNode → ℕ → List Extent
+members_at nodes number = members_of nodes (view_at nodes number)
+
+abbrev pub bits_at : List PlainNode → ℕ → ℕ
+bits_at nodes number = bits_of (view_at nodes number)
+
+-- the rows are the layout of the node's structure
+abbrev pub AreRowsAt : List PlainNode → ℕ → List LayoutRow → Type 0
+AreRowsAt nodes number rows = AreRows (members_at nodes number) (bits_at nodes number) rows
 
 -- ---- tags
 

@@ -1,5 +1,5 @@
 -- The lines of a layout.
-use Rattle.std.specs.Prelude.{◌≡◌, ◌<◌, ℕ, ◌+◌, ◌==◌, Bool, true, false, if◌then◌else◌, List, [], ◌∷◌, ◌++◌, length, flat_map, codes, decimal}
+use Rattle.std.specs.Prelude.{◌<◌, ℕ, ◌+◌, ◌==◌, if◌then◌else◌, List, [], ◌∷◌, ◌++◌, length, flat_map, codes, decimal}
 use Rattle.std.specs.List.{concat, list_any, All}
 use Rattle.abi_types.specs.Types.{PlainView}
 use Rattle.abi_types.specs.Graphs.{part_at}

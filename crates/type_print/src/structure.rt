@@ -2,8 +2,9 @@
 ghost use Rattle.std.specs.Prelude.{◌≡◌, ◌<◌, ◌≤◌, ◌^◌, ℕ, length, IfOk, IfSome, Some};
 ghost use Rattle.abi_types.specs.Graphs.{part_at, to_of, view_at};
 ghost use Rattle.abi_types.specs.Parts.{plain_part};
-ghost use Rattle.type_print.specs.Rows.{AreRows};
-ghost use Rattle.type_print.specs.Structures.{bits_of as the_bits_of, extent_in, members_of as the_members_of, width_in};
+ghost use Rattle.type_print.specs.Laws.{CoverEachBitOnce, IsClean, NameClashes};
+ghost use Rattle.type_print.specs.Structures.{bits_at, bits_of as the_bits_of, extent_in, members_at, members_of as the_members_of, width_in, AreRowsAt};
+ghost use Rattle.type_print.specs.Texts.{AreInside};
 
 use crate::extent::Extent;
 use crate::row::LayoutRow;
@@ -70,14 +71,17 @@ fn members_of<Ix: Index>(
 
 /// The layout of a structure that is defined: its members in order, and where none overlap and none ends outside, the holes
 /// between them and the padding behind them; else the overlaps and the members that end outside after them. A position of a row
-/// is that of a part of the structure's view. It fails only when memory runs out.
+/// is that of a part of the structure's view, so `layout_lines` prints the rows. It fails only when memory runs out.
 pub fn layout<Ix: Index>(
     alloc: Global,
     graph: &Graph<Ix>,
     ix: Ix,
 ) -> Result<Vec<LayoutRow>, NoMemory>
     requires { Ix.number_of ix < length graph.now }
-    ensures rows { IfOk result (λ rows. AreRows (the_members_of graph.now (view_at graph.now (Ix.number_of ix))) (the_bits_of (view_at graph.now (Ix.number_of ix))) rows.items) }
+    ensures rows { IfOk result (λ rows. AreRowsAt graph.now (Ix.number_of ix) rows.items) }
+    ensures inside { IfOk result (λ rows. AreInside (view_at graph.now (Ix.number_of ix)) rows.items) }
+    ensures covered { IfOk result (λ rows. IsClean rows.items → CoverEachBitOnce (bits_at graph.now (Ix.number_of ix)) rows.items) }
+    ensures clashes { IfOk result (λ rows. NameClashes (members_at graph.now (Ix.number_of ix)) (bits_at graph.now (Ix.number_of ix)) rows.items) }
 {
     graph.known();
     let view = graph.view(ix);

@@ -1,5 +1,5 @@
 -- The members so far end at the bit or before it.
-use Rattle.std.proofs.Common.{◌≡◌, ◌<◌, ◌≤◌, ℕ}
+use Rattle.std.proofs.Common.{◌<◌, ◌≤◌, ℕ}
 use Rattle.type_print.specs.Members.{end_of, member_at}
 use Rattle.type_print.proofs.overlaps.first_past.Given as goal
 

@@ -1,5 +1,4 @@
-use Rattle.std.proofs.Common.{◌≡◌, ◌<◌, ◌≤◌, ℕ, List, length, sym, subst, arith}
-use Rattle.type_print.specs.declared.row.LayoutRow.{LayoutRow}
+use Rattle.std.proofs.Common.{◌≡◌, ◌<◌, ℕ, length, sym, subst, arith}
 use Rattle.type_print.specs.Rows.{AreExactly, key_of}
 use Rattle.type_print.proofs.OverlapLemmas.{IsOverlapUpto, overlapped_start, overlapped_more, overlaps_start, overlaps_more, overlaps_end}
 use Rattle.type_print.proofs.overlaps.overlaps.Goals as goal

@@ -1,4 +1,4 @@
-use Rattle.std.proofs.Common.{◌≡◌, ◌++◌, List, map, sym, ◌∙◌, ap, subst}
+use Rattle.std.proofs.Common.{◌++◌, List, map, ◌∙◌, ap}
 use Rattle.type_print.specs.declared.row.LayoutRow.{LayoutRow}
 use Rattle.type_print.specs.Members.{row_of}
 use Rattle.type_print.specs.Rows.{Fits}

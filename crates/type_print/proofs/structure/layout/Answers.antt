@@ -1,11 +1,13 @@
-use Rattle.std.proofs.Common.{◌≡◌, ◌≤◌, ◌<◌, ◌^◌, ℕ, List, Some, sym, ◌∙◌, ap, subst, arith}
-use Rattle.abi_types.specs.Types.{PlainView}
+use Rattle.std.proofs.Common.{◌≡◌, ◌≤◌, ◌^◌, ℕ, List, Some, sym, ◌∙◌, ap, subst}
+use Rattle.abi_types.specs.Types.{PlainView, PlainNode}
 use Rattle.abi_types.specs.Graphs.{part_at, to_of, view_at}
 use Rattle.type_print.specs.declared.extent.Extent.{Extent}
+use Rattle.type_print.specs.declared.row.LayoutRow.{LayoutRow}
 use Rattle.type_print.specs.Members.{AreNumbered}
 use Rattle.type_print.specs.Rows.{AreRows}
 use Rattle.type_print.specs.Structures.{bits_of, members_of}
-use Rattle.type_print.proofs.StructureLemmas.{members_numbered}
+use Rattle.type_print.proofs.LawLemmas.{covers, name_clashes}
+use Rattle.type_print.proofs.StructureLemmas.{members_numbered, rows_inside}
 use Rattle.type_print.proofs.structure.layout.Goals as goal
 
 pub bits_of-bits-requires : goal.bits_of-bits-requires
@@ -21,12 +23,23 @@ members_of-requires g c = λ k to is.
 pub rows_of-requires : goal.rows_of-requires
 rows_of-requires g c = subst AreNumbered (sym c.in_ok-members.ensures) (members_numbered c.args.graph.now c.view-view.result.now)
 
+-- the rows are those of the node
+are_rows : (nodes : List PlainNode) (v w : PlainView) (members : List Extent) (bits : ℕ) (rows : List LayoutRow) → v ≡ w → members ≡ members_of nodes v → bits ≡ bits_of v → AreRows members bits rows → AreRows (members_of nodes w) (bits_of w) rows
+are_rows nodes v w members bits rows seen same size are =
+    let P : List Extent → Type 0 = λ es. AreRows es bits rows in
+    let Q : ℕ → Type 0 = λ n. AreRows (members_of nodes w) n rows in
+    subst Q (size ∙ ap bits_of seen) (subst P (same ∙ ap (members_of nodes) seen) are)
+
 pub returns : goal.returns
 returns g c =
     let nodes = c.args.graph.now in
     let v = view_at nodes (g.Ix.Index.number_of c.args.ix) in
-    let same : c.in_ok-members.members.items ≡ members_of nodes v = c.in_ok-members.ensures ∙ ap (λ (w : PlainView). members_of nodes w) c.view-view.ensures in
-    let size : c.bits_of-bits.result ≡ bits_of v = c.bits_of-bits.ensures ∙ ap (λ (w : PlainView). bits_of w) c.view-view.ensures in
-    let P : List Extent → Type 0 = λ es. AreRows es c.bits_of-bits.result c.in_ok-rows.rows.items in
-    let Q : ℕ → Type 0 = λ n. AreRows (members_of nodes v) n c.in_ok-rows.rows.items in
-    record { rows = subst Q size (subst P same c.in_ok-rows.ensures) }
+    let rows = c.in_ok-rows.rows.items in
+    let are : AreRows (members_of nodes v) (bits_of v) rows =
+    are_rows nodes c.view-view.result.now v c.in_ok-members.members.items c.bits_of-bits.result rows c.view-view.ensures c.in_ok-members.ensures c.bits_of-bits.ensures c.in_ok-rows.ensures in
+    record {
+      rows = are;
+      inside = rows_inside nodes v (bits_of v) rows are;
+      covered = λ clean. covers (members_of nodes v) (bits_of v) rows (members_numbered nodes v) are clean;
+      clashes = name_clashes (members_of nodes v) (bits_of v) rows are;
+    }

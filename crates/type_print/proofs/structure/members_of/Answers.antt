@@ -1,4 +1,4 @@
-use Rattle.std.proofs.Common.{◌≡◌, ℕ, length, ◌∙◌, ap, arith}
+use Rattle.std.proofs.Common.{◌≡◌, length, ◌∙◌, ap, arith}
 use Rattle.abi_types.specs.Types.{PlainPart}
 use Rattle.type_print.specs.Structures.{extent_in}
 use Rattle.type_print.proofs.StructureLemmas.{members_more, members_done}
