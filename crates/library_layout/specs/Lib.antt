@@ -1,0 +1,4 @@
+pub mod Covers
+pub mod Layouts
+pub mod Near
+pub mod Structures

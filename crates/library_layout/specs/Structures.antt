@@ -1,0 +1,63 @@
+-- The layout of a structure of a graph, and the structures of a graph by their tags.
+use Rattle.std.specs.Prelude.{◌≡◌, ◌≢◌, ◌<◌, ◌&&◌, ℕ, Bool, true, List, length, All, Contains}
+use Rattle.std.specs.List.{AllPairs}
+use Rattle.std.specs.Str.{bytes_eq}
+use Rattle.abi_types.specs.Types.{PlainNode, PlainView}
+use Rattle.abi_types.specs.Graphs.{view_at}
+use Rattle.type_print.specs.declared.row.LayoutRow.{LayoutRow}
+use Rattle.type_print.specs.Laws.{CoverEachBitOnce, IsClean, NameClashes}
+use Rattle.type_print.specs.Structures.{bits_at, has_layout, is_structure, members_at, AreRowsAt, IsFirstTagged, IsUntagged}
+use Rattle.type_print.specs.Texts.{layout_text}
+use Rattle.library_layout.specs.declared.layouts.Layout.{Layout}
+use Rattle.library_layout.specs.declared.layouts.Layout.TheVariants.{Lines, NoTag}
+
+-- the text is that of the layout of the structure that has the tag: of those that are defined, the one of the earliest entry
+pub record IsLayoutIn (nodes : List PlainNode) (tag text : List ℕ) : Type 0 where
+  pub number : ℕ
+  pub tagged : IsFirstTagged nodes tag number
+  pub rows : List LayoutRow
+  pub laid : AreRowsAt nodes number rows
+  pub is : text ≡ layout_text (view_at nodes number) rows
+
+-- what is said of the tag
+abbrev pub IsLaidIn : List PlainNode → List ℕ → Layout → Type 0
+IsLaidIn nodes tag (Lines text) = IsLayoutIn nodes tag text.items
+IsLaidIn nodes tag NoTag = IsUntagged nodes tag
+
+-- The text is that of rows of the structure. Where none of them is an overlap or a member that ends outside, each bit below the size
+-- lies in exactly one row, and no row reaches past the size; where members overlap or one ends outside, there is such a row.
+pub record IsCoverIn (nodes : List PlainNode) (tag text : List ℕ) : Type 0 where
+  pub number : ℕ
+  pub tagged : IsFirstTagged nodes tag number
+  pub rows : List LayoutRow
+  pub is : text ≡ layout_text (view_at nodes number) rows
+  pub covered : IsClean rows → CoverEachBitOnce (bits_at nodes number) rows
+  pub clashes : NameClashes (members_at nodes number) (bits_at nodes number) rows
+
+-- ---- tags
+
+-- a structure that is defined has the tag
+pub record IsTagIn (nodes : List PlainNode) (tag : List ℕ) : Type 0 where
+  pub number : ℕ
+  pub inside : number < length nodes
+  pub tagged : has_layout (view_at nodes number) tag ≡ true
+
+-- the type is a structure that is declared only, and has the tag
+abbrev pub is_declaration : PlainView → List ℕ → Bool
+is_declaration v tag = is_structure v.kind && v.declared_only && bytes_eq v.tag tag
+
+-- a structure that is declared only has the tag
+pub record IsDeclaredIn (nodes : List PlainNode) (tag : List ℕ) : Type 0 where
+  pub number : ℕ
+  pub inside : number < length nodes
+  pub declared : is_declaration (view_at nodes number) tag ≡ true
+
+-- a structure that is defined has the tag, and it is none of these
+pub record IsNewTagIn (nodes : List PlainNode) (tags : List (List ℕ)) (tag : List ℕ) : Type 0 where
+  pub there : IsTagIn nodes tag
+  pub new : ¬ Contains tags tag
+
+-- structures that are defined have the tags, and no two of these are the same
+pub record AreTagsIn (nodes : List PlainNode) (tags : List (List ℕ)) : Type 0 where
+  pub there : All (IsTagIn nodes) tags
+  pub apart : AllPairs (λ a b. a ≢ b) tags

@@ -1,0 +1,126 @@
+// The tags of a graph that are near another one.
+ghost use Rattle.std.specs.Prelude.{◌≡◌, ◌<◌, ◌≤◌, ◌⊎◌, true, false, length, map, IfOk, IfSome, IsTrue};
+ghost use Rattle.std.specs.List.{list_any};
+ghost use Rattle.std.specs.Str.{bytes_eq};
+ghost use Rattle.type_print.specs.Structures.{has_layout};
+ghost use Rattle.library_layout.specs.Structures.{AreTagsIn, IsNewTagIn};
+
+use crate::layouts::is_structure;
+use abi_base::NoMemory;
+use abi_types::{Graph, Index, View};
+use std::alloc::Global;
+use strsim::generic_levenshtein;
+
+// How many tags are said at most.
+const MOST_TAGS: usize = 5;
+
+// How many bytes of a tag are compared, so that long tags take no longer.
+const COMPARED: usize = 64;
+
+// A tag, and how many edits lead from it to another one.
+#[derive(Clone, Copy)]
+struct Near<'a> {
+    tag: &'a [u8],
+    edits: usize,
+}
+
+// The first bytes of a tag.
+fn start_of(tag: &[u8]) -> &[u8] {
+    tag.get(..COMPARED).unwrap_or(tag)
+}
+
+// How many edits of bytes lead from one tag to another, by their first bytes.
+fn edits_between(alloc: Global, from: &[u8], to: &[u8]) -> Result<usize, NoMemory> {
+    let edits = generic_levenshtein(alloc, start_of(from), start_of(to))?;
+    Ok(edits)
+}
+
+// Whether a tag is one of these.
+fn is_among(tags: &[&[u8]], tag: &[u8]) -> bool
+    ensures { result ≡ list_any (λ t. bytes_eq t.now tag.now) tags.now }
+{
+    tags.iter().any(|one| *one == tag)
+}
+
+// Whether the type is a structure that is defined and has a tag.
+fn is_tagged<Ix: Index>(view: &View<Ix>) -> bool
+    ensures { IsTrue result → has_layout view.now view.now.tag ≡ true }
+{
+    is_structure(view.kind) && !view.declared_only && !view.tag.is_empty()
+}
+
+// The tag of a type, with the edits from it to another one, where a structure is defined with it and it is none of these.
+fn near_of<'a, Ix: Index>(
+    alloc: Global,
+    view: &View<'a, Ix>,
+    tag: &[u8],
+    tags: &[&[u8]],
+) -> Result<Option<Near<'a>>, NoMemory>
+    ensures tagged { IfOk result (λ found. IfSome found (λ near. has_layout view.now near.tag.now ≡ true)) }
+    ensures new { IfOk result (λ found. IfSome found (λ near. list_any (λ t. bytes_eq t.now near.tag.now) tags.now ≡ false)) }
+{
+    if !is_tagged(view) || is_among(tags, view.tag) {
+        return Ok(None);
+    }
+    let edits = edits_between(alloc, view.tag, tag)?;
+    Ok(Some(Near {
+        tag: view.tag,
+        edits,
+    }))
+}
+
+// The nearer one, or the first one where both are as near.
+fn nearer<'a>(first: Option<Near<'a>>, second: Option<Near<'a>>) -> Option<Near<'a>>
+    ensures { (result ≡ first.entry) ⊎ (result ≡ second.entry) }
+{
+    match (first, second) {
+        (Some(one), Some(other)) => {
+            if other.edits < one.edits {
+                second
+            } else {
+                first
+            }
+        }
+        (Some(_), None) => first,
+        _ => second,
+    }
+}
+
+// Of the tags of a graph that are none of these, the one that is nearest to a tag.
+fn nearest<'a, Ix: Index>(
+    alloc: Global,
+    graph: &Graph<'a, Ix>,
+    tag: &[u8],
+    tags: &[&[u8]],
+) -> Result<Option<&'a [u8]>, NoMemory>
+    ensures { IfOk result (λ found. IfSome found (λ near. IsNewTagIn graph.now (map (λ t. t.now) tags.now) near.now)) }
+{
+    let mut found = None;
+    for number in 0..graph.len() {
+        let near = near_of(alloc, graph.view(Ix::of(number)), tag, tags)?;
+        found = nearer(found, near);
+    }
+    match found {
+        Some(near) => Ok(Some(near.tag)),
+        None => Ok(None),
+    }
+}
+
+/// The tags of a graph that are nearest to a tag, the nearest one first: those of structures that are defined, each once.
+pub(crate) fn near_in<'a, Ix: Index>(
+    alloc: Global,
+    graph: &Graph<'a, Ix>,
+    tag: &[u8],
+) -> Result<Vec<&'a [u8]>, NoMemory>
+    ensures few { IfOk result (λ tags. length tags.items ≤ 5) }
+    ensures tags { IfOk result (λ tags. AreTagsIn graph.now (map (λ t. t.now) tags.items)) }
+{
+    let mut tags = Vec::new(alloc);
+    'near: while tags.len() < MOST_TAGS {
+        match nearest(alloc, graph, tag, tags.as_slice())? {
+            Some(near) => tags.push(near)?,
+            None => return Ok(tags),
+        }
+    }
+    Ok(tags)
+}
