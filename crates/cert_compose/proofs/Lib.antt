@@ -12,3 +12,4 @@ mod BindLemmas
 mod MadeLemmas
 mod OneList
 mod OneCert
+mod FirstLost

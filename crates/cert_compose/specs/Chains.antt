@@ -1,4 +1,4 @@
--- Three libraries, and certificates that each of the later two may stand in the place of the one before it.
+-- Three libraries, and certificates that each of the later two may replace the one before it.
 use Rattle.abi_types.specs.declared.library.Marks.{Marks}
 use Rattle.abi_types.specs.Graphs.{IsGraph}
 use Rattle.abi_types.specs.Libraries.{PlainLibrary, IsLibrary}

@@ -27,7 +27,7 @@ pub record IsLeastUnkept (ch : PlainChain) (at : ℕ) : Type 0 where
 abbrev pub AllKeep : (ℕ → Type 0) → Type 0
 AllKeep P = (k : ℕ) → P k
 
--- this is lost, and all that is asked before it is kept; a composed certificate is refused for nothing else
+-- this is lost, and all that comes before it is kept; a composed certificate is refused for nothing else
 abbrev pub IsLost : PlainChain → RefusedKind → ℕ → Type 0
 IsLost ch BindingBetween at = IsFirstSymbol ch (KeepsBinding ch) at
 IsLost ch ExportBetween at = AllKeep (KeepsBinding ch) × IsFirstSymbol ch (KeepsRules ch) at

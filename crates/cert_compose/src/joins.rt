@@ -107,7 +107,7 @@ pub fn through(
     Ok(())
 }
 
-// The lines that the lines of the first certificate give, in the order in which they are found.
+/// The lines that the lines of the first certificate give, in the order in which they are found.
 pub fn join(
     alloc: Global,
     ones: &Lines,

@@ -1,11 +1,13 @@
 //! What joined certificates prove. Each law is the contract of a function that does nothing but bring in the laws below it.
 ghost use Rattle.std.specs.Prelude.{◌≡◌};
 ghost use Rattle.cert_text.specs.Certs.{PlainCert};
+ghost use Rattle.cert_check.specs.declared.refused.Refused.{Refused};
 ghost use Rattle.cert_check.specs.Accepted.{IsAccepted};
 ghost use Rattle.cert_check.specs.Compatible.{IsCompatible};
 ghost use Rattle.cert_compose.specs.Chains.{PlainChain, IsChain, far, far_case};
 ghost use Rattle.cert_compose.specs.Composed.{IsComposed};
 ghost use Rattle.cert_compose.specs.Between.{NothingBetween};
+ghost use Rattle.cert_compose.specs.Refusals.{IsLost};
 
 use cert_check::laws::{
     an_accepted_certificate_is_a_proof, lines_are_found_where_they_stand,
@@ -29,4 +31,10 @@ pub fn what_is_composed_is_accepted()
 /// What two certificates compose is one certificate.
 pub fn what_is_composed_is_one()
     ensures { (ch : PlainChain) (c d : PlainCert) → IsComposed ch c → IsComposed ch d → c ≡ d }
+{}
+
+/// One thing is the first that is lost, and none is where nothing is lost.
+pub fn one_thing_is_lost_first()
+    ensures one { (ch : PlainChain) (lost other : Refused) → IsLost ch lost.kind lost.at → IsLost ch other.kind other.at → lost ≡ other }
+    ensures none { (ch : PlainChain) (lost : Refused) → NothingBetween ch → IsLost ch lost.kind lost.at → ⊥ }
 {}

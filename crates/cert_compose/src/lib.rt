@@ -1,5 +1,5 @@
-//! Certificates joined: from one that a middle library may stand in the place of a first one, and one that a last library may
-//! stand in the place of the middle one, the certificate that the last may stand in the place of the first.
+//! Certificates joined: from one that a middle library may replace a first one, and one that a last library may replace the middle
+//! one, the certificate that the last may replace the first.
 #![tactic(auto)]
 
 mod binds;

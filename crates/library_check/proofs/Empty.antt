@@ -19,7 +19,7 @@ pub no_fault : rule_fault [] ≡ None
 unfolding rule_fault forms_of sections_from is_utf8 chars
 no_fault = refl
 
-no_sections : (rules_of []).sections ≡ []
+pub no_sections : (rules_of []).sections ≡ []
 unfolding forms_of sections_from
 no_sections = refl
 
@@ -29,11 +29,11 @@ none_marked : (soname : Option (List ℕ)) (way : Way) (labels : List PlainLabel
 none_marked soname way [] = refl
 none_marked soname way (l ∷ labels) = none_marked soname way labels
 
-not_dropped : (rules : PlainRules) (soname : Option (List ℕ)) (e : PlainExport) → rules.sections ≡ [] → is_dropped rules soname e ≡ false
+pub not_dropped : (rules : PlainRules) (soname : Option (List ℕ)) (e : PlainExport) → rules.sections ≡ [] → is_dropped rules soname e ≡ false
 unfolding is_dropped
 not_dropped rules soname e none = rw none refl
 
-not_marked : (rules : PlainRules) (soname : Option (List ℕ)) (labels : List PlainLabel) (way : Way) → rules.sections ≡ [] → is_marked rules soname labels way ≡ false
+pub not_marked : (rules : PlainRules) (soname : Option (List ℕ)) (labels : List PlainLabel) (way : Way) → rules.sections ≡ [] → is_marked rules soname labels way ≡ false
 unfolding is_marked
 not_marked rules soname labels way none = rw none (none_marked soname way labels)
 

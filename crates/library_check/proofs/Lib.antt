@@ -7,4 +7,7 @@ mod Texts
 mod Verdicts
 mod VoiceLemmas
 mod Empty
+mod ChainLemmas
+mod MigrationLemmas
+mod CompositionLemmas
 mod trial_lemmas

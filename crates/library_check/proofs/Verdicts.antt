@@ -2,7 +2,7 @@
 use Rattle.std.proofs.Common.{◌≡◌, ℕ, List, [], ◌∷◌, ◌++◌, Option, Some, None, refl, sym, ◌∙◌, ap, subst}
 use Rattle.std.specs.List.{AllByRecursion}
 use Rattle.abi_base.specs.declared.fault.Fault.{Fault}
-use Rattle.cert_check.specs.Accepted.{Case, Place, Keeps, IsFirstFailing, places, refused}
+use Rattle.cert_check.specs.Accepted.{Case, Place, Keeps, IsAccepted, IsFirstFailing, places, refused}
 use Rattle.cert_check.specs.Compatible.{Sides}
 use Rattle.cert_check.specs.declared.refused.Refused.{Refused}
 use Rattle.cert_text.specs.Certs.{PlainCert}
@@ -27,23 +27,28 @@ kept_within : (c : Case) (before : List Place) (place : Place) (after : List Pla
 kept_within c [] place after all = all.0
 kept_within c (p ∷ before) place after all = kept_within c before place after all.1
 
+-- what is accepted is not refused
+pub not_both : (c : Case) (refusal : Refused) → IsAccepted c → IsFirstRefusal c refusal → ⊥
+not_both c refusal all is =
+    let first = is.first in
+    first.fails (kept_within c first.before is.place first.after (subst (AllByRecursion (Keeps c)) first.stands all))
+
+-- it is refused for one condition
+pub refused_once : FailsOnce → (c : Case) (refusal another : Refused) → IsFirstRefusal c refusal → IsFirstRefusal c another → refusal ≡ another
+refused_once once c refusal another one other = one.is ∙ ap (refused c) (once c one.place other.place one.first other.first) ∙ sym other.is
+
 module _ (one_text : AreOneCertificate) where
   -- a text that is accepted is not refused
   pub apart : (s : Sides) (text : List ℕ) (refusal : Refused) → IsAcceptance s text → IsRejection s text refusal → ⊥
   apart s text refusal one other =
       let same : one.cert ≡ other.cert = one_text text one.cert other.cert one.spelled other.spelled in
-      let c = case_for s other.cert in
-      let first = other.fails.first in
-      let all : AllByRecursion (Keeps c) (places c) = subst (λ (cert : PlainCert). AllByRecursion (Keeps (case_for s cert)) (places (case_for s cert))) same one.accepted in
-      first.fails (kept_within c first.before other.fails.place first.after (subst (AllByRecursion (Keeps c)) first.stands all))
+      not_both (case_for s other.cert) refusal (subst (λ (cert : PlainCert). IsAccepted (case_for s cert)) same one.accepted) other.fails
 
   -- it is refused for one condition
   pub one_refusal : FailsOnce → (s : Sides) (text : List ℕ) (refusal another : Refused) → IsRejection s text refusal → IsRejection s text another → refusal ≡ another
   one_refusal once s text refusal another one other =
       let same : one.cert ≡ other.cert = one_text text one.cert other.cert one.spelled other.spelled in
-      let c = case_for s other.cert in
-      let first : IsFirstRefusal c refusal = subst (λ (cert : PlainCert). IsFirstRefusal (case_for s cert) refusal) same one.fails in
-      first.is ∙ ap (refused c) (once c first.place other.fails.place first.first other.fails.first) ∙ sym other.fails.is
+      refused_once once (case_for s other.cert) refusal another (subst (λ (cert : PlainCert). IsFirstRefusal (case_for s cert) refusal) same one.fails) other.fails
 
   pub one_answer : FailsOnce → (old new rules certificate : List ℕ) (one other : Verified) → IsVerified old new rules certificate one → IsVerified old new rules certificate other → one ≡ other
   one_answer once old new rules certificate verified.Accepted verified.Accepted one other = refl

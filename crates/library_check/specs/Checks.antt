@@ -17,7 +17,7 @@ use Rattle.library_check.specs.Judgements.{ruled, IsCertificate, IsJudged, IsRef
 abbrev pub sides_of : List ℕ → List ℕ → List ℕ → Sides
 sides_of old new rules = ruled (library_of old) (library_of new) (rules_of rules)
 
--- The new library may replace the old one, but for what the rule file leaves out: the sonames agree, each old export that is
+-- The new library may replace the old one in all that the rule file does not leave out: the sonames agree, each old export that is
 -- compared binds and keeps the rules of exports, and some relation between types that holds the typed exports is closed under
 -- the rules of types.
 abbrev pub Compatible : List ℕ → List ℕ → List ℕ → Type 0
@@ -32,7 +32,7 @@ Agreed old new rules = IsAgreed (sides_of old new rules)
 abbrev pub IsCertificateText : List ℕ → List ℕ → List ℕ → List ℕ → Type 0
 IsCertificateText old new rules text = IsCertificate (sides_of old new rules) text
 
--- the text of a no, where listeners of these voices are told the rows
+-- the text of a no, where listeners of these voices hear the rows
 abbrev pub IsReportText : List Voice → List ℕ → List ℕ → List ℕ → List ℕ → Type 0
 IsReportText voices old new rules text = IsRefusal voices (sides_of old new rules) text
 

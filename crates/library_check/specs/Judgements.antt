@@ -36,7 +36,7 @@ pub record IsRefusal (voices : List Voice) (s : Sides) (text : List ℕ) : Type 
   pub refuted : IsRefuted s rows
   pub report : IsReport voices rows text
 
--- what `check` says of two libraries and a rule file, where listeners of these voices are told the rows
+-- what `check` says of two libraries and a rule file, where listeners of these voices hear the rows
 abbrev pub IsJudged : List Voice → PlainLibrary → PlainLibrary → PlainRules → Checked → Type 0
 IsJudged voices old new rules (Yes text) = IsCompatible (ruled old new rules) × IsCertificate (ruled old new rules) text.items
 IsJudged voices old new rules (No text) = (IsCompatible (ruled old new rules) → ⊥) × IsRefusal voices (ruled old new rules) text.items

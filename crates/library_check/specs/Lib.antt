@@ -4,4 +4,6 @@ pub mod Remarks
 pub mod Voices
 pub mod Verifications
 pub mod Relations
+pub mod Migrations
+pub mod Compositions
 pub mod trial

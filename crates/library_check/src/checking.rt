@@ -10,7 +10,7 @@ ghost use Rattle.library_check.specs.Relations.{PrintsSuchRelation};
 ghost use Rattle.library_check.specs.Remarks.{remark_on};
 
 use crate::judging::{Checked, judge};
-use crate::laws::an_accepted_certificate_tells_such_a_relation;
+use crate::laws::{an_accepted_certificate_tells_such_a_relation, no_rules_are_readable};
 use crate::remarks::remark;
 use abi_base::{Fault, NoMemory, Refusal, Remark};
 use abi_types::{Library, NewIx, OldIx};
@@ -149,6 +149,18 @@ fn read_rule_file(alloc: Global, bytes: &[u8]) -> Result<Rules, Unchecked>
     }
 }
 
+/// What an empty rule file says. It fails only when memory runs out.
+pub(crate) fn no_rules(alloc: Global) -> Result<Rules, NoMemory>
+    ensures { IfOk result (λ rules. rules ≡ rules_of []) }
+{
+    no_rules_are_readable();
+    match read_rules(alloc, b"") {
+        Ok(rules) => Ok(rules),
+        Err(Refusal::Fault(_)) => unreachable!(),
+        Err(Refusal::NoMemory) => Err(NoMemory),
+    }
+}
+
 // Both libraries and the rule file, in this order.
 pub(crate) fn read_inputs<'a>(
     alloc: Global,
@@ -175,7 +187,7 @@ pub(crate) fn read_inputs<'a>(
     Ok(Inputs { pair, rules })
 }
 
-/// Whether a new library may replace an old one, but for what a rule file leaves out, by their bytes: yes with the certificate,
+/// Whether a new library may replace an old one in all that a rule file does not leave out, by their bytes: yes with the certificate,
 /// or no with the texts that listeners make of every break. The fault of the old library goes before that of the new one, and
 /// that before the one of the rule file.
 pub fn check(

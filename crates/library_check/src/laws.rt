@@ -1,4 +1,4 @@
-//! What `check` and `verify` come to. Each law is the contract of a function whose body only names the laws below it.
+//! What `check`, `verify`, `migrate` and `compose` come to. Each law is the contract of a function whose body only names the laws below it.
 ghost use Rattle.std.specs.Prelude.{◌≡◌, ◌≢◌, ◌≤◌, ◌↔◌, ℕ, List, [], None, length, All};
 ghost use Rattle.abi_base.specs.Limits.{input_limit};
 ghost use Rattle.abi_types.specs.Libraries.{PlainLibrary};
@@ -8,17 +8,23 @@ ghost use Rattle.report.specs.Listening.{Voice};
 ghost use Rattle.pair_compare.specs.Marking.{no_marks};
 ghost use Rattle.cert_check.specs.Accepted.{IsAccepted};
 ghost use Rattle.cert_check.specs.FirstVersion.{IsAccepted1, migrated_case};
+ghost use Rattle.cert_check.specs.declared.refused.Refused.{Refused};
 ghost use Rattle.cert_text.specs.Certs.{PlainCert1};
+ghost use Rattle.cert_text.specs.Grammar.{IsSpelled1};
 ghost use Rattle.library_read.specs.Faults.{library_fault};
 ghost use Rattle.suppression_text.specs.Faults.{rule_fault};
 ghost use Rattle.suppression_text.specs.Rules.{rules_of};
 ghost use Rattle.suppressions.specs.Marks.{marks_of};
 ghost use Rattle.suppressions.specs.Reasons.{HasNoWays};
+ghost use Rattle.library_check.specs.declared.composing.Composed.{Composed};
+ghost use Rattle.library_check.specs.declared.migrating.Migrated.{Migrated};
 ghost use Rattle.library_check.specs.declared.verifying.Unverified.{Unverified};
 ghost use Rattle.library_check.specs.declared.verifying.Unverified.TheVariants.{NoMemory};
 ghost use Rattle.library_check.specs.declared.verifying.Verified.{Verified};
 ghost use Rattle.library_check.specs.declared.verifying.Verified.TheVariants.{Accepted};
 ghost use Rattle.library_check.specs.Checks.{Agreed, AreReadable, Compatible, IsCertificateText, IsReportText, sides_of};
+ghost use Rattle.library_check.specs.Compositions.{IsComposedText, IsComposition, PlainFiles, SameComposed};
+ghost use Rattle.library_check.specs.Migrations.{IsMigrated, IsMigratedText, IsRefusedMigration, SameMigrated};
 ghost use Rattle.library_check.specs.Relations.{IsRelationText};
 ghost use Rattle.library_check.specs.Verifications.{IsAcceptedText, IsUnverified, IsVerified, certificate_fault};
 ghost use Rattle.library_check.specs.Voices.{TellsItsText};
@@ -30,7 +36,11 @@ use cert_check::laws::{
     a_migrated_certificate_is_accepted, one_place_fails_first,
     the_relation_of_an_accepted_certificate_is_closed,
 };
-use cert_text::laws::{a_text_is_of_one_certificate, what_is_spelled_has_no_fault};
+use cert_compose::laws::{one_thing_is_lost_first, what_is_composed_is_one};
+use cert_text::laws::{
+    a_text_is_of_one_certificate, a_text_is_of_one_certificate_of_version_1,
+    what_is_spelled_has_no_fault,
+};
 use library_read::laws::{nodes_stand_for_what_exports_reach, readable_files_are_libraries};
 use pair_compare::laws::{
     a_library_may_replace_itself, exports_without_a_fault_are_distinct,
@@ -87,8 +97,8 @@ pub fn what_check_prints_is_accepted()
     a_verification_has_one_answer();
 }
 
-/// A certificate text that is accepted for readable libraries proves that the new one may replace the old one, but for what the
-/// rule file leaves out.
+/// A certificate text that is accepted for readable libraries proves that the new one may replace the old one in all that the
+/// rule file does not leave out.
 pub fn an_accepted_certificate_is_a_proof()
     ensures { (old new rules certificate : List ℕ) → length old ≤ input_limit → length new ≤ input_limit → library_fault old ≡ None → library_fault new ≡ None
         → IsAcceptedText old new rules certificate → Compatible old new rules }
@@ -117,6 +127,57 @@ pub fn a_certificate_may_be_migrated_without_accessed_through()
 {
     a_migrated_certificate_is_accepted();
     rules_without_accessed_through_see_no_way();
+}
+
+/// The text of such a certificate is not refused by `migrate`.
+pub fn what_was_accepted_is_migrated()
+    ensures { (old new rules certificate : List ℕ) (cert : PlainCert1) (refusal : Refused) → HasNoWays (rules_of rules) → IsSpelled1 certificate cert
+        → IsAccepted1 (sides_of old new rules) cert → IsRefusedMigration old new rules certificate refusal → ⊥ }
+{
+    a_certificate_may_be_migrated_without_accessed_through();
+    a_text_is_of_one_certificate_of_version_1();
+}
+
+/// What `migrate` prints is a certificate without a fault that is accepted for the same inputs.
+pub fn what_is_migrated_is_accepted()
+    ensures readable { (old new rules certificate text : List ℕ) → IsMigratedText old new rules certificate text → certificate_fault text ≡ None }
+    ensures accepted { (old new rules certificate text : List ℕ) → IsMigratedText old new rules certificate text → IsAcceptedText old new rules text }
+{
+    what_is_spelled_has_no_fault();
+}
+
+/// Of one certificate of version 1 for the same inputs `migrate` says one thing: it prints one text, or refuses for one condition,
+/// and never both.
+pub fn a_migration_has_one_answer()
+    ensures answer { (old new rules certificate : List ℕ) (one other : Migrated) → IsMigrated old new rules certificate one → IsMigrated old new rules certificate other → SameMigrated one other }
+    ensures text { (old new rules certificate text other : List ℕ) → IsMigratedText old new rules certificate text → IsMigratedText old new rules certificate other → text ≡ other }
+    ensures refusal { (old new rules certificate : List ℕ) (refusal another : Refused) → IsRefusedMigration old new rules certificate refusal → IsRefusedMigration old new rules certificate another → refusal ≡ another }
+    ensures apart { (old new rules certificate text : List ℕ) (refusal : Refused) → IsMigratedText old new rules certificate text → IsRefusedMigration old new rules certificate refusal → ⊥ }
+{
+    a_text_is_of_one_certificate_of_version_1();
+    one_place_fails_first();
+}
+
+/// Of two certificates for the same three libraries `compose` says one thing: it prints one text, or refuses the first certificate
+/// or the second for one condition, or tells one thing that is lost between them.
+pub fn a_composition_has_one_answer()
+    ensures answer { (p : PlainFiles) (one other : Composed) → IsComposition p one → IsComposition p other → SameComposed one other }
+    ensures text { (p : PlainFiles) (text other : List ℕ) → IsComposedText p text → IsComposedText p other → text ≡ other }
+{
+    a_text_is_of_one_certificate();
+    one_place_fails_first();
+    what_is_composed_is_one();
+    one_thing_is_lost_first();
+}
+
+/// What `compose` prints is a certificate without a fault that is accepted for the first library and the last, with an empty rule
+/// file, and no longer than an input may be: so `verify` accepts it.
+pub fn what_is_composed_is_accepted()
+    ensures readable { (p : PlainFiles) (text : List ℕ) → IsComposedText p text → certificate_fault text ≡ None }
+    ensures accepted { (p : PlainFiles) (text : List ℕ) → IsComposedText p text → IsAcceptedText p.first p.last [] text }
+    ensures short { (p : PlainFiles) (text : List ℕ) → IsComposedText p text → length text ≤ input_limit }
+{
+    what_is_spelled_has_no_fault();
 }
 
 /// A new library may replace an old one exactly where a program compiled against the old one finds the same in the new one. Then each

@@ -4,6 +4,7 @@ ghost use Rattle.abi_base.specs.Limits.{input_limit};
 ghost use Rattle.cert_text.specs.Grammar.{IsSpelled};
 ghost use Rattle.library_check.specs.Checks.{AreReadable, IsUnchecked};
 ghost use Rattle.library_check.specs.Judgements.{ruled};
+ghost use Rattle.library_check.specs.Migrations.{IsUnmigrated};
 ghost use Rattle.library_check.specs.Relations.{AcceptsSuchRelation};
 ghost use Rattle.library_check.specs.Verifications.{AreVerifiable, IsSettled, IsUnverified, IsVerified, case_for, certificate_fault};
 
@@ -42,9 +43,10 @@ pub enum Unverified {
     NoMemory,
 }
 
-// What `verify` says where one of the inputs that it has in common with `check` is not read.
-fn of_inputs(unread: Unchecked) -> Unverified
-    ensures { (old new rules certificate : List ℕ) → IsUnchecked old new rules unread → IsUnverified old new rules certificate result }
+/// What `verify` and `migrate` say where one of the inputs that they have in common with `check` is not read.
+pub(crate) fn of_inputs(unread: Unchecked) -> Unverified
+    ensures unverified { (old new rules certificate : List ℕ) → IsUnchecked old new rules unread → IsUnverified old new rules certificate result }
+    ensures unmigrated { (old new rules certificate : List ℕ) → IsUnchecked old new rules unread → IsUnmigrated old new rules certificate result }
 {
     match unread {
         Unchecked::Old(fault) => Unverified::Old(fault),
@@ -67,8 +69,8 @@ fn read_certificate(alloc: Global, bytes: &[u8]) -> Result<Cert, Unverified>
     }
 }
 
-// What is said of a certificate for two libraries and a rule file that were read.
-fn settle(
+/// What is said of a certificate for two libraries and a rule file that were read.
+pub(crate) fn settle(
     alloc: Global,
     old: &Library<OldIx>,
     new: &Library<NewIx>,
@@ -88,8 +90,8 @@ fn settle(
     }
 }
 
-/// Whether the text of a certificate proves that a new library may replace an old one, but for what a rule file leaves out, by
-/// their bytes. A fault is that of the first input that has one, in the order old, new, rules, certificate.
+/// Whether the text of a certificate proves that a new library may replace an old one in all that a rule file does not leave
+/// out, by their bytes. A fault is that of the first input that has one, in the order old, new, rules, certificate.
 pub fn verify(
     alloc: Global,
     old: &[u8],

@@ -26,7 +26,7 @@ pub record IsYesText (n : ℕ) (lines : List ℕ) : Type 0 where
   pub printed : IsCertificateText (old_library n) (new_library n) [] certificate
   pub is : lines ≡ summary_of n (codes "yes") (export_count n) certificate
 
--- a no: the lines sum up the report that `check` prints, where listeners of these voices, in this order, are told the rows
+-- a no: the lines sum up the report that `check` prints, where listeners of these voices, in this order, hear the rows
 pub record IsNoText (voices : List Voice) (n : ℕ) (lines : List ℕ) : Type 0 where
   pub report : List ℕ
   pub incompatible : Compatible (old_library n) (new_library n) [] → ⊥

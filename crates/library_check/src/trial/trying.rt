@@ -7,17 +7,15 @@ ghost use Rattle.library_read.specs.Faults.{library_fault};
 ghost use Rattle.library_read.specs.Libraries.{library_of};
 ghost use Rattle.library_check.specs.Checks.{IsUnchecked};
 ghost use Rattle.library_check.specs.trial.Trials.{IsSaid, IsTrialText, IsUntried, new_library, old_library};
-ghost use Rattle.suppression_text.specs.Faults.{rule_fault};
-ghost use Rattle.suppression_text.specs.Rules.{rules_of};
 
+use crate::checking::no_rules;
 use crate::laws::no_rules_are_readable;
 use crate::trial::summary::summarize;
 use crate::{Checked, Unchecked, judge, read_pair};
-use abi_base::{NoMemory, Refusal};
+use abi_base::NoMemory;
 use abi_types::{Library, NewIx, OldIx};
 use report::Listener;
 use std::alloc::Global;
-use suppression_text::{Rules, read_rules};
 use trial_libraries::{GenRefusal, Side, make};
 
 // The made library of a side. It fails only when memory runs out.
@@ -31,18 +29,6 @@ fn make_one(alloc: Global, n: u32, side: Side) -> Result<Vec<u8>, NoMemory>
         Ok(file) => Ok(file),
         Err(GenRefusal::Size) => unreachable!(),
         Err(GenRefusal::NoMemory) => Err(NoMemory),
-    }
-}
-
-// The rules of an empty rule file. It fails only when memory runs out.
-fn no_rules(alloc: Global) -> Result<Rules, NoMemory>
-    ensures { IfOk result (λ rules. rules ≡ rules_of []) }
-{
-    no_rules_are_readable();
-    match read_rules(alloc, b"") {
-        Ok(rules) => Ok(rules),
-        Err(Refusal::Fault(_)) => unreachable!(),
-        Err(Refusal::NoMemory) => Err(NoMemory),
     }
 }
 

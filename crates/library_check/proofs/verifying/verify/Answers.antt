@@ -3,7 +3,7 @@ use Rattle.library_check.proofs.Settled.{of_texts}
 use Rattle.library_check.proofs.verifying.verify.Goals as goal
 
 pub returns-in-Err-clause-unverified : goal.returns-in-Err-clause-unverified
-returns-in-Err-clause-unverified c = c.of_inputs.ensures c.args.old.now c.args.new.now c.args.rules.now c.args.certificate.now c.in-Err.ensures.unread
+returns-in-Err-clause-unverified c = c.of_inputs.ensures.unverified c.args.old.now c.args.new.now c.args.rules.now c.args.certificate.now c.in-Err.ensures.unread
 
 pub returns-in-Ok-settle-clause-verified : goal.returns-in-Ok-settle-clause-verified
 returns-in-Ok-settle-clause-verified c =

@@ -1,6 +1,6 @@
 use Rattle.report.specs.declared.styles.report_option.ReportStyle.TheVariants.{Text}
 use Rattle.report.specs.styles.Wanted.{wanted_voices}
-use Rattle.library_check.proofs.trial_lemmas.OneText.{HasOneText, one_text}
+use Rattle.library_check.proofs.trial_lemmas.OneText.{one_text}
 use Rattle.library_check.proofs.trial.laws.a_trial_has_one_text.Goals as goal
 
 pub returns : goal.returns

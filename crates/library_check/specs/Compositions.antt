@@ -1,0 +1,149 @@
+-- What `compose` promises: which certificate the texts of two certificates for a chain of three libraries compose, by their bytes,
+-- and what is refused or lost where they compose none.
+use Rattle.std.specs.Prelude.{◌≡◌, ◌≤◌, ℕ, List, [], length, Some, None}
+use Rattle.abi_base.specs.Limits.{input_limit}
+use Rattle.cert_check.specs.declared.refused.Refused.{Refused}
+use Rattle.cert_check.specs.Accepted.{Case, IsAccepted}
+use Rattle.cert_check.specs.Compatible.{Sides, IsCompatible}
+use Rattle.cert_compose.specs.Between.{NothingBetween}
+use Rattle.cert_compose.specs.Chains.{PlainChain, joint}
+use Rattle.cert_compose.specs.Composed.{IsComposed}
+use Rattle.cert_compose.specs.Refusals.{IsLost}
+use Rattle.cert_text.specs.Certs.{PlainCert}
+use Rattle.cert_text.specs.Grammar.{IsSpelled}
+use Rattle.library_read.specs.Faults.{library_fault}
+use Rattle.library_read.specs.Libraries.{library_of}
+use Rattle.suppression_text.specs.Rules.{rules_of}
+use Rattle.library_check.specs.declared.composing.ChainFiles.{ChainFiles}
+use Rattle.library_check.specs.declared.composing.Composed.{Composed}
+use Rattle.library_check.specs.declared.composing.Composed.TheVariants.{Yes, First, Second, Between}
+use Rattle.library_check.specs.declared.composing.Uncomposed.{Uncomposed}
+use Rattle.library_check.specs.declared.composing.Uncomposed.TheVariants as uncomposed
+use Rattle.library_check.specs.Checks.{Compatible}
+use Rattle.library_check.specs.Judgements.{ruled}
+use Rattle.library_check.specs.Verifications.{IsAcceptedText, IsFirstRefusal, IsRefusedText, case_for, certificate_fault}
+
+-- three libraries and two certificates, by their bytes
+pub record PlainFiles : Type 0 where
+  pub first : List ℕ
+  pub middle : List ℕ
+  pub last : List ℕ
+  pub certificate1 : List ℕ
+  pub certificate2 : List ℕ
+
+abbrev pub plain_files : ChainFiles → PlainFiles
+plain_files f = record {
+  first = f.first.now;
+  middle = f.middle.now;
+  last = f.last.now;
+  certificate1 = f.certificate1.now;
+  certificate2 = f.certificate2.now;
+}
+
+-- ---- certificates for libraries that were read
+
+-- an empty rule file leaves nothing out
+abbrev pub first_sides : PlainChain → Sides
+first_sides ch = ruled ch.first ch.middle (rules_of [])
+
+abbrev pub second_sides : PlainChain → Sides
+second_sides ch = ruled ch.middle ch.last (rules_of [])
+
+abbrev pub whole_sides : PlainChain → Sides
+whole_sides ch = ruled ch.first ch.last (rules_of [])
+
+abbrev pub first_case : PlainChain → Case
+first_case ch = case_for (first_sides ch) ch.one
+
+abbrev pub second_case : PlainChain → Case
+second_case ch = case_for (second_sides ch) ch.other
+
+-- each certificate is accepted
+pub record AreAccepted (ch : PlainChain) : Type 0 where
+  pub one : IsAccepted (first_case ch)
+  pub other : IsAccepted (second_case ch)
+
+-- Nothing is lost between the first library and the last. The text is that of the composed certificate, which is accepted for them,
+-- and no longer than an input may be.
+pub record IsComposedFor (ch : PlainChain) (text : List ℕ) : Type 0 where
+  pub accepted : AreAccepted ch
+  pub nothing : NothingBetween ch
+  pub cert : PlainCert
+  pub composed : IsComposed ch cert
+  pub spelled : IsSpelled text cert
+  pub proves : IsAccepted (case_for (whole_sides ch) cert)
+  pub short : length text ≤ input_limit
+
+-- this is the first that is lost between the first library and the last
+pub record LosesBetween (ch : PlainChain) (refusal : Refused) : Type 0 where
+  pub accepted : AreAccepted ch
+  pub lost : IsLost ch refusal.kind refusal.at
+
+-- what is said of two certificates for a chain of libraries: the first one comes before the second, and that before what is lost
+abbrev pub IsJoined : PlainChain → Composed → Type 0
+IsJoined ch (Yes text) = IsCompatible (whole_sides ch) × IsComposedFor ch text.items
+IsJoined ch (First refusal) = IsFirstRefusal (first_case ch) refusal
+IsJoined ch (Second refusal) = IsAccepted (first_case ch) × IsFirstRefusal (second_case ch) refusal
+IsJoined ch (Between refusal) = LosesBetween ch refusal
+
+-- ---- texts
+
+-- the chain of the libraries that three files are, with two certificates
+abbrev pub chain_with : PlainFiles → PlainCert → PlainCert → PlainChain
+chain_with p one other = joint (library_of p.first) (library_of p.middle) (library_of p.last) one other
+
+-- the texts spell two certificates that are accepted, and the text is that of the certificate that these compose
+pub record IsComposedText (p : PlainFiles) (text : List ℕ) : Type 0 where
+  pub one : PlainCert
+  pub other : PlainCert
+  pub one_spelled : IsSpelled p.certificate1 one
+  pub other_spelled : IsSpelled p.certificate2 other
+  pub whole : IsComposedFor (chain_with p one other) text
+
+-- the texts spell two certificates that are accepted, and this is the first that is lost between them
+pub record IsLostText (p : PlainFiles) (refusal : Refused) : Type 0 where
+  pub one : PlainCert
+  pub other : PlainCert
+  pub one_spelled : IsSpelled p.certificate1 one
+  pub other_spelled : IsSpelled p.certificate2 other
+  pub lost : LosesBetween (chain_with p one other) refusal
+
+-- What `compose` says of readable inputs: yes with the text of the composed certificate, which proves that the last library may
+-- replace the first; the first certificate is refused for the first library and the middle one; the second is refused for the
+-- middle library and the last, where the first is accepted; or what is lost where both are accepted.
+abbrev pub IsComposition : PlainFiles → Composed → Type 0
+IsComposition p (Yes text) = Compatible p.first p.last [] × IsComposedText p text.items
+IsComposition p (First refusal) = IsRefusedText p.first p.middle [] p.certificate1 refusal
+IsComposition p (Second refusal) = IsAcceptedText p.first p.middle [] p.certificate1 × IsRefusedText p.middle p.last [] p.certificate2 refusal
+IsComposition p (Between refusal) = IsLostText p refusal
+
+-- two answers are of one kind, with the same text or the same refusal
+abbrev pub SameComposed : Composed → Composed → Type 0
+SameComposed (Yes text) (Yes other) = text.items ≡ other.items
+SameComposed (First refusal) (First another) = refusal ≡ another
+SameComposed (Second refusal) (Second another) = refusal ≡ another
+SameComposed (Between refusal) (Between another) = refusal ≡ another
+SameComposed one other = ⊥
+
+-- ---- faults
+
+-- the three libraries are readable
+pub record AreReadableLibraries (p : PlainFiles) : Type 0 where
+  pub first : library_fault p.first ≡ None
+  pub middle : library_fault p.middle ≡ None
+  pub last : library_fault p.last ≡ None
+
+-- the libraries and both certificates are readable
+pub record AreComposable (p : PlainFiles) : Type 0 where
+  pub libraries : AreReadableLibraries p
+  pub certificate1 : certificate_fault p.certificate1 ≡ None
+  pub certificate2 : certificate_fault p.certificate2 ≡ None
+
+-- why it says nothing: the first fault of the first input that has one, in the order of the inputs
+abbrev pub IsUncomposed : PlainFiles → Uncomposed → Type 0
+IsUncomposed p uncomposed.NoMemory = Unit {0}
+IsUncomposed p (uncomposed.First fault) = library_fault p.first ≡ Some fault
+IsUncomposed p (uncomposed.Middle fault) = (library_fault p.first ≡ None) × (library_fault p.middle ≡ Some fault)
+IsUncomposed p (uncomposed.Last fault) = (library_fault p.first ≡ None) × (library_fault p.middle ≡ None) × (library_fault p.last ≡ Some fault)
+IsUncomposed p (uncomposed.Certificate1 fault) = AreReadableLibraries p × (certificate_fault p.certificate1 ≡ Some fault)
+IsUncomposed p (uncomposed.Certificate2 fault) = AreReadableLibraries p × (certificate_fault p.certificate1 ≡ None) × (certificate_fault p.certificate2 ≡ Some fault)

@@ -1,0 +1,81 @@
+-- What `migrate` promises: when the text of a certificate of version 1 is migrated for two libraries and a rule file, by their
+-- bytes, and which condition its migrated certificate does not meet where it is not.
+use Rattle.std.specs.Prelude.{◌≡◌, ℕ, List, Option, Some, None}
+use Rattle.abi_base.specs.declared.fault.Fault.{Fault}
+use Rattle.cert_check.specs.declared.refused.Refused.{Refused}
+use Rattle.cert_check.specs.Accepted.{IsAccepted}
+use Rattle.cert_check.specs.Compatible.{Sides, IsCompatible}
+use Rattle.cert_check.specs.FirstVersion.{migrated_case}
+use Rattle.cert_text.specs.Certs.{PlainCert1, migrated}
+use Rattle.cert_text.specs.Faults.{fault_of}
+use Rattle.cert_text.specs.Grammar.{IsSpelled, IsSpelled1}
+use Rattle.cert_text.specs.declared.line.Version.TheVariants.{One}
+use Rattle.library_read.specs.Faults.{library_fault}
+use Rattle.suppression_text.specs.Faults.{rule_fault}
+use Rattle.library_check.specs.declared.migrating.Migrated.{Migrated}
+use Rattle.library_check.specs.declared.migrating.Migrated.TheVariants.{Done, Refused as Not}
+use Rattle.library_check.specs.declared.verifying.Unverified.{Unverified}
+use Rattle.library_check.specs.declared.verifying.Unverified.TheVariants as unverified
+use Rattle.library_check.specs.Checks.{AreReadable, Compatible, sides_of}
+use Rattle.library_check.specs.Verifications.{IsFirstRefusal}
+
+-- ---- one certificate
+
+-- What is said of a certificate of version 1: where its migrated certificate is accepted, which proves that the new library may
+-- replace the old one, the text of that; and else the refusal of that.
+abbrev pub IsMigration : Sides → PlainCert1 → Migrated → Type 0
+IsMigration s c (Done text) = IsCompatible s × IsAccepted (migrated_case s c) × IsSpelled text.items (migrated c)
+IsMigration s c (Not refusal) = IsFirstRefusal (migrated_case s c) refusal
+
+-- ---- texts
+
+-- the certificate text spells a certificate of version 1 whose migrated certificate is accepted, and the other text spells that
+pub record IsMigratedBy (s : Sides) (certificate text : List ℕ) : Type 0 where
+  pub cert : PlainCert1
+  pub spelled : IsSpelled1 certificate cert
+  pub accepted : IsAccepted (migrated_case s cert)
+  pub becomes : IsSpelled text (migrated cert)
+
+-- the certificate text spells one whose migrated certificate is refused
+pub record IsUnmigratedBy (s : Sides) (certificate : List ℕ) (refusal : Refused) : Type 0 where
+  pub cert : PlainCert1
+  pub spelled : IsSpelled1 certificate cert
+  pub fails : IsFirstRefusal (migrated_case s cert) refusal
+
+-- the text is that of the migrated certificate, which is accepted for these libraries and this rule file
+abbrev pub IsMigratedText : List ℕ → List ℕ → List ℕ → List ℕ → List ℕ → Type 0
+IsMigratedText old new rules certificate text = IsMigratedBy (sides_of old new rules) certificate text
+
+-- this condition is the first that the migrated certificate does not meet
+abbrev pub IsRefusedMigration : List ℕ → List ℕ → List ℕ → List ℕ → Refused → Type 0
+IsRefusedMigration old new rules certificate refusal = IsUnmigratedBy (sides_of old new rules) certificate refusal
+
+-- what `migrate` says of readable inputs
+abbrev pub IsMigrated : List ℕ → List ℕ → List ℕ → List ℕ → Migrated → Type 0
+IsMigrated old new rules certificate (Done text) = Compatible old new rules × IsMigratedText old new rules certificate text.items
+IsMigrated old new rules certificate (Not refusal) = IsRefusedMigration old new rules certificate refusal
+
+-- two answers are of one kind, with the same text or the same refusal
+abbrev pub SameMigrated : Migrated → Migrated → Type 0
+SameMigrated (Done text) (Done other) = text.items ≡ other.items
+SameMigrated (Not refusal) (Not another) = refusal ≡ another
+SameMigrated one other = ⊥
+
+-- ---- faults
+
+-- the first fault of the text of a certificate of version 1
+abbrev pub old_certificate_fault : List ℕ → Option Fault
+old_certificate_fault certificate = fault_of One certificate
+
+-- both libraries, the rule file and the certificate of version 1 are readable
+pub record AreMigratable (old new rules certificate : List ℕ) : Type 0 where
+  pub inputs : AreReadable old new rules
+  pub certificate_readable : old_certificate_fault certificate ≡ None
+
+-- why it says nothing: the first fault of the first input that has one, in the order old, new, rules, certificate
+abbrev pub IsUnmigrated : List ℕ → List ℕ → List ℕ → List ℕ → Unverified → Type 0
+IsUnmigrated old new rules certificate unverified.NoMemory = Unit {0}
+IsUnmigrated old new rules certificate (unverified.Old fault) = library_fault old ≡ Some fault
+IsUnmigrated old new rules certificate (unverified.New fault) = (library_fault old ≡ None) × (library_fault new ≡ Some fault)
+IsUnmigrated old new rules certificate (unverified.Rules fault) = (library_fault old ≡ None) × (library_fault new ≡ None) × (rule_fault rules ≡ Some fault)
+IsUnmigrated old new rules certificate (unverified.Certificate fault) = AreReadable old new rules × (old_certificate_fault certificate ≡ Some fault)

@@ -1,0 +1,356 @@
+// The certificate that two certificates for a chain of three libraries compose, by their bytes.
+ghost use Rattle.std.specs.Prelude.{◌≡◌, ◌≤◌, [], None, length, OnOk, IfOk, IfErr};
+ghost use Rattle.abi_base.specs.Limits.{input_limit};
+ghost use Rattle.cert_check.specs.Accepted.{IsAccepted};
+ghost use Rattle.cert_compose.specs.Chains.{IsChain, joint};
+ghost use Rattle.cert_text.specs.Grammar.{IsSpelled};
+ghost use Rattle.library_read.specs.Faults.{library_fault};
+ghost use Rattle.library_read.specs.Libraries.{library_of};
+ghost use Rattle.suppression_text.specs.Rules.{rules_of};
+ghost use Rattle.library_check.specs.Compositions.{AreAccepted, AreComposable, AreReadableLibraries, IsComposition, IsJoined, IsUncomposed, first_case, plain_files};
+ghost use Rattle.library_check.specs.Judgements.{ruled};
+ghost use Rattle.library_check.specs.Verifications.{IsSettled, case_for, certificate_fault};
+
+use crate::checking::no_rules;
+use crate::verifying::{Verified, settle};
+use abi_base::{Fault, INPUT_LIMIT, NoMemory, Refusal};
+use abi_types::{Library, NewIx, OldIx};
+use cert_check::Refused;
+use cert_check::laws::{
+    an_accepted_certificate_is_a_proof, marks_of_nothing_are_alike, what_is_accepted_keeps_all,
+};
+use cert_compose::{Chain, ComposeRefusal};
+use cert_text::{Cert, read_cert, write_cert};
+use library_read::copy::copied;
+use library_read::read_library;
+use std::alloc::Global;
+
+// The least bytes that a pair line has, as in `pair 1 1 direct` with its line feed.
+const PAIR_ROOM: usize = 16;
+
+/// Three libraries and two certificates, by their bytes.
+#[derive(Clone, Copy)]
+pub struct ChainFiles<'x> {
+    /// The first library.
+    pub first: &'x [u8],
+    /// The library that may replace the first one.
+    pub middle: &'x [u8],
+    /// The library that may replace the middle one.
+    pub last: &'x [u8],
+    /// The certificate for the first library and the middle one.
+    pub certificate1: &'x [u8],
+    /// The certificate for the middle library and the last one.
+    pub certificate2: &'x [u8],
+}
+
+/// What `compose` says of readable inputs.
+#[derive(Drop)]
+pub enum Composed {
+    /// The last library may replace the first one. This is the text of the composed certificate.
+    Yes(Vec<u8>),
+    /// The first certificate is refused for the first library and the middle one. This is the first condition that it does not meet.
+    First(Refused),
+    /// The second certificate is refused for the middle library and the last one, where the first is accepted.
+    Second(Refused),
+    /// Both certificates are accepted, and this is lost where the middle library is left out.
+    Between(Refused),
+}
+
+/// Why `compose` says nothing.
+#[derive(Clone, Copy, Debug)]
+pub enum Uncomposed {
+    /// The first fault of the first library.
+    First(Fault),
+    /// The first fault of the middle library, where the first one has none.
+    Middle(Fault),
+    /// The first fault of the last library, where the others have none.
+    Last(Fault),
+    /// The first fault of the first certificate, where no library has one.
+    Certificate1(Fault),
+    /// The first fault of the second certificate, where no other input has one.
+    Certificate2(Fault),
+    /// Memory ran out, or the composed certificate is longer than an input may be.
+    NoMemory,
+}
+
+/// Three libraries of a chain, whose types look at names in their bytes. The middle one is there for both sides.
+#[derive(Drop)]
+struct Libraries<'a> {
+    first: Library<'a, OldIx>,
+    middle_new: Library<'a, NewIx>,
+    middle_old: Library<'a, OldIx>,
+    last: Library<'a, NewIx>,
+}
+
+/// The two certificates of a chain.
+#[derive(Drop)]
+struct Certificates {
+    one: Cert,
+    other: Cert,
+}
+
+// The first library.
+fn read_first<'a>(alloc: Global, files: &ChainFiles<'a>) -> Result<Library<'a, OldIx>, Uncomposed>
+    requires { length files.now.first.now ≤ input_limit }
+    ensures readable { OnOk result (library_fault files.now.first.now ≡ None) }
+    ensures library { IfOk result (λ library. library ≡ library_of files.now.first.now) }
+    ensures unread { IfErr result (IsUncomposed (plain_files files.now)) }
+{
+    match read_library(alloc, files.first) {
+        Ok(library) => Ok(library),
+        Err(Refusal::Fault(fault)) => Err(Uncomposed::First(fault)),
+        Err(Refusal::NoMemory) => Err(Uncomposed::NoMemory),
+    }
+}
+
+// The middle library, where the first one is readable.
+fn read_middle<'a>(alloc: Global, files: &ChainFiles<'a>) -> Result<Library<'a, NewIx>, Uncomposed>
+    requires short { length files.now.middle.now ≤ input_limit }
+    requires first { library_fault files.now.first.now ≡ None }
+    ensures readable { OnOk result (library_fault files.now.middle.now ≡ None) }
+    ensures library { IfOk result (λ library. library ≡ library_of files.now.middle.now) }
+    ensures unread { IfErr result (IsUncomposed (plain_files files.now)) }
+{
+    match read_library(alloc, files.middle) {
+        Ok(library) => Ok(library),
+        Err(Refusal::Fault(fault)) => Err(Uncomposed::Middle(fault)),
+        Err(Refusal::NoMemory) => Err(Uncomposed::NoMemory),
+    }
+}
+
+// The last library, where the others are readable.
+fn read_last<'a>(alloc: Global, files: &ChainFiles<'a>) -> Result<Library<'a, NewIx>, Uncomposed>
+    requires short { length files.now.last.now ≤ input_limit }
+    requires first { library_fault files.now.first.now ≡ None }
+    requires middle { library_fault files.now.middle.now ≡ None }
+    ensures readable { OnOk result (library_fault files.now.last.now ≡ None) }
+    ensures library { IfOk result (λ library. library ≡ library_of files.now.last.now) }
+    ensures unread { IfErr result (IsUncomposed (plain_files files.now)) }
+{
+    match read_library(alloc, files.last) {
+        Ok(library) => Ok(library),
+        Err(Refusal::Fault(fault)) => Err(Uncomposed::Last(fault)),
+        Err(Refusal::NoMemory) => Err(Uncomposed::NoMemory),
+    }
+}
+
+// The libraries, in their order. The middle one is read once, and copied for its other side.
+fn read_libraries<'a>(alloc: Global, files: &ChainFiles<'a>) -> Result<Libraries<'a>, Uncomposed>
+    requires first_short { length files.now.first.now ≤ input_limit }
+    requires middle_short { length files.now.middle.now ≤ input_limit }
+    requires last_short { length files.now.last.now ≤ input_limit }
+    ensures readable { OnOk result (AreReadableLibraries (plain_files files.now)) }
+    ensures first { IfOk result (λ libraries. libraries.first ≡ library_of files.now.first.now) }
+    ensures middle_new { IfOk result (λ libraries. libraries.middle_new ≡ library_of files.now.middle.now) }
+    ensures middle_old { IfOk result (λ libraries. libraries.middle_old ≡ library_of files.now.middle.now) }
+    ensures last { IfOk result (λ libraries. libraries.last ≡ library_of files.now.last.now) }
+    ensures unread { IfErr result (IsUncomposed (plain_files files.now)) }
+{
+    let first = match read_first(alloc, files) {
+        Ok(first) => first,
+        Err(unread) => return Err(unread),
+    };
+    let middle_new = match read_middle(alloc, files) {
+        Ok(middle) => middle,
+        Err(unread) => return Err(unread),
+    };
+    let last = match read_last(alloc, files) {
+        Ok(last) => last,
+        Err(unread) => return Err(unread),
+    };
+    let middle_old = match copied(alloc, &middle_new) {
+        Ok(copy) => copy,
+        Err(NoMemory) => return Err(Uncomposed::NoMemory),
+    };
+    Ok(Libraries {
+        first,
+        middle_new,
+        middle_old,
+        last,
+    })
+}
+
+// The first certificate, where the libraries are readable.
+fn read_one(alloc: Global, files: &ChainFiles) -> Result<Cert, Uncomposed>
+    requires { AreReadableLibraries (plain_files files.now) }
+    ensures readable { OnOk result (certificate_fault files.now.certificate1.now ≡ None) }
+    ensures spelled { IfOk result (λ cert. IsSpelled files.now.certificate1.now cert) }
+    ensures unread { IfErr result (IsUncomposed (plain_files files.now)) }
+{
+    match read_cert(alloc, files.certificate1) {
+        Ok(cert) => Ok(cert),
+        Err(Refusal::Fault(fault)) => Err(Uncomposed::Certificate1(fault)),
+        Err(Refusal::NoMemory) => Err(Uncomposed::NoMemory),
+    }
+}
+
+// The second certificate, where the libraries and the first certificate are readable.
+fn read_other(alloc: Global, files: &ChainFiles) -> Result<Cert, Uncomposed>
+    requires libraries { AreReadableLibraries (plain_files files.now) }
+    requires one { certificate_fault files.now.certificate1.now ≡ None }
+    ensures readable { OnOk result (certificate_fault files.now.certificate2.now ≡ None) }
+    ensures spelled { IfOk result (λ cert. IsSpelled files.now.certificate2.now cert) }
+    ensures unread { IfErr result (IsUncomposed (plain_files files.now)) }
+{
+    match read_cert(alloc, files.certificate2) {
+        Ok(cert) => Ok(cert),
+        Err(Refusal::Fault(fault)) => Err(Uncomposed::Certificate2(fault)),
+        Err(Refusal::NoMemory) => Err(Uncomposed::NoMemory),
+    }
+}
+
+// Both certificates, in their order, where the libraries are readable.
+fn read_certificates(alloc: Global, files: &ChainFiles) -> Result<Certificates, Uncomposed>
+    requires { AreReadableLibraries (plain_files files.now) }
+    ensures readable { OnOk result (AreComposable (plain_files files.now)) }
+    ensures one { IfOk result (λ certificates. IsSpelled files.now.certificate1.now certificates.one) }
+    ensures other { IfOk result (λ certificates. IsSpelled files.now.certificate2.now certificates.other) }
+    ensures unread { IfErr result (IsUncomposed (plain_files files.now)) }
+{
+    let one = match read_one(alloc, files) {
+        Ok(one) => one,
+        Err(unread) => return Err(unread),
+    };
+    let other = match read_other(alloc, files) {
+        Ok(other) => other,
+        Err(unread) => return Err(unread),
+    };
+    Ok(Certificates { one, other })
+}
+
+// The text of a certificate, where it is no longer than an input may be. One with too many pair lines is not written.
+fn written(alloc: Global, cert: &Cert) -> Result<Vec<u8>, NoMemory>
+    ensures spelled { IfOk result (λ text. IsSpelled text.items cert.now) }
+    ensures short { IfOk result (λ text. length text.items ≤ input_limit) }
+{
+    if cert.pairs.as_slice().len() > INPUT_LIMIT / PAIR_ROOM {
+        return Err(NoMemory);
+    }
+    let text = write_cert(alloc, cert)?;
+    if text.len() > INPUT_LIMIT {
+        return Err(NoMemory);
+    }
+    Ok(text)
+}
+
+// What is said of a certificate for two libraries, with an empty rule file.
+fn settle_unmarked(
+    alloc: Global,
+    old: &Library<OldIx>,
+    new: &Library<NewIx>,
+    cert: &Cert,
+) -> Result<Verified, NoMemory>
+    ensures { IfOk result (IsSettled (case_for (ruled old.now new.now (rules_of [])) cert.now)) }
+{
+    let rules = no_rules(alloc)?;
+    settle(alloc, old, new, &rules, cert)
+}
+
+// Certificates that are accepted make a chain of the libraries. It does nothing.
+fn make_a_chain(libraries: &Libraries, certificates: &Certificates)
+    requires { AreAccepted (joint libraries.now.first libraries.now.middle_new libraries.now.last certificates.now.one certificates.now.other) }
+    ensures { IsChain (joint libraries.now.first libraries.now.middle_new libraries.now.last certificates.now.one certificates.now.other) }
+{
+    marks_of_nothing_are_alike();
+    what_is_accepted_keeps_all();
+    libraries.first.known();
+    libraries.middle_new.known();
+    libraries.first.graph().known();
+    libraries.middle_new.graph().known();
+    libraries.last.graph().known();
+    certificates.one.known();
+    certificates.other.known();
+}
+
+// What is said of two certificates that are accepted.
+fn join_accepted(
+    alloc: Global,
+    libraries: &Libraries,
+    certificates: &Certificates,
+) -> Result<Composed, NoMemory>
+    requires copied { libraries.now.middle_old ≡ libraries.now.middle_new }
+    requires accepted { AreAccepted (joint libraries.now.first libraries.now.middle_new libraries.now.last certificates.now.one certificates.now.other) }
+    ensures { IfOk result (IsJoined (joint libraries.now.first libraries.now.middle_new libraries.now.last certificates.now.one certificates.now.other)) }
+{
+    marks_of_nothing_are_alike();
+    what_is_accepted_keeps_all();
+    an_accepted_certificate_is_a_proof();
+    make_a_chain(libraries, certificates);
+    let chain = Chain {
+        first: &libraries.first,
+        middle_new: &libraries.middle_new,
+        middle_old: &libraries.middle_old,
+        last: &libraries.last,
+    };
+    match cert_compose::compose(alloc, &chain, &certificates.one, &certificates.other) {
+        Ok(cert) => Ok(Composed::Yes(written(alloc, &cert)?)),
+        Err(ComposeRefusal::Between(refused)) => Ok(Composed::Between(refused)),
+        Err(ComposeRefusal::NoMemory) => Err(NoMemory),
+    }
+}
+
+// What is said of two certificates of which the first is accepted.
+fn join_second(
+    alloc: Global,
+    libraries: &Libraries,
+    certificates: &Certificates,
+) -> Result<Composed, NoMemory>
+    requires copied { libraries.now.middle_old ≡ libraries.now.middle_new }
+    requires accepted { IsAccepted (first_case (joint libraries.now.first libraries.now.middle_new libraries.now.last certificates.now.one certificates.now.other)) }
+    ensures { IfOk result (IsJoined (joint libraries.now.first libraries.now.middle_new libraries.now.last certificates.now.one certificates.now.other)) }
+{
+    match settle_unmarked(
+        alloc,
+        &libraries.middle_old,
+        &libraries.last,
+        &certificates.other,
+    )? {
+        Verified::Accepted => join_accepted(alloc, libraries, certificates),
+        Verified::Refused(refused) => Ok(Composed::Second(refused)),
+    }
+}
+
+// What is said of two certificates for libraries that were read. The first one goes before the second.
+fn join(
+    alloc: Global,
+    libraries: &Libraries,
+    certificates: &Certificates,
+) -> Result<Composed, NoMemory>
+    requires { libraries.now.middle_old ≡ libraries.now.middle_new }
+    ensures { IfOk result (IsJoined (joint libraries.now.first libraries.now.middle_new libraries.now.last certificates.now.one certificates.now.other)) }
+{
+    match settle_unmarked(
+        alloc,
+        &libraries.first,
+        &libraries.middle_new,
+        &certificates.one,
+    )? {
+        Verified::Accepted => join_second(alloc, libraries, certificates),
+        Verified::Refused(refused) => Ok(Composed::First(refused)),
+    }
+}
+
+/// The text of the certificate that two certificates compose: from one that a middle library may replace a first one, and one that a
+/// last library may replace the middle one, that the last may replace the first. Else the first refusal: of the first certificate, of
+/// the second one, or of what is lost between them. No rule file leaves anything out. A fault is that of the first input that has one.
+pub fn compose(alloc: Global, files: &ChainFiles) -> Result<Composed, Uncomposed>
+    requires first_short { length files.now.first.now ≤ input_limit }
+    requires middle_short { length files.now.middle.now ≤ input_limit }
+    requires last_short { length files.now.last.now ≤ input_limit }
+    ensures readable { OnOk result (AreComposable (plain_files files.now)) }
+    ensures composed { IfOk result (IsComposition (plain_files files.now)) }
+    ensures uncomposed { IfErr result (IsUncomposed (plain_files files.now)) }
+{
+    let libraries = match read_libraries(alloc, files) {
+        Ok(libraries) => libraries,
+        Err(unread) => return Err(unread),
+    };
+    let certificates = match read_certificates(alloc, files) {
+        Ok(certificates) => certificates,
+        Err(unread) => return Err(unread),
+    };
+    match join(alloc, &libraries, &certificates) {
+        Ok(composed) => Ok(composed),
+        Err(NoMemory) => Err(Uncomposed::NoMemory),
+    }
+}

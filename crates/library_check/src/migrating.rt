@@ -1,0 +1,92 @@
+// The certificate of version 2 that says what one of version 1 says, where it proves that a new library may replace an old one, by
+// their bytes and those of a rule file.
+ghost use Rattle.std.specs.Prelude.{◌≡◌, ◌≤◌, ℕ, List, None, length, OnOk, IfOk, IfErr};
+ghost use Rattle.abi_base.specs.Limits.{input_limit};
+ghost use Rattle.cert_text.specs.Grammar.{IsSpelled1};
+ghost use Rattle.library_check.specs.Checks.{AreReadable};
+ghost use Rattle.library_check.specs.Judgements.{ruled};
+ghost use Rattle.library_check.specs.Migrations.{AreMigratable, IsMigrated, IsMigration, IsUnmigrated, old_certificate_fault};
+
+use crate::checking::read_inputs;
+use crate::verifying::{Unverified, Verified, of_inputs, settle};
+use abi_base::{NoMemory, Refusal};
+use abi_types::{Library, NewIx, OldIx};
+use cert_check::Refused;
+use cert_text::{Cert1, read_cert_1, write_cert};
+use std::alloc::Global;
+use suppression_text::Rules;
+
+/// What `migrate` says of a readable certificate of version 1.
+#[derive(Drop)]
+pub enum Migrated {
+    /// The migrated certificate proves that the new library may replace the old one. This is its text.
+    Done(Vec<u8>),
+    /// It does not, and this is the first condition that it does not meet. Lines are those of its text.
+    Refused(Refused),
+}
+
+// The certificate of version 1, where all other inputs are readable.
+fn read_old_certificate(alloc: Global, bytes: &[u8]) -> Result<Cert1, Unverified>
+    ensures readable { OnOk result (old_certificate_fault bytes.now ≡ None) }
+    ensures spelled { IfOk result (λ cert. IsSpelled1 bytes.now cert) }
+    ensures unread { IfErr result (λ u. (old new rules : List ℕ) → AreReadable old new rules → IsUnmigrated old new rules bytes.now u) }
+{
+    match read_cert_1(alloc, bytes) {
+        Ok(cert) => Ok(cert),
+        Err(Refusal::Fault(fault)) => Err(Unverified::Certificate(fault)),
+        Err(Refusal::NoMemory) => Err(Unverified::NoMemory),
+    }
+}
+
+// What is said of a certificate of version 1 for two libraries and a rule file that were read.
+fn settle_migrated(
+    alloc: Global,
+    old: &Library<OldIx>,
+    new: &Library<NewIx>,
+    rules: &Rules,
+    cert: &Cert1,
+) -> Result<Migrated, NoMemory>
+    ensures { IfOk result (IsMigration (ruled old.now new.now rules.now) cert.now) }
+{
+    let migrated = cert_text::migrate(alloc, cert)?;
+    match settle(alloc, old, new, rules, &migrated)? {
+        Verified::Accepted => Ok(Migrated::Done(write_cert(alloc, &migrated)?)),
+        Verified::Refused(refused) => Ok(Migrated::Refused(refused)),
+    }
+}
+
+/// The text of the certificate of version 2 that says what a certificate of version 1 says, where it proves that a new library may
+/// replace an old one in all that a rule file does not leave out, by their bytes. A fault is that of the first input that has one, in the
+/// order old, new, rules, certificate.
+pub fn migrate(
+    alloc: Global,
+    old: &[u8],
+    new: &[u8],
+    rules: &[u8],
+    certificate: &[u8],
+) -> Result<Migrated, Unverified>
+    requires old_short { length old.now ≤ input_limit }
+    requires new_short { length new.now ≤ input_limit }
+    ensures readable { OnOk result (AreMigratable old.now new.now rules.now certificate.now) }
+    ensures migrated { IfOk result (IsMigrated old.now new.now rules.now certificate.now) }
+    ensures unmigrated { IfErr result (IsUnmigrated old.now new.now rules.now certificate.now) }
+{
+    let inputs = match read_inputs(alloc, old, new, rules) {
+        Ok(inputs) => inputs,
+        Err(unread) => return Err(of_inputs(unread)),
+    };
+    let cert = match read_old_certificate(alloc, certificate) {
+        Ok(cert) => cert,
+        Err(unmigrated) => return Err(unmigrated),
+    };
+    match settle_migrated(
+        alloc,
+        &inputs.pair.old,
+        &inputs.pair.new,
+        &inputs.rules,
+        &cert,
+    ) {
+        Ok(migrated) => Ok(migrated),
+        Err(NoMemory) => Err(Unverified::NoMemory),
+    }
+}
