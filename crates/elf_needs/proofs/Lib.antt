@@ -1,0 +1,5 @@
+pub mod KeptEntries
+pub mod Ranges
+pub mod ReadNeeds
+pub mod OfFile
+pub mod NeedLaws

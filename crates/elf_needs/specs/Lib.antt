@@ -1,0 +1,4 @@
+pub mod GnuNeeds
+pub mod Indexes
+pub mod Needs
+pub mod Plain
