@@ -1,5 +1,5 @@
 //! The program `abi`: the words of the command line, files and standard output in, and the exit number of the outcome out. Beside
-//! the answer it tells people on standard error what is wrong with an input.
+//! the answer it says on standard error what is wrong with an input.
 #![tactic(auto)]
 
 mod notes;
@@ -31,7 +31,7 @@ fn outcome_of_process<R: Files + Print + Eprint + Env + AllocGlobal>(rt: &R) -> 
     outcome_of(rt, &arguments).unwrap_or(Outcome::NoMemory)
 }
 
-// The arguments, but for the program's name.
+// The arguments after the program's name.
 fn arguments_of<R: Env + AllocGlobal>(rt: &R) -> io::Result<Vec<String>> {
     let mut arguments = Vec::new(rt.alloc());
     for argument in env::args(rt)?.skip(1) {
@@ -65,13 +65,13 @@ fn outcome_of<R: Files + Print + Eprint + AllocGlobal>(
         Box::new(alloc, FirstListener::new(alloc, FIRST_ROWS))?,
     )?;
     let ended = run(alloc, &words, &mut inputs, &mut sink, listeners);
-    tell(rt, &ended);
+    tell(rt, &words, &ended);
     Ok(ended.outcome)
 }
 
-// Tells on standard error what the answer does not say. Where that fails, the answer stands.
-fn tell<R: Files + Eprint + AllocGlobal>(rt: &R, ended: &Ended<'_>) {
-    let Ok(notes) = notes_of(rt, ended) else {
+// Says on standard error what the answer does not say. Where that fails, the answer stands.
+fn tell<R: Files + Eprint + AllocGlobal>(rt: &R, words: &[&str], ended: &Ended<'_>) {
+    let Ok(notes) = notes_of(rt, words, ended) else {
         return;
     };
     for note in &notes {

@@ -1,10 +1,10 @@
 -- What a yes or a no says of accesses.
-use Rattle.std.proofs.Common.{◌≡◌, ◌⊎◌, ◌≤◌, ℕ, List, length, Option, None, Some, inl, inr}
+use Rattle.std.proofs.Common.{◌≡◌, ◌⊎◌, ◌≤◌, ℕ, List, [], length, Option, None, Some, inl, inr}
 use Rattle.std.specs.Prelude.{◌↔◌}
 use Rattle.abi_base.specs.Limits.{input_limit}
 use Rattle.abi_base.specs.declared.remark.Remark.{Remark}
 use Rattle.abi_top.specs.Answer.{Answers, Call}
-use Rattle.abi_top.specs.Headline.{OnCheck, OnVerify}
+use Rattle.abi_top.specs.Headline.{OnCheck, OnCompose, OnVerify}
 use Rattle.abi_top.proofs.Clauses.{OnYes, OnNo, yes_says, no_says}
 use Rattle.commands.specs.declared.outcome.Outcome.TheVariants.{Judged}
 use Rattle.commands.specs.declared.verdict.Verdict.TheVariants as verdict
@@ -21,7 +21,9 @@ module _ (decide : AccessesDecide) (call : Call) (untyped : Option Remark) (text
   Any t = Unit {0}
 
   abbrev pub AgreesOnYes : Type 0
-  AgreesOnYes = OnCheck call (λ report old new rules. Agreed old new rules) ⊎ OnVerify call (λ old new rules certificate. Agreed old new rules)
+  AgreesOnYes =
+      OnCheck call (λ report old new rules. Agreed old new rules)
+      ⊎ (OnVerify call (λ old new rules certificate. Agreed old new rules) ⊎ OnCompose call (λ files. Agreed files.first files.last []))
 
   pub yes_agreed : Answers call (Judged verdict.Yes untyped) text → AgreesOnYes
   yes_agreed answer = of (yes_says call untyped text Any tt answer)
@@ -29,8 +31,10 @@ module _ (decide : AccessesDecide) (call : Call) (untyped : Option Remark) (text
       of : OnYes call untyped text Any tt → AgreesOnYes
       of (inl (rules_name, report, old_name, new_name, old, new, rules, reads, says)) =
           inl (rules_name, report, old_name, new_name, old, new, rules, reads, (decide old new rules reads.given.1 reads.given.2.1 reads.readable.0 reads.readable.1.0).0 says.0)
-      of (inr (rules_name, old_name, new_name, certificate_name, old, new, rules, certificate, reads, says)) =
-          inr (rules_name, old_name, new_name, certificate_name, old, new, rules, certificate, reads, (decide old new rules reads.given.1 reads.given.2.1 reads.readable.0 reads.readable.1.0).0 says.1)
+      of (inr (inl (rules_name, old_name, new_name, certificate_name, old, new, rules, certificate, reads, says))) =
+          inr (inl (rules_name, old_name, new_name, certificate_name, old, new, rules, certificate, reads, (decide old new rules reads.given.1 reads.given.2.1 reads.readable.0 reads.readable.1.0).0 says.1))
+      of (inr (inr (first_name, middle_name, last_name, certificate1_name, certificate2_name, files, reads, says))) =
+          inr (inr (first_name, middle_name, last_name, certificate1_name, certificate2_name, files, reads, (decide files.first files.last [] reads.given.1 reads.given.2.2.1 reads.readable.0 reads.readable.1.1.0).0 says.0))
 
   abbrev pub DiffersOnNo : Type 0
   DiffersOnNo = OnCheck call (λ report old new rules. Agreed old new rules → ⊥)

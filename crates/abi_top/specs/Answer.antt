@@ -12,8 +12,8 @@ use Rattle.commands.specs.Replies.{Replies}
 use Rattle.commands.specs.declared.outcome.Outcome.{Outcome}
 use Rattle.commands.specs.declared.outcome.Outcome.TheVariants.{Help, Usage}
 
--- A call, as far as its answer depends on it: its words, the voices of the listeners that were handed in, and what is known of
--- the inputs.
+-- A call, by what its answer depends on: its words, the voices of the listeners that were handed in, and what is known of the
+-- inputs.
 pub record Call : Type 0 where
   pub words : List (List ℕ)
   pub voices : List Voice
@@ -23,15 +23,15 @@ pub record Call : Type 0 where
 abbrev pub call_of : {I : Type 0} → (I → List ℕ → Option (List ℕ)) → (I → List ℕ → ℕ) → (I → ℕ) → (I → ℕ) → List Voice → List (Bor (List ℕ)) → I → I → Call
 call_of told faults given started voices words old new = record { words = texts words; voices = voices; reading = reading_of told faults given started old new }
 
--- the row of what is asked for in a call
+-- the row of a request in a call
 abbrev pub row_of : Call → PlainRequest → Command
 row_of call asked = command_of call.voices asked
 
--- the inputs of what the words ask for, if they ask for something, are told
+-- the inputs of the words' request, if they make one, tell their bytes
 abbrev pub AsksForTold : Call → Type 0
 AsksForTold call = (asked : PlainRequest) → arguments_by call.words ≡ request asked → AreTold call.reading.told (places_of (row_of call asked).inputs)
 
--- the words ask for something of which P holds
+-- the words make a request of which P holds
 abbrev pub Asks : Call → (PlainRequest → Type 0) → Type 0
 Asks call P = (asked : PlainRequest) × (arguments_by call.words ≡ request asked) × P asked
 

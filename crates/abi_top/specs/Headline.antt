@@ -1,20 +1,21 @@
--- The words of the clauses of `run`: what the words ask for, and the readable bytes that its inputs gave.
+-- The words of the clauses of `run`: the request of its words, and the readable bytes that its inputs gave.
 use Rattle.std.specs.Prelude.{◌≡◌, ◌⊎◌, ℕ, List, [], ◌∷◌, Option}
 use Rattle.abi_top.specs.Answer.{Call, row_of}
-use Rattle.cli_args.specs.ParsedArguments.{PlainRequest, check, verify, entries, exports, trial, request, arguments_by}
+use Rattle.cli_args.specs.ParsedArguments.{PlainRequest, check, verify, entries, exports, trial, migrate, compose, layout, request, arguments_by}
 use Rattle.commands.specs.Commands.{asks_of, places_of}
 use Rattle.commands.specs.Faults.{AreReadable}
 use Rattle.commands.specs.Reading.{Gives}
 use Rattle.listings.specs.entries.EntryLines.{listing_of}
 use Rattle.listings.specs.exports.ExportLines.{exports_text}
 use Rattle.library_read.specs.Libraries.{library_of}
+use Rattle.library_check.specs.Compositions.{PlainFiles}
 use Rattle.library_check.specs.trial.Trials.{IsTrialText}
 use Rattle.report.specs.declared.styles.report_option.ReportStyle.{ReportStyle}
 use Rattle.report.specs.declared.styles.report_option.ReportStyle.TheVariants.{Text}
 use Rattle.report.specs.styles.Wanted.{wanted_voices}
 
--- The words ask for this, and its inputs gave these bytes: the told ones where any are told, no more than the limit, and without
--- a fault of those that are asked.
+-- The words make this request, and its inputs gave these bytes: those that they tell where they tell any, no more than the limit,
+-- and without a fault that the command looks for.
 pub record Reads (call : Call) (asked : PlainRequest) (all : List (List ℕ)) : Type 0 where
   pub words : arguments_by call.words ≡ request asked
   pub given : Gives call.reading.told (places_of (row_of call asked).inputs) all
@@ -32,6 +33,22 @@ OnVerify call P =
     (rules_name : Option (List ℕ)) × (old_name new_name certificate_name old new rules certificate : List ℕ)
     × Reads call (verify rules_name old_name new_name certificate_name) (old ∷ new ∷ rules ∷ certificate ∷ []) × P old new rules certificate
 
+-- the words are `migrate`, and P holds of the readable libraries, rule file and certificate of version 1
+abbrev pub OnMigrate : Call → (List ℕ → List ℕ → List ℕ → List ℕ → Type 0) → Type 0
+OnMigrate call P =
+    (rules_name : Option (List ℕ)) × (old_name new_name certificate_name old new rules certificate : List ℕ)
+    × Reads call (migrate rules_name old_name new_name certificate_name) (old ∷ new ∷ rules ∷ certificate ∷ []) × P old new rules certificate
+
+-- the words are `compose`, and P holds of the three readable libraries and the two readable certificates
+abbrev pub OnCompose : Call → (PlainFiles → Type 0) → Type 0
+OnCompose call P =
+    (first_name middle_name last_name certificate1_name certificate2_name : List ℕ) × (files : PlainFiles)
+    × Reads call (compose first_name middle_name last_name certificate1_name certificate2_name) (files.first ∷ files.middle ∷ files.last ∷ files.certificate1 ∷ files.certificate2 ∷ []) × P files
+
+-- the words are `layout`, a name and a tag, and P holds of the readable library of this name and of the tag
+abbrev pub OnLayout : Call → (List ℕ → List ℕ → Type 0) → Type 0
+OnLayout call P = (name tag library : List ℕ) × Reads call (layout name tag) (library ∷ []) × P library tag
+
 -- The words are `entries` or `exports` and a name, and P holds of the lines of the entries, or of the exports with the places of
 -- their arguments and results, of the readable library of this name.
 abbrev pub OnListing : Call → (List ℕ → Type 0) → Type 0
@@ -39,7 +56,7 @@ OnListing call P =
     ((name library : List ℕ) × Reads call (entries name) (library ∷ []) × P (listing_of library))
     ⊎ ((name library : List ℕ) × Reads call (exports name) (library ∷ []) × P (exports_text (library_of library)))
 
--- the words are `trial` and a number, and P holds of the lines of a trial of so many functions, where those listeners are told
--- that make a line of each break
+-- the words are `trial` and a number, and P holds of the lines of a trial of so many functions, with those listeners that make a
+-- line of each break
 abbrev pub OnTrial : Call → (List ℕ → Type 0) → Type 0
 OnTrial call P = (count : ℕ) × (text : List ℕ) × (arguments_by call.words ≡ request (trial count)) × IsTrialText (wanted_voices Text call.voices) count text × P text

@@ -1,7 +1,7 @@
 -- What each command says of the readable bytes of its inputs.
-use Rattle.std.specs.Prelude.{◌≡◌, ℕ, List, [], ◌∷◌, Option, Some, None}
+use Rattle.std.specs.Prelude.{◌≡◌, ◌⊎◌, ℕ, List, [], ◌∷◌, Option, Some, None}
 use Rattle.abi_base.specs.declared.remark.Remark.{Remark}
-use Rattle.abi_top.specs.Text.{accepted_text, refused_text}
+use Rattle.abi_top.specs.Text.{accepted_text, no_tag_text, refused_first_text, refused_second_text, refused_text}
 use Rattle.report.specs.Listening.{Voice}
 use Rattle.cert_check.specs.declared.refused.Refused.{Refused as Refusal}
 use Rattle.commands.specs.declared.verdict.Verdict.{Verdict}
@@ -10,10 +10,17 @@ use Rattle.listings.specs.entries.EntryLines.{listing_of}
 use Rattle.listings.specs.exports.ExportLines.{exports_text}
 use Rattle.library_read.specs.Libraries.{library_of}
 use Rattle.library_check.specs.Checks.{Compatible, IsCertificateText, IsReportText}
+use Rattle.library_check.specs.Compositions.{PlainFiles, IsComposition}
+use Rattle.library_check.specs.Migrations.{IsMigratedText, IsRefusedMigration}
 use Rattle.library_check.specs.Relations.{IsRelationText}
 use Rattle.library_check.specs.Remarks.{remark_on}
 use Rattle.library_check.specs.Verifications.{IsAcceptedText, IsRefusedText}
+use Rattle.library_check.specs.declared.composing.Composed.{Composed}
+use Rattle.library_check.specs.declared.composing.Composed.TheVariants as composed
+use Rattle.library_check.specs.declared.composing.Composed.TheVariants.{First, Second, Between}
 use Rattle.library_check.specs.trial.Trials.{IsTrialText}
+use Rattle.library_layout.specs.Covers.{CoversEachBit}
+use Rattle.library_layout.specs.Layouts.{HasNoTag, IsLayoutText}
 
 -- ---- check: yes with the certificate, which tells such a relation as a yes asks for, or no with the report that listeners of these voices make
 
@@ -63,3 +70,54 @@ pub record IsTried (voices : List Voice) (count : ℕ) (v : Verdict) (untyped : 
 
 abbrev pub trial_says : List Voice → ℕ → List (List ℕ) → Verdict → Option Remark → List ℕ → Type 0
 trial_says voices count all v untyped text = IsTried voices count v untyped text
+
+-- ---- migrate: done with the migrated certificate where it is accepted, or refused with the first condition that it does not meet
+
+abbrev pub MigrateSays : List ℕ → List ℕ → List ℕ → List ℕ → Verdict → List ℕ → Type 0
+MigrateSays old new rules certificate Done text = Compatible old new rules × IsMigratedText old new rules certificate text
+MigrateSays old new rules certificate Refused text = (refusal : Refusal) × IsRefusedMigration old new rules certificate refusal × (text ≡ refused_text refusal)
+MigrateSays old new rules certificate Yes text = ⊥
+MigrateSays old new rules certificate No text = ⊥
+
+abbrev pub migrate_says : List (List ℕ) → Verdict → Option Remark → List ℕ → Type 0
+migrate_says (old ∷ new ∷ rules ∷ certificate ∷ []) v untyped text = MigrateSays old new rules certificate v text × (untyped ≡ None)
+migrate_says all v untyped text = ⊥
+
+-- ---- compose: yes with the certificate that both compose, or refused with the certificate that is not accepted, or with what is
+-- ---- lost between two accepted ones
+
+-- the two certificates compose none, and P holds of the line that says why
+abbrev pub ComposesNone : PlainFiles → (List ℕ → Type 0) → Type 0
+ComposesNone files P =
+    (refusal : Refusal)
+    × ((IsComposition files (First refusal) × P (refused_first_text refusal))
+    ⊎ ((IsComposition files (Second refusal) × P (refused_second_text refusal)) ⊎ (IsComposition files (Between refusal) × P (refused_text refusal))))
+
+-- the verdict and the text of what `compose` says
+abbrev pub IsComposedAs : Composed → Verdict → List ℕ → Type 0
+IsComposedAs (composed.Yes certificate) v text = (v ≡ Yes) × (text ≡ certificate.items)
+IsComposedAs (First refusal) v text = (v ≡ Refused) × (text ≡ refused_first_text refusal)
+IsComposedAs (Second refusal) v text = (v ≡ Refused) × (text ≡ refused_second_text refusal)
+IsComposedAs (Between refusal) v text = (v ≡ Refused) × (text ≡ refused_text refusal)
+
+pub record ComposeSays (files : PlainFiles) (v : Verdict) (text : List ℕ) : Type 0 where
+  pub composed : Composed
+  pub is : IsComposition files composed
+  pub as_text : IsComposedAs composed v text
+
+abbrev pub compose_says : List (List ℕ) → Verdict → Option Remark → List ℕ → Type 0
+compose_says (first ∷ middle ∷ last ∷ certificate1 ∷ certificate2 ∷ []) v untyped text =
+    ComposeSays (record { first = first; middle = middle; last = last; certificate1 = certificate1; certificate2 = certificate2 }) v text × (untyped ≡ None)
+compose_says all v untyped text = ⊥
+
+-- ---- layout: done with the layout of the structure with this tag, in which each bit has its row, or refused where there is none
+
+abbrev pub LayoutSays : List ℕ → List ℕ → Verdict → List ℕ → Type 0
+LayoutSays library tag Done text = IsLayoutText library tag text × CoversEachBit library tag text
+LayoutSays library tag Refused text = HasNoTag library tag × (text ≡ no_tag_text)
+LayoutSays library tag Yes text = ⊥
+LayoutSays library tag No text = ⊥
+
+abbrev pub layout_says : List ℕ → List (List ℕ) → Verdict → Option Remark → List ℕ → Type 0
+layout_says tag (library ∷ []) v untyped text = LayoutSays library tag v text × (untyped ≡ None)
+layout_says tag all v untyped text = ⊥

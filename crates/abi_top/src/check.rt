@@ -20,7 +20,7 @@ use report::Listener;
 use report::styles::{ReportStyle, wanted_listeners};
 use std::alloc::Global;
 
-/// `check` of two libraries, with a rule file or none. The listeners of a style are told all breaks where it ends with no.
+/// `check` of two libraries, with a rule file or none. The listeners of its style hear all breaks where it ends with no.
 #[derive(Clone, Copy)]
 pub struct Check<'a> {
     pub rules: Option<&'a str>,

@@ -5,9 +5,10 @@ ghost use Rattle.abi_base.specs.Causes.{AppendsFront, Rose, SameCounts, Unfailin
 ghost use Rattle.abi_base.specs.declared.fault.Fault.{Fault as AnyFault};
 ghost use Rattle.abi_base.specs.declared.remark.Remark.{Remark as AnyRemark};
 ghost use Rattle.abi_top.specs.Answer.{Answers, Asks, AsksForTold, Call, HasRoom, call_of, row_of};
-ghost use Rattle.abi_top.specs.Headline.{OnCheck, OnVerify, OnListing, OnTrial};
+ghost use Rattle.abi_top.specs.Headline.{OnCheck, OnCompose, OnLayout, OnMigrate, OnVerify, OnListing, OnTrial};
 ghost use Rattle.abi_top.specs.Rows.{command_of};
-ghost use Rattle.abi_top.specs.Text.{accepted_text, refused_text, usage_text};
+ghost use Rattle.abi_top.specs.Says.{ComposesNone};
+ghost use Rattle.abi_top.specs.Text.{accepted_text, no_tag_text, refused_text, usage_text};
 ghost use Rattle.cert_check.specs.declared.refused.Refused.{Refused as Refusal};
 ghost use Rattle.cli_args.specs.ParsedArguments.{PlainRequest, arguments_by, check, trial, request as requested, help, usage};
 ghost use Rattle.cli_args.specs.Requests.{plain_request};
@@ -22,16 +23,23 @@ ghost use Rattle.commands.specs.Texts.{read_fault_text, unreadable_text};
 ghost use Rattle.commands.specs.declared.input.Input.{Input as AnyInput};
 ghost use Rattle.commands.specs.declared.outcome.Outcome.{Outcome as AnyOutcome};
 ghost use Rattle.library_check.specs.Checks.{Agreed, Compatible, IsCertificateText, IsReportText};
+ghost use Rattle.library_check.specs.Compositions.{IsComposedText};
+ghost use Rattle.library_check.specs.Migrations.{IsMigratedText, IsRefusedMigration};
 ghost use Rattle.library_check.specs.Relations.{IsRelationText};
 ghost use Rattle.library_check.specs.Remarks.{remark_on};
 ghost use Rattle.library_check.specs.Verifications.{IsAcceptedText, IsRefusedText};
+ghost use Rattle.library_layout.specs.Covers.{CoversEachBit};
+ghost use Rattle.library_layout.specs.Layouts.{HasNoTag, IsLayoutText};
 ghost use Rattle.report.specs.declared.styles.report_option.ReportStyle.{ReportStyle as AnyStyle};
 ghost use Rattle.report.specs.styles.Wanted.{wanted_voices};
 ghost use Rattle.trial_libraries.specs.Limits.{most_functions};
 
 use crate::check::Check;
+use crate::compose::Compose;
 use crate::entries::Entries;
 use crate::exports::Exports;
+use crate::layout::Layout;
+use crate::migrate::Migrate;
 use crate::text;
 use crate::trial::Trial;
 use crate::verify::Verify;
@@ -54,11 +62,11 @@ pub struct Ended<'a> {
 /// name are read whole, in order; then the first one with a fault decides; then the command gives its verdict. All that
 /// is to be printed is built before the first write.
 ///
-/// The listeners whose style the words ask for are told all breaks, in the order in which they were handed in; the others are
-/// dropped unheard.
+/// The listeners of the style in the words hear all breaks, in the order in which they were handed in; the others are dropped
+/// unheard.
 ///
 /// In the clauses `call` is this call: its words, the voices of its listeners, and what is known of its inputs; `row_of call` is the
-/// row of what is asked for, in the table of commands.
+/// request's row in the table of commands.
 pub fn run<'a, I: Inputs, S: Sink>(
     alloc: Global,
     words: &'a [&'a str],
@@ -73,16 +81,18 @@ pub fn run<'a, I: Inputs, S: Sink>(
         result.outcome ≢ Outcome.NoMemory → result.outcome ≢ Outcome.WriteFault
         → (text : List ℕ) × Answers call result.outcome text × Appends (S.held sink.old) (S.held sink.new) text }
 
-    // Yes: all inputs are readable, and the new library may replace the old one, but for what the rule file leaves out. The
+    // Yes: all inputs are readable, and the new library may replace the old one in all that the rule file does not leave out. The
     // answer to `check` is the certificate, which a checker accepts; the answer to `verify` says that the certificate is accepted.
     // Either certificate tells a relation between types that proves the yes: it is closed under the rules of types, and holds the
-    // types of all exports that are compared.
+    // types of all exports that are compared. The answer to `compose` is the certificate that two accepted ones compose: it is
+    // accepted for the first and the last library, of which the last may replace the first.
     ensures yes { let call : Call = call_of I.told I.faults I.given I.started (map voice listeners.items) words.entry.now inputs.old inputs.new in
         (untyped : Option AnyRemark) → result.outcome ≡ Outcome.Judged Verdict.Yes untyped
         → OnCheck call (λ report old new rules. Compatible old new rules × (untyped ≡ Some (remark_on old new)) × (text : List ℕ) × IsCertificateText old new rules text × IsRelationText old new rules text × Appends (S.held sink.old) (S.held sink.new) text)
-        ⊎ OnVerify call (λ old new rules certificate. IsAcceptedText old new rules certificate × Compatible old new rules × IsRelationText old new rules certificate × Appends (S.held sink.old) (S.held sink.new) accepted_text) }
+        ⊎ (OnVerify call (λ old new rules certificate. IsAcceptedText old new rules certificate × Compatible old new rules × IsRelationText old new rules certificate × Appends (S.held sink.old) (S.held sink.new) accepted_text)
+        ⊎ OnCompose call (λ files. Compatible files.first files.last [] × (text : List ℕ) × IsComposedText files text × Appends (S.held sink.old) (S.held sink.new) text)) }
 
-    // No: all inputs are readable, the new library may not replace the old one, and what the listeners of the style that is asked for
+    // No: all inputs are readable, the new library may not replace the old one, and what the listeners of the style in the words
     // make of all breaks was printed, in their order: each heard all breaks, up to the first at which it has enough, each break of
     // types with the first path to it from an export.
     ensures no { let call : Call = call_of I.told I.faults I.given I.started (map voice listeners.items) words.entry.now inputs.old inputs.new in
@@ -95,7 +105,8 @@ pub fn run<'a, I: Inputs, S: Sink>(
     // on no this is not so. With `complete`, `check` says yes exactly where the libraries agree on all such accesses.
     ensures yes_agreed { let call : Call = call_of I.told I.faults I.given I.started (map voice listeners.items) words.entry.now inputs.old inputs.new in
         (untyped : Option AnyRemark) → result.outcome ≡ Outcome.Judged Verdict.Yes untyped
-        → OnCheck call (λ report old new rules. Agreed old new rules) ⊎ OnVerify call (λ old new rules certificate. Agreed old new rules) }
+        → OnCheck call (λ report old new rules. Agreed old new rules)
+        ⊎ (OnVerify call (λ old new rules certificate. Agreed old new rules) ⊎ OnCompose call (λ files. Agreed files.first files.last [])) }
     ensures no_agreed { let call : Call = call_of I.told I.faults I.given I.started (map voice listeners.items) words.entry.now inputs.old inputs.new in
         (untyped : Option AnyRemark) → result.outcome ≡ Outcome.Judged Verdict.No untyped
         → OnCheck call (λ report old new rules. Agreed old new rules → ⊥) }
@@ -104,16 +115,26 @@ pub fn run<'a, I: Inputs, S: Sink>(
     ensures itself { (rules : Option (List ℕ)) (report : AnyStyle) (old_name new_name bytes : List ℕ) (untyped : Option AnyRemark) → arguments_by (texts words.entry.now) ≡ requested (check rules report old_name new_name)
         → I.told inputs.old old_name ≡ Some bytes → I.told inputs.old new_name ≡ Some bytes → result.outcome ≢ Outcome.Judged Verdict.No untyped }
 
-    // Refused: all inputs are readable, and the text names the first condition that the certificate does not meet.
+    // Refused: all inputs are readable, and the text names the first condition that the certificate does not meet; or that the
+    // migrated certificate does not meet; or the first of two certificates that is not accepted, with its condition, or what is
+    // lost between two accepted ones; or no structure of the library has the tag.
     ensures refused { let call : Call = call_of I.told I.faults I.given I.started (map voice listeners.items) words.entry.now inputs.old inputs.new in
         (untyped : Option AnyRemark) → result.outcome ≡ Outcome.Judged Verdict.Refused untyped
-        → OnVerify call (λ old new rules certificate. (refusal : Refusal) × IsRefusedText old new rules certificate refusal × Appends (S.held sink.old) (S.held sink.new) (refused_text refusal)) }
+        → OnVerify call (λ old new rules certificate. (refusal : Refusal) × IsRefusedText old new rules certificate refusal × Appends (S.held sink.old) (S.held sink.new) (refused_text refusal))
+        ⊎ (OnMigrate call (λ old new rules certificate. (refusal : Refusal) × IsRefusedMigration old new rules certificate refusal × Appends (S.held sink.old) (S.held sink.new) (refused_text refusal))
+        ⊎ (OnCompose call (λ files. ComposesNone files (λ line. Appends (S.held sink.old) (S.held sink.new) line))
+        ⊎ OnLayout call (λ library tag. HasNoTag library tag × Appends (S.held sink.old) (S.held sink.new) no_tag_text))) }
 
     // Done: the library is readable, and a line was printed for each of its entries, or for each of its exports; or the lines of
-    // a trial were printed.
+    // a trial were printed; or the migrated certificate, which is accepted for two readable libraries, so that the new one may
+    // replace the old one; or the layout of the structure with the tag. Where its rows have no overlap and no member that ends outside,
+    // each bit below the size of the structure lies in exactly one member, hole or padding; where there is such a clash, a row names it.
     ensures done { let call : Call = call_of I.told I.faults I.given I.started (map voice listeners.items) words.entry.now inputs.old inputs.new in
         (untyped : Option AnyRemark) → result.outcome ≡ Outcome.Judged Verdict.Done untyped
-        → OnListing call (λ text. Appends (S.held sink.old) (S.held sink.new) text) ⊎ OnTrial call (λ text. Appends (S.held sink.old) (S.held sink.new) text) }
+        → OnListing call (λ text. Appends (S.held sink.old) (S.held sink.new) text)
+        ⊎ (OnTrial call (λ text. Appends (S.held sink.old) (S.held sink.new) text)
+        ⊎ (OnMigrate call (λ old new rules certificate. Compatible old new rules × (text : List ℕ) × IsMigratedText old new rules certificate text × Appends (S.held sink.old) (S.held sink.new) text)
+        ⊎ OnLayout call (λ library tag. (text : List ℕ) × IsLayoutText library tag text × CoversEachBit library tag text × Appends (S.held sink.old) (S.held sink.new) text))) }
 
     // Where the words are right, all inputs that the command wants tell readable bytes and did not fail, and the sink did not fail,
     // the outcome is a verdict that the command's row allows, with the text that was appended; or memory ran out.
@@ -131,7 +152,7 @@ pub fn run<'a, I: Inputs, S: Sink>(
         → (Rose (S.faults sink.old) (S.faults sink.new) → ⊥) → result.outcome ≢ Outcome.NoMemory
         → result.outcome ≡ Outcome.Unreadable which fault }
 
-    // Where no call of the inputs is made to fail and all inputs that the words name are told, no count of theirs rises.
+    // Where no call of the inputs is made to fail and all inputs that the words name tell their bytes, no count of theirs rises.
     ensures steady_inputs { Unfailing I.is_made_to_fail inputs.old
         → AsksForTold (call_of I.told I.faults I.given I.started (map voice listeners.items) words.entry.now inputs.old inputs.new)
         → SameCounts (I.faults inputs.old) (I.faults inputs.new) }
@@ -149,7 +170,7 @@ pub fn run<'a, I: Inputs, S: Sink>(
         × Appends (S.held sink.old) (S.held sink.new) (unreadable_text which fault) }
 
     // Read fault: the count of the name that the words give for this input rose in this call, the input is the one that was started
-    // last, and no input before it is told to be too long.
+    // last, and no input before it tells too many bytes.
     ensures read_fault { let call : Call = call_of I.told I.faults I.given I.started (map voice listeners.items) words.entry.now inputs.old inputs.new in
         (which : AnyInput) → result.outcome ≡ Outcome.ReadFault which
         → Asks call (λ asked. FailsToRead call.reading (places_of (row_of call asked).inputs) which)
@@ -287,6 +308,43 @@ fn answer_of<'a, I: Inputs>(
         }
         Request::Trial { count } => {
             let command = Trial { count };
+            let places = command.places(alloc)?;
+            answer_with(alloc, &places, command, inputs, listeners)
+        }
+        Request::Migrate {
+            rules,
+            old,
+            new,
+            certificate,
+        } => {
+            let command = Migrate {
+                rules,
+                old,
+                new,
+                certificate,
+            };
+            let places = command.places(alloc)?;
+            answer_with(alloc, &places, command, inputs, listeners)
+        }
+        Request::Compose {
+            first,
+            middle,
+            last,
+            certificate1,
+            certificate2,
+        } => {
+            let command = Compose {
+                first,
+                middle,
+                last,
+                certificate1,
+                certificate2,
+            };
+            let places = command.places(alloc)?;
+            answer_with(alloc, &places, command, inputs, listeners)
+        }
+        Request::Layout { library, tag } => {
+            let command = Layout { library, tag };
             let places = command.places(alloc)?;
             answer_with(alloc, &places, command, inputs, listeners)
         }

@@ -17,7 +17,7 @@ use Rattle.report.specs.declared.styles.report_option.ReportStyle.TheVariants as
 use Rattle.cli_args.specs.Trials.{most_count}
 use Rattle.cli_args.specs.Words.{IsNoOption}
 use Rattle.cli_args.specs.Line.{PlainLine, line_app, line_in, option_words, words_of}
-use Rattle.cli_args.specs.ParsedArguments.{arguments_by, check, command_named, entries, exports, request, request_on, request_or_usage, trial, verify}
+use Rattle.cli_args.specs.ParsedArguments.{arguments_by, check, command_named, compose, entries, exports, layout, migrate, request, request_on, request_or_usage, trial, verify}
 use Rattle.cli_args.proofs.Counting.{decimal_counts}
 use Rattle.cli_args.proofs.Lines.{line_with}
 use Rattle.cli_args.proofs.Judging.{taken_asks}
@@ -183,6 +183,22 @@ pub verify_asks : (old new certificate : Text) → IsNoOption old → IsNoOption
 unfolding command_named
 verify_asks old new certificate o n c =
     plain_words_ask (codes "verify") (old ∷ new ∷ certificate ∷ []) (letter 118 (λ e. absurd (omega (arith, e)))) (o, (n, (c, tt))) (omega arith)
+
+pub migrate_asks : (old new certificate : Text) → IsNoOption old → IsNoOption new → IsNoOption certificate
+    → arguments_by (codes "migrate" ∷ old ∷ new ∷ certificate ∷ []) ≡ request (migrate None old new certificate)
+unfolding command_named
+migrate_asks old new certificate o n c =
+    plain_words_ask (codes "migrate") (old ∷ new ∷ certificate ∷ []) (letter 109 (λ e. absurd (omega (arith, e)))) (o, (n, (c, tt))) (omega arith)
+
+pub compose_asks : (first middle last certificate1 certificate2 : Text) → IsNoOption first → IsNoOption middle → IsNoOption last → IsNoOption certificate1 → IsNoOption certificate2
+    → arguments_by (codes "compose" ∷ first ∷ middle ∷ last ∷ certificate1 ∷ certificate2 ∷ []) ≡ request (compose first middle last certificate1 certificate2)
+unfolding command_named
+compose_asks first middle last certificate1 certificate2 a b c d e =
+    plain_words_ask (codes "compose") (first ∷ middle ∷ last ∷ certificate1 ∷ certificate2 ∷ []) (letter 99 (λ same. absurd (omega (arith, same)))) (a, (b, (c, (d, (e, tt))))) (omega arith)
+
+pub layout_asks : (library tag : Text) → IsNoOption library → IsNoOption tag → arguments_by (codes "layout" ∷ library ∷ tag ∷ []) ≡ request (layout library tag)
+unfolding command_named
+layout_asks library tag l t = plain_words_ask (codes "layout") (library ∷ tag ∷ []) (letter 108 (λ e. absurd (omega (arith, e)))) (l, (t, tt)) (omega arith)
 
 pub entries_asks : (library : Text) → IsNoOption library → arguments_by (codes "entries" ∷ library ∷ []) ≡ request (entries library)
 unfolding command_named

@@ -6,9 +6,9 @@ use Rattle.std.proofs.lemmas.Bool.{leb-true}
 use Rattle.report.specs.declared.styles.report_option.ReportStyle.{ReportStyle}
 use Rattle.cli_args.specs.Line.{PlainLine}
 use Rattle.cli_args.specs.Trials.{is_decimal, is_trial_count, most_count, trial_count_of}
-use Rattle.cli_args.specs.ParsedArguments.{PlainRequest, PlainArguments, check, entries, exports, trial, request, check_of, verify_of, lone_word, style_of, command_named, request_of, request_on, request_or_usage, arguments_by}
+use Rattle.cli_args.specs.ParsedArguments.{PlainRequest, PlainArguments, check, entries, exports, trial, request, check_of, verify_of, migrate_of, compose_of, layout_of, lone_word, style_of, command_named, request_of, request_on, request_or_usage, arguments_by}
 use Rattle.cli_args.specs.declared.judge.CommandName.{CommandName}
-use Rattle.cli_args.specs.declared.judge.CommandName.TheVariants.{Check, Verify, Entries, Exports, Trial}
+use Rattle.cli_args.specs.declared.judge.CommandName.TheVariants.{Check, Verify, Entries, Exports, Trial, Migrate, Compose, Layout}
 use Rattle.cli_args.proofs.Judging.{judged_all}
 
 -- the number of a trial is one that may be asked for
@@ -60,6 +60,33 @@ right_verify (a ∷ b ∷ c ∷ []) rules None = tt
 right_verify (a ∷ b ∷ c ∷ []) rules (Some style) = tt
 right_verify (a ∷ b ∷ c ∷ d ∷ rest) rules report = tt
 
+right_migrate : (files : List (List ℕ)) (rules report : Option (List ℕ)) → AsksRight (request_or_usage (migrate_of files rules report))
+right_migrate [] rules report = tt
+right_migrate (a ∷ []) rules report = tt
+right_migrate (a ∷ b ∷ []) rules report = tt
+right_migrate (a ∷ b ∷ c ∷ []) rules None = tt
+right_migrate (a ∷ b ∷ c ∷ []) rules (Some style) = tt
+right_migrate (a ∷ b ∷ c ∷ d ∷ rest) rules report = tt
+
+right_compose : (files : List (List ℕ)) (rules report : Option (List ℕ)) → AsksRight (request_or_usage (compose_of files rules report))
+right_compose [] rules report = tt
+right_compose (a ∷ []) rules report = tt
+right_compose (a ∷ b ∷ []) rules report = tt
+right_compose (a ∷ b ∷ c ∷ []) rules report = tt
+right_compose (a ∷ b ∷ c ∷ d ∷ []) rules report = tt
+right_compose (a ∷ b ∷ c ∷ d ∷ e ∷ []) None None = tt
+right_compose (a ∷ b ∷ c ∷ d ∷ e ∷ []) None (Some style) = tt
+right_compose (a ∷ b ∷ c ∷ d ∷ e ∷ []) (Some file) report = tt
+right_compose (a ∷ b ∷ c ∷ d ∷ e ∷ f ∷ rest) rules report = tt
+
+right_layout : (words : List (List ℕ)) (rules report : Option (List ℕ)) → AsksRight (request_or_usage (layout_of words rules report))
+right_layout [] rules report = tt
+right_layout (a ∷ []) rules report = tt
+right_layout (a ∷ b ∷ []) None None = tt
+right_layout (a ∷ b ∷ []) None (Some style) = tt
+right_layout (a ∷ b ∷ []) (Some file) report = tt
+right_layout (a ∷ b ∷ c ∷ rest) rules report = tt
+
 right_entries : (word : Option (List ℕ)) → AsksRight (request_or_usage (option_map entries word))
 right_entries None = tt
 right_entries (Some word) = tt
@@ -76,6 +103,9 @@ right_request (Some Verify) files rules report = right_verify files rules report
 right_request (Some Entries) files rules report = right_entries (lone_word files rules report)
 right_request (Some Exports) files rules report = right_exports (lone_word files rules report)
 right_request (Some Trial) files rules report = right_trial (lone_word files rules report)
+right_request (Some Migrate) files rules report = right_migrate files rules report
+right_request (Some Compose) files rules report = right_compose files rules report
+right_request (Some Layout) files rules report = right_layout files rules report
 
 right_line : (line : PlainLine) → AsksRight (request_or_usage (request_on line))
 right_line line = right_request (option_and_then command_named line.command) line.files line.rules line.report

@@ -8,15 +8,18 @@ use Rattle.report.specs.declared.styles.report_option.ReportStyle.TheVariants.{T
 use Rattle.cli_args.specs.Line.{PlainLine, line_app, line_in}
 use Rattle.cli_args.specs.Trials.{trial_count_of}
 use Rattle.cli_args.specs.declared.judge.CommandName.{CommandName}
-use Rattle.cli_args.specs.declared.judge.CommandName.TheVariants.{Check, Verify, Entries, Exports, Trial}
+use Rattle.cli_args.specs.declared.judge.CommandName.TheVariants.{Check, Verify, Entries, Exports, Trial, Migrate, Compose, Layout}
 
--- a request, with the names of its inputs, the style of its report and how many functions its trial makes
+-- a request, with the names of its inputs, the style of its report, how many functions its trial makes and the tag of its structure
 pub data PlainRequest : Type 0 where
   check : (rules : Option (List ℕ)) (report : ReportStyle) (old new : List ℕ) → PlainRequest
   verify : (rules : Option (List ℕ)) (old new certificate : List ℕ) → PlainRequest
   entries : (library : List ℕ) → PlainRequest
   exports : (library : List ℕ) → PlainRequest
   trial : (count : ℕ) → PlainRequest
+  migrate : (rules : Option (List ℕ)) (old new certificate : List ℕ) → PlainRequest
+  compose : (first middle last certificate1 certificate2 : List ℕ) → PlainRequest
+  layout : (library tag : List ℕ) → PlainRequest
 
 -- what words ask for: a request, the help, or nothing that is right, which the usage answers
 pub data PlainArguments : Type 0 where
@@ -30,7 +33,10 @@ command_named word = if bytes_eq word (codes "check") then Some Check
     else (if bytes_eq word (codes "verify") then Some Verify
     else (if bytes_eq word (codes "entries") then Some Entries
     else (if bytes_eq word (codes "exports") then Some Exports
-    else (if bytes_eq word (codes "trial") then Some Trial else None))))
+    else (if bytes_eq word (codes "trial") then Some Trial
+    else (if bytes_eq word (codes "migrate") then Some Migrate
+    else (if bytes_eq word (codes "compose") then Some Compose
+    else (if bytes_eq word (codes "layout") then Some Layout else None)))))))
 
 -- the style of that name
 unfoldable pub report_style_named : List ℕ → Option ReportStyle
@@ -40,7 +46,7 @@ report_style_named word = if bytes_eq word (codes "text") then Some Text
     else (if bytes_eq word (codes "first") then Some First
     else (if bytes_eq word (codes "own") then Some Own else None))))
 
--- the style that is asked for, `text` where none is named
+-- the style that the words name, `text` where they name none
 abbrev pub style_of : Option (List ℕ) → Option ReportStyle
 style_of None = Some Text
 style_of (Some word) = report_style_named word
@@ -55,6 +61,21 @@ abbrev pub verify_of : (files : List (List ℕ)) (rules report : Option (List �
 verify_of (old ∷ new ∷ certificate ∷ []) rules None = Some (verify rules old new certificate)
 verify_of files rules report = None
 
+-- `migrate` with these files and options: OLD NEW CERT, and `--rules` alone
+abbrev pub migrate_of : (files : List (List ℕ)) (rules report : Option (List ℕ)) → Option PlainRequest
+migrate_of (old ∷ new ∷ certificate ∷ []) rules None = Some (migrate rules old new certificate)
+migrate_of files rules report = None
+
+-- `compose` with these files: A B C CERT1 CERT2, and no option
+abbrev pub compose_of : (files : List (List ℕ)) (rules report : Option (List ℕ)) → Option PlainRequest
+compose_of (first ∷ middle ∷ last ∷ certificate1 ∷ certificate2 ∷ []) None None = Some (compose first middle last certificate1 certificate2)
+compose_of files rules report = None
+
+-- `layout` with these words: LIB TAG, and no option
+abbrev pub layout_of : (words : List (List ℕ)) (rules report : Option (List ℕ)) → Option PlainRequest
+layout_of (library ∷ tag ∷ []) None None = Some (layout library tag)
+layout_of words rules report = None
+
 -- the one word of a command that has no option
 abbrev pub lone_word : (files : List (List ℕ)) (rules report : Option (List ℕ)) → Option (List ℕ)
 lone_word (word ∷ []) None None = Some word
@@ -67,6 +88,9 @@ request_of Verify files rules report = verify_of files rules report
 request_of Entries files rules report = option_map entries (lone_word files rules report)
 request_of Exports files rules report = option_map exports (lone_word files rules report)
 request_of Trial files rules report = option_map trial (option_and_then trial_count_of (lone_word files rules report))
+request_of Migrate files rules report = migrate_of files rules report
+request_of Compose files rules report = compose_of files rules report
+request_of Layout files rules report = layout_of files rules report
 
 -- the request of a line that `clap` takes
 abbrev pub request_on : PlainLine → Option PlainRequest

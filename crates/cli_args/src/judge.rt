@@ -7,7 +7,7 @@ ghost use Rattle.cli_args.specs.Words.{texts};
 ghost use Rattle.cli_args.specs.Line.{line_in};
 ghost use Rattle.cli_args.specs.PlainLines.{plain_line};
 ghost use Rattle.cli_args.specs.Trials.{is_decimal as the_word_is_decimal, trial_count_of};
-ghost use Rattle.cli_args.specs.ParsedArguments.{command_named as the_command_named, report_style_named as the_style_named, style_of as the_style_of, check_of, verify_of, lone_word, request_of, request_on, request_or_usage};
+ghost use Rattle.cli_args.specs.ParsedArguments.{command_named as the_command_named, report_style_named as the_style_named, style_of as the_style_of, check_of, verify_of, migrate_of, compose_of, layout_of, lone_word, request_of, request_on, request_or_usage};
 ghost use Rattle.cli_args.specs.Requests.{plain_word, plain_request, plain_asked};
 
 use crate::line::{Line, line_of};
@@ -28,9 +28,12 @@ pub(crate) enum CommandName {
     Entries,
     Exports,
     Trial,
+    Migrate,
+    Compose,
+    Layout,
 }
 
-/// What the line asks for in which `clap` found this.
+/// What the line that `clap` took asks for.
 pub(crate) fn judged<'a>(matches: &ArgMatches<'a>) -> ParsedArguments<'a>
     ensures { plain_asked result ≡ request_or_usage (request_on (line_in (rows_of (found_of matches.now)))) }
 {
@@ -72,6 +75,9 @@ fn requested<'a>(
             let count = trial_count(lone(files, rules, report)?)?;
             Some(Request::Trial { count })
         }
+        CommandName::Migrate => migrate(files, rules, report),
+        CommandName::Compose => compose(files, rules, report),
+        CommandName::Layout => layout(files, rules, report),
     }
 }
 
@@ -113,6 +119,61 @@ fn verify<'a>(
     }
 }
 
+// `migrate` with these files and options.
+fn migrate<'a>(
+    files: &[&'a str],
+    rules: Option<&'a str>,
+    report: Option<&'a str>,
+) -> Option<Request<'a>>
+    ensures { option_map plain_request result ≡ migrate_of (texts files.now) (plain_word rules.entry) (plain_word report.entry) }
+{
+    match (files, report) {
+        ([old, new, certificate], None) => Some(Request::Migrate {
+            rules,
+            old,
+            new,
+            certificate,
+        }),
+        _ => None,
+    }
+}
+
+// `compose` with these files and options.
+fn compose<'a>(
+    files: &[&'a str],
+    rules: Option<&'a str>,
+    report: Option<&'a str>,
+) -> Option<Request<'a>>
+    ensures { option_map plain_request result ≡ compose_of (texts files.now) (plain_word rules.entry) (plain_word report.entry) }
+{
+    match (files, rules, report) {
+        ([first, middle, last, certificate1, certificate2], None, None) => {
+            Some(Request::Compose {
+                first,
+                middle,
+                last,
+                certificate1,
+                certificate2,
+            })
+        }
+        _ => None,
+    }
+}
+
+// `layout` with these words and options.
+fn layout<'a>(
+    words: &[&'a str],
+    rules: Option<&'a str>,
+    report: Option<&'a str>,
+) -> Option<Request<'a>>
+    ensures { option_map plain_request result ≡ layout_of (texts words.now) (plain_word rules.entry) (plain_word report.entry) }
+{
+    match (words, rules, report) {
+        ([library, tag], None, None) => Some(Request::Layout { library, tag }),
+        _ => None,
+    }
+}
+
 // The one word of a command that has no option.
 fn lone<'a>(files: &[&'a str], rules: Option<&'a str>, report: Option<&'a str>) -> Option<&'a str>
     ensures { plain_word result ≡ lone_word (texts files.now) (plain_word rules.entry) (plain_word report.entry) }
@@ -138,6 +199,12 @@ fn command_named(word: &str) -> Option<CommandName>
         Some(CommandName::Exports)
     } else if word == "trial" {
         Some(CommandName::Trial)
+    } else if word == "migrate" {
+        Some(CommandName::Migrate)
+    } else if word == "compose" {
+        Some(CommandName::Compose)
+    } else if word == "layout" {
+        Some(CommandName::Layout)
     } else {
         None
     }
@@ -163,7 +230,7 @@ fn report_style_named(word: &str) -> Option<ReportStyle>
     }
 }
 
-// The style that is asked for, `text` where none is named.
+// The style that the words name, `text` where they name none.
 fn style_of(report: Option<&str>) -> Option<ReportStyle>
     ensures { result ≡ the_style_of (plain_word report.entry) }
 {

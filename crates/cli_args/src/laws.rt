@@ -7,7 +7,7 @@ ghost use Rattle.report.specs.declared.styles.report_option.ReportStyle.TheVaria
 ghost use Rattle.cli_args.specs.Words.{AsksForHelp, LooksForHelp, IsNoOption};
 ghost use Rattle.cli_args.specs.Line.{line_app, words_of};
 ghost use Rattle.cli_args.specs.Trials.{most_count, trial_count_of};
-ghost use Rattle.cli_args.specs.ParsedArguments.{arguments_by, request_on, request_or_usage, request, help, check, verify, entries, exports, trial};
+ghost use Rattle.cli_args.specs.ParsedArguments.{arguments_by, request_on, request_or_usage, request, help, check, verify, entries, exports, trial, migrate, compose, layout};
 
 /// `clap` has at most one answer to words.
 pub fn one_answer()
@@ -66,6 +66,23 @@ pub fn exports_takes_one_file()
 /// `trial` and a number from 1 to 50,000 in decimal ask for a trial of so many functions.
 pub fn trial_takes_a_number()
     ensures { (n : ℕ) → 1 ≤ n → n ≤ most_count → arguments_by (codes "trial" ∷ decimal n ∷ []) ≡ request (trial n) }
+{}
+
+/// `migrate` and the names of three files ask for the migration of the certificate in the third one, with no rules.
+pub fn migrate_takes_three_files()
+    ensures { (old new certificate : List ℕ) → IsNoOption old → IsNoOption new → IsNoOption certificate
+        → arguments_by (codes "migrate" ∷ old ∷ new ∷ certificate ∷ []) ≡ request (migrate None old new certificate) }
+{}
+
+/// `compose` and the names of five files ask for the composition of the certificates in the last two.
+pub fn compose_takes_five_files()
+    ensures { (first middle last certificate1 certificate2 : List ℕ) → IsNoOption first → IsNoOption middle → IsNoOption last → IsNoOption certificate1 → IsNoOption certificate2
+        → arguments_by (codes "compose" ∷ first ∷ middle ∷ last ∷ certificate1 ∷ certificate2 ∷ []) ≡ request (compose first middle last certificate1 certificate2) }
+{}
+
+/// `layout`, the name of a file and a tag ask for the layout of the structure with this tag.
+pub fn layout_takes_a_file_and_a_tag()
+    ensures { (library tag : List ℕ) → IsNoOption library → IsNoOption tag → arguments_by (codes "layout" ∷ library ∷ tag ∷ []) ≡ request (layout library tag) }
 {}
 
 /// A word that is read as the number of a trial is that number in decimal, without leading zeros or a sign.

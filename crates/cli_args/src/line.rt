@@ -1,4 +1,4 @@
-// The command line as `clap` is told it, and what `clap` finds in words.
+// The command line as `clap` gets it, and what `clap` finds in words.
 ghost use Rattle.std.specs.Prelude.{◌≡◌, map, codes, option_map, IfOk, false};
 ghost use Rattle.clap.specs.Words.{app_of, rule_of, rows_of, found_of};
 ghost use Rattle.cli_args.specs.Words.{texts};

@@ -10,17 +10,17 @@ use abi_base::NoMemory;
 use report::styles::ReportStyle;
 use std::alloc::Global;
 
-/// What is asked for, with the names of the inputs as the words give them.
+/// A command with its options, and the names of its inputs as the words give them.
 #[derive(Clone, Copy, Debug, PartialEq, Eq)]
 pub enum Request<'a> {
-    /// Whether the new library may stand in the place of the old one, with a report in this style if not.
+    /// Whether the new library may replace the old one, with a report in this style if not.
     Check {
         rules: Option<&'a str>,
         report: ReportStyle,
         old: &'a str,
         new: &'a str,
     },
-    /// Whether the certificate proves it.
+    /// Whether the certificate proves that the new library may replace the old one.
     Verify {
         rules: Option<&'a str>,
         old: &'a str,
@@ -39,9 +39,29 @@ pub enum Request<'a> {
     Trial {
         count: u32,
     },
+    /// The certificate of version 2 that this one of version 1 becomes.
+    Migrate {
+        rules: Option<&'a str>,
+        old: &'a str,
+        new: &'a str,
+        certificate: &'a str,
+    },
+    /// The certificate that two certificates compose, which share the middle library.
+    Compose {
+        first: &'a str,
+        middle: &'a str,
+        last: &'a str,
+        certificate1: &'a str,
+        certificate2: &'a str,
+    },
+    /// The layout of the structure with this tag.
+    Layout {
+        library: &'a str,
+        tag: &'a str,
+    },
 }
 
-/// What words ask for.
+/// What the words ask for.
 #[derive(Clone, Copy, Debug, PartialEq, Eq)]
 pub enum ParsedArguments<'a> {
     /// A request.
@@ -52,7 +72,7 @@ pub enum ParsedArguments<'a> {
     Usage,
 }
 
-/// What the words after the program's name ask for. It fails only when memory runs out.
+/// Reads the words after the program's name. It fails only when memory runs out.
 pub fn parse_arguments<'a>(
     alloc: Global,
     words: &'a [&'a str],

@@ -25,10 +25,10 @@ pub struct Judgement {
 
 /// A command: which inputs it wants, and what it says of their bytes.
 pub trait Command: Drop {
-    /// The inputs that it wants, in the order in which they are read, and which fault of each is asked.
+    /// The inputs that it wants, in the order in which they are read, each with the faults that the command looks for.
     ghost inputs: { Self → List Wanted };
 
-    /// What it may say of the bytes of its inputs, where none has a fault and listeners of these voices are told.
+    /// What it may say of the bytes of its inputs, where none has a fault, to listeners of these voices.
     ghost says: { Self → List Voice → List (List ℕ) → AnyVerdict → Option AnyRemark → List ℕ → Type 0 };
 
     /// What it says of these bytes of its inputs, or the first fault of them.

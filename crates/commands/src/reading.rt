@@ -50,7 +50,7 @@ pub(crate) fn read_all<I: Inputs>(
     ensures told { (name : List ℕ) → I.told inputs.new name ≡ I.told inputs.old name }
     ensures later { NeverFall (I.faults inputs.old) (I.faults inputs.new) }
     ensures given { IfOk result (λ all. Gives (I.told inputs.old) (map plain_place places.now) (map items_of all.items)) }
-    // Where no call is made to fail and all inputs are told, no count rises.
+    // Where no call is made to fail and all inputs tell their bytes, no count rises.
     ensures steady { Unfailing I.is_made_to_fail inputs.old → AreTold (I.told inputs.old) (map plain_place places.now) → SameCounts (I.faults inputs.old) (I.faults inputs.new) }
     ensures unread { IfErr result (StopsReading (reading_of I.told I.faults I.given I.started inputs.old inputs.new) (map plain_place places.now)) }
 {

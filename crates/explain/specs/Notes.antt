@@ -1,4 +1,4 @@
--- What is told beside an answer: which notes come with which outcome.
+-- The notes beside an answer: which ones come with which outcome.
 use Rattle.std.specs.Prelude.{◌≡◌, ◌≢◌, ◌⊎◌, ◌==◌, ℕ, List, [], ◌∷◌, ◌++◌, All, Contains, Some, None, codes, if◌then◌else◌}
 use Rattle.std.specs.Str.{bytes_eq}
 use Rattle.abi_base.specs.declared.remark.Remark.{Remark}
@@ -26,7 +26,7 @@ OnName files which P Q = ((name : List ℕ) × IsReadUnder files which name × P
 abbrev pub untyped_notes : List ℕ → SizedExports → List (List ℕ)
 untyped_notes path exports = if exports.untyped == 0 then [] else said_of path (untyped_words exports) ∷ []
 
--- the notes on two libraries, where one that is compared with itself is told once
+-- the notes on two libraries; a library that is compared with itself has one
 abbrev pub both_untyped : Remark → List ℕ → List ℕ → List (List ℕ)
 both_untyped remark old new = untyped_notes old remark.old ++ (if bytes_eq old new then [] else untyped_notes new remark.new)
 

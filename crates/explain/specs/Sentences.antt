@@ -1,4 +1,4 @@
--- What people are told, a sentence for each.
+-- The sentences for people.
 use Rattle.std.specs.Prelude.{◌≡◌, ◌==◌, ℕ, List, [], ◌∷◌, codes, decimal, if◌then◌else◌}
 use Rattle.std.specs.List.{concat}
 use Rattle.abi_base.specs.Fault.{fault_number, fault_name}

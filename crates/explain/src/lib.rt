@@ -13,8 +13,10 @@ mod places;
 mod remarks;
 mod sections;
 mod sentence;
+mod tags;
 
 pub use failures::failure_sentence;
 pub use notes::{name_of, notes_on};
 pub use remarks::untyped_sentence;
 pub use sentence::fault_sentence;
+pub use tags::tag_sentence;

@@ -1,4 +1,4 @@
-// What is told beside an answer.
+// The notes beside an answer.
 ghost use Rattle.std.specs.Prelude.{◌≡◌, [], ◌∷◌, ◌++◌, All, IfNone, IfOk, IfSome, IsTrue, codes, map, string_bytes};
 ghost use Rattle.abi_base.specs.declared.fault.Fault.{Fault as AnyFault};
 ghost use Rattle.commands.specs.Commands.{plain_file};
@@ -118,8 +118,8 @@ fn on_both(alloc: Global, files: &[File<'_>], remark: Remark) -> Result<Vec<Stri
     Ok(notes)
 }
 
-/// What is to be told of how a run ended, beside its text: a line for each note. `bytes` are those of the input that has a fault, as
-/// far as they can be read a second time, and `reason` is why reading an input failed.
+/// The notes on how a run ended, beside its text: a line each. `bytes` are those of the input that has a fault, or none where they
+/// cannot be read a second time, and `reason` is why reading an input failed.
 pub fn notes_on(
     alloc: Global,
     outcome: Outcome,

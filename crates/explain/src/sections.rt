@@ -19,7 +19,7 @@ fn names_index(bytes: &[u8]) -> Option<usize> {
     }
 }
 
-/// The name of the section of a number, as far as it can be read: none where the table or the name lies outside of the file.
+/// The name of the section of a number: none where the table or the name lies outside of the file.
 pub(crate) fn section_name(bytes: &[u8], index: u64) -> Option<&[u8]> {
     let names = header_at(bytes, names_index(bytes)?)?.checked_add(SH_OFFSET)?;
     let start = usize::try_from(u64_at(bytes, names)?).ok()?;

@@ -1,0 +1,109 @@
+// `compose`: the certificate that two certificates compose, which share the middle library.
+ghost use Rattle.std.specs.Prelude.{◌≡◌, ◌≤◌, ℕ, List, [], ◌∷◌, length, OnOk, IfOk, IfErr, map};
+ghost use Rattle.abi_base.specs.Limits.{input_limit};
+ghost use Rattle.abi_top.specs.Rows.{compose_inputs};
+ghost use Rattle.abi_top.specs.Says.{compose_says};
+ghost use Rattle.commands.specs.Commands.{asks_of, places_of, plain_place};
+ghost use Rattle.commands.specs.Faults.{AreReadable, StopsAt};
+ghost use Rattle.library_check.specs.Compositions.{IsUncomposed, PlainFiles};
+
+use crate::text;
+use abi_base::NoMemory;
+use commands::{Command, Input, Judgement, Place, Stop, Verdict, five};
+use library_check::{ChainFiles, Composed, Uncomposed};
+use report::Listener;
+use std::alloc::Global;
+
+/// `compose` of two certificates: one for the first and the middle library, one for the middle and the last.
+#[derive(Clone, Copy)]
+pub struct Compose<'a> {
+    pub first: &'a str,
+    pub middle: &'a str,
+    pub last: &'a str,
+    pub certificate1: &'a str,
+    pub certificate2: &'a str,
+}
+
+impl<'a> Compose<'a> {
+    /// Where its inputs stand. It fails only when memory runs out.
+    pub fn places(&self, alloc: Global) -> Result<Vec<Place<'a>>, NoMemory>
+        ensures { IfOk result (λ places. map plain_place places.items ≡ places_of (compose_inputs self.now.first.now self.now.middle.now self.now.last.now self.now.certificate1.now self.now.certificate2.now)) }
+    {
+        Ok(vec![in alloc;
+            Place::named(Input::First, self.first),
+            Place::named(Input::Middle, self.middle),
+            Place::named(Input::Last, self.last),
+            Place::named(Input::Certificate1, self.certificate1),
+            Place::named(Input::Certificate2, self.certificate2),
+        ]?)
+    }
+}
+
+impl Command for Compose<'_> {
+    ghost inputs = { λ c. compose_inputs c.first.now c.middle.now c.last.now c.certificate1.now c.certificate2.now };
+
+    ghost says = { λ c voices. compose_says };
+
+    fn judge(
+        self,
+        alloc: Global,
+        all: &[Vec<u8>],
+        _listeners: Vec<Box<dyn Listener>>,
+    ) -> Result<Judgement, Stop> {
+        let (first, middle, last, certificate1, certificate2) = five(all);
+        compose_certificates(
+            alloc,
+            &ChainFiles {
+                first,
+                middle,
+                last,
+                certificate1,
+                certificate2,
+            },
+        )
+    }
+}
+
+// The judgement of `compose` on the bytes of three libraries and of two certificates, whose faults come in this order.
+fn compose_certificates(alloc: Global, files: &ChainFiles) -> Result<Judgement, Stop>
+    requires first_short { length files.now.first.now ≤ input_limit }
+    requires middle_short { length files.now.middle.now ≤ input_limit }
+    requires last_short { length files.now.last.now ≤ input_limit }
+    ensures readable { (first middle last certificate1 certificate2 : List ℕ) → OnOk result (AreReadable (asks_of (compose_inputs first middle last certificate1 certificate2)) (files.now.first.now ∷ files.now.middle.now ∷ files.now.last.now ∷ files.now.certificate1.now ∷ files.now.certificate2.now ∷ [])) }
+    ensures said { IfOk result (λ j. compose_says (files.now.first.now ∷ files.now.middle.now ∷ files.now.last.now ∷ files.now.certificate1.now ∷ files.now.certificate2.now ∷ []) j.verdict j.untyped j.text.items) }
+    ensures stops { (first middle last certificate1 certificate2 : List ℕ) → IfErr result (StopsAt (asks_of (compose_inputs first middle last certificate1 certificate2)) (files.now.first.now ∷ files.now.middle.now ∷ files.now.last.now ∷ files.now.certificate1.now ∷ files.now.certificate2.now ∷ [])) }
+{
+    let refused = match library_check::compose(alloc, files) {
+        Ok(Composed::Yes(text)) => {
+            return Ok(Judgement {
+                verdict: Verdict::Yes,
+                untyped: None,
+                text,
+            });
+        }
+        Ok(Composed::First(refused)) => text::refused_first(alloc, refused)?,
+        Ok(Composed::Second(refused)) => text::refused_second(alloc, refused)?,
+        Ok(Composed::Between(refused)) => text::refused(alloc, refused)?,
+        Err(uncomposed) => return Err(stop_of(uncomposed)),
+    };
+    Ok(Judgement {
+        verdict: Verdict::Refused,
+        untyped: None,
+        text: refused,
+    })
+}
+
+// Why nothing is composed, by the input that cannot be read.
+const fn stop_of(uncomposed: Uncomposed) -> Stop
+    ensures { (first middle last certificate1 certificate2 : List ℕ) (files : PlainFiles) → IsUncomposed files uncomposed
+        → StopsAt (asks_of (compose_inputs first middle last certificate1 certificate2)) (files.first ∷ files.middle ∷ files.last ∷ files.certificate1 ∷ files.certificate2 ∷ []) result }
+{
+    match uncomposed {
+        Uncomposed::First(fault) => Stop::Unreadable(Input::First, fault),
+        Uncomposed::Middle(fault) => Stop::Unreadable(Input::Middle, fault),
+        Uncomposed::Last(fault) => Stop::Unreadable(Input::Last, fault),
+        Uncomposed::Certificate1(fault) => Stop::Unreadable(Input::Certificate1, fault),
+        Uncomposed::Certificate2(fault) => Stop::Unreadable(Input::Certificate2, fault),
+        Uncomposed::NoMemory => Stop::NoMemory,
+    }
+}

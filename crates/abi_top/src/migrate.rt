@@ -1,0 +1,89 @@
+// `migrate`: the certificate of version 2 that one of version 1 becomes.
+ghost use Rattle.std.specs.Prelude.{◌≡◌, ◌≤◌, ℕ, List, [], ◌∷◌, length, OnOk, IfOk, IfErr, map};
+ghost use Rattle.abi_base.specs.Limits.{input_limit};
+ghost use Rattle.abi_top.specs.Rows.{migrate_inputs};
+ghost use Rattle.abi_top.specs.Says.{migrate_says};
+ghost use Rattle.cli_args.specs.Requests.{plain_word};
+ghost use Rattle.commands.specs.Commands.{asks_of, places_of, plain_place};
+ghost use Rattle.commands.specs.Faults.{AreReadable, StopsAt};
+
+use crate::text;
+use abi_base::NoMemory;
+use commands::{Command, Input, Judgement, Place, Stop, Verdict, four};
+use library_check::{Migrated, Unverified};
+use report::Listener;
+use std::alloc::Global;
+
+/// `migrate` of a certificate of version 1 for two libraries, with a rule file or none.
+#[derive(Clone, Copy)]
+pub struct Migrate<'a> {
+    pub rules: Option<&'a str>,
+    pub old: &'a str,
+    pub new: &'a str,
+    pub certificate: &'a str,
+}
+
+impl<'a> Migrate<'a> {
+    /// Where its inputs stand. It fails only when memory runs out.
+    pub fn places(&self, alloc: Global) -> Result<Vec<Place<'a>>, NoMemory>
+        ensures { IfOk result (λ places. map plain_place places.items ≡ places_of (migrate_inputs (plain_word self.now.rules) self.now.old.now self.now.new.now self.now.certificate.now)) }
+    {
+        let rules = Place::named_or_empty(alloc, Input::Rules, self.rules);
+        Ok(vec![in alloc;
+            Place::named(Input::Old, self.old),
+            Place::named(Input::New, self.new),
+            rules,
+            Place::named(Input::Certificate, self.certificate),
+        ]?)
+    }
+}
+
+impl Command for Migrate<'_> {
+    ghost inputs = { λ c. migrate_inputs (plain_word c.rules) c.old.now c.new.now c.certificate.now };
+
+    ghost says = { λ c voices. migrate_says };
+
+    fn judge(
+        self,
+        alloc: Global,
+        all: &[Vec<u8>],
+        _listeners: Vec<Box<dyn Listener>>,
+    ) -> Result<Judgement, Stop> {
+        let (old, new, rules, certificate) = four(all);
+        migrate_certificate(alloc, old, new, rules, certificate)
+    }
+}
+
+// The judgement of `migrate` on the bytes of an old library, of a new one, of a rule file and of a certificate, whose faults come
+// in this order.
+fn migrate_certificate(
+    alloc: Global,
+    old: &[u8],
+    new: &[u8],
+    rules: &[u8],
+    certificate: &[u8],
+) -> Result<Judgement, Stop>
+    requires old_short { length old.now ≤ input_limit }
+    requires new_short { length new.now ≤ input_limit }
+    ensures readable { (rules_name : _) (old_name new_name certificate_name : List ℕ) → OnOk result (AreReadable (asks_of (migrate_inputs rules_name old_name new_name certificate_name)) (old.now ∷ new.now ∷ rules.now ∷ certificate.now ∷ [])) }
+    ensures said { IfOk result (λ j. migrate_says (old.now ∷ new.now ∷ rules.now ∷ certificate.now ∷ []) j.verdict j.untyped j.text.items) }
+    ensures stops { (rules_name : _) (old_name new_name certificate_name : List ℕ) → IfErr result (StopsAt (asks_of (migrate_inputs rules_name old_name new_name certificate_name)) (old.now ∷ new.now ∷ rules.now ∷ certificate.now ∷ [])) }
+{
+    match library_check::migrate(alloc, old, new, rules, certificate) {
+        Ok(Migrated::Done(text)) => Ok(Judgement {
+            verdict: Verdict::Done,
+            untyped: None,
+            text,
+        }),
+        Ok(Migrated::Refused(refused)) => Ok(Judgement {
+            verdict: Verdict::Refused,
+            untyped: None,
+            text: text::refused(alloc, refused)?,
+        }),
+        Err(Unverified::Old(fault)) => Err(Stop::Unreadable(Input::Old, fault)),
+        Err(Unverified::New(fault)) => Err(Stop::Unreadable(Input::New, fault)),
+        Err(Unverified::Rules(fault)) => Err(Stop::Unreadable(Input::Rules, fault)),
+        Err(Unverified::Certificate(fault)) => Err(Stop::Unreadable(Input::Certificate, fault)),
+        Err(Unverified::NoMemory) => Err(Stop::NoMemory),
+    }
+}
