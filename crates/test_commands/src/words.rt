@@ -117,6 +117,55 @@ const fn verify<'a>(rules: Option<&'a str>) -> ParsedArguments<'a> {
     })
 }
 
+// A migration of the certificate C.
+const fn migrate<'a>(rules: Option<&'a str>) -> ParsedArguments<'a> {
+    ParsedArguments::Request(Request::Migrate {
+        rules,
+        old: "A",
+        new: "B",
+        certificate: "C",
+    })
+}
+
+#[test]
+fn migrate_compose_and_layout_have_their_words(rt: HostRuntime) -> Result<(), Fail> {
+    let compose = ParsedArguments::Request(Request::Compose {
+        first: "A",
+        middle: "B",
+        last: "C",
+        certificate1: "D",
+        certificate2: "E",
+    });
+    let layout = ParsedArguments::Request(Request::Layout {
+        library: "A",
+        tag: "s",
+    });
+    let rows: [(&[&str], ParsedArguments<'_>); 9] = [
+        (&["migrate", "A", "B", "C"], migrate(None)),
+        (
+            &["--rules", "F", "migrate", "A", "B", "C"],
+            migrate(Some("F")),
+        ),
+        (&["migrate", "A", "B"], ParsedArguments::Usage),
+        (&["compose", "A", "B", "C", "D", "E"], compose),
+        (&["compose", "A", "B", "C", "D"], ParsedArguments::Usage),
+        (
+            &["compose", "--rules", "F", "A", "B", "C", "D", "E"],
+            ParsedArguments::Usage,
+        ),
+        (&["layout", "A", "s"], layout),
+        (&["layout", "A"], ParsedArguments::Usage),
+        (
+            &["layout", "--report", "text", "A", "s"],
+            ParsedArguments::Usage,
+        ),
+    ];
+    for (words, want) in rows {
+        assert_eq!(rt; parse_arguments(rt.alloc(), words)?, want, "{words:?}");
+    }
+    Ok(())
+}
+
 #[test]
 fn commands_have_their_files_and_options(rt: HostRuntime) -> Result<(), Fail> {
     let entries = ParsedArguments::Request(Request::Entries { library: "A" });

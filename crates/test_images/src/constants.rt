@@ -59,6 +59,9 @@ pub const ALIGNMENT: usize = 8;
 /// has their number and the number of the names'.
 pub const SHN_LORESERVE: u32 = 0xff00;
 
+/// In place of the section's number of a symbol whose value does not move.
+pub const SHN_ABS: u16 = 0xfff1;
+
 /// In place of a section number that does not fit.
 pub const SHN_XINDEX: u16 = 0xffff;
 
@@ -79,6 +82,9 @@ pub const SHT_DYNSYM: u32 = 11;
 
 /// The binding of a global symbol.
 pub const STB_GLOBAL: u8 = 1;
+
+/// The type of a data object's symbol.
+pub const STT_OBJECT: u8 = 1;
 
 /// The type of a function's symbol.
 pub const STT_FUNC: u8 = 2;

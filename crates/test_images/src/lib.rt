@@ -3,6 +3,7 @@
 #![tactic(auto)]
 
 pub mod constants;
+mod described;
 mod image;
 mod layout;
 mod libraries;
@@ -10,10 +11,13 @@ mod numbers;
 mod section;
 mod strings;
 mod symbol;
+mod units;
 mod version;
 
+pub use described::{add_debug_sections, described_library, marker};
 pub use image::Image;
-pub use libraries::{library, library_with_soname, numbered_library};
+pub use libraries::{library, library_with_soname, numbered_library, versioned_function};
 pub use section::ImageSection;
 pub use symbol::ImageSymbol;
+pub use units::{FUNCTION_ABBREVIATIONS, FUNCTION_UNIT};
 pub use version::ImageVersion;

@@ -1,9 +1,12 @@
 // Images of libraries.
 ghost use Rattle.std.specs.Prelude.{◌≡◌, ◌≤◌, length, vec_len, IfOk};
 
-use crate::constants::ELF_HEADER_SIZE;
+use crate::constants::{ELF_HEADER_SIZE, VER_FLG_BASE, VER_NDX_GLOBAL, VER_NDX_LOCAL};
+use crate::described::{add_debug_sections, marker};
 use crate::image::Image;
 use crate::symbol::ImageSymbol;
+use crate::units::{FUNCTION_ABBREVIATIONS, FUNCTION_UNIT};
+use crate::version::ImageVersion;
 use std::alloc::{AllocError, Global};
 
 /// The image, as the gABI has it, of a library that exports functions of these names, in order, and no more. Each has
@@ -27,6 +30,36 @@ pub fn library_with_soname(
     let mut image = Image::new(alloc);
     image.add_symbols(&functions(alloc, exports)?)?;
     image.add_soname(soname.as_bytes())?;
+    image.bytes(alloc)
+}
+
+/// The image of a library with the sections `.dynsym`, `.dynstr`, `.gnu.version`, `.gnu.version_d`, `.shstrtab`, `.debug_abbrev` and
+/// `.debug_info`, in this order. It exports the function `f` of version `V1`, with its type, and has the markers of these names
+/// beside it, which are of that version, too.
+pub fn versioned_function(alloc: Global, markers: &[&str]) -> Result<Vec<u8>, AllocError>
+    ensures { IfOk result (λ file. ELF_HEADER_SIZE ≤ vec_len file) }
+{
+    const V1: u16 = VER_NDX_GLOBAL + 1;
+    let mut symbols = vec![in alloc; ImageSymbol::function(b"f")]?;
+    let mut indexes = vec![in alloc; VER_NDX_LOCAL, V1]?;
+    for name in markers {
+        symbols.push(marker(name.as_bytes()))?;
+        indexes.push(V1)?;
+    }
+    let base = ImageVersion {
+        index: VER_NDX_GLOBAL,
+        flags: VER_FLG_BASE,
+        name: b"a.so",
+    };
+    let version = ImageVersion {
+        index: V1,
+        flags: 0,
+        name: b"V1",
+    };
+    let mut image = Image::new(alloc);
+    image.add_versioned_symbols(&symbols, &indexes, &[base, version])?;
+    image.add_section_names()?;
+    add_debug_sections(&mut image, alloc, FUNCTION_ABBREVIATIONS, FUNCTION_UNIT)?;
     image.bytes(alloc)
 }
 

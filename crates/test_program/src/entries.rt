@@ -3,22 +3,12 @@ use crate::fixture::{Change, Status, change, inputs, runs};
 use std::alloc::{AllocError, Global};
 use std::process::Abort;
 use std::test::Fail;
-use test_images::constants::SHT_PROGBITS;
-use test_images::{Image, ImageSection, ImageSymbol};
+use test_images::{Image, ImageSymbol, add_debug_sections};
+pub(crate) use test_images::{FUNCTION_ABBREVIATIONS as ABBREVS, FUNCTION_UNIT as UNIT};
 
 const ENTRIES: &[&str] = &["entries", "lib"];
 
-// The abbreviations of a unit, of a base type and of a function.
-pub(crate) const ABBREVS: &[u8] =
-    b"\x01\x11\x01\x13\x05\x00\x00\x02\x24\x00\x0b\x0b\x3e\x0b\x03\x08\x00\x00\
-\x03\x2e\x00\x03\x08\x49\x13\x11\x01\x00\x00\x00";
-
-// A unit of version 5: a function `f` that gives an `int`.
-pub(crate) const UNIT: &[u8] =
-    b"\x22\x00\x00\x00\x05\x00\x01\x08\x00\x00\x00\x00\x01\x0c\x00\x02\x04\x05int\x00\
-\x03f\x00\x0f\x00\x00\x00\x00\x10\x00\x00\x00\x00\x00\x00\x00";
-
-// The same in version 4.
+// The unit of a function `f` that gives an `int`, in version 4.
 pub(crate) const UNIT_4: &[u8] =
     b"\x21\x00\x00\x00\x04\x00\x00\x00\x00\x00\x08\x01\x0c\x00\x02\x04\x05int\x00\
 \x03f\x00\x0e\x00\x00\x00\x00\x10\x00\x00\x00\x00\x00\x00\x00";
@@ -37,10 +27,7 @@ pub(crate) const TYPE_UNIT: &[u8] =
 // A library of these abbreviations and entries, without dynamic symbols.
 fn library(alloc: Global, abbrevs: &[u8], entries: &[u8]) -> Result<Vec<u8>, AllocError> {
     let mut image = Image::new(alloc);
-    for (name, bytes) in [(".debug_abbrev", abbrevs), (".debug_info", entries)] {
-        let bytes = bytes.to_vec(alloc)?;
-        image.add_section(ImageSection::new(alloc, name, SHT_PROGBITS, bytes)?)?;
-    }
+    add_debug_sections(&mut image, alloc, abbrevs, entries)?;
     image.bytes(alloc)
 }
 

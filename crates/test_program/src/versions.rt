@@ -1,5 +1,4 @@
 // Symbols with versions: what they bind to, how reports name them, and the faults of their tables.
-use crate::entries::{ABBREVS, UNIT};
 use crate::fixture::{
     CHECK, Status, are_refused, change, checks, inputs, library_of, listeners, status_of,
 };
@@ -9,7 +8,7 @@ use std::alloc::{AllocError, Global};
 use std::process::Abort;
 use std::test::Fail;
 use test_images::constants::{VER_FLG_BASE, VER_NDX_GLOBAL, VER_NDX_LOCAL, VERSYM_HIDDEN};
-use test_images::{Image, ImageSection, ImageSymbol, ImageVersion, library};
+use test_images::{Image, ImageSymbol, ImageVersion, library, marker, versioned_function};
 
 // The indexes of the versions of `versioned`.
 const V1: u16 = 2;
@@ -27,14 +26,6 @@ fn object(name: &[u8], size: u64) -> ImageSymbol<'_> {
         info: 0x11,
         size,
         ..ImageSymbol::function(name)
-    }
-}
-
-// The symbol that a linker puts beside a version, by the version's name: global, an object and absolute.
-fn marker(name: &[u8]) -> ImageSymbol<'_> {
-    ImageSymbol {
-        section: 0xfff1,
-        ..object(name, 0)
     }
 }
 
@@ -306,37 +297,10 @@ fn unusual_versions_are_readable(rt: HostRuntime) -> Result<(), Fail> {
     Ok(())
 }
 
-// A function of version V1 with its debug information: `.dynsym`, `.dynstr`, `.gnu.version`, `.gnu.version_d`, `.shstrtab`,
-// `.debug_abbrev` and `.debug_info`, in this order.
-fn library_with_debug_information(alloc: Global) -> Result<Vec<u8>, AllocError> {
-    let base = ImageVersion {
-        index: VER_NDX_GLOBAL,
-        flags: VER_FLG_BASE,
-        name: b"a.so",
-    };
-    let version = ImageVersion {
-        index: V1,
-        flags: 0,
-        name: b"V1",
-    };
-    let mut image = Image::new(alloc);
-    image.add_versioned_symbols(
-        &[ImageSymbol::function(b"f")],
-        &[VER_NDX_LOCAL, V1],
-        &[base, version],
-    )?;
-    image.add_section_names()?;
-    let abbreviations = Vec::from_slice(alloc, ABBREVS)?;
-    image.add_section(ImageSection::new(alloc, ".debug_abbrev", 1, abbreviations)?)?;
-    let entries = Vec::from_slice(alloc, UNIT)?;
-    image.add_section(ImageSection::new(alloc, ".debug_info", 1, entries)?)?;
-    image.bytes(alloc)
-}
-
 #[test]
 fn exports_with_versions_have_types(rt: HostRuntime) -> Result<(), Fail> {
     let alloc = rt.alloc();
-    let file = library_with_debug_information(alloc)?;
+    let file = versioned_function(alloc, &[])?;
     let lines = "bind 1 1\npair 15 15 direct\npair 22 22 direct\n";
     is_yes(&rt, &file, &file, lines)?;
     // An export without a type asks for none.

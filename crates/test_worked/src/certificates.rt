@@ -1,0 +1,171 @@
+// What a yes prints, and what it leaves out.
+use crate::runs::{CHECK, NamedFile, Row, VERIFY, holds, ran, text_listener};
+use std::test::Fail;
+use test_images::versioned_function;
+
+// The digest was taken with another program from an image that another program laid out.
+const OF_A_VERSIONED_FUNCTION: &str = "\
+yes 2
+old 910e4cd9cf0d2ef5bd2961889d3af781373eca7dc9bc8da9dd2e153d2ffa1725
+new 910e4cd9cf0d2ef5bd2961889d3af781373eca7dc9bc8da9dd2e153d2ffa1725
+rules e3b0c44298fc1c149afbf4c8996fb92427ae41e4649b934ca495991b7852b855
+bind 1 1
+pair 15 15 direct
+pair 22 22 direct
+end
+";
+
+// Exports without types.
+const F: &str = "function f";
+
+const NOTHING: &str = "";
+
+// Two structures of one tag, each with a pointer to the other.
+const RING_OF_TWO: &str = "\
+function r
+unit
+15 base int 4 5
+36 pointer @46
+41 pointer @88
+46 structure a 16
+57 member n @41 0
+72 member v @15 8
+87 end
+88 structure a 16
+99 member n @36 0
+114 member v @15 8
+129 end
+130 procedure r 4096
+141 parameter @36
+146 end
+";
+
+// Three of them in a ring.
+const RING_OF_THREE: &str = "\
+function r
+unit
+15 base int 4 5
+36 pointer @51
+41 pointer @93
+46 pointer @135
+51 structure a 16
+62 member n @41 0
+77 member v @15 8
+92 end
+93 structure a 16
+104 member n @46 0
+119 member v @15 8
+134 end
+135 structure a 16
+146 member n @36 0
+161 member v @15 8
+176 end
+177 procedure r 4096
+188 parameter @36
+193 end
+";
+
+// The same, the last with a longer member.
+const RING_WITH_A_LONG: &str = "\
+function r
+unit
+15 base int 4 5
+36 base long 8 5
+58 pointer @73
+63 pointer @115
+68 pointer @157
+73 structure a 16
+84 member n @63 0
+99 member v @15 8
+114 end
+115 structure a 16
+126 member n @68 0
+141 member v @15 8
+156 end
+157 structure a 16
+168 member n @58 0
+183 member v @36 8
+198 end
+199 procedure r 4096
+210 parameter @58
+215 end
+";
+
+// Every structure and every pointer but the first of each is alike to the first.
+const ALIKE_RINGS: &str = "\
+bind 1 1
+alike old 41 36
+alike old 88 46
+alike new 41 36
+alike new 46 36
+alike new 93 51
+alike new 135 51
+pair 0 0 direct
+pair 15 15 pointer
+pair 36 36 direct
+pair 36 36 pointer
+pair 46 51 pointer
+pair 130 177 direct
+end
+";
+
+#[test]
+fn a_yes_names_both_files_by_their_digests(rt: HostRuntime) -> Result<(), Fail> {
+    let alloc = rt.alloc();
+    let library = versioned_function(alloc, &[])?;
+    let certificate = OF_A_VERSIONED_FUNCTION.as_bytes();
+    let files: [NamedFile; 3] = [("old", &library), ("new", &library), ("cert", certificate)];
+    let (_, text) = ran(alloc, CHECK, &files, Vec::new(alloc))?;
+    assert_eq!(rt; str::from_utf8(&text).ok(), Some(OF_A_VERSIONED_FUNCTION));
+    let accepted = ran(alloc, VERIFY, &files, text_listener(alloc)?)?;
+    assert_eq!(rt;
+        (accepted.0, accepted.1.as_slice()),
+        (0, b"accepted\n".as_slice())
+    );
+    Ok(())
+}
+
+#[test]
+fn a_marker_beside_types_is_no_export(rt: HostRuntime) -> Result<(), Fail> {
+    let alloc = rt.alloc();
+    let old = versioned_function(alloc, &["V1"])?;
+    let new = versioned_function(alloc, &[])?;
+    let files: [NamedFile; 2] = [("old", &old), ("new", &new)];
+    let (number, text) = ran(alloc, CHECK, &files, Vec::new(alloc))?;
+    let lines = b"\nbind 1 1\npair 15 15 direct\npair 22 22 direct\nend\n";
+    assert_eq!(rt; (number, text.ends_with(lines)), (0, true));
+    Ok(())
+}
+
+#[test]
+fn a_certificate_has_lines_for_what_binds_and_what_is_alike(rt: HostRuntime) -> Result<(), Fail> {
+    let rows = [
+        // The one export is left out, so nothing is bound.
+        Row {
+            old: F,
+            new: NOTHING,
+            rules: "[suppress_function]\nsymbol_name = f\n",
+            number: 0,
+            text: "end\n",
+        },
+        // Rings of any length are alike: one structure and one pointer stand for all.
+        Row {
+            old: RING_OF_TWO,
+            new: RING_OF_THREE,
+            rules: "",
+            number: 0,
+            text: ALIKE_RINGS,
+        },
+        Row {
+            old: RING_OF_TWO,
+            new: RING_WITH_A_LONG,
+            rules: "",
+            number: 1,
+            text: "no\nL2 r param 1 / target / member n / target / member n / target / member v: size 4, now 8\n",
+        },
+    ];
+    for row in &rows {
+        holds(&rt, row)?;
+    }
+    Ok(())
+}

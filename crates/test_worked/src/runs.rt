@@ -1,0 +1,89 @@
+// The one call of the program, and the checks that the rows are.
+ghost use Rattle.std.specs.Prelude.{◌≡◌, [], All, IfOk};
+
+use abi_base::{MemInputs, MemSink, NoMemory};
+use abi_top::run;
+use report::{Listener, TextListener, add_listener};
+use std::alloc::{AllocError, Global};
+use std::process::Abort;
+use std::test::Fail;
+use test_images::described_library;
+
+/// How many bytes a certificate has before the line that follows the digests.
+const HEAD: usize = 215;
+
+/// A name and the bytes that it stands for.
+pub type NamedFile<'a, 'b> = (&'a str, &'b [u8]);
+
+/// The words of the rows, whose inputs are named as what they are.
+pub const CHECK: &[&str] = &["check", "old", "new"];
+
+pub const CHECK_WITH_RULES: &[&str] = &["check", "--rules", "rules", "old", "new"];
+
+pub const VERIFY: &[&str] = &["verify", "old", "new", "cert"];
+
+pub const VERIFY_WITH_RULES: &[&str] = &["verify", "--rules", "rules", "old", "new", "cert"];
+
+// Inputs in memory of these names and bytes, none of whose calls fails.
+fn inputs(alloc: Global, files: &[NamedFile]) -> Result<MemInputs, AllocError> {
+    let mut held = Vec::new(alloc);
+    for (name, bytes) in files {
+        held.push((String::from_str(alloc, name)?, bytes.to_vec(alloc)?))?;
+    }
+    Ok(MemInputs::new(held, Vec::new(alloc)))
+}
+
+/// The exit number of a run of the words over these files, and its text.
+pub(crate) fn ran(
+    alloc: Global,
+    words: &[&str],
+    files: &[NamedFile],
+    listeners: Vec<Box<dyn Listener>>,
+) -> Result<(u8, Vec<u8>), NoMemory>
+    requires { All (λ listener. heard listener ≡ []) listeners.items }
+{
+    let mut inputs = inputs(alloc, files)?;
+    let mut sink = MemSink::new(alloc, 4096, Vec::new(alloc))?;
+    let number = run(alloc, words, &mut inputs, &mut sink, listeners)
+        .outcome
+        .number();
+    Ok((number, sink.held().to_vec(alloc)?))
+}
+
+/// A listener that makes a line of each row.
+pub(crate) fn text_listener(alloc: Global) -> Result<Vec<Box<dyn Listener>>, NoMemory>
+    ensures { IfOk result (λ listeners. All (λ listener. heard listener ≡ []) listeners.items) }
+{
+    let mut listeners: Vec<Box<dyn Listener>> = Vec::new(alloc);
+    add_listener(&mut listeners, Box::new(alloc, TextListener::new(alloc))?)?;
+    Ok(listeners)
+}
+
+/// A pair of libraries that are described, a rule file, and what `check` must give: its exit number, and its text, of a certificate
+/// without the lines up to the digests.
+#[derive(Clone, Copy)]
+pub(crate) struct Row {
+    pub old: &'static str,
+    pub new: &'static str,
+    pub rules: &'static str,
+    pub number: u8,
+    pub text: &'static str,
+}
+
+/// The row must hold.
+pub(crate) fn holds<R: Abort + AllocGlobal>(rt: &R, row: &Row) -> Result<(), Fail> {
+    let alloc = rt.alloc();
+    let old = described_library(alloc, row.old)?;
+    let new = described_library(alloc, row.new)?;
+    let files: [(&str, &[u8]); 3] = [
+        ("old", &old),
+        ("new", &new),
+        ("rules", row.rules.as_bytes()),
+    ];
+    let listeners = text_listener(alloc)?;
+    let (number, text) = ran(alloc, CHECK_WITH_RULES, &files, listeners)?;
+    let head = if number == 0 { HEAD } else { 0 };
+    assert_eq!(rt; text.get(head..), Some(row.text.as_bytes()));
+    assert_eq!(rt; number, row.number, "for {}", row.text);
+    Ok(())
+}
