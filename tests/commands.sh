@@ -17,6 +17,9 @@ usage: abi check [--rules FILE] [--report text|table|counts|first|own] OLD NEW
        abi entries LIB
        abi exports LIB
        abi trial N
+       abi migrate [--rules FILE] OLD NEW CERT
+       abi compose A B C CERT1 CERT2
+       abi layout LIB TAG
 END
 
 # build LIBRARY < SOURCE
@@ -64,6 +67,13 @@ done <<'END'
 64|entries plain.so plain.so
 64|entries --rules no_rules plain.so
 64|exports --report text plain.so
+64|migrate plain.so plain.so
+64|migrate --report text plain.so plain.so no_rules
+64|compose plain.so plain.so plain.so no_rules
+64|compose --rules no_rules plain.so plain.so plain.so no_rules no_rules
+64|layout plain.so
+64|layout plain.so s s
+64|layout --rules no_rules plain.so s
 64|trial
 64|trial 0
 64|trial 50001
@@ -214,6 +224,102 @@ expect "behind a pointer and by value" 1 check --rules by_pointer 'old_*x,y.so' 
 printf '[suppress_type]\nname = priv\naccessed_through = reference\n' >by_reference
 wanted "unreadable rules 53 Property 3"
 expect "by a way that is not known" 2 check --rules by_reference old_x.so new_x.so
+
+# ---- migration
+
+# A certificate of version 1 has no ways: each pair line of version 2 stands once, and the first line has the other number.
+first_version() {
+    sed -e 's/^yes 2$/yes 1/' -e 's/^\(pair [0-9]* [0-9]*\) .*/\1/' "$1" | awk '!/^pair/ || !seen[$0]++'
+}
+# The pairs of a migrated certificate stand at both ways.
+migrated() {
+    sed 's/^yes 1$/yes 2/' "$1" | awk '/^pair/ { print $0 " direct"; print $0 " pointer"; next } { print }'
+}
+zlib "" | build zlib_same.so
+answers "a certificate to migrate" 0 check zlib_old.so zlib_same.so
+cp got same_cert
+first_version same_cert >same_cert_1
+migrated same_cert_1 >want
+expect "a certificate of version 1 is migrated" 0 migrate zlib_old.so zlib_same.so same_cert_1
+cp got same_cert_2
+wanted accepted
+expect "a migrated certificate is accepted" 0 verify zlib_old.so zlib_same.so same_cert_2
+first_version zlib_cert >zlib_cert_1
+migrated zlib_cert_1 >want
+expect "a certificate with a rule file is migrated" 0 migrate --rules zlib_rules zlib_old.so zlib_new.so zlib_cert_1
+wanted "refused 70 OtherInput 4"
+expect "a migration without the rule file" 5 migrate zlib_old.so zlib_new.so zlib_cert_1
+wanted "refused 70 OtherInput 2"
+expect "a migration for other libraries" 5 migrate --rules zlib_rules zlib_new.so zlib_old.so zlib_cert_1
+wanted "unreadable certificate 60 Line 1"
+expect "a certificate of version 2 is not migrated" 2 migrate zlib_old.so zlib_same.so same_cert
+expect "a certificate of version 1 is not verified" 2 verify zlib_old.so zlib_same.so same_cert_1
+
+# ---- composition
+
+{ zlib "" && echo 'int added(void) { return 1; }'; } | build zlib_more.so
+{ zlib "" && echo 'int added(void) { return 1; } int once_more(void) { return 2; }'; } | build zlib_most.so
+answers "the first of two certificates" 0 check zlib_old.so zlib_more.so
+cp got first_cert
+answers "the second of two certificates" 0 check zlib_more.so zlib_most.so
+cp got second_cert
+answers "the certificate that both compose" 0 compose zlib_old.so zlib_more.so zlib_most.so first_cert second_cert
+cp got composed_cert
+wanted accepted
+expect "a composed certificate is accepted" 0 verify zlib_old.so zlib_most.so composed_cert
+"$program" check zlib_old.so zlib_old.so >self_cert
+cp self_cert want
+expect "a certificate with itself" 0 compose zlib_old.so zlib_old.so zlib_old.so self_cert self_cert
+wanted "refused first 70 OtherInput 2"
+expect "the first certificate is that of others" 5 compose zlib_old.so zlib_more.so zlib_most.so second_cert second_cert
+wanted "refused second 70 OtherInput 2"
+expect "the second certificate is that of others" 5 compose zlib_old.so zlib_more.so zlib_most.so first_cert first_cert
+wanted "unreadable certificate1 60 Line 1"
+expect "the first certificate is none" 2 compose zlib_old.so zlib_more.so zlib_most.so bad_rules second_cert
+wanted "unreadable middle 2 NotElf 0"
+expect "the middle library is none" 2 compose zlib_old.so none.so zlib_most.so first_cert second_cert
+grep -q '^abi: none.so: ' errors || fail "the path of the middle library is not told: $(cat errors)"
+# What both ends define and the middle only declares is lost in the middle.
+echo 'struct s { int x; }; void f(struct s *p) {}' | build ends.so
+echo 'struct s; void f(struct s *p) {}' | build declares.so
+answers "a middle that declares" 0 check ends.so declares.so
+cp got first_cert
+answers "a middle that declares, from there" 0 check declares.so ends.so
+cp got second_cert
+answers "a declaration between two definitions" 5 compose ends.so declares.so ends.so first_cert second_cert
+grep -qx 'refused 84 Declaration [0-9]*' got || fail "another refusal: $(cat got)"
+passed "a declaration between two definitions"
+
+# ---- layouts
+
+build layouts.so <<'END'
+struct s { char c; int i; char d; };
+struct o { union { int a; char b; }; };
+struct bits { unsigned a : 3, b : 7; int c; };
+struct flexible { int n; char tail[]; };
+void f(struct s *s, struct o *o, struct bits *b, struct flexible *x) {}
+END
+wanted "layout s size 12" "member c bit 0 width 8" "hole bit 8 width 24" "member i bit 32 width 32" "member d bit 64 width 8" \
+    "padding bit 72 width 24"
+expect "holes and padding" 0 layout layouts.so s
+wanted "layout o size 4 overlaps" "member a bit 0 width 32" "member b bit 0 width 8" "overlap b a bit 0"
+expect "members that overlap" 0 layout layouts.so o
+wanted "layout bits size 8" "member a bit 0 width 3" "member b bit 3 width 7" "hole bit 10 width 22" "member c bit 32 width 32"
+expect "bit fields" 0 layout layouts.so bits
+wanted "layout flexible size 4" "member n bit 0 width 32" "member tail bit 32 width 0"
+expect "a flexible array" 0 layout layouts.so flexible
+
+# untagged NAME LIBRARY TAG LINE: `layout` must refuse the tag, and say this line beside the answer.
+untagged() {
+    answers "$1" 5 layout "$2" "$3"
+    [ "$(cat got)" = "refused 85 NoTag 0" ] || fail "another answer to a tag that no structure has: $(cat got)"
+    wanted "abi: $2: $4"
+    diff -u want errors >differences || { cat differences >&2 && fail "another note on a tag"; }
+    passed "$1"
+}
+untagged "a tag that no structure has" layouts.so flexibel \
+    "its exports reach no structure with the tag flexibel; tags near it: flexible, bits, s, o"
+untagged "a structure that is only declared" declares.so s "its exports reach no structure with the tag s that is defined; one is declared"
 
 # ---- trials
 

@@ -87,8 +87,8 @@ passed() {
 }
 
 # answers NAME STATUS ARGUMENT..: the program, given the arguments, must end with the status; what it prints is in the file `got`.
-# On standard error people are told what is wrong with an input, and, beside a yes or a no of `check`, how many exports have no type
-# to be compared. Beside any other answer nothing is told.
+# Standard error says what is wrong with an input; beside a yes or a no of `check`, how many exports have no type to be compared; and
+# beside a tag that no structure has, which tags are near it. Beside any other answer it says nothing.
 answers() {
     local name=$1 status=$2 ended=0
     shift 2
@@ -97,6 +97,7 @@ answers() {
     case "$ended $* " in
     [2346]" "*) grep -q '^abi: ' errors || fail "$name: nothing tells what is wrong" ;;
     [01]*" check "*) ! grep -v '^abi: ' errors >&2 || fail "$name: it wrote something else than notes to standard error" ;;
+    "5 layout "*) [ "$(grep -c '^abi: ' errors)" -eq 1 ] || fail "$name: no note says which tags are near" ;;
     *) [ ! -s errors ] || fail "$name: it wrote to standard error" ;;
     esac
 }

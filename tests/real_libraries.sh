@@ -32,6 +32,9 @@ usage: abi check [--rules FILE] [--report text|table|counts|first|own] OLD NEW
        abi entries LIB
        abi exports LIB
        abi trial N
+       abi migrate [--rules FILE] OLD NEW CERT
+       abi compose A B C CERT1 CERT2
+       abi layout LIB TAG
 END
 
 build old old
