@@ -1,0 +1,12 @@
+//! What one application imports, and which exports of a library it uses.
+#![tactic(auto)]
+
+mod import;
+mod narrowing;
+mod reading;
+mod using;
+
+pub use import::Import;
+pub use narrowing::narrow;
+pub use reading::read_app;
+pub use using::used;

@@ -1,0 +1,39 @@
+// The marks of one application.
+ghost use Rattle.std.specs.Prelude.{◌≡◌, ◌||◌, not, length, IfOk};
+ghost use Rattle.app_check.specs.Used.{narrowed as the_narrowed, narrowed_marks};
+
+use abi_base::{List, NoMemory};
+use abi_types::Marks;
+use std::alloc::Global;
+
+// Whether an export is dropped.
+fn is_left_out(dropped: bool, used: bool) -> bool
+    ensures { result ≡ (dropped || not used) }
+{
+    dropped || !used
+}
+
+// Each export is dropped that was, or that is not used.
+fn narrowed(alloc: Global, dropped: &[bool], used: &[bool]) -> Result<List<bool>, NoMemory>
+    requires { length dropped.now ≡ length used.now }
+    ensures { IfOk result (λ exports. exports ≡ the_narrowed dropped.now used.now) }
+{
+    let mut exports = List::new(alloc);
+    for place in 0..dropped.len() {
+        exports.push(is_left_out(dropped[place], used[place]))?;
+    }
+    Ok(exports)
+}
+
+/// The marks that drop each export that these drop or that is not used, and keep all else.
+pub fn narrow(alloc: Global, marks: &Marks, used: &[bool]) -> Result<Marks, NoMemory>
+    requires { length marks.now.exports ≡ length used.now }
+    ensures { IfOk result (λ narrowed. narrowed ≡ narrowed_marks marks.now used.now) }
+{
+    Ok(Marks {
+        digest: marks.digest,
+        exports: narrowed(alloc, marks.exports.as_slice(), used)?,
+        direct: List::copy_of(alloc, marks.direct.as_slice())?,
+        pointer: List::copy_of(alloc, marks.pointer.as_slice())?,
+    })
+}

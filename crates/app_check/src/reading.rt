@@ -1,0 +1,163 @@
+// Reads the imports of an application.
+ghost use Rattle.std.specs.Prelude.{◌≡◌, ◌≤◌, ◌∷◌, [], None, length, IfOk};
+ghost use Rattle.std.specs.Option.{option_map};
+ghost use Rattle.abi_base.specs.Limits.{input_limit};
+ghost use Rattle.abi_base.specs.Outcome.{Judges, first};
+ghost use Rattle.elf.specs.symbols.Plain.{plain_symbol, plain_symbols};
+ghost use Rattle.elf.specs.symbols.Symbols.{symbols_of};
+ghost use Rattle.elf.specs.versions.Versions.{version_fault};
+ghost use Rattle.elf_needs.specs.Indexes.{indexes_of};
+ghost use Rattle.elf_needs.specs.Needs.{needs_fault};
+ghost use Rattle.elf_needs.specs.Plain.{plain_need, needed};
+ghost use Rattle.app_check.specs.Imports.{is_linked as the_symbol_is_linked, index_in, need_by, import_of as the_import_of, imports_with, import_fault_of, import_fault_with, imports_fault, imports_of, app_fault};
+ghost use Rattle.app_check.specs.Plain.{plain_import, plain_imports};
+
+use crate::import::Import;
+use abi_base::{Fault, FaultKind, INPUT_LIMIT, NoMemory, Refusal};
+use elf::constants::{SHN_UNDEF, STB_GLOBAL, STB_GNU_UNIQUE, STB_WEAK, VER_NDX_GLOBAL};
+use elf::file::{ElfFile, read_elf};
+use elf::symbols::{Symbol, soname, symbols};
+use elf::versions::versions;
+use elf_needs::{Indexes, Need, Needs, indexes, needs};
+use std::alloc::Global;
+
+// Whether other files may give a symbol, by its own record.
+fn is_linked(symbol: &Symbol) -> bool
+    ensures { result ≡ the_symbol_is_linked (plain_symbol symbol.now) }
+{
+    symbol.number != 0
+        && matches!(symbol.binding, STB_GLOBAL | STB_WEAK | STB_GNU_UNIQUE)
+        && symbol.name.len() != 0
+}
+
+// The version index of the symbol of a number.
+fn index_of(indexes: &Indexes, number: u32) -> u16
+    ensures { result ≡ index_in indexes.now number }
+{
+    match indexes.index_of(number as usize) {
+        Some(index) => index,
+        None => VER_NDX_GLOBAL,
+    }
+}
+
+// The version and file that an index names, none at the indexes of symbols without a version.
+fn need_with<'a>(needs: &Needs<'a>, index: u16) -> Option<Need<'a>>
+    ensures { option_map plain_need result ≡ need_by (needed needs.now) index }
+{
+    if index <= VER_NDX_GLOBAL {
+        return None;
+    }
+    needs.need_of(index)
+}
+
+// The import that a symbol is, where it is one.
+fn import_of<'a>(needs: &Needs<'a>, indexes: &Indexes, symbol: &Symbol<'a>) -> Option<Import<'a>>
+    ensures { option_map plain_import result ≡ the_import_of (needed needs.now) indexes.now (plain_symbol symbol.now) }
+{
+    let need = need_with(needs, index_of(indexes, symbol.number));
+    if is_linked(symbol) && (symbol.section == SHN_UNDEF || need.is_some()) {
+        Some(Import {
+            symbol: symbol.number,
+            name: symbol.name,
+            need,
+        })
+    } else {
+        None
+    }
+}
+
+// The fault of a symbol that is undefined and has an index that no auxiliary entry has.
+fn fault_of(needs: &Needs, indexes: &Indexes, symbol: &Symbol) -> Option<Fault>
+    ensures { result ≡ import_fault_of (needed needs.now) indexes.now (plain_symbol symbol.now) }
+{
+    let index = index_of(indexes, symbol.number);
+    if is_linked(symbol)
+        && symbol.section == SHN_UNDEF
+        && index > VER_NDX_GLOBAL
+        && needs.need_of(index).is_none()
+    {
+        Some(Fault {
+            kind: FaultKind::ImportVersion,
+            at: u64::from(symbol.number),
+        })
+    } else {
+        None
+    }
+}
+
+// The first fault of symbols whose index no auxiliary entry has.
+fn import_fault(needs: &Needs, indexes: &Indexes, symbols: &[Symbol]) -> Option<Fault>
+    ensures { result ≡ import_fault_with (needed needs.now) indexes.now (plain_symbols symbols.now) }
+{
+    for symbol in symbols {
+        if let Some(fault) = fault_of(needs, indexes, symbol) {
+            return Some(fault);
+        }
+    }
+    None
+}
+
+// The imports among some symbols, in order.
+fn imports_in<'a>(
+    alloc: Global,
+    needs: &Needs<'a>,
+    indexes: &Indexes,
+    symbols: &[Symbol<'a>],
+) -> Result<Vec<Import<'a>>, NoMemory>
+    ensures { IfOk result (λ imports. plain_imports imports.items ≡ imports_with (needed needs.now) indexes.now (plain_symbols symbols.now)) }
+{
+    let mut imports = Vec::new(alloc);
+    for symbol in symbols {
+        if let Some(import) = import_of(needs, indexes, symbol) {
+            imports.push(import)?;
+        }
+    }
+    Ok(imports)
+}
+
+// The indexes of the symbols of a file whose versions have no fault, so that its table of indexes has none.
+fn sound_indexes(alloc: Global, file: &ElfFile<'_>, symbols: usize) -> Result<Indexes, NoMemory>
+    requires { version_fault file.now symbols ≡ None }
+    ensures { IfOk result (λ indexes. indexes ≡ indexes_of file.now symbols) }
+{
+    match indexes(alloc, file, symbols) {
+        Ok(indexes) => Ok(indexes),
+        Err(_) => Err(NoMemory),
+    }
+}
+
+// The imports among the symbols of a file. The fault is the first one of its versions, of its needs and of its imports.
+#[tactic(auto, unfolding(crate::specs::Imports::imports_of))]
+fn imports_among<'a>(
+    alloc: Global,
+    file: &ElfFile<'a>,
+    symbols: &[Symbol<'a>],
+) -> Result<Vec<Import<'a>>, Refusal>
+    requires { plain_symbols symbols.now ≡ symbols_of file.now }
+    ensures judged { Judges result (first (version_fault file.now (length (symbols_of file.now)) ∷ needs_fault file.now ∷ imports_fault file.now ∷ [])) }
+    ensures read { IfOk result (λ imports. plain_imports imports.items ≡ imports_of file.now) }
+{
+    versions(alloc, file, symbols.len())?;
+    let needs = needs(alloc, file)?;
+    let indexes = sound_indexes(alloc, file, symbols.len())?;
+    if let Some(fault) = import_fault(&needs, &indexes, symbols) {
+        return Err(Refusal::Fault(fault));
+    }
+    let imports = imports_in(alloc, &needs, &indexes, symbols)?;
+    Ok(imports)
+}
+
+/// The imports of an application, in the order of their symbols. The fault is the first one of `ShortFile` to
+/// `VersionDefinition`, of `VersionNeed` and of `ImportVersion`.
+#[tactic(auto, unfolding(crate::specs::Imports::app_fault))]
+pub fn read_app<'a>(alloc: Global, bytes: &'a [u8]) -> Result<Vec<Import<'a>>, Refusal>
+    requires { length bytes.now ≤ input_limit }
+    ensures judged { Judges result (app_fault bytes.now) }
+    ensures read { IfOk result (λ imports. plain_imports imports.items ≡ imports_of bytes.now) }
+{
+    let file = read_elf(bytes)?;
+    let symbols = symbols(alloc, &file)?;
+    soname(&file)?;
+    let imports = imports_among(alloc, &file, &symbols)?;
+    Ok(imports)
+}

@@ -1,0 +1,107 @@
+// The exports of a library that an application uses.
+ghost use Rattle.std.specs.Prelude.{◌≡◌, ℕ, nat_eq, length, map, filter, IfOk};
+ghost use Rattle.std.specs.HashSet.{contains};
+ghost use Rattle.std.specs.List.{range_with_len, list_any};
+ghost use Rattle.std.specs.Option.{option_copied};
+ghost use Rattle.abi_types.specs.Plain.{plain_export, plain_exports};
+ghost use Rattle.app_check.specs.Plain.{plain_import, plain_imports};
+ghost use Rattle.app_check.specs.Used.{wanted_by as what_it_wants, may_come_from as it_may_come_from, is_at, used_exports};
+
+use crate::import::Import;
+use abi_base::NoMemory;
+use abi_types::{Export, SymbolKind};
+use elf_bind::{bind_all, same_name};
+use std::alloc::Global;
+use std::collections::HashSet;
+
+// What an import asks for. Binding reads its name and its version.
+fn wanted_by<'a>(import: &Import<'a>) -> Export<'a>
+    ensures { plain_export result ≡ what_it_wants (plain_import import.now) }
+{
+    Export {
+        symbol: import.symbol,
+        name: import.name,
+        version: match import.need {
+            Some(need) => Some(need.version),
+            None => None,
+        },
+        index: 0,
+        hidden: false,
+        kind: SymbolKind::NoType,
+        absolute: false,
+        value: 0,
+        size: 0,
+        declared: import.name,
+        entry: 0,
+    }
+}
+
+// Whether the file of a soname may give an import.
+fn may_come_from(import: &Import, soname: Option<&[u8]>) -> bool
+    ensures { result ≡ it_may_come_from (option_copied soname.entry) (plain_import import.now) }
+{
+    match import.need {
+        Some(need) => same_name(Some(need.file), soname),
+        None => true,
+    }
+}
+
+// What the imports ask for that the file of a soname may give.
+fn wanted_of<'a>(
+    alloc: Global,
+    imports: &[Import<'a>],
+    soname: Option<&[u8]>,
+) -> Result<Vec<Export<'a>>, NoMemory>
+    ensures { IfOk result (λ wanted. plain_exports wanted.items ≡ map what_it_wants (filter (it_may_come_from (option_copied soname.entry)) (plain_imports imports.now))) }
+{
+    let mut wanted = Vec::new(alloc);
+    for import in imports {
+        if may_come_from(import, soname) {
+            wanted.push(wanted_by(import))?;
+        }
+    }
+    Ok(wanted)
+}
+
+// The places that are among those found.
+fn found_places(alloc: Global, places: &[Option<usize>]) -> Result<HashSet<usize>, NoMemory>
+    ensures { IfOk result (λ found. (k : ℕ) → contains nat_eq found k ≡ list_any (is_at k) places.now) }
+{
+    let mut found = HashSet::new(alloc);
+    for place in places {
+        if let Some(place) = place {
+            found.insert(*place)?;
+        }
+    }
+    Ok(found)
+}
+
+// For each of so many places whether it is among those found.
+#[tactic(auto, using(crate::proofs::Places::marked_more))]
+fn marked(alloc: Global, found: &HashSet<usize>, count: usize) -> Result<Vec<bool>, NoMemory>
+    ensures { IfOk result (λ marked. marked.items ≡ map (contains nat_eq found.now) (range_with_len 0 count)) }
+{
+    let mut marked = Vec::new(alloc);
+    for place in 0..count {
+        marked.push(found.contains(&place))?;
+    }
+    Ok(marked)
+}
+
+/// For each export of a library whether an import binds to it: one without a version as an export without a version does, and
+/// one of a version by its name and version, where its file is the library's soname. It looks each import up in maps of the
+/// exports.
+pub fn used(
+    alloc: Global,
+    imports: &[Import],
+    soname: Option<&[u8]>,
+    old: &[Export],
+) -> Result<Vec<bool>, NoMemory>
+    ensures { IfOk result (λ used. used.items ≡ used_exports (plain_imports imports.now) (option_copied soname.entry) (plain_exports old.now)) }
+{
+    let wanted = wanted_of(alloc, imports, soname)?;
+    let places = bind_all(alloc, &wanted, old)?;
+    let found = found_places(alloc, places.as_slice())?;
+    let used = marked(alloc, &found, old.len())?;
+    Ok(used)
+}
