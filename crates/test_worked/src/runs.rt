@@ -59,6 +59,17 @@ pub(crate) fn text_listener(alloc: Global) -> Result<Vec<Box<dyn Listener>>, NoM
     Ok(listeners)
 }
 
+/// The exit number of `check` over two libraries and a rule file, and its text.
+pub(crate) fn checked(
+    alloc: Global,
+    old: &[u8],
+    new: &[u8],
+    rules: &[u8],
+) -> Result<(u8, Vec<u8>), NoMemory> {
+    let files = [("old", old), ("new", new), ("rules", rules)];
+    ran(alloc, CHECK_WITH_RULES, &files, text_listener(alloc)?)
+}
+
 /// A pair of libraries that are described, a rule file, and what `check` must give: its exit number, and its text, of a certificate
 /// without the lines up to the digests.
 #[derive(Clone, Copy)]
@@ -75,13 +86,7 @@ pub(crate) fn holds<R: Abort + AllocGlobal>(rt: &R, row: &Row) -> Result<(), Fai
     let alloc = rt.alloc();
     let old = described_library(alloc, row.old)?;
     let new = described_library(alloc, row.new)?;
-    let files: [(&str, &[u8]); 3] = [
-        ("old", &old),
-        ("new", &new),
-        ("rules", row.rules.as_bytes()),
-    ];
-    let listeners = text_listener(alloc)?;
-    let (number, text) = ran(alloc, CHECK_WITH_RULES, &files, listeners)?;
+    let (number, text) = checked(alloc, &old, &new, row.rules.as_bytes())?;
     let head = if number == 0 { HEAD } else { 0 };
     assert_eq!(rt; text.get(head..), Some(row.text.as_bytes()));
     assert_eq!(rt; number, row.number, "for {}", row.text);
