@@ -1,0 +1,7 @@
+mod EntryLemmas
+mod FrontLemmas
+mod ItemLemmas
+mod LawLemmas
+mod NameLemmas
+mod PickLemmas
+mod StandingLemmas

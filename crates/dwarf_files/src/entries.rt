@@ -1,0 +1,146 @@
+// The entries of tables, one by one.
+ghost use Rattle.std.specs.Prelude.{◌≡◌, ◌<◌, ◌≤◌, length, IfSome, IfOk};
+ghost use Rattle.dwarf_files.specs.Lists.{directory_step, file_step, step_of};
+ghost use Rattle.dwarf_files.specs.Tables.{value_of, with_value, entry_of};
+
+use crate::formats::Pair;
+use abi_base::{text_at, uleb};
+use dwarf_forms::{Value, value};
+
+// What an entry says of a directory or a file that is read here.
+#[derive(Clone, Copy)]
+pub(crate) struct Entry {
+    // where its name stands
+    pub(crate) path: Option<Value>,
+    // the number of the directory
+    pub(crate) directory: Option<Value>,
+}
+
+// What values of entries say (DWARF 5, section 7.22 "Line Number Information").
+
+const DW_LNCT_path: u64 = 1;
+
+const DW_LNCT_directory_index: u64 = 2;
+
+// The value of a form at a place of a header, and the place after it.
+fn value_in(bytes: &[u8], form: u64, at: usize) -> Option<(Value, usize)>
+    ensures read { result ≡ value_of bytes.now form at }
+    ensures inside { IfSome result (λ r. at ≤ length bytes.now → r.1 ≤ length bytes.now) }
+{
+    match value(form, 0, 0, bytes.len() as u64, 0, bytes, at) {
+        Ok((found, after)) => {
+            if at < after {
+                Some((found, after))
+            } else {
+                None
+            }
+        }
+        Err(_) => None,
+    }
+}
+
+// An entry and one more value.
+fn extended(entry: Entry, content: u64, found: Value) -> Entry
+    ensures { result ≡ with_value entry content found }
+{
+    if content == DW_LNCT_path {
+        Entry {
+            path: entry.path.or(Some(found)),
+            directory: entry.directory,
+        }
+    } else if content == DW_LNCT_directory_index {
+        Entry {
+            path: entry.path,
+            directory: entry.directory.or(Some(found)),
+        }
+    } else {
+        entry
+    }
+}
+
+// The entry of a format at a place of a header, and the place after it.
+#[tactic(auto, using(crate::proofs::EntryLemmas::values_more))]
+pub(crate) fn entry_in(bytes: &[u8], format: &[Pair], at: usize) -> Option<(Entry, usize)>
+    ensures { result ≡ entry_of bytes.now format.now at }
+{
+    let mut entry = Entry {
+        path: None,
+        directory: None,
+    };
+    let mut place = at;
+    for pair in format {
+        match value_in(bytes, pair.form, place) {
+            Some((found, after)) => {
+                entry = extended(entry, pair.content, found);
+                place = after;
+            }
+            None => return None,
+        }
+    }
+    if at < place {
+        Some((entry, place))
+    } else {
+        None
+    }
+}
+
+// The directory at a place of a list of texts and the place after it, or where the list ends.
+#[tactic(auto, unfolding(crate::specs::Lists::directory_step))]
+fn directory_in(bytes: &[u8], at: usize) -> Result<(Entry, usize), Option<usize>>
+    ensures read { result ≡ directory_step bytes.now at }
+    ensures after { IfOk result (λ r. at < r.1) }
+    ensures inside { IfOk result (λ r. r.1 ≤ length bytes.now) }
+{
+    let Some(text) = text_at(bytes, at as u64) else {
+        return Err(None);
+    };
+    if text.is_empty() {
+        return Err(Some(at + 1));
+    }
+    Ok((
+        Entry {
+            path: Some(Value::Inline { from: at as u64 }),
+            directory: None,
+        },
+        at + text.len() + 1,
+    ))
+}
+
+// The file at a place of a list of files and the place after it, or where the list ends.
+#[tactic(auto, unfolding(crate::specs::Lists::file_step))]
+fn file_in(bytes: &[u8], at: usize) -> Result<(Entry, usize), Option<usize>>
+    ensures read { result ≡ file_step bytes.now at }
+    ensures after { IfOk result (λ r. at < r.1) }
+    ensures inside { IfOk result (λ r. r.1 ≤ length bytes.now) }
+{
+    let (entry, after) = directory_in(bytes, at)?;
+    let Some((directory, after)) = uleb(bytes, after) else {
+        return Err(None);
+    };
+    let Some((_, after)) = uleb(bytes, after) else {
+        return Err(None);
+    };
+    let Some((_, after)) = uleb(bytes, after) else {
+        return Err(None);
+    };
+    Ok((
+        Entry {
+            path: entry.path,
+            directory: Some(Value::Unsigned(directory)),
+        },
+        after,
+    ))
+}
+
+// The item at a place of a list of files or of directories.
+pub(crate) fn item_in(bytes: &[u8], files: bool, at: usize) -> Result<(Entry, usize), Option<usize>>
+    ensures read { result ≡ step_of files bytes.now at }
+    ensures after { IfOk result (λ r. at < r.1) }
+    ensures inside { IfOk result (λ r. r.1 ≤ length bytes.now) }
+{
+    if files {
+        file_in(bytes, at)
+    } else {
+        directory_in(bytes, at)
+    }
+}

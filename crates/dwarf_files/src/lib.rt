@@ -1,0 +1,13 @@
+//! The names of files of the source, by the headers of line programs in `.debug_line`.
+#![tactic(auto)]
+
+mod entries;
+mod formats;
+mod heads;
+pub mod laws;
+mod names;
+mod picks;
+mod tables;
+mod texts;
+
+pub use names::{LineSections, file_name};

@@ -1,0 +1,205 @@
+// The names of files of a line program.
+ghost use Rattle.std.specs.Prelude.{◌≡◌, IfOk};
+ghost use Rattle.std.specs.Option.{option_copied, option_map};
+ghost use Rattle.dwarf_files.specs.Names.{entries_of, directory_of, file_of, place_of as the_place, text_of, number_of_directory, directory_text_of, whole_directory_of, name_by, file_name_of};
+ghost use Rattle.dwarf_files.specs.Picks.{picked};
+ghost use Rattle.dwarf_files.specs.Plain.{plain_header};
+
+use crate::entries::Entry;
+use crate::heads::head_at;
+use crate::tables::{pick_in_list, pick_in_table};
+use crate::texts::join;
+use abi_base::{NoMemory, text_at};
+use dwarf_forms::Value;
+use std::alloc::Global;
+
+/// The sections that line programs and the names in them stand in.
+#[derive(Clone, Copy)]
+pub struct LineSections<'a> {
+    /// `.debug_line`
+    pub line: &'a [u8],
+    /// `.debug_str`
+    pub str: &'a [u8],
+    /// `.debug_line_str`
+    pub line_str: &'a [u8],
+}
+
+// The header of a line program.
+#[derive(Clone, Copy)]
+pub(crate) struct Header<'a> {
+    // `.debug_line` up to the header's end
+    pub(crate) bytes: &'a [u8],
+    // `.debug_str`
+    pub(crate) str: &'a [u8],
+    // `.debug_line_str`
+    pub(crate) line_str: &'a [u8],
+    pub(crate) version: u64,
+    // where the tables of directories and files begin
+    pub(crate) tables: usize,
+}
+
+// The place in its table of a file or a directory of a number.
+fn place_of(version: u64, number: u64) -> Option<u64>
+    ensures { result ≡ the_place version number }
+{
+    if version == 5 {
+        Some(number)
+    } else if number == 0 {
+        None
+    } else {
+        Some(number - 1)
+    }
+}
+
+// The number of a file's directory.
+fn directory_number(directory: Option<Value>) -> Option<u64>
+    ensures { result ≡ number_of_directory directory }
+{
+    match directory {
+        None => Some(0),
+        Some(Value::Unsigned(number)) => Some(number),
+        Some(_) => None,
+    }
+}
+
+impl<'a> Header<'a> {
+    // An entry of a table of files or of directories, and the place after the table.
+    fn entry(
+        &self,
+        alloc: Global,
+        files: bool,
+        at: usize,
+        wanted: u64,
+    ) -> Result<Option<(Option<Entry>, usize)>, NoMemory>
+        ensures { IfOk result (λ r. r ≡ picked wanted (entries_of (plain_header self.now) files at)) }
+    {
+        if self.version == 5 {
+            pick_in_table(alloc, self.bytes, at, wanted)
+        } else {
+            Ok(pick_in_list(self.bytes, files, at, wanted))
+        }
+    }
+
+    // The entry of a directory by its number.
+    fn directory(&self, alloc: Global, number: u64) -> Result<Option<Entry>, NoMemory>
+        ensures { IfOk result (λ r. r ≡ directory_of (plain_header self.now) number) }
+    {
+        let Some(wanted) = place_of(self.version, number) else {
+            return Ok(None);
+        };
+        match self.entry(alloc, false, self.tables, wanted)? {
+            Some((found, _)) => Ok(found),
+            None => Ok(None),
+        }
+    }
+
+    // The entry of a file by its number.
+    fn file(&self, alloc: Global, number: u64) -> Result<Option<Entry>, NoMemory>
+        ensures { IfOk result (λ r. r ≡ file_of (plain_header self.now) number) }
+    {
+        let Some(wanted) = place_of(self.version, number) else {
+            return Ok(None);
+        };
+        let Some((_, after)) = self.entry(alloc, false, self.tables, 0)? else {
+            return Ok(None);
+        };
+        match self.entry(alloc, true, after, wanted)? {
+            Some((found, _)) => Ok(found),
+            None => Ok(None),
+        }
+    }
+
+    // The text that a name in an entry leads to.
+    fn text(&self, path: Option<Value>) -> Option<&'a [u8]>
+        ensures { option_copied result ≡ text_of (plain_header self.now) path }
+    {
+        match path {
+            Some(Value::Inline { from }) => text_at(self.bytes, from),
+            Some(Value::StrOffset(place)) => text_at(self.str, place),
+            Some(Value::LineOffset(place)) => text_at(self.line_str, place),
+            _ => None,
+        }
+    }
+
+    // The name of a directory by its number.
+    #[tactic(auto, unfolding(crate::specs::Names::directory_text_of))]
+    fn directory_text(&self, alloc: Global, number: u64) -> Result<Option<&'a [u8]>, NoMemory>
+        ensures { IfOk result (λ r. option_copied r ≡ directory_text_of (plain_header self.now) number) }
+    {
+        if self.version == 4 && number == 0 {
+            return Ok(Some(&[]));
+        }
+        match self.directory(alloc, number)? {
+            Some(entry) => Ok(self.text(entry.path)),
+            None => Ok(None),
+        }
+    }
+
+    // Where a directory lies, in directory 0.
+    #[tactic(auto, unfolding(crate::specs::Names::whole_directory_of))]
+    fn whole_directory(&self, alloc: Global, number: u64) -> Result<Option<Vec<u8>>, NoMemory>
+        ensures { IfOk result (λ r. option_map (λ d. d.items) r ≡ whole_directory_of (plain_header self.now) number) }
+    {
+        let Some(first) = self.directory_text(alloc, 0)? else {
+            return Ok(None);
+        };
+        if number == 0 {
+            return Ok(Some(Vec::from_slice(alloc, first)?));
+        }
+        match self.directory_text(alloc, number)? {
+            Some(own) => Ok(Some(join(alloc, first, own)?)),
+            None => Ok(None),
+        }
+    }
+
+    // The name of an entry of files, in its directory.
+    #[tactic(auto, unfolding(crate::specs::Names::name_by))]
+    fn name(&self, alloc: Global, entry: Entry) -> Result<Option<Vec<u8>>, NoMemory>
+        ensures { IfOk result (λ r. option_map (λ d. d.items) r ≡ name_by (plain_header self.now) entry) }
+    {
+        let Some(name) = self.text(entry.path) else {
+            return Ok(None);
+        };
+        let Some(number) = directory_number(entry.directory) else {
+            return Ok(None);
+        };
+        match self.whole_directory(alloc, number)? {
+            Some(directory) => Ok(Some(join(alloc, directory.as_slice(), name)?)),
+            None => Ok(None),
+        }
+    }
+}
+
+/// The name of a file by its number, by the header of the line program at an offset of `.debug_line` (DWARF 5, section 6.2.4
+/// "The Line Number Program Header"; DWARF 4, the same section). None exactly where the header is damaged, of another version
+/// than 4 and 5 or of 64-bit DWARF, where it has no file of this number, or where the name or its directory is no text of the
+/// header, `.debug_str` or `.debug_line_str`. A table whose entries take no bytes is damage, so that no header takes longer than
+/// its bytes.
+///
+/// Version 5 counts files from 0, which is the file that was compiled, and version 4 from 1. A name that begins with a slash
+/// stays as it is. Another one comes behind its directory and a slash; a directory that is not absolute itself, behind directory
+/// 0, in which the unit was compiled. In version 4 the header does not say that directory, and the name counts from it.
+#[tactic(auto, unfolding(crate::specs::Names::file_name_of, crate::specs::Names::name_of))]
+pub fn file_name(
+    alloc: Global,
+    sections: &LineSections<'_>,
+    offset: u64,
+    file: u64,
+) -> Result<Option<Vec<u8>>, NoMemory>
+    ensures { IfOk result (λ name. option_map (λ n. n.items) name ≡ file_name_of sections.now.line.now sections.now.str.now sections.now.line_str.now offset file) }
+{
+    let Some(head) = head_at(sections.line, offset as usize) else {
+        return Ok(None);
+    };
+    let header = Header {
+        bytes: &sections.line[..head.end],
+        str: sections.str,
+        line_str: sections.line_str,
+        version: head.version,
+        tables: head.tables,
+    };
+    match header.file(alloc, file)? {
+        Some(entry) => header.name(alloc, entry),
+        None => Ok(None),
+    }
+}

@@ -1,0 +1,31 @@
+// Names, and names in directories.
+ghost use Rattle.std.specs.Prelude.{◌≡◌, IfOk, IsTrue, ◌↔◌};
+ghost use Rattle.dwarf_files.specs.Names.{is_absolute as the_name_is_absolute, joined};
+
+use abi_base::{List, NoMemory};
+use std::alloc::Global;
+
+const SLASH: u8 = b'/';
+
+fn is_absolute(name: &[u8]) -> bool
+    ensures { result ≡ the_name_is_absolute name.now }
+{
+    match name.first() {
+        Some(byte) => *byte == SLASH,
+        None => false,
+    }
+}
+
+// A name in a directory.
+#[tactic(auto, unfolding(crate::specs::Names::joined))]
+pub(crate) fn join(alloc: Global, directory: &[u8], name: &[u8]) -> Result<Vec<u8>, NoMemory>
+    ensures { IfOk result (λ r. r.items ≡ joined directory.now name.now) }
+{
+    if is_absolute(name) || directory.is_empty() {
+        return Ok(Vec::from_slice(alloc, name)?);
+    }
+    let mut whole = Vec::from_slice(alloc, directory)?;
+    whole.push(SLASH)?;
+    whole.extend_from_slice(name)?;
+    Ok(whole)
+}
