@@ -1,16 +1,17 @@
 #!/usr/bin/env bash
-# Runs the tests of the tools that put together what distributions ship, and of the recipes of examples/: libraries and packages
-# that gcc, objcopy, dwz, dpkg-deb and rpmbuild make, and what the proved program says of them.
+# Runs the tests of the tools that put together what distributions ship, of whole releases, and of the recipes of examples/: libraries
+# and packages that gcc, objcopy, dwz, dpkg-deb and rpmbuild make, and what the proved program says of them.
 #
 #   tests/python.sh                 builds the program of this repository
 #   ABI=/path/of/abi tests/python.sh    takes another one
 set -eu
 title="packages and recipes"
-tools="/usr/bin/python3 gcc clang readelf objcopy ar strip dwz eu-unstrip eu-elflint dpkg-deb bsdtar make"
+tools="/usr/bin/python3 gcc clang readelf objcopy ar strip dwz eu-unstrip eu-elflint dpkg-deb bsdtar make prlimit /usr/bin/time
+    dask-scheduler dask-worker"
 crate=abi_cli
 . "$(dirname "$0")/common.bash"
 
-for module in elftools debian zstandard yaml pytest; do
+for module in elftools debian zstandard yaml pytest distributed jinja2 jsonschema rich; do
     /usr/bin/python3 -c "import $module" 2>/dev/null && continue
     [ -n "${SKIP_MISSING_TOOLS:-}" ] || fail "there is no $module for /usr/bin/python3 (with SKIP_MISSING_TOOLS=1 nothing runs)"
     told "nothing ran, since there is no $module for /usr/bin/python3"

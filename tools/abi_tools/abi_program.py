@@ -74,12 +74,12 @@ class Abi:
         found = shutil.which(named)
         if found is None:
             raise Fault(f"there is no program {named}: put abi on the PATH, or name it by the variable ABI")
-        self._program = os.path.abspath(found)
+        self.path = os.path.abspath(found)
         self.folder = folder
 
     def run(self, *arguments: str) -> Answer:
         """What the program says of its arguments."""
-        ended = subprocess.run([self._program, *arguments], stdin=subprocess.DEVNULL, capture_output=True, check=False,
+        ended = subprocess.run([self.path, *arguments], stdin=subprocess.DEVNULL, capture_output=True, check=False,
                                cwd=self.folder)
         text, notes = (part.decode("utf-8", "surrogateescape") for part in (ended.stdout, ended.stderr))
         return Answer(ended.returncode, text, notes)

@@ -49,7 +49,7 @@ class Judging:
         """What is said of a library that both sides have."""
         name = pair.name.replace("/", "_")
         rules, said_of_rules = (self.rules, "") if self.rules else package_rules(pair, self.sides, self.work)
-        reasons = [self._put(library, side, Path(folder, name))
+        reasons = [put_joined(library, side, self.work / folder / name)
                    for library, side, folder in zip((pair.old, pair.new), self.sides, ("old", "new"))]
         judgement = judge(Abi(folder=self.work), Path("old", name), Path("new", name), rules, self.least_share)
         kept = self._keep(name, judgement)
@@ -61,19 +61,6 @@ class Judging:
         word = judgement.verdict.words()
         return Line(f"{word} {pair.name}: {'; '.join(parts)}", word, judgement.verdict)
 
-    def _put(self, library: Optional[PackagedLibrary], side: Side, place: Path) -> str:
-        """Puts a library, joined with its debug information, where it is judged. Where that cannot be joined the library stands there
-        as it was shipped, and the answer says why."""
-        assert library is not None
-        output = self.work / place
-        output.parent.mkdir(exist_ok=True)
-        try:
-            output.write_bytes(join(library.path, side.root))
-        except Fault as fault:
-            output.write_bytes(library.path.read_bytes())
-            return str(fault).replace(f"{side.root}/", "").replace(f" below {side.root}", "")
-        return ""
-
     def _keep(self, name: str, judgement: Judgement) -> Sequence[str]:
         """Keeps the certificate of a yes or the report of a no, and takes away what an earlier run kept."""
         for suffix in (".cert", ".report"):
@@ -84,6 +71,19 @@ class Judging:
         place = self.certificates / f"{name}{suffix}"
         write_whole(place, judgement.answer.text.encode("utf-8", "surrogateescape"))
         return [f"{kind} {place}"]
+
+
+def put_joined(library: Optional[PackagedLibrary], side: Side, output: Path) -> str:
+    """Puts a library, joined with its debug information, where it is judged. Where that cannot be joined the library stands there as
+    it was shipped, and the answer says why."""
+    assert library is not None
+    output.parent.mkdir(exist_ok=True)
+    try:
+        output.write_bytes(join(library.path, side.root))
+    except Fault as fault:
+        output.write_bytes(library.path.read_bytes())
+        return str(fault).replace(f"{side.root}/", "").replace(f" below {side.root}", "")
+    return ""
 
 
 def _outcome(judgement: Judgement) -> str:

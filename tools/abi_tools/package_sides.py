@@ -42,10 +42,10 @@ class Side:
         """Unpacks the packages. Raises a fault if one is damaged, or two bring the same file."""
         root.mkdir()
         packages = [unpack(file, root) for file in files]
-        return cls(root, tuple(library for package in packages for library in _libraries(package, root)))
+        return cls(root, tuple(library for package in packages for library in libraries(package, root)))
 
 
-def _libraries(package: Package, root: Path) -> Iterator[PackagedLibrary]:
+def libraries(package: Package, root: Path) -> Iterator[PackagedLibrary]:
     """The shared libraries that a package brings: files of the right type and machine with dynamic symbols, whose name has `.so` in
     it, or that have a soname. Debug files are none."""
     for name in package.names:

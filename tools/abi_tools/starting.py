@@ -6,14 +6,15 @@ import importlib
 import sys
 
 # The libraries that do not come with Python, and the packages of Debian that bring them.
-PACKAGES = {"elftools": "python3-pyelftools", "debian": "python3-debian", "zstandard": "python3-zstandard"}
+PACKAGES = {"elftools": "python3-pyelftools", "debian": "python3-debian", "zstandard": "python3-zstandard",
+            "dask": "python3-dask", "distributed": "python3-distributed", "jinja2": "python3-jinja2", "rich": "python3-rich"}
 
 
-def start(tool: str, module: str, fault_status: int = 1) -> int:
-    """Runs `main` of the module of this package with the arguments of the command line, and answers its status;
+def start(tool: str, module: str, fault_status: int = 1, package: str = "abi_tools") -> int:
+    """Runs `main` of the module of this package, or of another one, with the arguments of the command line, and answers its status;
     `fault_status` where it cannot be done."""
     try:
-        command = importlib.import_module(f"abi_tools.{module}")
+        command = importlib.import_module(f"{package}.{module}")
     except ModuleNotFoundError as error:
         library = (error.name or "").split(".")[0]
         if library not in PACKAGES:

@@ -23,6 +23,8 @@ _ELF_MAGIC = b"\x7fELF"
 # The rule file that a package brings in its folder of documentation, packed or not.
 _RULES = ("abi.rules", "abi.rules.gz")
 _DOCUMENTATION = PurePosixPath("usr/share/doc")
+# What a file of a package may have, once it is inflated: `abi` reads no more than 256 MiB, and debug information may stand apart.
+_LARGEST_FILE = 1 << 32
 
 
 @dataclass(frozen=True)
@@ -106,6 +108,8 @@ def _place(archive: tarfile.TarFile, member: tarfile.TarInfo, place: Path, file:
     contents = archive.extractfile(member) if member.isfile() or member.islnk() else None
     if contents is None:
         return False
+    if member.size > _LARGEST_FILE:
+        raise Fault(f"{file} brings a file of {member.size} bytes, which is too much: {member.name}")
     magic = contents.read(len(_ELF_MAGIC))
     if magic != _ELF_MAGIC and place.name not in _RULES:
         return False

@@ -1,0 +1,100 @@
+"""Makes two releases of many small packages, each with one library of its own.
+
+usage: python3 bench/made_release.py [--distinct N] [--maker TRIAL_LIBRARY] FOLDER COUNT
+
+FOLDER/old and FOLDER/new get COUNT packages each, a hundred a folder. The libraries are those that the program TRIAL_LIBRARY (of
+crates/tool_trial_library) writes, of 1 to 60 functions, or, without it, such that gcc makes; a number in the header of each (e_flags,
+which nothing reads) makes it another file, or, after N of them, one that stood before. In the new release every tenth library has
+lost exports.
+"""
+
+from __future__ import annotations
+
+import argparse
+import gzip
+import io
+import struct
+import subprocess
+import tarfile
+from pathlib import Path
+from typing import Callable
+
+_KINDS = 60
+_IN_A_FOLDER = 100
+_BROKEN = 10
+# Where an ELF-64 header has e_flags.
+_FLAGS_AT = struct.Struct("<I"), 48
+_STRUCTURE = "struct s{0} {{ {1} first; struct s{0} *next; double weight; }};\n{1} f{0}(struct s{0} *s, int n) {{ return s->first + n; }}\n"
+
+Maker = Callable[[int, str], bytes]
+
+
+def main() -> None:
+    """Makes the releases."""
+    parser = argparse.ArgumentParser()
+    parser.add_argument("--distinct", type=int)
+    parser.add_argument("--maker")
+    parser.add_argument("folder", type=Path)
+    parser.add_argument("count", type=int)
+    given = parser.parse_args()
+    folder, count = given.folder, given.count
+    maker = _by_program(given.maker) if given.maker else _by_gcc(folder)
+    made = {side: [maker(1 + kind, side) for kind in range(_KINDS)] for side in ("old", "new")}
+    for number in range(count):
+        for side in ("old", "new"):
+            # a library of fewer functions has lost some of the old one's
+            is_broken = side == "new" and number % _BROKEN == _BROKEN - 1
+            kind = (number % _KINDS) // (2 if is_broken else 1)
+            library = bytearray(made[side][kind])
+            _FLAGS_AT[0].pack_into(library, _FLAGS_AT[1], number % (given.distinct or count))
+            _write_deb(folder / side / f"{number // _IN_A_FOLDER:04d}", number, side, bytes(library))
+
+
+def _by_program(program: str) -> Maker:
+    """Libraries of so many functions, as `abi trial` makes them."""
+
+    def make(functions: int, side: str) -> bytes:
+        return subprocess.run([program, str(functions), side], stdout=subprocess.PIPE, check=True).stdout
+
+    return make
+
+
+def _by_gcc(folder: Path) -> Maker:
+    """Libraries of so many functions, built by gcc."""
+    folder.mkdir(parents=True, exist_ok=True)
+
+    def make(functions: int, side: str) -> bytes:
+        source, output = folder / "made.c", folder / "made.so"
+        source.write_text("".join(_STRUCTURE.format(number, ("int", "long", "short")[number % 3]) for number in range(functions)))
+        subprocess.run(["gcc", "-O1" if side == "old" else "-O2", "-g", "-shared", "-fPIC", "-o", output, source], check=True)
+        return output.read_bytes()
+
+    return make
+
+
+def _write_deb(folder: Path, number: int, side: str, library: bytes) -> None:
+    """Writes the package of a library, which depends on the one before."""
+    folder.mkdir(parents=True, exist_ok=True)
+    name, version = f"libmade{number:05d}", "1" if side == "old" else "2"
+    depends = f"Depends: libmade{number - 1:05d}\n" if number else ""
+    control = f"Package: {name}\nVersion: {version}\nArchitecture: amd64\nMaintainer: a <a@example.org>\n{depends}Description: made\n"
+    parts = (("debian-binary", b"2.0\n"), ("control.tar.gz", _archive("./control", control.encode())),
+             ("data.tar.gz", _archive(f"./usr/lib/{name}.so", library)))
+    text = b"!<arch>\n"
+    for part, contents in parts:
+        text += f"{part:16}{0:<12}{0:<6}{0:<6}{'100644':8}{len(contents):<10}`\n".encode() + contents + b"\n" * (len(contents) % 2)
+    (folder / f"{name}_{version}_amd64.deb").write_bytes(text)
+
+
+def _archive(name: str, contents: bytes) -> bytes:
+    """A compressed archive of one file."""
+    plain = io.BytesIO()
+    with tarfile.open(fileobj=plain, mode="w", format=tarfile.GNU_FORMAT) as archive:
+        member = tarfile.TarInfo(name)
+        member.size = len(contents)
+        archive.addfile(member, io.BytesIO(contents))
+    return gzip.compress(plain.getvalue(), 1, mtime=0)
+
+
+if __name__ == "__main__":
+    main()

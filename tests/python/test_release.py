@@ -1,0 +1,379 @@
+"""`abi-release` on small releases that dpkg-deb makes, and on each fault that one may meet."""
+
+from __future__ import annotations
+
+import json
+import os
+import shutil
+import signal
+import socket
+import struct
+import subprocess
+import time
+import zlib
+from pathlib import Path
+from typing import Any, Callable, Iterator, Mapping
+
+import jsonschema
+import pytest
+from conftest import ROOT, TOOLS, Ended, build_id, done, split, system_place
+
+Json = dict[str, Any]
+TOOL = TOOLS / "abi-release"
+SCHEMA = json.loads((ROOT / "docs/release.schema.json").read_text())
+LIBRARIES = "usr/lib/x86_64-linux-gnu"
+SHAPES = "struct point {{ {type} x, y; }};\nint area(struct point *p) {{ return p->x * p->y + {number}; }}\n"
+
+
+def compiled(folder: Path, name: str, text: str, *options: str) -> Path:
+    """A library, or a program, of a text in C."""
+    source = folder / f"{name}.c"
+    source.write_text(text)
+    done("gcc", "-O1", "-g", "-Wl,--build-id", "-o", folder / name, source, *options, folder=folder)
+    return folder / name
+
+
+def library(folder: Path, name: str, kind: str = "int", number: int = 0) -> Path:
+    """A library with one export, whose structure has members of a kind."""
+    return compiled(folder, name, SHAPES.format(type=kind, number=number), "-shared", "-fPIC", f"-Wl,-soname,{name}")
+
+
+def deb(folder: Path, name: str, files: Mapping[str, Path], version: str = "1", depends: str = "", architecture: str = "amd64") -> Path:
+    """A .deb under the name that mirrors give it."""
+    folder.mkdir(parents=True, exist_ok=True)
+    tree = folder / f".{name}"
+    for place, path in files.items():
+        (tree / place).parent.mkdir(parents=True, exist_ok=True)
+        shutil.copy(path, tree / place)
+    (tree / "DEBIAN").mkdir(parents=True)
+    more = f"Depends: {depends}\n" if depends else ""
+    (tree / "DEBIAN/control").write_text(f"Package: {name}\nVersion: {version}\nArchitecture: {architecture}\n{more}"
+                                         "Maintainer: a <a@example.org>\nDescription: a package\n")
+    made = folder / f"{name}_{version}_{architecture}.deb"
+    done("dpkg-deb", "--root-owner-group", "-Zgzip", "-b", tree, made)
+    shutil.rmtree(tree)
+    return made
+
+
+def packaged(folder: Path, path: Path, version: str = "1", package: str = "") -> Path:
+    """A package of a library, named as the library where it has no name."""
+    return deb(folder, package or path.name.partition(".so")[0], {f"{LIBRARIES}/{path.name}": path}, version)
+
+
+def release(folder: Path, *options: object, workers: int = 1, out: str = "out", wrapper: Path | None = None,
+            before: tuple[object, ...] = ()) -> Ended:
+    """What the tool says of the folders `old` and `new`."""
+    command = [*before, TOOL, "old", "new", "--out", out, "--workers", workers, "--memory", 1000, *options]
+    environment = {**os.environ, "ABI": str(wrapper or os.environ["ABI"])}
+    ended = subprocess.run([str(word) for word in command], capture_output=True, text=True, check=False, cwd=folder, env=environment)
+    return Ended(ended.returncode, ended.stdout, ended.stderr)
+
+
+def table(folder: Path, out: str = "out") -> Json:
+    """The table of a run, which must be by the schema."""
+    found: Json = json.loads((folder / out / "release.json").read_text())
+    jsonschema.validate(found, SCHEMA)
+    return found
+
+
+def lines(folder: Path, out: str = "out") -> dict[str, Json]:
+    """The lines of a run by the package and the library."""
+    return {f"{line['package']} {line['library'] or '-'}": line for line in table(folder, out)["lines"]}
+
+
+def answers(folder: Path, out: str = "out") -> dict[str, str]:
+    """The answers of a run."""
+    return {name: line["answer"] for name, line in lines(folder, out).items()}
+
+
+def judged(ended: Ended) -> tuple[int, int]:
+    """How many pairs of libraries a run judged, and how many it kept."""
+    words = next(line for line in ended.errors.splitlines() if "pairs of libraries judged" in line).split()
+    return int(words[words.index("pairs") - 1]), int(words[words.index("kept;") - 1])
+
+
+def unmeasured(found: Json) -> list[Json]:
+    """The lines of a table without what they measure."""
+    return [{key: value for key, value in line.items() if key != "measured"} for line in found["lines"]]
+
+
+def wrapper_of(folder: Path, text: str) -> Path:
+    """A program `abi` that does something first, in `sh`; `$worker` is the process of the worker."""
+    path = folder / "abi"
+    path.write_text(f"#!/bin/sh\nworker=$(cut -d ' ' -f 4 /proc/$PPID/stat)\n{text}\nexec '{Path(os.environ['ABI']).resolve()}' \"$@\"\n")
+    path.chmod(0o755)
+    return path
+
+
+def three(folder: Path) -> None:
+    """Two releases with three libraries, the second of which breaks."""
+    for side, kinds in (("old", ("int", "int", "int")), ("new", ("int", "long", "int"))):
+        for number, kind in enumerate(kinds):
+            packaged(folder / side, library(folder, f"lib{number}.so.1", kind, number))
+
+
+THREE = {"lib0 lib0.so.1": "yes", "lib1 lib1.so.1": "no", "lib2 lib2.so.1": "yes"}
+
+
+def test_a_release_and_the_next(tmp_path: Path) -> None:
+    """Lines of each kind, who is hit, a second run that does nothing, and one that does only what changed."""
+    three(tmp_path)
+    first, moved = library(tmp_path, "libgone.so.1"), library(tmp_path, "libmoved.so.1", number=9)
+    packaged(tmp_path / "old", first)
+    packaged(tmp_path / "old", moved, package="libmoved1")
+    packaged(tmp_path / "new", moved, package="libmoved1t64")
+    packaged(tmp_path / "new", library(tmp_path, "libnew.so.1"))
+    # debug information in a package of its own, which both sides have
+    plain = library(tmp_path, "libdebug.so.1", number=5)
+    stripped = split(plain, tmp_path / "debug")
+    for side in ("old", "new"):
+        deb(tmp_path / side, "libdebug", {f"{LIBRARIES}/libdebug.so.1": stripped})
+        deb(tmp_path / side, "libdebug-dbgsym", {str(system_place(Path(), build_id(plain))): tmp_path / "debug"})
+        (tmp_path / side / "random_1_amd64.deb").write_bytes(bytes(range(256)) * 64)
+        deb(tmp_path / side, "other", {f"{LIBRARIES}/libother.so": plain}, architecture="arm64")
+    # an older version that a mirror may still have, and two that need the broken library
+    packaged(tmp_path / "old", library(tmp_path, "lib2.so.1", "char"), version="0.9")
+    (tmp_path / "area.c").write_text("int area(void *);\nint main(void) { return area(0); }\n")
+    done("gcc", "-o", tmp_path / "program", tmp_path / "area.c", tmp_path / "lib1.so.1")
+    for side, version in (("old", "1"), ("new", "2")):
+        deb(tmp_path / side, "program", {"usr/bin/program": tmp_path / "program"}, depends="lib0 | lib1 (>= 1)", version=version)
+        deb(tmp_path / side, "metapackage", {}, depends="lib1", architecture="all")
+    ended = release(tmp_path, workers=2)
+    assert ended.status == 1, ended
+    assert answers(tmp_path) == {**THREE, "libdebug libdebug.so.1": "yes", "libgone libgone.so.1": "gone", "libnew libnew.so.1": "new",
+                                 "libmoved1 -> libmoved1t64 libmoved.so.1": "yes", "random -": "not judged"}
+    found = lines(tmp_path)
+    assert found["random -"]["tries"] == 2 and "neither a .deb nor a .rpm" in found["random -"]["reason"]
+    assert found["lib1 lib1.so.1"]["breaks"] == {"L2": 2, "L7": 1}
+    assert found["lib1 lib1.so.1"]["hit"] == [
+        {"package": "metapackage", "depends": True, "exports": [], "imports": 0, "rebuilt": False},
+        {"package": "program", "depends": True, "exports": ["area"], "imports": 1, "rebuilt": True}]
+    assert found["libdebug libdebug.so.1"]["types"] == {"old": [1, 1], "new": [1, 1]}
+    for line in found.values():
+        for kind in ("certificate", "report"):
+            assert kind not in line or (tmp_path / "out" / line[kind]).is_file()
+    assert "2 old files of" not in ended.errors and "1 old files of other architectures are passed over" in ended.errors
+    page = (tmp_path / "out/index.html").read_text()
+    assert page.count("<tr class=") == len(found) and 'id="filter"' in page and "http" not in page
+    text = (tmp_path / "out/table.txt").read_text()
+    assert text.splitlines()[-1] == ended.out.strip() == "8 lines: 1 gone, 1 new, 1 no, 1 not judged, 4 yes"
+
+    before = {path: path.stat().st_mtime_ns for path in (tmp_path / "out").rglob("*") if path.parent.name not in ("out", "")}
+    again = release(tmp_path)
+    assert judged(again) == (0, 5) and again.out == ended.out
+    assert {path: path.stat().st_mtime_ns for path in before if path.is_file()} == {
+        path: when for path, when in before.items() if path.is_file()}
+    assert (tmp_path / "out/table.txt").read_text() == text
+    packaged(tmp_path / "new", library(tmp_path, "lib0.so.1", "long"), version="2")
+    assert judged(release(tmp_path)) == (1, 4) and answers(tmp_path)["lib0 lib0.so.1"] == "no"
+
+
+def test_the_same_table_on_any_number_of_workers(tmp_path: Path) -> None:
+    three(tmp_path)
+    for number in range(3, 9):
+        for side in ("old", "new"):
+            packaged(tmp_path / side, library(tmp_path, f"lib{number}.so.1", "short" if side == "new" and number % 2 else "int", number))
+    found = []
+    for workers in (1, 2, 4):
+        assert release(tmp_path, workers=workers, out=f"out{workers}").status == 1
+        found.append(table(tmp_path, f"out{workers}"))
+    assert len(found[0]["lines"]) == 9
+    assert unmeasured(found[0]) == unmeasured(found[1]) == unmeasured(found[2])
+    assert found[0]["digest"] == found[1]["digest"] == found[2]["digest"]
+
+
+def test_a_worker_that_is_killed_loses_nothing(tmp_path: Path) -> None:
+    """Once, and over one library each time."""
+    three(tmp_path)
+    wrapper = wrapper_of(tmp_path, f"mkdir {tmp_path}/killed 2>/dev/null && kill -9 $worker && sleep 10")
+    ended = release(tmp_path, wrapper=wrapper)
+    assert ended.status == 1 and (tmp_path / "killed").is_dir() and answers(tmp_path) == THREE, ended
+    wrapper = wrapper_of(tmp_path, f"case \"$*\" in *lib1.so.1*) echo >>{tmp_path}/deaths; kill -9 $worker; sleep 10 ;; esac")
+    ended = release(tmp_path, wrapper=wrapper, out="other")
+    assert ended.status == 2 and answers(tmp_path, "other") == {**THREE, "lib1 lib1.so.1": "not judged"}, ended
+    assert lines(tmp_path, "other")["lib1 lib1.so.1"]["reason"] == "the worker died over it"
+    # twice, and once more where Dask itself gives the task to the next worker before it says that one died
+    assert len((tmp_path / "deaths").read_text()) in (2, 3)
+    # the next run tries it again
+    assert release(tmp_path, out="other").status == 1 and answers(tmp_path, "other") == THREE
+
+
+def started(folder: Path, *options: object, wrapper: Path) -> subprocess.Popen[str]:
+    """A run that goes on beside the test."""
+    command = [TOOL, "old", "new", "--out", "out", *options]
+    return subprocess.Popen([str(word) for word in command], cwd=folder, env={**os.environ, "ABI": str(wrapper)}, text=True,
+                            stdout=subprocess.PIPE, stderr=subprocess.PIPE)
+
+
+def wait_for(holds: Callable[[], bool], seconds: float = 400) -> None:
+    """Waits until something holds."""
+    end = time.monotonic() + seconds
+    while not holds():
+        assert time.monotonic() < end, "it does not come"
+        time.sleep(0.05)
+
+
+def results(folder: Path) -> list[Path]:
+    """The results that a run has kept."""
+    return sorted((folder / "out").glob("results/*/*.json"))
+
+
+def test_a_run_that_is_killed_goes_on_when_it_is_started_again(tmp_path: Path) -> None:
+    three(tmp_path)
+    # the third library waits for the test
+    wrapper = wrapper_of(tmp_path, f"case \"$*\" in *lib2.so.1*) while [ ! -e {tmp_path}/go ]; do sleep 0.1; done ;; esac")
+    process = started(tmp_path, "--workers", 1, wrapper=wrapper)
+    wait_for(lambda: len(results(tmp_path)) == 2)
+    ended = release(tmp_path)
+    assert ended.status == 2 and "another run works in" in ended.errors, ended
+    process.send_signal(signal.SIGKILL)
+    process.wait()
+    (tmp_path / "go").touch()
+    assert len(results(tmp_path)) == 2 and all(json.loads(path.read_text()) for path in results(tmp_path))
+    assert not (tmp_path / "out/table.txt").exists()
+    ended = release(tmp_path, wrapper=wrapper)
+    assert ended.status == 1 and judged(ended) == (1, 2) and answers(tmp_path) == THREE, ended
+    assert list((tmp_path / "out/unfinished").iterdir()) == [] == list((tmp_path / "out/started").iterdir())
+
+
+@pytest.fixture
+def cluster(tmp_path: Path) -> Iterator[Callable[[], tuple[str, list[subprocess.Popen[bytes]]]]]:
+    """Starts the processes of a cluster, at one address each time: a scheduler and a worker, which knows nothing of this repository."""
+    with socket.socket() as free:
+        free.bind(("127.0.0.1", 0))
+        port = free.getsockname()[1]
+    address = f"tcp://127.0.0.1:{port}"
+    processes: list[subprocess.Popen[bytes]] = []
+
+    def start() -> tuple[str, list[subprocess.Popen[bytes]]]:
+        commands = (["dask-scheduler", "--host", "127.0.0.1", "--port", str(port), "--no-dashboard"],
+                    ["dask-worker", address, "--nthreads", "1", "--no-dashboard", "--local-directory", str(tmp_path / "dask")])
+        made = [subprocess.Popen(command, cwd="/", env={**os.environ, "ABI": str(tmp_path / "abi")}, stdout=subprocess.DEVNULL,
+                                 stderr=subprocess.DEVNULL, start_new_session=True) for command in commands]
+        processes.extend(made)
+        return address, made
+
+    yield start
+    for process in processes:
+        stop(process)
+
+
+def stop(process: subprocess.Popen[bytes]) -> None:
+    """Kills a process and those that it started."""
+    if process.poll() is None:
+        os.killpg(process.pid, signal.SIGKILL)
+        process.wait()
+
+
+def test_a_scheduler_that_is_killed_and_started_again(tmp_path: Path, cluster: Callable[[], Any]) -> None:
+    three(tmp_path)
+    wrapper = wrapper_of(tmp_path, f"case \"$*\" in *lib2.so.1*) while [ ! -e {tmp_path}/go ]; do sleep 0.1; done ;; esac")
+    address, first = cluster()
+    process = started(tmp_path, "--scheduler", address, "--patience", 300, wrapper=wrapper)
+    wait_for(lambda: len(results(tmp_path)) == 2)
+    for one in first:
+        stop(one)
+    (tmp_path / "go").touch()
+    _, second = cluster()
+    out, errors = process.communicate(timeout=400)
+    assert process.returncode == 1 and answers(tmp_path) == THREE, (out, errors)
+    # without a worker, and without a scheduler, each package has a line
+    stop(second[1])
+    ended = release(tmp_path, "--scheduler", address, "--patience", 1, out="other")
+    assert ended.status == 2 and len(answers(tmp_path, "other")) == 3, ended
+    assert {line["reason"] for line in lines(tmp_path, "other").values()} == {"no worker was there for 1 seconds"}
+    stop(second[0])
+    packaged(tmp_path / "new", library(tmp_path, "lib0.so.1", "long"), version="2")
+    ended = release(tmp_path, "--scheduler", address, "--patience", 1)
+    assert ended.status == 2, ended
+    assert set(answers(tmp_path).values()) == {"not judged"}
+    assert all("the scheduler cannot be reached" in line["reason"] for line in lines(tmp_path).values())
+
+
+def test_a_full_disk_is_a_reason(tmp_path: Path) -> None:
+    """The disk holds no file of a megabyte: one library cannot be unpacked."""
+    three(tmp_path)
+    large = tmp_path / "lib1.so.1"
+    large.write_bytes(large.read_bytes() + os.urandom(1 << 20))
+    packaged(tmp_path / "new", large)
+    ended = release(tmp_path, before=("prlimit", "--fsize=1000000", "--"))
+    found = lines(tmp_path)
+    assert ended.status == 2 and answers(tmp_path) == {"lib0 lib0.so.1": "yes", "lib1 -": "not judged", "lib2 lib2.so.1": "yes"}
+    assert found["lib1 -"]["reason"] == "File too large" and found["lib1 -"]["tries"] == 2
+    assert release(tmp_path).status == 1 and answers(tmp_path) == THREE
+
+
+def test_a_table_that_cannot_be_written_is_printed(tmp_path: Path) -> None:
+    three(tmp_path)
+    (tmp_path / "out/release.json").mkdir(parents=True)
+    ended = release(tmp_path)
+    assert ended.status == 1 and "could not be written" in ended.errors
+    assert [line.split(":")[0] for line in ended.out.splitlines()] == [
+        "yes lib0 lib0.so.1", "no lib1 lib1.so.1", "yes lib2 lib2.so.1", "3 lines", "3 lines"]
+
+
+def compressed(path: Path, size: int, packed: bytes) -> None:
+    """Makes `.debug_info` of a library a compressed section of a size."""
+    objcopy = path.with_suffix(".section")
+    objcopy.write_bytes(struct.pack("<IIQQ", 1, 0, size, 1) + packed)
+    done("objcopy", "--update-section", f".debug_info={objcopy}", path)
+    contents = bytearray(path.read_bytes())
+    table_at, = struct.unpack_from("<Q", contents, 40)
+    listed = done("readelf", "--wide", "--sections", path)
+    number = int(next(line for line in listed.splitlines() if " .debug_info " in line).split("]")[0].strip(" ["))
+    flags_at = table_at + 64 * number + 8
+    struct.pack_into("<Q", contents, flags_at, 0x800)
+    path.write_bytes(contents)
+
+
+def test_libraries_that_ask_for_gigabytes_cost_a_line_each(tmp_path: Path) -> None:
+    """A section that says that it has 10 GB, one that has a gigabyte, and types that ask `abi` for more than 10 GB."""
+    three(tmp_path)
+    says, has = library(tmp_path, "libsays.so.1"), library(tmp_path, "libhas.so.1")
+    compressed(says, 10 << 30, zlib.compress(b"\0" * 1000))
+    packer = zlib.compressobj(1)
+    compressed(has, 1 << 30, b"".join(packer.compress(bytes(1 << 24)) for _ in range(64)) + packer.flush())
+    made = tmp_path / "hostile"
+    made.mkdir()
+    done("bash", ROOT / "bench/hostile.sh", "--make", made, "rings_of_sizes", 1000)
+    for side in ("old", "new"):
+        for path in (says, has):
+            packaged(tmp_path / side, path)
+        deb(tmp_path / side, "libasks", {f"{LIBRARIES}/libasks.so.1": made / side})
+    ended = release(tmp_path, "--memory", 300)
+    found = answers(tmp_path)
+    assert ended.status == 1 and {name: found[name] for name in THREE} == THREE
+    reasons = {name.split()[0]: line.get("reason", "") for name, line in lines(tmp_path).items()}
+    assert "10737418240 bytes" in reasons["libsays"]
+    assert reasons["libhas"] == "memory ran out under the limit of a worker"
+    assert reasons["libasks"] == "abi ran out of memory under its limit of 300 MB"
+
+
+def test_unpacked_trees(tmp_path: Path) -> None:
+    for side, kind in (("old", "int"), ("new", "long")):
+        for number in (0, 1):
+            place = tmp_path / side / f"lib{number}" / LIBRARIES
+            place.mkdir(parents=True)
+            shutil.copy(library(tmp_path, f"lib{number}.so.1", kind if number else "int"), place)
+    assert release(tmp_path).status == 1
+    assert answers(tmp_path) == {"lib0 lib0.so.1": "yes", "lib1 lib1.so.1": "no"}
+    assert judged(release(tmp_path)) == (0, 2)
+    for side in ("old", "new"):
+        (tmp_path / side).rename(tmp_path / f"{side}.folder")
+        (tmp_path / f"{side}.folder/lib1").rename(tmp_path / side)
+    assert release(tmp_path, out="root").status == 1 and answers(tmp_path, "root") == {"root lib1.so.1": "no"}
+
+
+def test_wrong_arguments_and_folders(tmp_path: Path) -> None:
+    (tmp_path / "old").mkdir()
+    (tmp_path / "new").mkdir()
+    assert "holds neither packages nor unpacked trees" in release(tmp_path).errors
+    three(tmp_path)
+    for options, words in ((("--rules", "none"), "there is no rule file none"), (("--tries", "0"), "0 is not above 0"),
+                           (("more",), "unrecognized arguments")):
+        ended = release(tmp_path, *options)
+        assert ended.status == 2 and words in ended.errors, ended
+    rules = tmp_path / "rules"
+    rules.write_text("[suppress_function]\nname = area\n")
+    assert release(tmp_path, "--rules", rules).status == 2
+    assert set(answers(tmp_path).values()) == {"cannot tell"}

@@ -1,0 +1,110 @@
+"""The cluster that does the work: one of this machine, or one that exists."""
+
+from __future__ import annotations
+
+import contextlib
+import hashlib
+import logging
+import os
+import shutil
+import site
+import tempfile
+from dataclasses import dataclass
+from functools import partial
+from pathlib import Path
+from typing import Iterator, Optional
+
+import dask
+from distributed import Client, LocalCluster
+
+from abi_release.workers import LimitPlugin
+from abi_tools.faults import Fault
+
+_TOOLS = str(Path(__file__).resolve().parent.parent)
+_MEGABYTE = 1 << 20
+# Seconds that a client may take to leave a cluster.
+_CLOSES_IN = 2
+# What Dask's scheduler keeps of the past, and how it deals: one task a worker at a time, so that only one is suspected when a worker
+# dies, which is reported at once. On a machine that is taken it may last long until a worker is started again. Workers have a hard
+# limit of memory, so that Dask has no need to spill or to pause.
+_LOCAL_SETTINGS = {
+    "distributed.scheduler.worker-saturation": 1.0,
+    "distributed.scheduler.allowed-failures": 0,
+    "distributed.deploy.lost-worker-timeout": "1 hour",
+    "distributed.scheduler.transition-log-length": 100,
+    "distributed.scheduler.events-log-length": 100,
+    "distributed.worker.memory.target": False,
+    "distributed.worker.memory.spill": False,
+    "distributed.worker.memory.pause": False,
+    "distributed.worker.profile.interval": "10s",
+    "distributed.worker.profile.cycle": "100s",
+}
+
+
+@dataclass(frozen=True)
+class LocalChoice:
+    """A cluster of this machine: so many workers, of so many megabytes each, for the folder of a run."""
+
+    workers: int
+    megabytes: int
+    out: Path
+
+    @contextlib.contextmanager
+    def client(self) -> Iterator[Client]:
+        """The cluster, for a while."""
+        folder = self._folder()
+        shutil.rmtree(folder, ignore_errors=True)
+        with dask.config.set(_LOCAL_SETTINGS):
+            try:
+                with LocalCluster(n_workers=self.workers, threads_per_worker=1, processes=True, dashboard_address=":0",
+                                  memory_limit=2 * self.megabytes * _MEGABYTE, local_directory=str(folder),
+                                  silence_logs=logging.CRITICAL) as cluster, Client(cluster) as client:
+                    client.register_worker_plugin(LimitPlugin(self.megabytes))
+                    yield client
+            finally:
+                shutil.rmtree(folder, ignore_errors=True)
+
+    def _folder(self) -> Path:
+        """Where the workers unpack: a folder of this run's own, which the next run of the same results clears."""
+        mark = hashlib.sha256(os.fsencode(self.out.resolve())).hexdigest()[:16]
+        return Path(tempfile.gettempdir(), f"abi-release-{os.getuid()}-{mark}")
+
+
+@dataclass(frozen=True)
+class OtherChoice:
+    """A cluster that exists, at an address; it is waited for so many seconds."""
+
+    address: str
+    patience: float
+
+    @contextlib.contextmanager
+    def client(self) -> Iterator[Client]:
+        """The cluster, for a while. Raises a fault where it cannot be reached."""
+        try:
+            client = Client(self.address, timeout=self.patience, set_as_default=False)
+            # The workers find this package below the same name of folder as this machine.
+            client.register_worker_callbacks(setup=partial(site.addsitedir, _TOOLS))
+        except (OSError, TimeoutError) as error:
+            raise Fault(f"the scheduler cannot be reached: {error}") from error
+        try:
+            yield client
+        finally:
+            # The scheduler may be gone.
+            with contextlib.suppress(OSError, TimeoutError):
+                client.close(timeout=_CLOSES_IN)
+
+
+Choice = LocalChoice | OtherChoice
+
+
+def processors() -> int:
+    """How many processors this process may use."""
+    return len(os.sched_getaffinity(0))
+
+
+def default_megabytes(workers: int) -> int:
+    """A worker's part of half of the memory, as `abi` takes the other half; at most 4 GB."""
+    total: Optional[int] = None
+    with contextlib.suppress(ValueError, OSError):
+        total = os.sysconf("SC_PAGE_SIZE") * os.sysconf("SC_PHYS_PAGES")
+    return min(4096, (total or 8 << 30) // (2 * workers * _MEGABYTE))

@@ -1,0 +1,161 @@
+"""The command `abi-release`."""
+
+from __future__ import annotations
+
+import argparse
+import contextlib
+import hashlib
+import io
+import os
+import sys
+import time
+from pathlib import Path
+from typing import Callable, Sequence, TextIO
+
+from abi_tools.abi_program import Abi
+from abi_tools.arguments import Arguments
+from abi_tools.faults import Fault
+from abi_tools.gate_command import share
+from abi_tools.gates import Verdict
+from abi_release.clusters import Choice, LocalChoice, OtherChoice, default_megabytes, processors
+from abi_release.judging import Settings, digest_of_file, program_digest
+from abi_release.limited_program import Limits, check_time
+from abi_release.pages import write_page
+from abi_release.progress import progress_of
+from abi_release.scheduling import Run
+from abi_release.sources import Release, works
+from abi_release.stored_files import Json, Store
+from abi_release.tables import Table, moved, write_json, write_text
+
+_DESCRIPTION = """\
+Says of each library of a release whether the one of the next release may replace it. OLD and NEW are folders of .deb or .rpm files,
+as a mirror has them, or of unpacked packages. Packages are paired by name and their libraries by soname; each pair of packages is a
+task on a Dask cluster: one of this machine, or the one at --scheduler, whose machines have the same folders. FOLDER keeps what
+comes of it, so that a second run does only what is missing or changed. `abi` is the one that the variable ABI names, or else the one
+on the PATH.
+"""
+_STATUSES = """\
+FOLDER/table.txt, release.json and index.html have a line for each library, and for each two packages that could not be read.
+Exit status:
+  0  yes: each library may be replaced by the new one
+  1  no: one may not, or is gone
+  2  it cannot be told of one library, or one was not judged, and no is said of none; also where no library is in both, and where the
+     arguments are wrong
+"""
+_OUTPUTS = ("table.txt", "release.json", "index.html")
+
+
+def main(arguments: Sequence[str]) -> int:
+    """Judges releases as the arguments say, writes the tables, and answers the worst verdict."""
+    given = _parser().parse_args(arguments)
+    abi = Abi()
+    check_time()
+    releases = Release.of(given.old), Release.of(given.new)
+    if given.rules is not None and not given.rules.is_file():
+        raise Fault(f"there is no rule file {given.rules}")
+    store = Store(given.out.resolve())
+    lock = store.open()
+    try:
+        settings = Settings(str(given.old.resolve()), str(given.new.resolve()), str(store.folder),
+                            None if given.rules is None else str(given.rules.resolve()), program_digest(abi.path),
+                            given.require_types, Limits(given.memory or default_megabytes(given.workers), given.seconds))
+        os.environ["ABI"] = abi.path
+        choice: Choice = (LocalChoice(given.workers, settings.limits.megabytes, store.folder) if given.scheduler is None
+                          else OtherChoice(given.scheduler, given.patience))
+        run = Run(settings, store, choice, given.tries, given.patience)
+        for side, release in zip(("old", "new"), releases):
+            for kind, count in sorted(release.passed_over.items()):
+                print(f"abi-release: {count} {side} files of {kind} are passed over", file=sys.stderr)
+        return _judge(run, releases, _head(given, settings))
+    finally:
+        os.close(lock)
+
+
+def _parser() -> Arguments:
+    parser = Arguments("abi-release", _DESCRIPTION, _STATUSES, wrong=Verdict.CANNOT_TELL)
+    parser.add_argument("old", type=Path, metavar="OLD")
+    parser.add_argument("new", type=Path, metavar="NEW")
+    parser.add_argument("--out", type=Path, required=True, metavar="FOLDER", help="where results and tables are kept")
+    parser.add_argument("--rules", type=Path, metavar="FILE",
+                        help="a rule file of abi (default: usr/share/doc/PACKAGE/abi.rules of the new package, or else of the old one)")
+    parser.add_argument("--require-types", type=share, default=0.0, metavar="SHARE",
+                        help="how many of 100 compared exports must have types in both libraries (default: one at all)")
+    parser.add_argument("--workers", type=_count, default=processors(), metavar="N",
+                        help="how many workers this machine gets (default: one for each processor)")
+    parser.add_argument("--scheduler", metavar="ADDRESS", help="the scheduler of a Dask cluster that does the work in their place")
+    parser.add_argument("--memory", type=_count, metavar="MB",
+                        help="what a worker may take, and each run of abi besides (default: a worker's part of half of the memory)")
+    parser.add_argument("--seconds", type=_count, default=600, metavar="S",
+                        help="the processor time of each run of abi, and of a worker for each library (default: 600)")
+    parser.add_argument("--tries", type=_count, default=2, metavar="N",
+                        help="how often is tried what fails (default: 2); the next run tries it again")
+    parser.add_argument("--patience", type=float, default=300.0, metavar="S",
+                        help="how long a run waits for a scheduler or a worker (default: 300)")
+    return parser
+
+
+def _count(text: str) -> int:
+    """A number above 0. Raises an error of arguments if it is none."""
+    value = int(text)
+    if value < 1:
+        raise argparse.ArgumentTypeError(f"{text} is not above 0")
+    return value
+
+
+def _head(given: argparse.Namespace, settings: Settings) -> Json:
+    """What the tables say of the run."""
+    rules = hashlib.sha256(b"").hexdigest() if given.rules is None else digest_of_file(given.rules)
+    return {"version": 1, "old": str(given.old), "new": str(given.new), "rules": rules, "program": settings.program,
+            "require_types": settings.least_share}
+
+
+def _judge(run: Run, releases: Sequence[Release], head: Json) -> Verdict:
+    start = time.monotonic()
+    packages = works(*releases)
+    progress = progress_of(len(packages), sys.stderr)
+    try:
+        run.over(packages, progress)
+    finally:
+        progress.end()
+    moves = moved(packages, run.store, run.failures)
+    if moves:
+        progress = progress_of(len(moves), sys.stderr)
+        try:
+            run.over(moves, progress)
+        finally:
+            progress.end()
+    table = Table(packages, moves, run.store, run.failures)
+    print(f"abi-release: {len(packages)} packages in {time.monotonic() - start:.1f} seconds: {run.counts['judged']} pairs of libraries "
+          f"judged, {run.counts['kept']} kept; this process took {_peak_megabytes():.0f} MB", file=sys.stderr)
+    _write(table, head, run.store)
+    print(table.summary())
+    return table.verdict()
+
+
+def _peak_megabytes() -> float:
+    """What this process took at most, of which the scheduler is a part."""
+    with open("/proc/self/status", encoding="ascii", errors="replace") as stream:
+        return next((int(line.split()[1]) / 1024 for line in stream if line.startswith("VmHWM:")), 0.0)
+
+
+def _write(table: Table, head: Json, store: Store) -> None:
+    """Writes the tables. Where one cannot be written, its text is printed, so that it is not lost."""
+    writers: Sequence[Callable[[TextIO], None]] = (
+        lambda stream: write_text(table, stream), lambda stream: write_json(table, head, stream),
+        lambda stream: write_page(table, head, stream))
+    failed = ""
+    for name, writer in zip(_OUTPUTS, writers):
+        try:
+            store.write(name, writer)
+        except OSError as error:
+            failed = failed or f"{store.folder / name}: {error.strerror or error}"
+            # One of an earlier run would pass for this one's.
+            with contextlib.suppress(OSError):
+                (store.folder / name).unlink(missing_ok=True)
+    if failed:
+        text = io.StringIO()
+        write_text(table, text)
+        sys.stdout.write(text.getvalue())
+        print(f"abi-release: a table could not be written, so it is printed: {failed}", file=sys.stderr)
+    else:
+        print(f"abi-release: {', '.join(str(store.folder / name) for name in _OUTPUTS)}", file=sys.stderr)

@@ -1,0 +1,77 @@
+"""Who is hit by a break: the old packages that depend on a broken library, and those whose programs import what broke."""
+
+from __future__ import annotations
+
+from dataclasses import dataclass, field
+from typing import Iterable, Iterator, Optional
+
+from abi_release.judging import GONE
+from abi_release.needs import ANY_LIBRARY, Imports
+from abi_release.sources import MOVED
+from abi_release.stored_files import Json
+from abi_tools.gates import Verdict
+
+BROKEN = (Verdict.NO.words(), GONE)
+# Of the exports that one package imports, so many are named.
+_MOST_NAMED = 20
+
+
+@dataclass
+class _Broken:
+    """A library that is broken: its exports that are, with a version and without one; none where it is gone."""
+
+    package: str
+    library: str
+    exports: Optional[frozenset[str]]
+    hit: list[Json] = field(default_factory=list)
+
+    def imported(self, imports: Imports) -> Optional[list[str]]:
+        """Which of its broken exports are imported; none where the library is not needed."""
+        soname = self.library.rsplit("/", 1)[-1]
+        if soname not in imports:
+            return None
+        if self.exports is None:
+            return []
+        with_version, plain = set(imports[soname]), set(imports.get(ANY_LIBRARY, ()))
+        return sorted(label for label in self.exports
+                      if label.replace("@@", "@") in with_version or label.partition("@")[0] in plain)
+
+
+class Hits:
+    """The broken libraries of a run, and who is hit by each."""
+
+    def __init__(self) -> None:
+        self._by_package: dict[str, list[_Broken]] = {}
+        self._by_library: dict[str, list[_Broken]] = {}
+
+    def take_breaks(self, record: Json, lines: Iterable[Json]) -> None:
+        """Takes the broken libraries of two packages."""
+        package = record["name"].partition(MOVED)[0]
+        for line in lines:
+            if line["answer"] in BROKEN:
+                exports = frozenset(line["broken"]) if "broken" in line else None
+                broken = _Broken(package, line["library"], exports)
+                self._by_package.setdefault(package, []).append(broken)
+                self._by_library.setdefault(line["library"].rsplit("/", 1)[-1], []).append(broken)
+
+    def take_needs(self, record: Json) -> None:
+        """Takes what an old package needs of the broken libraries."""
+        name, (old, new) = record["name"], record["versions"]
+        depends = {package for package in record["depends"] if package in self._by_package} - {name}
+        for broken in self._needed(record["imports"], depends):
+            if broken.package == name:
+                continue
+            exports = broken.imported(record["imports"])
+            if broken.package in depends or exports or (exports == [] and broken.exports is None):
+                broken.hit.append({"package": name, "depends": broken.package in depends, "exports": (exports or [])[:_MOST_NAMED],
+                                   "imports": len(exports or []), "rebuilt": old != new})
+
+    def _needed(self, imports: Imports, depends: Iterable[str]) -> Iterator[_Broken]:
+        """The broken libraries of which a package may need something, each once."""
+        found = [broken for package in sorted(depends) for broken in self._by_package[package]]
+        found += [broken for soname in imports for broken in self._by_library.get(soname, ())]
+        return iter({id(broken): broken for broken in found}.values())
+
+    def of(self, package: str, library: str) -> list[Json]:
+        """Who is hit by the breaks of a library."""
+        return [one for broken in self._by_package.get(package, ()) if broken.library == library for one in broken.hit]

@@ -1,0 +1,112 @@
+"""What packages need of others: the packages that they depend on, and what their programs and libraries import."""
+
+from __future__ import annotations
+
+import subprocess
+from pathlib import Path
+from typing import Iterator, Optional
+
+from debian.arfile import ArError
+from debian.deb822 import PkgRelation
+from debian.debfile import DebError, DebFile
+from elftools.elf.dynamic import DynamicSection
+from elftools.elf.elffile import ELFFile
+from elftools.elf.gnuversions import GNUVerNeedSection, GNUVerSymSection
+from elftools.elf.sections import SymbolTableSection
+
+from abi_tools.debug_files import DEBUG_FOLDER
+from abi_tools.elf_files import DAMAGED
+from abi_tools.faults import Fault
+
+# The first bytes of an ELF-64 file in little endian.
+_IDENTITY = b"\x7fELF\x02\x01"
+# Indexes of symbol versions that name none, and the bit that hides one.
+_VERSIONS_FROM = 2
+_HIDDEN = 0x7FFF
+# Under this name stand imports that name no version, and so no library.
+ANY_LIBRARY = ""
+
+Imports = dict[str, list[str]]
+
+
+def version_and_depends(package: Path) -> tuple[str, list[str]]:
+    """The version of a package, and the names of the packages of which one of its `Depends` and `Pre-Depends` speaks; empty for an
+    unpacked tree. Raises a fault if the package is damaged."""
+    if package.is_dir():
+        return "", []
+    if package.suffix == ".rpm":
+        return _of_rpm(package)
+    try:
+        with DebFile(filename=str(package)) as file:
+            control = file.debcontrol()
+    except (ArError, DebError, OSError, ValueError, EOFError) as error:
+        raise Fault(f"{package.name} is damaged: {error}") from error
+    names: set[str] = set()
+    for relations in (control.get("Depends", ""), control.get("Pre-Depends", "")):
+        for alternatives in PkgRelation.parse_relations(relations) if relations else ():
+            names |= {one["name"] for one in alternatives if one["name"]}
+    return str(control.get("Version", "")), sorted(names)
+
+
+def _of_rpm(package: Path) -> tuple[str, list[str]]:
+    """The same of a .rpm, where the program `rpm` is there; what it needs are names of packages and of libraries."""
+    try:
+        ended = subprocess.run(["rpm", "-qp", "--nosignature", "--qf", r"%{VERSION}-%{RELEASE}\n[%{REQUIRES}\n]", str(package)],
+                               stdin=subprocess.DEVNULL, capture_output=True, text=True, errors="replace", check=False)
+    except FileNotFoundError:
+        return "", []
+    lines = ended.stdout.splitlines() if ended.returncode == 0 else []
+    return (lines[0], sorted({line for line in lines[1:] if line})) if lines else ("", [])
+
+
+def imports(root: Path, names: Iterator[Path]) -> Imports:
+    """What the files of a package import: under each library that one needs, the names with their versions, and under no library
+    the names without one. Files that cannot be read import nothing."""
+    found: dict[str, set[str]] = {}
+    for name in names:
+        path = root / name
+        if path.is_symlink() or not path.is_file() or str(name).startswith(str(DEBUG_FOLDER).lstrip("/")):
+            continue
+        with path.open("rb") as stream:
+            if stream.read(len(_IDENTITY)) != _IDENTITY:
+                continue
+            try:
+                for library, symbol in _imported(ELFFile(stream)):
+                    found.setdefault(library, set()).update([symbol] if symbol else [])
+            except DAMAGED:
+                continue
+    return {library: sorted(symbols) for library, symbols in sorted(found.items())}
+
+
+def _imported(elf: ELFFile) -> Iterator[tuple[str, str]]:
+    """The libraries that a file needs, each without a name, and the names that it imports, with their versions."""
+    needed: Optional[GNUVerNeedSection] = None
+    indexes: Optional[GNUVerSymSection] = None
+    symbols: Optional[SymbolTableSection] = None
+    for section in elf.iter_sections():
+        if isinstance(section, DynamicSection):
+            for tag in section.iter_tags("DT_NEEDED"):
+                yield tag.needed, ""
+        elif isinstance(section, GNUVerNeedSection):
+            needed = section
+        elif isinstance(section, GNUVerSymSection):
+            indexes = section
+        elif isinstance(section, SymbolTableSection) and section.header.sh_type == "SHT_DYNSYM":
+            symbols = section
+    versions = {} if needed is None else {one.entry.vna_other: (library.name, one.name)
+                                          for library, ones in needed.iter_versions() for one in ones}
+    for number, symbol in enumerate(symbols.iter_symbols() if symbols is not None else ()):
+        if symbol.entry.st_shndx != "SHN_UNDEF" or not symbol.name:
+            continue
+        index = _HIDDEN & _index(indexes, number)
+        if index in versions:
+            library, version = versions[index]
+            yield library, f"{symbol.name}@{version}"
+        else:
+            yield ANY_LIBRARY, symbol.name
+
+
+def _index(indexes: Optional[GNUVerSymSection], number: int) -> int:
+    """The index of the version of a symbol."""
+    value = 0 if indexes is None else indexes.get_symbol(number).entry.ndx
+    return value if isinstance(value, int) else 0

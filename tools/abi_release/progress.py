@@ -1,0 +1,72 @@
+"""How far a run is: a bar on a terminal, plain lines otherwise."""
+
+from __future__ import annotations
+
+import time
+from typing import Optional, Protocol, TextIO
+
+# Seconds between plain lines.
+_EVERY = 10.0
+
+
+class Progress(Protocol):
+    """How far a run is."""
+
+    def advance(self) -> None:
+        """One more is done."""
+
+    def end(self) -> None:
+        """No more is to be said."""
+
+
+class PlainProgress:
+    """A line now and then."""
+
+    def __init__(self, total: int, stream: TextIO) -> None:
+        self._total, self._stream = total, stream
+        self._done = 0
+        self._start = self._said = time.monotonic()
+
+    def advance(self) -> None:
+        """One more is done."""
+        self._done += 1
+        now = time.monotonic()
+        if now - self._said >= _EVERY or self._done == self._total:
+            self._said = now
+            rate = self._done / max(now - self._start, 1e-9)
+            print(f"abi-release: {self._done} of {self._total} packages, {rate:.1f} a second, "
+                  f"{(self._total - self._done) / rate:.0f} seconds left", file=self._stream, flush=True)
+
+    def end(self) -> None:
+        """No more is to be said."""
+
+
+class BarProgress:
+    """A bar with the number that is done, the rate and what is left."""
+
+    def __init__(self, total: int) -> None:
+        from rich.console import Console
+        from rich.progress import BarColumn, MofNCompleteColumn, Progress as Bar, TextColumn, TimeRemainingColumn
+
+        self._bar = Bar(TextColumn("packages"), BarColumn(), MofNCompleteColumn(), TextColumn("{task.fields[rate]} a second, left"),
+                        TimeRemainingColumn(), console=Console(stderr=True))
+        self._task = self._bar.add_task("packages", total=total, rate="0.0")
+        self._done = 0
+        self._start = time.monotonic()
+        self._bar.start()
+
+    def advance(self) -> None:
+        """One more is done."""
+        self._done += 1
+        rate = self._done / max(time.monotonic() - self._start, 1e-9)
+        self._bar.update(self._task, advance=1, rate=f"{rate:.1f}")
+
+    def end(self) -> None:
+        """No more is to be said."""
+        self._bar.stop()
+
+
+def progress_of(total: int, stream: TextIO) -> Progress:
+    """The way in which people see how far a run is."""
+    bar: Optional[Progress] = BarProgress(total) if stream.isatty() else None
+    return bar or PlainProgress(total, stream)

@@ -1,0 +1,51 @@
+"""What holds of a worker's process: where it unpacks packages, and how much memory and time it may take."""
+
+from __future__ import annotations
+
+import resource
+import tempfile
+import time
+
+from distributed import Worker, WorkerPlugin, get_worker
+
+_MEGABYTE = 1 << 20
+_PAGE = resource.getpagesize()
+
+
+class _Own:
+    """Whether the worker belongs to this run alone, so that its process may be limited."""
+
+    is_limited = False
+
+
+class LimitPlugin(WorkerPlugin):
+    """Limits a worker of a run's own cluster, which has one thread: so many megabytes beside those that it has at the start, and the
+    time that tasks allow."""
+
+    def __init__(self, megabytes: int) -> None:
+        self.name = "abi-release-limits"
+        self._megabytes = megabytes
+
+    def setup(self, worker: Worker) -> None:
+        """Limits the process."""
+        with open("/proc/self/statm", encoding="ascii") as stream:
+            at_start = int(stream.read().split()[0]) * _PAGE
+        most = resource.getrlimit(resource.RLIMIT_AS)[1]
+        resource.setrlimit(resource.RLIMIT_AS, (at_start + self._megabytes * _MEGABYTE, most))
+        resource.setrlimit(resource.RLIMIT_CORE, (0, 0))
+        _Own.is_limited = True
+
+
+def allow_more_time(seconds: int) -> None:
+    """Allows the process so many seconds of processor time from now on, where it is limited."""
+    if _Own.is_limited:
+        most = resource.getrlimit(resource.RLIMIT_CPU)[1]
+        resource.setrlimit(resource.RLIMIT_CPU, (int(time.process_time()) + 1 + seconds, most))
+
+
+def folder() -> str:
+    """A folder of the worker, which Dask takes away with it."""
+    try:
+        return str(get_worker().local_directory)
+    except ValueError:
+        return tempfile.gettempdir()
