@@ -244,7 +244,7 @@ pub const DW_AT_count: u64 = 0x37;
 /// Where a member begins, in bytes from the first one of the whole on.
 pub const DW_AT_data_member_location: u64 = 0x38;
 
-/// Whether the entry declares only, and the whole is told elsewhere.
+/// Whether the entry is a declaration, and its definition stands elsewhere.
 pub const DW_AT_declaration: u64 = 0x3c;
 
 /// How a base type is encoded.

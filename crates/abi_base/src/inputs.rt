@@ -12,13 +12,13 @@ pub trait Inputs {
     /// How often reading under each name has failed. A count stands still at the end of `u64`.
     ghost faults: { Self → List ℕ → ℕ };
 
-    /// The bytes of each name, where they are told. A real file tells nothing.
+    /// The bytes of each name, where they are known. Of a real file nothing is known.
     ghost told: { Self → List ℕ → Option (List ℕ) };
 
     /// Whether the current input, the one started last, answers to a name.
     ghost answers_to: { Self → List ℕ → Type 0 };
 
-    /// What is left of the current input, where it is told.
+    /// What is left of the current input, where it is known.
     ghost left: { Self → Option (List ℕ) };
 
     /// How many bytes were given since the last call of `start`. The count stands still at the end of `u64`.
@@ -41,7 +41,7 @@ pub trait Inputs {
         ensures given { given self.new ≡ 0 }
         ensures started { started self.new ≡ count_after (started self.old) 1 }
 
-        // A name whose bytes are told is the only one that the current input answers to.
+        // A name whose bytes are known is the only one that the current input answers to.
         ensures only { OnOk result (IfSome (told self.old name.now) (λ _. (other : List ℕ) → answers_to self.new other → other ≡ name.now)) }
 
         ensures cause { OnErr result (Rose (faults self.old name.now) (faults self.new name.now)) }
@@ -49,7 +49,7 @@ pub trait Inputs {
         ensures kept { OnErr result (left self.new ≡ left self.old) }
         ensures kept_names { OnErr result (SameNames (answers_to self.old) (answers_to self.new)) }
 
-        // A failure counts once; where it was not made to happen, it counts for none of the names whose bytes are told.
+        // A failure counts once; where it was not made to happen, it counts for none of the names whose bytes are known.
         ensures once { (other : List ℕ) → faults self.new other ≤ faults self.old other + 1 }
         ensures missing { IfSome (is_made_to_fail self.old 0) (λ fails. fails ≡ false → (other : List ℕ) → IsSome (told self.old other) → faults self.new other ≡ faults self.old other) }
 
@@ -110,17 +110,17 @@ pub fn read_whole<I: Inputs>(
     ensures told { (other : List ℕ) → I.told inputs.new other ≡ I.told inputs.old other }
     ensures later { NeverFall (I.faults inputs.old) (I.faults inputs.new) }
 
-    // The bytes are those that are told, and all that were given.
+    // The bytes are the known ones, and all that were given.
     ensures whole { IfOk result (λ bytes. IfSome (I.told inputs.old name.now) (λ all. bytes.items ≡ all)) }
     ensures given { IfOk result (λ bytes. I.given inputs.new ≡ length bytes.items) }
     ensures within { IfOk result (λ bytes. length bytes.items ≤ limit) }
 
-    // More bytes than the limit were given, and are told where any are.
+    // More bytes than the limit were given, and they are known where any are.
     ensures too_long { IsErrOf result Take.TooLong → limit < I.given inputs.new }
     ensures told_too_long { IsErrOf result Take.TooLong → IfSome (I.told inputs.old name.now) (λ all. limit < length all) }
     ensures given_more { limit < I.given inputs.new → IsErrOf result Take.TooLong }
 
-    // Where no call from here on is made to fail and the name is told, no count rises.
+    // Where no call from here on is made to fail and the bytes of the name are known, no count rises.
     ensures still { Unfailing I.is_made_to_fail inputs.old → Unfailing I.is_made_to_fail inputs.new }
     ensures steady { Unfailing I.is_made_to_fail inputs.old → IsSome (I.told inputs.old name.now) → SameCounts (I.faults inputs.old) (I.faults inputs.new) }
 

@@ -129,7 +129,7 @@ impl Inputs for MemInputs {
     }
 }
 
-// Copies what is left of a file, as far as there is room.
+// Copies what is left of a file, at most as much as there is room for.
 fn copy_rest(
     files: &[(String, Vec<u8>)],
     current: Option<usize>,

@@ -1,5 +1,5 @@
 // Real files and standard output. No contract of the runtime says which bytes a path has or what a terminal holds, so
-// nothing is told of them, and what is left of a file is as far known as the file's own type says it.
+// no contract here does; of what is left of a file, only what the type of a file says is known.
 ghost use Rattle.std.specs.Prelude.{◌≡◌, ◌<◌, List, [], ℕ, length, Option, Some, None, OnErr, IfOk};
 ghost use Rattle.std.specs.Option.{option_map_or};
 ghost use Rattle.std.specs.Io.{ReadsAtMost, WritesAtMost};

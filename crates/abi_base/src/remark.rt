@@ -1,4 +1,4 @@
-// What is told of two libraries beside an answer.
+// What the program notes on two libraries beside its answer.
 
 /// The exports of a library that have a size: how many there are, and how many of them have no type in its debug information.
 #[derive(Clone, Copy, Debug, PartialEq, Eq)]

@@ -12,7 +12,7 @@ use std::fs;
 use std::io::{self, ErrorKind, Read};
 use std::test::Fail;
 
-// More bytes than one call of `read` is asked for.
+// More bytes than one call of `read` takes.
 const LONG: usize = 70_000;
 
 // The string table that the System V gABI, "String Table", shows.

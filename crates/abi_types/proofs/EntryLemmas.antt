@@ -13,6 +13,7 @@ use Rattle.abi_types.specs.Types.{PlainNode}
 use Rattle.abi_types.specs.Graphs.{IsGraph, node_at, node_of}
 use Rattle.abi_types.specs.Entries.{entry_at, IsEntryOrder}
 use Rattle.abi_types.proofs.RangeLemmas.{below_all, all_there}
+use Rattle.abi_types.proofs.lemmas.Nodes.{node_of-at}
 
 -- ---- the search
 
@@ -49,27 +50,11 @@ no_number nodes order e i parted =
 
 -- ---- the node of an entry
 
-find_range-at : (p : ℕ → Bool) (a n i : ℕ) → a ≤ i → i < a + n → p i ≡ true → ((j : ℕ) → a ≤ j → j < i → p j ≡ false) → find p (range_with_len a n) ≡ Some i
-find_range-at p a zero i from below passes before = absurd (omega arith)
-find_range-at p a (suc n) i from below passes before =
-    elim (cases_order a i) [
-      | inl same ↦ let here : p a ≡ true = ap p same ∙ passes in rw here (ap (λ (j : ℕ). Some j) same)
-      | inr (inl less) ↦ let fails : p a ≡ false = before a (omega arith) less in rw fails (find_range-at p (a + 1) n i (omega arith) (omega arith) passes (λ j le lt. before j (omega arith) lt))
-      | inr (inr above) ↦ absurd (omega arith)
-    ]
-
 find_range-none : (p : ℕ → Bool) (a n : ℕ) → ((j : ℕ) → a ≤ j → j < a + n → p j ≡ false) → find p (range_with_len a n) ≡ None
 find_range-none p a zero fails = refl
 find_range-none p a (suc n) fails =
     let here : p a ≡ false = fails a (omega arith) (omega arith) in
     rw here (find_range-none p (a + 1) n (λ j le lt. fails j (omega arith) (omega arith)))
-
--- a node of the entry is the node of the entry, since entries are apart
-pub node_of-at : (nodes : List PlainNode) (entry i : ℕ) → IsGraph nodes → i < length nodes → (node_at nodes i).entry ≡ entry → node_of nodes entry ≡ Some i
-unfolding node_of
-node_of-at nodes entry i graph inside here =
-    find_range-at (λ (j : ℕ). (node_at nodes j).entry == entry) 0 (length nodes) i (omega arith) (omega arith) (eq-eqb (node_at nodes i).entry entry here) (λ j le lt.
-    ne_eqb (node_at nodes j).entry entry (λ same. let is : j ≡ i = graph.apart j i (omega arith) inside (same ∙ sym here) in omega arith))
 
 pub node_of-none : (nodes : List PlainNode) (entry : ℕ) → ((i : ℕ) → i < length nodes → (node_at nodes i).entry ≢ entry) → node_of nodes entry ≡ None
 unfolding node_of

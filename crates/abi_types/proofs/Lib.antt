@@ -7,3 +7,4 @@ mod RangeLemmas
 mod Recursion
 mod ShapedLemmas
 mod WalkLemmas
+pub mod lemmas

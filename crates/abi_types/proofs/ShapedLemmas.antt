@@ -83,7 +83,7 @@ IsShaped-at nodes calls i =
       | inr past ↦ inl (get_or_past (shaped nodes calls) i void_node (omega (arith, length-shaped nodes calls)) ∙ sym (get_or_past nodes i void_node past))
     ]
 
--- the node is the same but for the places of its call
+-- the node is the same, apart from the places of its call
 pub IsSameButCall-at : (nodes : List PlainNode) (calls : List CallShape) (i : ℕ) → IsSameButCall (node_at nodes i) (node_at (shaped nodes calls) i)
 IsSameButCall-at nodes calls i = go (node_at nodes i) (node_at (shaped nodes calls) i) (IsShaped-at nodes calls i) where
   go : (n m : PlainNode) → IsShaped n m → IsSameButCall n m

@@ -5,7 +5,7 @@ use Rattle.abi_types.specs.Types.{PlainPart, PlainNode}
 use Rattle.abi_types.specs.Forms.{is_param}
 use Rattle.abi_types.specs.Graphs.{IsGraph, node_at, shaped, params_of}
 
--- the second node is the first but for the places of its call
+-- the second node is the first, apart from the places of its call
 abbrev pub IsSameButCall : PlainNode → PlainNode → Type 0
 IsSameButCall n m = m ≡ record n { view = record n.view { call = m.view.call } }
 

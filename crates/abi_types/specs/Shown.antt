@@ -3,7 +3,7 @@ use Rattle.std.specs.Prelude.{ℕ, Bool, ◌==◌, nat_le, not, ◌&&◌, if◌t
 use Rattle.hex.specs.Hex.{encode_lower}
 use Rattle.abi_types.specs.Exports.{PlainExport}
 
--- a byte that is printed as itself: a visible ASCII character, but for the backslash
+-- a byte that is printed as itself: a visible ASCII character other than the backslash
 abbrev pub is_plain : ℕ → Bool
 is_plain b = nat_le 0x21 b && nat_le b 0x7e && not (b == 0x5c)
 

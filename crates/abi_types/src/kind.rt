@@ -23,7 +23,7 @@ pub enum Kind {
     Function,
 }
 
-/// What a scalar's bits mean, as far as callers can tell.
+/// What a scalar's bits mean to a caller.
 #[derive(Clone, Copy, Debug, PartialEq, Eq)]
 pub enum Group {
     /// A truth value.

@@ -25,7 +25,7 @@ pub fn leaves_are_those_inside()
     ensures { LeavesAreThoseInside }
 {}
 
-/// A graph with other places of calls has the same nodes but for these places.
+/// A graph with other places of calls has the same nodes, apart from these places.
 pub fn shapes_change_calls_alone()
     ensures { (nodes : List PlainNode) (calls : List CallShape) → ShapesChangeCallsAlone nodes calls }
 {}

@@ -3,8 +3,8 @@ ghost use Rattle.std.specs.Prelude.{◌≡◌};
 ghost use Rattle.abi_types.specs.Kinds.{rule_word};
 ghost use Rattle.abi_types.specs.Rules.{rule_place};
 
-/// A rule that a new library may break: `X1` to `X6` are asked of exports, `L1` to `L14` of two types, the old one and the new
-/// one. Each is told here as what it asks.
+/// A rule that a new library may break: `X1` to `X6` compare exports, `L1` to `L14` two types, the old one and the new one.
+/// Each line here says what the rule requires.
 #[derive(Clone, Copy, Debug, PartialEq, Eq)]
 pub enum Rule {
     /// The sonames agree.
@@ -19,15 +19,15 @@ pub enum Rule {
     ExportSize,
     /// The export has a type still.
     ExportType,
-    /// The kinds of both types agree. Where it is broken, no other rule is asked.
+    /// The kinds of both types agree. Where it is broken, no other rule is checked.
     KindOfType,
     /// The sizes of scalars, enumerations, structures, unions, arrays and vectors are equal.
     TypeSize,
     /// The groups of two scalars are equal: what their bits mean. Their names do not count.
     ScalarGroup,
-    /// The explicit alignments are equal. It is not asked of functions and void.
+    /// The explicit alignments are equal. It is not checked of functions and void.
     TypeAlignment,
-    /// Where one side is a declaration, the tags are equal; then no rule but L1 and this one is asked.
+    /// Where one side is a declaration, the tags are equal; then only L1 and this rule are checked.
     DeclarationTag,
     /// Each old member has a match: the new member of its name and number among those of the name.
     MemberPresence,

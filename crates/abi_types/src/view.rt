@@ -17,7 +17,7 @@ pub struct View<'a, Ix: Index> {
     pub kind: Kind,
     /// What the bits of a scalar mean.
     pub group: Group,
-    /// Whether the type is declared here, and its parts are told nowhere in this unit.
+    /// Whether the type is only declared, and no entry of this unit defines it.
     pub declared_only: bool,
     /// Whether a function takes further arguments after its parameters.
     pub variadic: bool,
