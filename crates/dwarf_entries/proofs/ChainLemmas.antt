@@ -17,7 +17,7 @@ after_first t e zero (Some f) is = is
 after_first t e (suc n) None is = ap (λ (o : Option ℕ). option_map_or (link_of t) o None) (after_first t e n None is)
 after_first t e (suc n) (Some f) is = ap (λ (o : Option ℕ). option_map_or (link_of t) o None) (after_first t e n (Some f) is)
 
--- an entry and those that links lead to from it, up to so many entries
+-- an entry and the entries that its links lead to, up to a number of entries
 unfoldable pub rest_of : PlainTree → ℕ → ℕ → List ℕ
 rest_of t zero e = []
 rest_of t (suc n) e = e ∷ option_map_or (rest_of t n) (link_of t e) []
@@ -49,7 +49,7 @@ pub chain_whole : (t : PlainTree) (e : ℕ) → chain_of t e ≡ rest_of t 9 e
 unfolding chain_of
 chain_whole t e = chain_rest t 9 e
 
--- ---- what loops keep, which are at an entry with so many links followed
+-- ---- the invariant of loops, at an entry after a number of links
 
 left : (n i : ℕ) → i < n → n - i ≡ suc (n - (i + 1))
 left n i lt = omega arith

@@ -60,7 +60,7 @@ nowhere_from p a (suc n) i is from below =
       ]
     ]
 
--- the first one is not behind another one
+-- the first one is not after another one
 not_behind : (p : ℕ → Bool) (n k i : ℕ) → IsFirst p 0 n k → p i ≡ true → k ≤ i
 not_behind p n k i first passes =
     elim (cases_lt i k) [
@@ -89,7 +89,7 @@ pub typed_nowhere : (d : PlainDwarf) (address e : ℕ) → typed_of d address �
 unfolding typed_of
 typed_nowhere d address e is there = nowhere_from (is_typed_at d address) 0 (length d.tree.entries) e is (omega arith) (omega arith)
 
--- ---- units stand one after the other
+-- ---- units follow one another
 
 abbrev AreRising : ℕ → List PlainUnit → Type 0
 AreRising from [] = Unit {0}
@@ -126,7 +126,7 @@ rising_apart from (u ∷ us) i zero is before inside = absurd (omega arith)
 rising_apart from (u ∷ us) zero (suc j) is before inside = let later = rising_on (suc u.offset) us j is.1 (omega arith) in omega (arith, later)
 rising_apart from (u ∷ us) (suc i) (suc j) is before inside = rising_apart (suc u.offset) us i j is.1 (omega arith) (omega arith)
 
--- what the readers of units promise
+-- what the readers of units ensure
 abbrev pub FollowOneAnother : Type 0
 FollowOneAnother = (info abbrevs : List ℕ) → Chain (unit_step info abbrevs) 0 (units_of info abbrevs).items (units_of info abbrevs).end
 

@@ -1,4 +1,4 @@
--- The faults of entries: the first of several, and the rows of an entry in the parts in which they are asked.
+-- The faults of entries: the first of several, and the rows of an entry in the parts of their check.
 use Rattle.std.proofs.Common.{◌≡◌, ◌∙◌, ℕ, Bool, false, List, [], ◌∷◌, Option, Some, None, map, refl, sym, ap, inl, inr}
 use Rattle.std.specs.Prelude.{◌==◌, is_none, is_some}
 use Rattle.std.specs.Option.{option_map_or, option_or}
@@ -34,7 +34,7 @@ three_first None None None = refl
 pub first_three : (a b c r s t : Option Fault) → r ≡ option_or None a → s ≡ option_or r b → t ≡ option_or s c → t ≡ first (a ∷ b ∷ c ∷ [])
 first_three a b c r s t is_a is_b is_c = is_c ∙ ap (λ (o : Option Fault). option_or o c) (is_b ∙ ap (λ (o : Option Fault). option_or o b) is_a) ∙ three_first a b c
 
--- ---- links that lead nowhere
+-- ---- links that refer to no entry
 
 nowhere_to : (t : PlainTree) (target : Option ℕ) → is_nowhere (link_to t target) ≡ is_none target
 nowhere_to t None = refl
@@ -89,7 +89,7 @@ pub name_sound : (d : PlainDwarf) (e : ℕ) (row : Option Fault) → None ≡ fi
 unfolding entry_rows
 name_sound d e row h is = is ∙ behind (of_kind kind.Text (name_fault d e)) (of_kind kind.Index (name_fault d e)) (map (of_kind kind.Index) (address_faults d e)) _ h
 
--- where no addresses are asked
+-- where the entry has no addresses to check
 references_alone : (x y : Option Fault) → first (x ∷ y ∷ []) ≡ first (None ∷ x ∷ y ∷ None ∷ [])
 references_alone (Some g) y = refl
 references_alone None (Some g) = refl

@@ -72,7 +72,7 @@ find_inside p a (suc n) k is =
           omega arith
     ]
 
--- ---- what is kept of the places before one, and what is found from it on
+-- ---- what the map has of the places before one, and what is found from it on
 
 pub record KeepFirsts (kept : Places) (stands : ℕ → ℕ → Bool) (i n : ℕ) : Type 0 where
   pub first : (q : ℕ) → option_or (place_under kept q) (find (stands q) (places i n)) ≡ find (stands q) (range_with_len 0 n)
@@ -89,7 +89,7 @@ or_here None rest true i = refl
 or_here None rest false i = refl
 or_here (Some k) rest here i = refl
 
--- one place more, which stands for a number or for none
+-- one more place, with a number or without one
 pub keep_more : (kept next : Places) (stands : ℕ → ℕ → Bool) (i n : ℕ) (number : Option ℕ) → KeepFirsts kept stands i n → i < n
     → ((q : ℕ) → is_some_number q number ≡ stands q i) → ((q : ℕ) → place_under next q ≡ option_or (place_under kept q) (if is_some_number q number then Some i else None))
     → KeepFirsts next stands (i + 1) n

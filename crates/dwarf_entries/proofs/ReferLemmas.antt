@@ -1,4 +1,4 @@
--- What references lead to.
+-- What references refer to.
 use Rattle.std.proofs.Common.{◌≡◌, ◌<◌, ◌+◌, arith, ℕ, Option, Some, None, length, refl, sym, ◌∙◌, ap, subst}
 use Rattle.std.specs.Prelude.{find, IfSome}
 use Rattle.std.specs.List.{range_with_len}

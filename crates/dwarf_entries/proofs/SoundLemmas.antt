@@ -113,7 +113,7 @@ entry_sound d e none is_read =
       chain = not_faulty (is_too_deep d.tree e) kind.OriginTooDeep (entry_at d.tree e).offset deep.0;
     }
 
--- ---- entries of the chain are there, and of a tag that is read
+-- ---- entries of the chain exist, with a supported tag
 
 pub record IsReadThere (t : PlainTree) (e : ℕ) : Type 0 where
   pub inside : e < length t.entries

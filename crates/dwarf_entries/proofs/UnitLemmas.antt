@@ -1,4 +1,4 @@
--- What is kept of units.
+-- The contexts of units.
 use Rattle.std.proofs.Common.{subst, ◌≡◌, ◌∙◌, ℕ, ◌+◌, ◌<◌, List, [], ◌∷◌, ◌++◌, length, map, get_or, sym, ap, arith}
 use Rattle.std.specs.List.{range_with_len}
 use Rattle.std.proofs.lemmas.List.FromFn.{map-range_with_len_more, get_or-map-range_with_len, length-map-range_with_len}
@@ -7,7 +7,7 @@ use Rattle.dwarf_entries.specs.declared.unit_context.UnitContext.{UnitContext}
 use Rattle.dwarf_entries.specs.Debug.{PlainDwarf}
 use Rattle.dwarf_entries.specs.UnitContext.{told_of, all_told}
 
--- what is kept of the units before one
+-- the contexts of the units before one
 pub record TellUnits (told : List UnitContext) (d : PlainDwarf) (unit : ℕ) : Type 0 where
   pub units : told ≡ map (told_of d) (range_with_len 0 unit)
 
@@ -22,7 +22,7 @@ told_more told next d unit said so_far is adds = record {
 pub told_end : (told : List UnitContext) (d : PlainDwarf) (unit : ℕ) → TellUnits told d unit → unit ≡ length d.tree.units → told ≡ all_told d
 told_end told d unit so_far e = so_far.units ∙ ap (λ (n : ℕ). map (told_of d) (range_with_len 0 n)) e
 
--- what is kept of an entry's unit
+-- the context of an entry's unit
 module _ (told : List UnitContext) (d : PlainDwarf) (t : PlainTree) (e unit : ℕ) (all : told ≡ all_told d) (ordered : IsOrdered t) (same : t ≡ d.tree) (inside : e < length d.tree.entries)
     (is : unit ≡ (entry_at t e).unit) where
   unit_inside : unit < length d.tree.units

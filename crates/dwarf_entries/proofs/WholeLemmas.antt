@@ -23,7 +23,7 @@ each_faultless d e faultless read inside =
     let here : own_fault d ≡ None = subst (λ (x : PlainDwarf). own_fault x ≡ None) (sym read) own in
     none_at (entry_fault d) (length d.tree.entries) e here inside
 
--- what the tree promises of children
+-- what the tree ensures of children
 abbrev pub StandOneDeeper : Type 0
 StandOneDeeper = (t : PlainTree) (e i : ℕ) → e < length t.entries → Contains (children_of t e) i ↔ StandsBelow t e i
 

@@ -1,5 +1,5 @@
 -- The addresses of functions and variables (DWARF 5, sections 2.17 "Code Addresses, Ranges and Base Addresses", 2.18 "Entry
--- Address" and 2.6 "Location Descriptions"), and the entry that stands for an address.
+-- Address" and 2.6 "Location Descriptions"), and the entry of an address.
 use Rattle.std.specs.Prelude.{ℕ, suc, ◌+◌, ◌-◌, ◌%◌, ◌^◌, ◌==◌, ◌&&◌, ◌||◌, not, Bool, false, if◌then◌else◌, List, length, take, drop, find, slice_index_or, Option, Some, None, Result, Ok, Err, pos, negsuc}
 use Rattle.std.specs.List.{range_with_len}
 use Rattle.abi_base.specs.Dwarf.{dwarf_4, dw_op_addr, dw_op_addrx, dw_tag_subprogram, dw_tag_variable, dw_at_location, dw_at_low_pc, dw_at_declaration, dw_at_entry_pc, dw_at_ranges}
@@ -22,7 +22,7 @@ tag_at t e = (entry_at t e).tag
 abbrev pub unit_at : PlainTree → ℕ → ℕ
 unit_at t e = (entry_at t e).unit
 
--- what is read of a value, where there is one
+-- what a reader gives for a value, where there is one
 abbrev pub where_there : {A B : Type 0} → (A → Result B Fault) → Option A → Result (Option B) Fault
 where_there read None = Ok None
 where_there read (Some x) = do
@@ -35,7 +35,7 @@ where_there read (Some x) = do
 unfoldable pub low_pc_of : PlainDwarf → ℕ → Result (Option ℕ) Fault
 low_pc_of d e = where_there (address_at_entry d e) (own_of d.tree e dw_at_low_pc)
 
--- The list that `ranges` says: in version 4 an offset counts pairs of addresses. A value of another class says none.
+-- The list that `ranges` gives: in version 4 an offset is that of a list of pairs of addresses. A value of another class gives none.
 abbrev pub list_of : ℕ → Option Value → Option ListAt
 list_of version (Some (value.SectionOffset place)) = Some (if version == dwarf_4 then list_at.Pairs place else list_at.Offset place)
 list_of version (Some (value.RangeIndex k)) = Some (list_at.Index k)
@@ -59,7 +59,7 @@ or_first_range d e None = first_range_of d e
 abbrev pub base_address_of : PlainDwarf → ℕ → Result (Option ℕ) Fault
 base_address_of d e = low_pc_of d e >>= or_first_range d e
 
--- an address and a constant behind it, modulo 2^64
+-- an address plus a constant, modulo 2^64
 abbrev pub moved_by : ℕ → ℕ → Result (Option ℕ) Fault → Result (Option ℕ) Fault
 moved_by n wrap (Ok (Some base)) = Ok (Some ((base + n) % wrap))
 moved_by n wrap other = other
@@ -81,14 +81,14 @@ abbrev pub indexed_by : Option (ℕ × ℕ) → ℕ → Option Value
 indexed_by None end = None
 indexed_by (Some (k, after)) end = if after == end then Some (value.AddressIndex k) else None
 
--- The address that an expression says, which is one operation alone: an address, or the index of one (DWARF 5, sections
--- 2.5.1.1 "Literal Encodings" and 7.7.1 "DWARF Expressions").
+-- The address that an expression of one operation gives: an address, or the index of one (DWARF 5, sections 2.5.1.1 "Literal
+-- Encodings" and 7.7.1 "DWARF Expressions").
 abbrev pub operand_of : List ℕ → Option Value
 operand_of bytes =
     if slice_index_or bytes 0 0 == dw_op_addr && length bytes == 9 then Some (value.Address (number 8 bytes 1))
     else (if slice_index_or bytes 0 0 == dw_op_addrx then indexed_by (uleb_at bytes 1) (length bytes) else None)
 
--- a location that is an expression; a value of another class says no address
+-- a location that is an expression; a value of another class gives no address
 abbrev pub location_of : List ℕ → Option Value → Option Value
 location_of info (Some (value.Block from to)) = operand_of (take (to - from) (drop from info))
 location_of info other = None
@@ -104,7 +104,7 @@ address_of_entry d e =
     if tag_at d.tree e == dw_tag_subprogram then entered_at d e (own_of d.tree e dw_at_entry_pc)
     else (if tag_at d.tree e == dw_tag_variable then variable_address_of d e else Ok None)
 
--- the same, and none where it cannot be read
+-- the same, and none where it has a fault
 abbrev pub or_none : Result (Option ℕ) Fault → Option ℕ
 or_none (Ok address) = address
 or_none (Err fault) = None
@@ -112,7 +112,7 @@ or_none (Err fault) = None
 abbrev pub entry_address_of : PlainDwarf → ℕ → Option ℕ
 entry_address_of d e = or_none (address_of_entry d e)
 
--- a declaration says so itself, by a flag
+-- a declaration has a flag of its own
 abbrev pub is_true : Option Value → Bool
 is_true None = false
 is_true (Some v) = flag_holds v
@@ -120,7 +120,7 @@ is_true (Some v) = flag_holds v
 abbrev pub is_declared_only : PlainTree → ℕ → Bool
 is_declared_only t e = is_true (own_of t e dw_at_declaration)
 
--- a function or a variable of its unit itself, which is no declaration
+-- a function or a variable directly in its unit, which is no declaration
 unfoldable pub is_defined : PlainTree → ℕ → Bool
 is_defined t e =
     (entry_at t e).depth == 1
@@ -130,11 +130,11 @@ abbrev pub is_some_number : ℕ → Option ℕ → Bool
 is_some_number n (Some m) = m == n
 is_some_number n None = false
 
--- it stands for an address: it is defined there, in a unit that is not written in assembler
+-- it is an entry of an address: it is defined there, in a unit that is not written in assembler
 unfoldable pub is_typed_at : PlainDwarf → ℕ → ℕ → Bool
 is_typed_at d address e =
     is_defined d.tree e && (not (is_assembler d.tree (unit_at d.tree e)) && is_some_number address (entry_address_of d e))
 
--- the first entry that stands for an address
+-- the first entry of an address
 unfoldable pub typed_of : PlainDwarf → ℕ → Option ℕ
 typed_of d address = find (is_typed_at d address) (range_with_len 0 (length d.tree.entries))

@@ -1,5 +1,5 @@
--- References between entries, and the chain of entries in which the attributes of an entry are looked for (DWARF 5, sections
--- 2.13 "Declarations, Definitions and Completions", 3.3.8.1 "Abstract Instances" and 3.3.8.2 "Concrete Instances").
+-- References between entries, and the chain of entries from which an entry inherits its attributes (DWARF 5, sections 2.13
+-- "Declarations, Definitions and Completions", 3.3.8.1 "Abstract Instances" and 3.3.8.2 "Concrete Instances").
 use Rattle.std.specs.Prelude.{ℕ, zero, suc, ◌+◌, ◌-◌, ◌==◌, Bool, true, false, if◌then◌else◌, is_some, List, [], ◌∷◌, length, find, position, slice_index_or, Option, Some, None, Result, Ok, Err}
 use Rattle.std.specs.List.{filter_map, range_with_len, list_any}
 use Rattle.std.specs.Option.{option_map, option_map_or}
@@ -14,7 +14,7 @@ use Rattle.dwarf_entries.specs.declared.link.Link.{Link}
 use Rattle.dwarf_entries.specs.declared.link.Link.TheVariants.{Missing, Nowhere, To}
 use Rattle.dwarf_entries.specs.Debug.{PlainDwarf, text_at_entry}
 
--- the tags of the entries that are read; all others keep their place in the tree and say nothing
+-- the supported tags; entries with other tags keep their place in the tree, and nothing is read from them
 abbrev pub read_tags : List ℕ
 read_tags =
     dw_tag_array_type
@@ -49,8 +49,8 @@ is_read_tag tag = list_any (λ t. t == tag) read_tags
 abbrev pub has_signature : ℕ → Head → Bool
 has_signature signature head = option_map_or (λ s. s == signature) head.signature false
 
--- The entry that a signature stands for: that of the type of the first type unit with this signature (DWARF 5, sections
--- 3.1.4 "Type Unit Entries" and 7.32 "Type Signature Computation").
+-- The entry of a signature: that of the type of the first type unit with this signature (DWARF 5, sections 3.1.4 "Type Unit
+-- Entries" and 7.32 "Type Signature Computation").
 unfoldable pub signed_of : PlainTree → ℕ → Option ℕ
 signed_of t signature = option_map_or (λ unit. entry_of t (head_at t unit).type_entry) (position (has_signature signature) t.units) None
 
@@ -62,33 +62,33 @@ target_of t other = None
 
 -- ---- the chain
 
--- the link of an attribute that refers to an entry, or to none; there is no link to an entry whose tag is not read
+-- the link of an attribute that refers to an entry, or to none; there is no link to an entry with an unsupported tag
 abbrev pub link_to : PlainTree → Option ℕ → Link
 link_to t None = Nowhere
 link_to t (Some f) = if is_read_tag (entry_at t f).tag then To f else Missing
 
--- the link of an attribute that is there, or is not
+-- the link of an attribute that an entry has, or lacks
 abbrev pub read_link : PlainTree → Option Value → Link
 read_link t None = Missing
 read_link t (Some v) = link_to t (target_of t v)
 
--- where an attribute links an entry to
+-- the link of an attribute of an entry
 abbrev pub link_by : PlainTree → ℕ → ℕ → Link
 link_by t e name = read_link t (own_of t e name)
 
--- there is a link, and it leads to no entry
+-- there is a link, and it refers to no entry
 abbrev pub is_nowhere : Link → Bool
 is_nowhere Nowhere = true
 is_nowhere (To f) = false
 is_nowhere Missing = false
 
--- the entry that a link leads to
+-- the entry of a link
 abbrev pub linked : Link → Option ℕ
 linked (To f) = Some f
 linked Nowhere = None
 linked Missing = None
 
--- the entry that the first of two links leads to, or the second where the first is missing
+-- the entry of the first of two links, or of the second where the first is missing
 abbrev pub either_link : Link → Link → Option ℕ
 either_link Missing other = linked other
 either_link Nowhere other = None
@@ -98,20 +98,20 @@ either_link (To f) other = Some f
 unfoldable pub link_of : PlainTree → ℕ → Option ℕ
 link_of t e = either_link (link_by t e dw_at_abstract_origin) (link_by t e dw_at_specification)
 
--- the entry after so many links
+-- the entry after a number of links
 unfoldable pub after_links : PlainTree → ℕ → ℕ → Option ℕ
 after_links t e zero = Some e
 after_links t e (suc n) = option_map_or (link_of t) (after_links t e n) None
 
--- the chain has more links than are followed
+-- the chain has more links than the limit
 abbrev pub is_too_deep : PlainTree → ℕ → Bool
 is_too_deep t e = is_some (after_links t e (chain_limit + 1))
 
--- an entry and those that links lead to from it, at most so many entries
+-- an entry and the entries that its links lead to, at most a number of entries
 abbrev pub chain_within : PlainTree → ℕ → ℕ → List ℕ
 chain_within t e entries = filter_map (after_links t e) (range_with_len 0 entries)
 
--- those of them that are looked at
+-- those within the limit
 unfoldable pub chain_of : PlainTree → ℕ → List ℕ
 chain_of t e = chain_within t e (chain_limit + 1)
 
@@ -123,15 +123,15 @@ origin_of t e = slice_index_or (chain_of t e) (length (chain_of t e) - 1) e
 unfoldable pub holder_of : PlainTree → ℕ → ℕ → Option ℕ
 holder_of t e name = find (λ f. is_some (own_of t f name)) (chain_of t e)
 
--- The attributes that speak of the entry itself: where it stands in the program, and that it is only declared. The others
--- speak of what the chain stands for.
+-- The attributes that apply to the entry itself: its addresses in the program, and that it is only declared. The others are
+-- inherited along the chain.
 abbrev pub own_attributes : List ℕ
 own_attributes = dw_at_low_pc ∷ dw_at_ranges ∷ dw_at_entry_pc ∷ dw_at_location ∷ dw_at_declaration ∷ []
 
 unfoldable pub is_own_attribute : ℕ → Bool
 is_own_attribute name = list_any (λ a. a == name) own_attributes
 
--- the value that an entry has of an attribute: its own, where the attribute speaks of the entry itself, else along the chain
+-- the value of an attribute of an entry: its own, where the attribute applies to the entry itself, else along the chain
 abbrev pub attribute_along : PlainTree → ℕ → ℕ → Option Value
 attribute_along t e name =
     if is_own_attribute name then own_of t e name else option_map_or (λ f. own_of t f name) (holder_of t e name) None
@@ -142,7 +142,7 @@ abbrev pub known : {A E : Type 0} → Result A E → Option A
 known (Ok x) = Some x
 known (Err e) = None
 
--- the text that an entry itself has of an attribute, where it has the attribute
+-- the text of an attribute of an entry itself, where it has the attribute
 abbrev pub own_text : PlainDwarf → ℕ → ℕ → Option (Result (List ℕ) Fault)
 own_text d e name = option_map (text_at_entry d e) (own_of d.tree e name)
 

@@ -1,4 +1,4 @@
--- The debug information of a file: what its sections hold, and the tree of its entries; and what the root of a unit says of
+-- The debug information of a file: the bytes of its sections, and the tree of its entries; and what the root of a unit says of
 -- the unit.
 use Rattle.std.specs.Prelude.{ℕ, ◌==◌, Bool, false, List, Option, Some, None, Result, Ok, Err, pos}
 use Rattle.std.specs.Option.{option_map_or}
@@ -11,7 +11,7 @@ use Rattle.dwarf_text.specs.declared.bases.Bases.{Bases}
 use Rattle.dwarf_text.specs.Texts.{text_of, address_of}
 use Rattle.dwarf_tree.specs.Trees.{PlainTree, entry_at, own_of, root_of, tree_of}
 
--- what the sections of debug information hold
+-- the bytes of the sections of debug information
 pub record PlainSections : Type 0 where
   pub info : List ℕ
   pub abbrev_ : List ℕ
@@ -44,11 +44,11 @@ plain_sections s = record {
 
 -- ---- what the root of a unit says (DWARF 5, section 3.1.1 "Full and Partial Compilation Unit Entries")
 
--- the first value that the root of a unit has of an attribute
+-- the first value of an attribute of the root of a unit
 abbrev pub root_own : PlainTree → ℕ → ℕ → Option Value
 root_own t unit name = option_map_or (λ root. own_of t root name) (root_of t unit) None
 
--- a place in another section; a value of another class says none
+-- a place in another section; a value of another class gives none
 abbrev pub section_offset : Option Value → Option ℕ
 section_offset (Some (value.SectionOffset place)) = Some place
 section_offset other = None
@@ -56,7 +56,7 @@ section_offset other = None
 abbrev pub base_of : PlainTree → ℕ → ℕ → Option ℕ
 base_of t unit name = section_offset (root_own t unit name)
 
--- the address that a value stands for, or 0 where it stands for none
+-- the address of a value, or 0 where it has none
 abbrev pub address_or_zero : Result ℕ Fault → ℕ
 address_or_zero (Ok address) = address
 address_or_zero (Err fault) = 0

@@ -1,4 +1,4 @@
--- What attributes say as flags and as bytes (DWARF 5, section 7.5.5 "Classes and Forms", classes flag, block and exprloc).
+-- Attributes as flags and as bytes (DWARF 5, section 7.5.5 "Classes and Forms", classes flag, block and exprloc).
 use Rattle.std.specs.Prelude.{ℕ, ◌-◌, Bool, List, take, drop, Option, Some, None}
 use Rattle.dwarf_forms.specs.declared.values.Value.{Value}
 use Rattle.dwarf_forms.specs.declared.values.Value.TheVariants as value
@@ -10,7 +10,7 @@ use Rattle.dwarf_entries.specs.Chains.{attribute_along}
 abbrev pub flag_value_along : PlainTree → ℕ → ℕ → Bool
 flag_value_along t e name = is_true (attribute_along t e name)
 
--- the bytes of a block or an expression, which stand in `.debug_info`
+-- the bytes of a block or an expression, which are in `.debug_info`
 abbrev pub block_of : List ℕ → Value → Option (List ℕ)
 block_of info (value.Block from to) = Some (take (to - from) (drop from info))
 block_of info other = None

@@ -14,10 +14,10 @@ Places = HashMap ℕ ℕ (BuildHasherDefault FoldHasher)
 abbrev pub place_under : Places → ℕ → Option ℕ
 place_under places number = get nat_eq places number
 
--- Under each signature stands the first unit that has it.
+-- The map has under each signature the first unit with it.
 pub record HoldUnits (places : Places) (t : PlainTree) : Type 0 where
   pub first : (signature : ℕ) → place_under places signature ≡ position (has_signature signature) t.units
 
--- Under each address stands the first entry that stands for it.
+-- The map has under each address its first entry.
 pub record HoldEntries (places : Places) (d : PlainDwarf) : Type 0 where
   pub first : (address : ℕ) → place_under places address ≡ typed_of d address

@@ -1,5 +1,5 @@
--- The rows of an entry in the parts in which they are asked: most entries have no addresses, and of these only the name and the
--- references are.
+-- The rows of an entry in the parts of their check: most entries have no addresses, and of these only the name and the references
+-- are checked.
 use Rattle.std.specs.Prelude.{ℕ, ◌==◌, ◌||◌, Bool, List, [], ◌∷◌, ◌++◌, map, Option}
 use Rattle.abi_base.specs.declared.fault.Fault.{Fault}
 use Rattle.abi_base.specs.declared.fault.FaultKind.TheVariants as kind

@@ -14,7 +14,7 @@ AreFaultless d = (e : ℕ) → e < length d.tree.entries → entry_fault d e ≡
 abbrev pub RefersThere : PlainTree → Option Value → Type 0
 RefersThere t value = IfSome value (λ v. IsSome (target_of t v))
 
--- An entry's own name is a text, what it refers to is there, and its chain has no more links than are followed.
+-- An entry's own name is a text, the entries that it refers to exist, and its chain has at most as many links as the limit.
 pub record IsSound (d : PlainDwarf) (e : ℕ) : Type 0 where
   pub name : IfSome (own_of d.tree e dw_at_name) (λ v. IsOk (text_at_entry d e v))
   pub type : RefersThere d.tree (own_of d.tree e dw_at_type)

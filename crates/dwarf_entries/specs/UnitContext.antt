@@ -1,4 +1,4 @@
--- What is kept of a unit, and what is asked of it.
+-- What the root of a unit says, as the code keeps it.
 use Rattle.std.specs.Prelude.{◌≡◌, ℕ, List, length, map}
 use Rattle.std.specs.List.{range_with_len}
 use Rattle.dwarf_entries.specs.declared.unit_context.UnitContext.{UnitContext}
@@ -13,11 +13,11 @@ debug s t = record { sections = s; tree = t }
 unfoldable pub told_of : PlainDwarf → ℕ → UnitContext
 told_of d unit = record { bases = bases_of d unit; is_assembler = is_assembler d.tree unit }
 
--- the same of each unit, in order
+-- the same for each unit, in order
 abbrev pub all_told : PlainDwarf → List UnitContext
 all_told d = map (told_of d) (range_with_len 0 (length d.tree.units))
 
--- what is kept beside the debug information is so: what the root of each unit says, and where the texts of `.debug_str` end
+-- the context that the code keeps is right: what the root of each unit says, and where the texts of `.debug_str` end
 pub record IsSource (units : List UnitContext) (str_end : ℕ) (d : PlainDwarf) : Type 0 where
   pub units_told : units ≡ all_told d
   pub texts : TextsEnd d.sections.str str_end

@@ -4,7 +4,7 @@ use Rattle.dwarf_entries.specs.Debug.{PlainDwarf, dwarf_of}
 use Rattle.dwarf_entries.specs.Pass.{dwarf_fault}
 use Rattle.dwarf_entries.specs.Places.{Places, HoldEntries}
 
--- It is that of its sections, which have no fault, and under each address stands the first entry that stands for it.
+-- It is that of its sections, which have no fault, and it has under each address the first entry of this address.
 pub record IsWhole (typed : Places) (d : PlainDwarf) : Type 0 where
   pub addresses : HoldEntries typed d
   pub faultless : dwarf_fault d.sections ≡ None

@@ -4,7 +4,8 @@ ghost use Rattle.std.specs.Option.{option_copied};
 ghost use Rattle.dwarf_tree.specs.Trees.{own_of};
 ghost use Rattle.abi_base.specs.Dwarf.{dw_at_low_pc, dw_at_ranges, dw_at_entry_pc, dw_at_location};
 ghost use Rattle.dwarf_entries.specs.Debug.{address_at_entry};
-ghost use Rattle.dwarf_entries.specs.Addresses.{where_there, low_pc_of, list_of as the_list_of, first_of_list as the_first_of_list, first_range_of, base_address_of, moved_by, entered_at, indexed_by, operand_of, location_of, variable_address_of, address_of_entry, or_none, entry_address_of, is_true as the_flag_is_true, is_declared_only as only_declares, is_defined as defines};
+ghost use Rattle.dwarf_entries.specs.Addresses.{where_there, low_pc_of, first_range_of, base_address_of, moved_by, entered_at, indexed_by, operand_of, location_of, variable_address_of, address_of_entry, or_none, entry_address_of, is_declared_only as only_declares, is_defined as defines};
+ghost use Rattle.dwarf_entries.specs.Addresses as spec;
 
 use crate::constants::{ADDRESS_OPERATION, BELOW_ROOT, DW_OP_addr, DW_OP_addrx};
 use crate::source::Source;
@@ -18,7 +19,7 @@ use dwarf_text::ranges::{ListAt, first_address};
 use dwarf_tree::Tree;
 use dwarf_units::constants::DWARF_4;
 
-// The address that a value of an entry stands for, where there is a value.
+// The address of a value of an entry, where there is a value.
 pub(crate) fn address_where_there(
     source: &Source,
     e: usize,
@@ -45,9 +46,9 @@ pub(crate) fn low_pc(source: &Source, e: usize) -> Result<Option<u64>, Fault>
     address_where_there(source, e, source.tree().own(e, DW_AT_low_pc))
 }
 
-// The list of ranges that a value says.
+// The list of ranges that a value gives.
 fn list_of(version: u16, value: Option<Value>) -> Option<ListAt>
-    ensures { result ≡ the_list_of version value }
+    ensures { result ≡ spec.list_of version value }
 {
     match value {
         Some(Value::SectionOffset(place)) => {
@@ -66,7 +67,7 @@ fn list_of(version: u16, value: Option<Value>) -> Option<ListAt>
 #[tactic(auto, unfolding(crate::specs::UnitContext::told_of))]
 fn first_of_list(source: &Source, e: usize, list: ListAt) -> Result<Option<u64>, Fault>
     requires { e < length source.now.tree.entries }
-    ensures { result ≡ the_first_of_list source.now e (Some list) }
+    ensures { result ≡ spec.first_of_list source.now e (Some list) }
 {
     let said = source.told(e);
     first_address(
@@ -101,7 +102,7 @@ fn base_address(source: &Source, e: usize) -> Result<Option<u64>, Fault>
     }
 }
 
-// The address so far behind the base address of an entry.
+// The address at an offset from the base address of an entry.
 fn behind_base(source: &Source, e: usize, distance: u64) -> Result<Option<u64>, Fault>
     requires { e < length source.now.tree.entries }
     ensures { result ≡ moved_by distance (2 ^ 64) (base_address_of source.now e) }
@@ -142,7 +143,7 @@ fn indexed(read: Option<(u64, usize)>, end: usize) -> Option<Value>
     }
 }
 
-// The address that an expression says which is one operation alone.
+// The address that an expression of one operation gives.
 fn operand(bytes: &[u8]) -> Option<Value>
     ensures { result ≡ operand_of bytes.now }
 {
@@ -159,7 +160,7 @@ fn operand(bytes: &[u8]) -> Option<Value>
     None
 }
 
-// The bytes from a place on and before another one, as far as they are there.
+// The bytes from a place on and before another one that are inside the section.
 pub(crate) fn part(bytes: &[u8], from: u64, to: u64) -> &[u8]
     ensures { result.now ≡ take (to - from) (drop from bytes.now) }
 {
@@ -175,7 +176,7 @@ pub(crate) fn part(bytes: &[u8], from: u64, to: u64) -> &[u8]
     }
 }
 
-// The address that a location says.
+// The address that a location gives.
 fn location(info: &[u8], value: Option<Value>) -> Option<Value>
     ensures { result ≡ location_of info.now value }
 {
@@ -211,7 +212,7 @@ fn address(source: &Source, e: usize) -> Result<Option<u64>, Fault>
     Ok(None)
 }
 
-// The same, and none where it cannot be read.
+// The same, and none where it has a fault.
 pub(crate) fn entry_address(source: &Source, e: usize) -> Option<u64>
     requires { e < length source.now.tree.entries }
     ensures { result ≡ entry_address_of source.now e }
@@ -222,9 +223,9 @@ pub(crate) fn entry_address(source: &Source, e: usize) -> Option<u64>
     }
 }
 
-// Whether a flag is there and holds.
+// Whether there is a flag and it holds.
 pub(crate) fn is_true(value: Option<Value>) -> bool
-    ensures { result ≡ the_flag_is_true value }
+    ensures { result ≡ spec.is_true value }
 {
     match value {
         Some(value) => value.holds(),
@@ -232,7 +233,7 @@ pub(crate) fn is_true(value: Option<Value>) -> bool
     }
 }
 
-// Whether an entry says of itself that it is a declaration.
+// Whether an entry itself has a flag that says that it is a declaration.
 pub(crate) fn is_declared_only(tree: &Tree<'_>, e: usize) -> bool
     requires { e < length tree.now.entries }
     ensures { result ≡ only_declares tree.now e }

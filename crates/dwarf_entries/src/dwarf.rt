@@ -4,7 +4,8 @@ ghost use Rattle.std.specs.Option.{option_copied, option_map_or, ForSome};
 ghost use Rattle.abi_base.specs.Outcome.{Judges};
 ghost use Rattle.dwarf_tree.specs.Trees.{entry_at, own_of, entry_of, children_of, next_child_of, IsOrdered, is_tagged};
 ghost use Rattle.dwarf_entries.specs.Debug.{plain_sections, dwarf_of};
-ghost use Rattle.dwarf_entries.specs.Chains.{attribute_along, origin_of, name_of as the_name_of, signed_of, target_of};
+ghost use Rattle.dwarf_entries.specs.Chains.{attribute_along, origin_of, signed_of, target_of};
+ghost use Rattle.dwarf_entries.specs.Chains as spec;
 ghost use Rattle.dwarf_entries.specs.Addresses.{entry_address_of, is_declared_only as only_declares, typed_of};
 ghost use Rattle.dwarf_entries.specs.Pass.{dwarf_fault};
 ghost use Rattle.dwarf_entries.specs.FlagsAndBlocks.{block_of, flag_value_along};
@@ -29,7 +30,7 @@ use std::marker::Model;
 #[derive(Drop)]
 pub struct Dwarf<'a> {
     source: Source<'a>,
-    // the first entry that stands for each address
+    // the first entry of each address
     typed: HashMap<u64, usize>,
 }
 
@@ -45,8 +46,8 @@ impl<'a> Model for Dwarf<'a> {
     ghost invariant = { λ d. IsWhole d.typed d.source };
 }
 
-/// The debug information of a file: all entries of all units, in order of offset. The fault is the first one of units and
-/// entries, as they are read, and then of what entries say, in order of offset.
+/// The debug information of a file: all entries of all units, in order of offset. The fault is the first one of the units and
+/// entries that are read, or, where these have none, of what entries say, in order of offset.
 #[tactic(auto, unfolding(crate::specs::Pass::dwarf_fault))]
 pub fn tree<'a>(alloc: Global, sections: Sections<'a>) -> Result<Dwarf<'a>, Refusal>
     ensures judged { Judges result (dwarf_fault (plain_sections sections.entry)) }
@@ -81,7 +82,7 @@ impl<'a> Dwarf<'a> {
         self.source.tree().offset(e)
     }
 
-    /// What an entry is, `DW_TAG_..`.
+    /// The tag of an entry, `DW_TAG_..`.
     pub fn tag(&self, e: usize) -> u64
         requires { e < length self.now.tree.entries }
         ensures { result ≡ (entry_at self.now.tree e).tag }
@@ -110,8 +111,8 @@ impl<'a> Dwarf<'a> {
         self.source.tree().tagged(alloc, e, tag)
     }
 
-    /// Does nothing. It tells what holds of all debug information that was read: its sections have no fault, and it is what
-    /// they say; its entries stand in order, none at 0, they are fewer than 2^32, and none has a fault.
+    /// Does nothing. Its contract says what holds of all debug information that was read: its sections have no fault, and it is
+    /// what they say; its entries are in order, none at 0, they are fewer than 2^32, and none has a fault.
     pub fn known(&self)
         ensures faultless { dwarf_fault self.now.sections ≡ None }
         ensures read { self.now ≡ dwarf_of self.now.sections }
@@ -121,7 +122,7 @@ impl<'a> Dwarf<'a> {
         self.source.tree().known();
     }
 
-    /// The first value that an entry itself has of an attribute, and none where it has none.
+    /// The first value of an attribute of an entry itself, and none where it has none.
     pub fn own(&self, e: usize, name: u64) -> Option<Value>
         requires { e < length self.now.tree.entries }
         ensures { result ≡ own_of self.now.tree e name }
@@ -137,8 +138,8 @@ impl<'a> Dwarf<'a> {
         self.source.tree().find(offset)
     }
 
-    /// The entry that a value refers to: the one that begins at its place, or the one of the type of the first type unit that
-    /// has its signature. None exactly where there is no such entry, and where the value is no reference.
+    /// The entry that a value refers to: the one that begins at its place, or the one of the type of the first type unit with its
+    /// signature. None exactly where there is no such entry, and where the value is no reference.
     pub fn target(&self, value: &Value) -> Option<usize>
         ensures found { result ≡ target_of self.now.tree value.now }
         ensures inside { IfSome result (λ e. e < length self.now.tree.entries) }
@@ -146,9 +147,9 @@ impl<'a> Dwarf<'a> {
         self.source.links().target(value)
     }
 
-    /// The value that an entry has of an attribute, itself or along the chain of entries that it stands for: by
+    /// The value of an attribute of an entry, its own or inherited along the chain of entries that it refers to by
     /// `DW_AT_abstract_origin`, else by `DW_AT_specification`. `DW_AT_low_pc`, `DW_AT_ranges`, `DW_AT_entry_pc`,
-    /// `DW_AT_location` and `DW_AT_declaration` speak of the entry itself, and are not looked for along the chain.
+    /// `DW_AT_location` and `DW_AT_declaration` apply to the entry itself, and are not inherited.
     #[inline(always)]
     pub fn attr(&self, e: usize, name: u64) -> Option<Value>
         requires { e < length self.now.tree.entries }
@@ -157,8 +158,8 @@ impl<'a> Dwarf<'a> {
         self.source.links().attr(e, name)
     }
 
-    /// The entry that the value of an attribute refers to: `target` of the value that `attr` gives, in less time than both. None
-    /// exactly where there is no such value, and where it refers to no entry.
+    /// The entry that the value of an attribute refers to: `target` of the value that `attr` gives, but faster than the two calls.
+    /// None exactly where there is no such value, and where it refers to no entry.
     pub fn attr_target(&self, e: usize, name: u64) -> Option<usize>
         requires { e < length self.now.tree.entries }
         ensures found { result ≡ option_map_or (target_of self.now.tree) (attribute_along self.now.tree e name) None }
@@ -175,7 +176,7 @@ impl<'a> Dwarf<'a> {
         is_true(self.attr(e, name))
     }
 
-    /// Whether an entry says of itself that it is a declaration. A value that is no flag counts as none.
+    /// Whether an entry itself has a flag that says that it is a declaration. A value that is no flag counts as none.
     pub fn is_declaration(&self, e: usize) -> bool
         requires { e < length self.now.tree.entries }
         ensures { result ≡ only_declares self.now.tree e }
@@ -183,7 +184,7 @@ impl<'a> Dwarf<'a> {
         is_declared_only(self.source.tree(), e)
     }
 
-    /// The bytes of a block or an expression, which are a part of the file. None exactly where the value is neither.
+    /// The bytes of a block or an expression, as a part of the file. None exactly where the value is neither.
     pub fn block(&self, value: &Value) -> Option<&'a [u8]>
         ensures { option_copied result ≡ block_of self.now.sections.info value.now }
     {
@@ -202,17 +203,17 @@ impl<'a> Dwarf<'a> {
         self.source.links().origin(e)
     }
 
-    /// The name of an entry, itself or along the chain, which is a part of the file without its 0 byte. None exactly where no
-    /// entry of the chain has a name, and where the first name is that of an entry whose tag is not read and is no text.
+    /// The name of an entry, its own or inherited along the chain, as bytes of the file without the 0 byte. None exactly where no
+    /// entry of the chain has a name, and where the first name is that of an entry with an unsupported tag and is no text.
     pub fn name_of(&self, e: usize) -> Option<&'a [u8]>
         requires { e < length self.now.tree.entries }
-        ensures { option_copied result ≡ the_name_of self.now e }
+        ensures { option_copied result ≡ spec.name_of self.now e }
     {
         name(&self.source, e)
     }
 
-    /// The address at which a function is entered, or of a variable, by what the entry itself says. None exactly where it says
-    /// none that can be read.
+    /// The address at which a function is entered, or of a variable, by the attributes of the entry itself. None exactly where they
+    /// give no address or have a fault.
     pub fn entry_address(&self, e: usize) -> Option<u64>
         requires { e < length self.now.tree.entries }
         ensures { result ≡ entry_address_of self.now e }
@@ -220,15 +221,15 @@ impl<'a> Dwarf<'a> {
         entry_address(&self.source, e)
     }
 
-    /// What `.debug_info` holds.
+    /// The bytes of `.debug_info`.
     pub fn info(&self) -> &'a [u8]
         ensures { result.now ≡ self.now.sections.info }
     {
         self.source.sections().info
     }
 
-    /// The first entry that stands for an address: a function or a variable of its unit itself, which is no declaration, in a
-    /// unit that is not written in assembler.
+    /// The first entry of an address: a function or a variable directly in its unit, which is no declaration, in a unit that is not
+    /// written in assembler.
     pub fn typed(&self, address: u64) -> Option<usize>
         ensures found { result ≡ typed_of self.now address }
         ensures inside { IfSome result (λ e. e < length self.now.tree.entries) }
@@ -236,7 +237,7 @@ impl<'a> Dwarf<'a> {
         place_of(&self.typed, address)
     }
 
-    /// The entry of the type of the first type unit that has a signature. None exactly where no unit has it.
+    /// The entry of the type of the first type unit with a signature. None exactly where no unit has it.
     pub fn by_signature(&self, signature: u64) -> Option<usize>
         ensures found { result ≡ signed_of self.now.tree signature }
         ensures inside { IfSome result (λ e. e < length self.now.tree.entries) }

@@ -1,5 +1,5 @@
-//! What the entries of debug information say: their names, the chains along which they take attributes from others, the
-//! addresses of functions and variables, and the entries that stand for addresses and signatures.
+//! What the entries of debug information say: their names, the chains along which they inherit attributes from others, the
+//! addresses of functions and variables, and the entries of addresses and signatures.
 #![tactic(auto)]
 
 mod addresses;

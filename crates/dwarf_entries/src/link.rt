@@ -1,11 +1,11 @@
-// Where an attribute links an entry to.
+// The links of entries.
 ghost use Rattle.std.specs.Prelude.{◌≡◌};
 ghost use Rattle.dwarf_entries.specs.Chains.{either_link, is_nowhere as leads_nowhere, linked};
 
-// Where an attribute links an entry to.
+// The link of an attribute of an entry.
 #[derive(Clone, Copy)]
 pub(crate) enum Link {
-    // There is no link: the entry lacks the attribute, or that refers to an entry whose tag is not read.
+    // There is no link: the entry lacks the attribute, or the attribute refers to an entry with an unsupported tag.
     Missing,
     // The link refers to no entry.
     Nowhere,
@@ -14,7 +14,7 @@ pub(crate) enum Link {
 }
 
 impl Link {
-    // The entry that the link leads to.
+    // The entry of the link.
     pub(crate) fn entry(self) -> Option<usize>
         ensures { result ≡ linked self }
     {
@@ -25,7 +25,7 @@ impl Link {
         }
     }
 
-    // The entry that this link leads to, or where it is missing the one that another leads to.
+    // The entry of this link, or where it is missing that of another link.
     pub(crate) fn entry_or(self, other: Link) -> Option<usize>
         ensures { result ≡ either_link self other }
     {
@@ -36,7 +36,7 @@ impl Link {
         }
     }
 
-    // Whether there is a link, and it leads to no entry.
+    // Whether there is a link, and it refers to no entry.
     pub(crate) fn is_nowhere(self) -> bool
         ensures { result ≡ leads_nowhere self }
     {

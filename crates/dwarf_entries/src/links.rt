@@ -4,7 +4,8 @@ ghost use Rattle.std.specs.Option.{option_map, option_map_or};
 ghost use Rattle.abi_base.specs.Limits.{chain_limit};
 ghost use Rattle.dwarf_tree.specs.Trees.{PlainTree, entry_at, head_at, own_of, entry_of};
 ghost use Rattle.dwarf_entries.specs.Places.{HoldUnits};
-ghost use Rattle.dwarf_entries.specs.Chains.{signed_of, target_of, link_to as the_link_to, link_by as the_link_by, link_of, linked, either_link, after_links, chain_within, holder_of, attribute_along, origin_of};
+ghost use Rattle.dwarf_entries.specs.Chains.{signed_of, target_of, link_of, linked, either_link, after_links, chain_within, holder_of, attribute_along, origin_of};
+ghost use Rattle.dwarf_entries.specs.Chains as spec;
 
 use crate::attributes::is_own_attribute;
 use crate::constants::CHAIN_LINKS;
@@ -54,7 +55,7 @@ impl<'a> Links<'a> {
         &self.tree
     }
 
-    // The first value that an entry itself has of an attribute.
+    // The first value of an attribute of an entry itself.
     pub(crate) fn own(&self, e: usize, name: u64) -> Option<Value>
         requires { e < length self.now.entries }
         ensures { result ≡ own_of self.now e name }
@@ -62,7 +63,7 @@ impl<'a> Links<'a> {
         self.tree.own(e, name)
     }
 
-    // The entry of the type that a signature stands for.
+    // The entry of the type of a signature.
     pub(crate) fn by_signature(&self, signature: u64) -> Option<usize>
         ensures found { result ≡ signed_of self.now signature }
         ensures inside { IfSome result (λ e. e < length self.now.entries) }
@@ -85,11 +86,11 @@ impl<'a> Links<'a> {
         }
     }
 
-    // Where an attribute that refers to an entry, or to none, links to.
+    // The link of an attribute that refers to an entry, or to none.
     #[inline(always)]
     fn link_to(&self, target: Option<usize>) -> Link
         requires { IfSome target (λ f. f < length self.now.entries) }
-        ensures found { result ≡ the_link_to self.now target }
+        ensures found { result ≡ spec.link_to self.now target }
         ensures inside { IfSome (linked result) (λ f. f < length self.now.entries) }
     {
         match target {
@@ -104,11 +105,11 @@ impl<'a> Links<'a> {
         }
     }
 
-    // Where an attribute links an entry to, which may have it.
+    // The link of an attribute of an entry that may have it.
     #[inline(never)]
     fn read_link(&self, e: usize, name: u64) -> Link
         requires { e < length self.now.entries }
-        ensures found { result ≡ the_link_by self.now e name }
+        ensures found { result ≡ spec.link_by self.now e name }
         ensures inside { IfSome (linked result) (λ f. f < length self.now.entries) }
     {
         if let Some(offset) = self.tree.short_reference(e, name) {
@@ -120,11 +121,11 @@ impl<'a> Links<'a> {
         }
     }
 
-    // Where an attribute links an entry to. This stands in its callers, since most entries lack the attribute.
+    // The link of an attribute of an entry. It is inlined into its callers, since most entries lack the attribute.
     #[inline(always)]
     pub(crate) fn link_by(&self, e: usize, name: u64) -> Link
         requires { e < length self.now.entries }
-        ensures found { result ≡ the_link_by self.now e name }
+        ensures found { result ≡ spec.link_by self.now e name }
         ensures inside { IfSome (linked result) (λ f. f < length self.now.entries) }
     {
         if self.tree.may_have(e, name) {
@@ -149,7 +150,7 @@ impl<'a> Links<'a> {
         }
     }
 
-    // Whether so many links lead on from an entry.
+    // Whether an entry has a next entry after a number of links.
     fn leads_on(&self, e: usize, links: usize) -> bool
         requires { e < length self.now.entries }
         ensures { result ≡ is_some (after_links self.now e links) }
@@ -164,7 +165,7 @@ impl<'a> Links<'a> {
         true
     }
 
-    // Whether the chain of an entry has more links than are followed, by where the entry's own two links lead.
+    // Whether the chain of an entry has more links than the limit, given the entry's own two links.
     pub(crate) fn is_too_deep(&self, origin: Link, specification: Link) -> bool
         requires origin { IfSome (linked origin) (λ f. f < length self.now.entries) }
         requires specification { IfSome (linked specification) (λ f. f < length self.now.entries) }
@@ -192,7 +193,7 @@ impl<'a> Links<'a> {
         at
     }
 
-    // The first of so many entries of the chain that has an attribute, and its value.
+    // The first of a number of entries of the chain that has an attribute, and its value.
     #[inline(never)]
     fn held_within(&self, e: usize, entries: usize, name: u64) -> Option<(usize, Value)>
         requires { e < length self.now.entries }
@@ -213,8 +214,8 @@ impl<'a> Links<'a> {
         None
     }
 
-    // The first entry of the chain that has an attribute, and its value, where the entry itself lacks the attribute. This stands
-    // in its callers, since most entries have no link.
+    // The first entry of the chain that has an attribute, and its value, where the entry itself lacks the attribute. It is inlined
+    // into its callers, since most entries have no link.
     #[inline(always)]
     fn held_behind(&self, e: usize, name: u64) -> Option<(usize, Value)>
         requires inside { e < length self.now.entries }
@@ -243,8 +244,7 @@ impl<'a> Links<'a> {
         }
     }
 
-    // The value that an entry has of an attribute: its own, where the attribute speaks of the entry itself, else along the
-    // chain.
+    // The value of an attribute of an entry: its own, where the attribute applies to the entry itself, else along the chain.
     #[inline(always)]
     #[tactic(auto, using(crate::proofs::ChainLemmas::along_here))]
     pub(crate) fn attr(&self, e: usize, name: u64) -> Option<Value>
@@ -263,7 +263,7 @@ impl<'a> Links<'a> {
         }
     }
 
-    // The entry that the value of an attribute refers to, which an entry has as `attr` gives it.
+    // The entry that the value of an attribute refers to, with the value that `attr` gives.
     #[tactic(auto, using(crate::proofs::ChainLemmas::along_here))]
     pub(crate) fn attr_target(&self, e: usize, name: u64) -> Option<usize>
         requires { e < length self.now.entries }

@@ -4,7 +4,7 @@ ghost use Rattle.std.specs.Option.{option_copied, option_or};
 ghost use Rattle.abi_base.specs.Outcome.{first};
 ghost use Rattle.abi_base.specs.declared.fault.FaultKind.TheVariants as kind;
 ghost use Rattle.dwarf_entries.specs.Pass.{of_kind as if_of_kind, name_fault as fault_of_name, entry_pc_address as address_of_entry_pc, ranges_fault as fault_of_ranges, address_faults, function_faults, refers_nowhere as leads_nowhere, is_signed as has_signature, lacks_unit as has_no_unit, has_bad_reference as refers_badly, entry_rows, entry_fault as fault_of_entry, own_fault as fault_of_entries};
-ghost use Rattle.dwarf_text.specs.Texts.{fault_of as the_fault_of};
+ghost use Rattle.dwarf_text.specs.Texts as spec;
 ghost use Rattle.dwarf_entries.specs.Chains.{link_by};
 ghost use Rattle.dwarf_tree.specs.Trees.{own_of};
 ghost use Rattle.dwarf_entries.specs.Rows.{are_addresses_asked, name_rows, reference_rows, rows_behind_name};
@@ -25,7 +25,7 @@ use abi_base::{Fault, FaultKind};
 use dwarf_forms::Value;
 use dwarf_tree::Tree;
 
-// The first faults of addresses, of each kind that they may have.
+// The first faults of addresses, one of each kind that they may have.
 #[derive(Clone, Copy)]
 struct AddressFaults {
     index: Option<Fault>,
@@ -34,7 +34,7 @@ struct AddressFaults {
 
 // The fault of what was read, where it has one.
 fn fault_of(read: Result<Option<u64>, Fault>) -> Option<Fault>
-    ensures { result ≡ the_fault_of read }
+    ensures { result ≡ spec.fault_of read }
 {
     match read {
         Ok(_) => None,
@@ -42,7 +42,7 @@ fn fault_of(read: Result<Option<u64>, Fault>) -> Option<Fault>
     }
 }
 
-// The fault, where it is of a kind.
+// The fault, if it is of a kind.
 fn of_kind(kind: FaultKind, fault: Option<Fault>) -> Option<Fault>
     ensures { result ≡ if_of_kind kind fault }
 {
@@ -58,8 +58,8 @@ fn of_kind(kind: FaultKind, fault: Option<Fault>) -> Option<Fault>
     }
 }
 
-// Whether an entry's own name is a text of `.debug_str`, as most are. True says that the name has no fault, and false says nothing:
-// this call only saves time, since `name_fault` gives the answer.
+// Whether an entry's own name is a text of `.debug_str`, as for most entries. True says that the name has no fault, and false says
+// nothing: this call only saves time, since `name_fault` gives the answer.
 #[inline(always)]
 #[tactic(auto, using(crate::proofs::TextLemmas::short_sound))]
 fn has_short_name(source: &Source, e: usize) -> bool
@@ -83,7 +83,7 @@ fn name_fault(source: &Source, e: usize) -> Option<Fault>
     }
 }
 
-// The same, where it is of a text or of an index: the first of the rows of an entry's name.
+// The same, if it is of a text or of an index: the first of the rows of an entry's name.
 fn name_row(source: &Source, e: usize) -> Option<Fault>
     requires { e < length source.now.tree.entries }
     ensures { result ≡ first (name_rows source.now e) }
@@ -109,7 +109,7 @@ fn entry_pc_address(value: Option<Value>) -> Option<Value>
     }
 }
 
-// The ranges are asked only where there is no `DW_AT_low_pc`.
+// The ranges count only where there is no `DW_AT_low_pc`.
 fn ranges_fault(source: &Source, e: usize) -> Option<Fault>
     requires { e < length source.now.tree.entries }
     ensures { result ≡ fault_of_ranges source.now e }
@@ -127,7 +127,7 @@ const NO_FAULTS: AddressFaults = AddressFaults {
 };
 
 impl AddressFaults {
-    // These, and then one more.
+    // These faults, and then one more.
     fn with(self, fault: Option<Fault>) -> AddressFaults
         ensures index { result.index ≡ option_or self.index (if_of_kind kind.Index fault) }
         ensures ranges { result.ranges ≡ option_or self.ranges (if_of_kind kind.Ranges fault) }
@@ -139,7 +139,7 @@ impl AddressFaults {
     }
 }
 
-// The faults of all from which the address of a function is made.
+// The faults of all attributes that give the address of a function.
 #[tactic(auto, using(crate::proofs::PassLemmas::first_three))]
 fn faults_of_function(source: &Source, e: usize) -> AddressFaults
     requires { e < length source.now.tree.entries }
@@ -153,7 +153,7 @@ fn faults_of_function(source: &Source, e: usize) -> AddressFaults
     NO_FAULTS.with(low).with(ranges).with(entry)
 }
 
-// Whether addresses are asked of an entry. Of most entries none are.
+// Whether an entry has addresses to check. Most entries have none.
 fn has_addresses(tree: &Tree<'_>, e: usize) -> bool
     requires { e < length tree.now.entries }
     ensures { result ≡ are_addresses_asked tree.now e }
@@ -161,7 +161,7 @@ fn has_addresses(tree: &Tree<'_>, e: usize) -> bool
     tree.depth(e) == ROOT || is_defined(tree, e)
 }
 
-// The faults of the addresses that are asked of an entry.
+// The faults of the addresses of an entry.
 #[tactic(auto, unfolding(crate::specs::Pass::address_faults))]
 fn faults_of_addresses(source: &Source, e: usize) -> AddressFaults
     requires inside { e < length source.now.tree.entries }
@@ -179,7 +179,7 @@ fn faults_of_addresses(source: &Source, e: usize) -> AddressFaults
     NO_FAULTS.with(fault_of(variable_address(source, e)))
 }
 
-// Whether an entry itself has an attribute, and it refers to no entry.
+// Whether an entry itself has an attribute that refers to no entry.
 #[inline(always)]
 fn refers_nowhere(links: &Links<'_>, e: usize, name: u64) -> bool
     requires { e < length links.now.entries }
@@ -194,14 +194,14 @@ fn refers_nowhere(links: &Links<'_>, e: usize, name: u64) -> bool
     }
 }
 
-// Whether entries of a tag may stand in a type unit, by its signature.
+// Whether entries of a tag may be defined in a type unit, by its signature.
 fn is_signed(tag: u64) -> bool
     ensures { result ≡ has_signature tag }
 {
     tag == DW_TAG_structure_type || tag == DW_TAG_union_type || tag == DW_TAG_enumeration_type
 }
 
-// Whether a value is a signature that no type unit has.
+// Whether a value is a signature without a type unit.
 fn lacks_unit(links: &Links<'_>, value: Option<Value>) -> bool
     ensures { result ≡ has_no_unit links.now value }
 {
@@ -211,7 +211,7 @@ fn lacks_unit(links: &Links<'_>, value: Option<Value>) -> bool
     }
 }
 
-// Whether an attribute of an entry refers to no entry, by where the entry's own two links lead.
+// Whether an attribute of an entry refers to no entry, given the entry's own two links.
 #[tactic(auto, unfolding(crate::specs::Pass::has_bad_reference), using(crate::proofs::PassLemmas::nowhere_by_link))]
 fn has_bad_reference(links: &Links<'_>, e: usize, origin: Link, specification: Link) -> bool
     requires inside { e < length links.now.entries }
@@ -234,7 +234,7 @@ fn has_bad_reference(links: &Links<'_>, e: usize, origin: Link, specification: L
     lacks_unit(links, links.own(e, DW_AT_signature))
 }
 
-// Whether an entry's own type is there, by a short reference, or it has none. False says nothing: this call only saves time, since
+// Whether an entry's own type exists, by a short reference, or it has none. False says nothing: this call only saves time, since
 // `refers_nowhere` gives the answer.
 #[inline(always)]
 fn has_plain_type(links: &Links<'_>, e: usize) -> bool
@@ -251,8 +251,8 @@ fn has_plain_type(links: &Links<'_>, e: usize) -> bool
     }
 }
 
-// Whether an entry has no link and no signature, and its type is there, as of most: then nothing that it refers to has a fault.
-// False says nothing: this call only saves time, since `linked_row` gives the answer.
+// Whether an entry has no link and no signature, and its type exists, as for most entries: then none of its references has a
+// fault. False says nothing: this call only saves time, since `linked_row` gives the answer.
 #[inline(always)]
 #[tactic(auto, using(crate::proofs::PassLemmas::plain_rows))]
 fn refers_plainly(links: &Links<'_>, e: usize) -> bool
@@ -272,7 +272,7 @@ fn refers_plainly(links: &Links<'_>, e: usize) -> bool
     has_plain_type(links, e)
 }
 
-// The first of the rows of what an entry refers to, link by link.
+// The first of the rows of an entry's references, link by link.
 #[inline(never)]
 #[tactic(auto, using(crate::proofs::PassLemmas::deep_by_links))]
 fn linked_row(links: &Links<'_>, e: usize) -> Option<Fault>
@@ -296,7 +296,7 @@ fn linked_row(links: &Links<'_>, e: usize) -> Option<Fault>
     None
 }
 
-// The first of the rows of what an entry refers to.
+// The first of the rows of an entry's references.
 #[inline(always)]
 fn reference_row(links: &Links<'_>, e: usize) -> Option<Fault>
     requires { e < length links.now.entries }
@@ -308,7 +308,7 @@ fn reference_row(links: &Links<'_>, e: usize) -> Option<Fault>
     linked_row(links, e)
 }
 
-// The first of the rows behind that of the name, where addresses are asked.
+// The first of the rows after that of the name, of an entry with addresses.
 fn row_with_addresses(source: &Source, e: usize) -> Option<Fault>
     requires inside { e < length source.now.tree.entries }
     requires asked { are_addresses_asked source.now.tree e ≡ true }
@@ -324,7 +324,7 @@ fn row_with_addresses(source: &Source, e: usize) -> Option<Fault>
     addresses.ranges
 }
 
-// The first of the rows behind that of the name.
+// The first of the rows after that of the name.
 #[tactic(auto, using(crate::proofs::PassLemmas::without_addresses))]
 fn row_behind_name(source: &Source, e: usize) -> Option<Fault>
     requires { e < length source.now.tree.entries }
@@ -337,7 +337,7 @@ fn row_behind_name(source: &Source, e: usize) -> Option<Fault>
     }
 }
 
-// The first of the rows of an entry whose tag is read.
+// The first of the rows of an entry with a supported tag.
 #[tactic(auto, using(crate::proofs::PassLemmas::name_sound))]
 fn first_row(source: &Source, e: usize) -> Option<Fault>
     requires { e < length source.now.tree.entries }

@@ -7,7 +7,7 @@ ghost use Rattle.dwarf_entries.specs.Places.{place_under};
 use abi_base::NoMemory;
 use std::collections::HashMap;
 
-// Puts a place under a number that has none yet, where there is a number. Mostly there is none.
+// Puts a place under a number that has none yet, where there is a number. Mostly there is no number.
 #[inline(always)]
 pub(crate) fn keep_first(
     places: &mut HashMap<u64, usize>,

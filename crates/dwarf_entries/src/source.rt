@@ -1,8 +1,8 @@
-// The sections of debug information and the tree of their entries, with what is kept of each unit.
+// The sections of debug information and the tree of their entries, with the context of each unit.
 ghost use Rattle.std.specs.Prelude.{◌≡◌, ◌<◌, length, is_some, IfOk};
 ghost use Rattle.std.specs.Option.{option_copied};
 ghost use Rattle.std.specs.Result.{result_map_both};
-ghost use Rattle.abi_base.specs.Numbers.{text_at as the_text_at};
+ghost use Rattle.abi_base.specs.Numbers as spec;
 ghost use Rattle.dwarf_text.specs.Texts.{fault_of};
 ghost use Rattle.dwarf_tree.specs.Trees.{entry_at, head_at, own_of};
 ghost use Rattle.dwarf_entries.specs.Debug.{PlainDwarf, plain_sections, text_at_entry, address_at_entry};
@@ -124,7 +124,7 @@ impl<'a> Source<'a> {
         tree.head(tree.unit(e)).version
     }
 
-    // The text that a value of an entry stands for.
+    // The text of a value of an entry.
     #[tactic(auto, unfolding(crate::specs::Debug::text_at_entry, crate::specs::UnitContext::told_of))]
     pub(crate) fn text(&self, e: usize, value: &Value) -> Result<&'a [u8], Fault>
         requires { e < length self.now.tree.entries }
@@ -141,20 +141,20 @@ impl<'a> Source<'a> {
 
     // The text at a place of `.debug_str`.
     pub(crate) fn str_text(&self, place: u64) -> Option<&'a [u8]>
-        ensures { option_copied result ≡ the_text_at self.now.sections.str place }
+        ensures { option_copied result ≡ spec.text_at self.now.sections.str place }
     {
         text_at(self.sections.str, place)
     }
 
-    // Whether a text begins at a place of `.debug_str`, by where those texts end. It takes no look at the text.
+    // Whether a text begins at a place of `.debug_str`, by the end of its texts. It reads no byte of the text.
     #[inline(always)]
     pub(crate) fn has_str_text(&self, place: u64) -> bool
-        ensures { result ≡ is_some (the_text_at self.now.sections.str place) }
+        ensures { result ≡ is_some (spec.text_at self.now.sections.str place) }
     {
         place < self.str_end as u64
     }
 
-    // The fault of the text that a value of an entry stands for. It takes no look at a text of `.debug_str`.
+    // The fault of the text of a value of an entry. It reads no text of `.debug_str`.
     #[inline(never)]
     #[tactic(auto, unfolding(crate::specs::Debug::text_at_entry, crate::specs::UnitContext::told_of))]
     pub(crate) fn text_fault(&self, e: usize, value: &Value) -> Option<Fault>
@@ -171,7 +171,7 @@ impl<'a> Source<'a> {
         )
     }
 
-    // The address that a value of an entry stands for.
+    // The address of a value of an entry.
     #[tactic(auto, unfolding(crate::specs::Debug::address_at_entry, crate::specs::UnitContext::told_of))]
     pub(crate) fn address(&self, e: usize, value: &Value) -> Result<u64, Fault>
         requires { e < length self.now.tree.entries }

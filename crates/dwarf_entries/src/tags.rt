@@ -1,6 +1,6 @@
-// The tags of the entries that are read.
+// The tags of the entries that this crate supports.
 ghost use Rattle.std.specs.Prelude.{◌≡◌};
-ghost use Rattle.dwarf_entries.specs.Chains.{is_read_tag as the_tag_is_read};
+ghost use Rattle.dwarf_entries.specs.Chains as spec;
 
 use abi_base::dwarf::{
     DW_TAG_array_type, DW_TAG_atomic_type, DW_TAG_base_type, DW_TAG_compile_unit,
@@ -11,11 +11,11 @@ use abi_base::dwarf::{
     DW_TAG_variable, DW_TAG_volatile_type,
 };
 
-// Whether entries of a tag are read.
+// Whether this crate supports entries of a tag.
 #[inline(always)]
 #[tactic(auto, unfolding(crate::specs::Chains::is_read_tag))]
 pub(crate) fn is_read_tag(tag: u64) -> bool
-    ensures { result ≡ the_tag_is_read tag }
+    ensures { result ≡ spec.is_read_tag tag }
 {
     matches!(
         tag,

@@ -1,4 +1,4 @@
-// The entries that stand for addresses.
+// The entries of addresses.
 ghost use Rattle.std.specs.Prelude.{◌≡◌, ◌<◌, ℕ, length, IfOk};
 ghost use Rattle.dwarf_tree.specs.Trees.{entry_at};
 ghost use Rattle.dwarf_entries.specs.Debug.{is_assembler};
@@ -21,7 +21,7 @@ fn is_of_assembler(source: &Source, e: usize) -> bool
     source.told(e).is_assembler
 }
 
-// The address that an entry stands for.
+// The address of an entry.
 #[tactic(auto, unfolding(crate::specs::Addresses::is_typed_at))]
 fn typed_address(source: &Source, e: usize) -> Option<u64>
     requires { e < length source.now.tree.entries }
@@ -36,7 +36,7 @@ fn typed_address(source: &Source, e: usize) -> Option<u64>
     entry_address(source, e)
 }
 
-// The first entry that stands for each address.
+// The first entry of each address.
 pub(crate) fn entries_by_address(
     alloc: Global,
     source: &Source,

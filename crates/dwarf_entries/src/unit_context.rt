@@ -1,7 +1,8 @@
 // What the root of a unit says of the unit.
 ghost use Rattle.std.specs.Prelude.{◌≡◌, ◌<◌, length};
 ghost use Rattle.std.specs.Option.{option_copied};
-ghost use Rattle.dwarf_entries.specs.Debug.{plain_sections, root_own as the_root_own, section_offset as the_section_offset, base_of, address_or_zero as the_address_or_zero, low_of, is_number as the_number_is, is_assembler as the_unit_is_assembler, bases_of};
+ghost use Rattle.dwarf_entries.specs.Debug.{plain_sections, base_of, low_of, bases_of};
+ghost use Rattle.dwarf_entries.specs.Debug as spec;
 ghost use Rattle.dwarf_entries.specs.UnitContext.{debug, told_of};
 ghost use Rattle.dwarf_text.specs.Texts.{address_of};
 
@@ -13,7 +14,7 @@ use dwarf_forms::{Sections, Value};
 use dwarf_text::{Bases, address};
 use dwarf_tree::Tree;
 
-// What the root of a unit says that is asked of the unit's entries.
+// What the root of a unit says that the readers of the unit's entries use.
 #[derive(Clone, Copy)]
 pub(crate) struct UnitContext {
     pub bases: Bases,
@@ -24,14 +25,14 @@ pub(crate) struct UnitContext {
 // The first value that the root of a unit has of an attribute.
 fn root_own(tree: &Tree<'_>, unit: usize, name: u64) -> Option<Value>
     requires { unit < length tree.now.units }
-    ensures { result ≡ the_root_own tree.now unit name }
+    ensures { result ≡ spec.root_own tree.now unit name }
 {
     tree.own(tree.root(unit), name)
 }
 
-// The place in another section that a value is.
+// The place in another section that a value gives.
 fn section_offset(value: Option<Value>) -> Option<u64>
-    ensures { result ≡ the_section_offset value }
+    ensures { result ≡ spec.section_offset value }
 {
     match value {
         Some(Value::SectionOffset(place)) => Some(place),
@@ -39,7 +40,7 @@ fn section_offset(value: Option<Value>) -> Option<u64>
     }
 }
 
-// Where the part of another section begins that belongs to a unit.
+// Where a unit's part of another section begins.
 fn base(tree: &Tree<'_>, unit: usize, name: u64) -> Option<u64>
     requires { unit < length tree.now.units }
     ensures { result ≡ base_of tree.now unit name }
@@ -47,9 +48,9 @@ fn base(tree: &Tree<'_>, unit: usize, name: u64) -> Option<u64>
     section_offset(root_own(tree, unit, name))
 }
 
-// The address that a value of a root stands for, or 0.
+// The address of a value of a root, or 0.
 fn address_or_zero(value: &Value, addr_base: Option<u64>, sections: &Sections) -> u64
-    ensures { result ≡ the_address_or_zero (address_of sections.now.addr.now addr_base 0 value.now) }
+    ensures { result ≡ spec.address_or_zero (address_of sections.now.addr.now addr_base 0 value.now) }
 {
     let bases = Bases {
         str_offsets: None,
@@ -90,7 +91,7 @@ fn bases(sections: &Sections, tree: &Tree<'_>, unit: usize) -> Bases
 
 // Whether a value is a number.
 fn is_number(number: u64, value: Option<Value>) -> bool
-    ensures { result ≡ the_number_is number value }
+    ensures { result ≡ spec.is_number number value }
 {
     match value {
         Some(Value::Unsigned(there)) => there == number,
@@ -103,7 +104,7 @@ fn is_number(number: u64, value: Option<Value>) -> bool
 #[tactic(auto, unfolding(crate::specs::Debug::is_assembler))]
 fn is_assembler(tree: &Tree<'_>, unit: usize) -> bool
     requires { unit < length tree.now.units }
-    ensures { result ≡ the_unit_is_assembler tree.now unit }
+    ensures { result ≡ spec.is_assembler tree.now unit }
 {
     is_number(DW_LANG_Mips_Assembler, root_own(tree, unit, DW_AT_language))
 }

@@ -10,7 +10,7 @@ use Rattle.dwarf_files.specs.declared.formats.Pair.{Pair}
 use Rattle.dwarf_files.specs.Steps.{◌>>=◌}
 use Rattle.dwarf_files.specs.Tables.{value_of, values_of, first_of, entry_by, entry_of, with_value}
 
--- an entry and values behind it
+-- an entry and later values
 abbrev pub with_values : Entry → List (ℕ × Value) → Entry
 with_values e values = record { path = option_or e.path (first_of 1 values); directory = option_or e.directory (first_of 2 values) }
 

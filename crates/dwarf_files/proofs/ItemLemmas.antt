@@ -1,11 +1,11 @@
--- Items that stand one after another, in a loop that goes over them.
+-- Items one after another, in a loop that goes over them.
 use Rattle.std.proofs.Common.{◌≡◌, ℕ, zero, suc, ◌-◌, ◌<◌, ◌≤◌, List, [], ◌∷◌, ◌++◌, Option, Some, None, refl, sym, ap, ◌∙◌, append_assoc, arith}
 use Rattle.std.proofs.lemmas.List.{append-nil}
 use Rattle.dwarf_files.specs.declared.formats.Pair.{Pair}
 use Rattle.dwarf_files.specs.Steps.{◌>>=◌}
 use Rattle.dwarf_files.specs.Tables.{items, pair_of}
 
--- what was read before, and what is still read
+-- what was read, and what remains
 abbrev pub before : {A : Type 0} → List A → Option (List A × ℕ) → Option (List A × ℕ)
 before front None = None
 before front (Some r) = Some (front ++ r.0, r.1)

@@ -14,7 +14,7 @@ use Rattle.dwarf_files.specs.Heads.{unit_end_of, length_place_of, lengths_of, he
 use Rattle.dwarf_files.specs.Names.{PlainHeader, directory_of, file_of, text_of, number_of_directory, directory_text_of, joined, whole_directory_of, name_by, name_of, header_by, file_name_of}
 use Rattle.dwarf_files.specs.Standing.{Stands, IsDirectory, IsMadeOfTexts, IsMadeOfTextsAt}
 
--- ---- where the parts of a name stand
+-- ---- the places of the parts of a name
 
 text_stands : (h : PlainHeader) (path : Option Value) (text : List ℕ) → text_of h path ≡ Some text → Stands h text
 text_stands h (Some (value.Inline place)) text e = (place, inl e)
@@ -140,7 +140,7 @@ no_first_file line str line_str at is =
     option_cases (head_of line at) (λ no. rw no refl)
     (λ head so. rw so (no_file_0 (header_by line str line_str head) (version_is line at 4 head is so)))
 
--- ---- the bytes behind a header
+-- ---- the bytes after a header
 
 pub same_header : (line other str line_str : List ℕ) (at n : ℕ) (head : Head) → head_of line at ≡ Some head → head_of other at ≡ Some head → take head.end line ≡ take head.end other
     → file_name_of line str line_str at n ≡ file_name_of other str line_str at n

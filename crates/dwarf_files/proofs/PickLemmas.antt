@@ -1,4 +1,4 @@
--- One entry of a table, in a loop that passes over the table.
+-- One entry of a table, in a loop over the table.
 use Rattle.std.proofs.Common.{◌≡◌, ℕ, zero, suc, ◌+◌, ◌-◌, ◌<◌, ◌≤◌, Bool, true, false, List, [], ◌∷◌, length, take, drop, Option, Some, None, Ok, Err, refl, sym, ap, ◌∙◌, arith}
 use Rattle.std.specs.Prelude.{◌==◌, slice_get, position}
 use Rattle.std.specs.Option.{option_map, option_or}
@@ -72,7 +72,7 @@ items_done bytes format left at pick whole none so_far =
 
 -- ---- items of a list
 
--- what is left of a header from a place on
+-- how many bytes of a header remain from a place on
 abbrev pub left_of : List ℕ → ℕ → ℕ
 left_of bytes at = length bytes - at
 

@@ -1,4 +1,4 @@
--- The entries of a table stand one after another.
+-- The entries of a table follow one another.
 use Rattle.std.proofs.Common.{◌≡◌, ℕ, zero, suc, ◌-◌, Bool, List, [], ◌∷◌, length, Option, Some, None, refl, ap, arith}
 use Rattle.std.proofs.lemmas.Option.{same_Some}
 use Rattle.abi_base.proofs.lemmas.Cases.{option_cases}

@@ -1,24 +1,24 @@
--- The front of the header of a line program (DWARF 5, section 6.2.4 "The Line Number Program Header"; DWARF 4, the same
+-- The first fields of the header of a line program (DWARF 5, section 6.2.4 "The Line Number Program Header"; DWARF 4, the same
 -- section), in 32-bit DWARF.
 use Rattle.std.specs.Prelude.{ℕ, ◌+◌, ◌==◌, ◌&&◌, nat_lt, nat_le, if◌then◌else◌, List, length, Option, Some, None, slice_get}
 use Rattle.abi_base.specs.Numbers.{number_at}
 use Rattle.dwarf_files.specs.declared.heads.Head.{Head}
 use Rattle.dwarf_files.specs.Steps.{◌>>=◌}
 
--- Where the unit ends: `unit_length` is four bytes, below 0xfffffff0, and counts the bytes behind it, which lie inside.
+-- Where the unit ends: `unit_length` is four bytes, below 0xfffffff0, and counts the bytes after it, which are inside the section.
 abbrev pub unit_end_of : List ℕ → ℕ → Option ℕ
 unit_end_of line at = do
   size ← number_at 4 line at
   if nat_lt size 0xffff_fff0 && nat_le (at + 4 + size) (length line) then Some (at + 4 + size) else None
 
--- Where `header_length` stands: behind `unit_length` and `version`, and in version 5 also behind `address_size` and
--- `segment_selector_size`, a byte each. Other versions are not read.
+-- The place of `header_length`: after `unit_length` and `version`, and in version 5 also after `address_size` and
+-- `segment_selector_size`, a byte each. Other versions are not supported.
 abbrev pub length_place_of : ℕ → ℕ → Option ℕ
 length_place_of version at = if version == 4 then Some (at + 6) else (if version == 5 then Some (at + 8) else None)
 
--- Where the tables begin and where the header ends, by the place of `header_length`. The header ends so many bytes behind
--- those four. `opcode_base` is the sixth byte of it, and behind that `standard_opcode_lengths` has a byte less than
--- `opcode_base`. All of these lie in the header, and the header lies in the unit.
+-- Where the tables begin and where the header ends, by the place of `header_length`. The header ends that many bytes after the four
+-- bytes of `header_length`. `opcode_base` is the sixth byte after them, and `standard_opcode_lengths` follows it with
+-- `opcode_base` - 1 bytes. All of these are in the header, and the header is in the unit.
 abbrev pub lengths_of : List ℕ → ℕ → ℕ → Option (ℕ × ℕ)
 lengths_of line place unit_end = do
   size ← number_at 4 line place
@@ -27,7 +27,7 @@ lengths_of line place unit_end = do
       then Some (place + 9 + opcode_base, place + 4 + size)
       else None
 
--- what the front of the header at a place of `.debug_line` says
+-- the first fields of the header at a place of `.debug_line`
 unfoldable pub head_of : List ℕ → ℕ → Option Head
 head_of line at = do
   unit_end ← unit_end_of line at

@@ -22,7 +22,7 @@ pub record PlainHeader : Type 0 where
 abbrev pub entries_of : PlainHeader → Bool → ℕ → Option (List Entry × ℕ)
 entries_of h files at = if h.version == 5 then table_of h.bytes at else list_of files h.bytes at
 
--- The directories stand first, and the files behind them.
+-- The directories come first, and the files after them.
 abbrev pub directories_of : PlainHeader → Option (List Entry × ℕ)
 directories_of h = entries_of h false h.tables
 
@@ -47,21 +47,21 @@ file_of h n = do
   files ← files_of h
   slice_get files.0 place
 
--- A name stands in the header itself, or at an offset into `.debug_str` or `.debug_line_str`.
+-- A name is in the header itself, or at an offset into `.debug_str` or `.debug_line_str`.
 abbrev pub text_of : PlainHeader → Option Value → Option (List ℕ)
 text_of h (Some (value.Inline place)) = text_at h.bytes place
 text_of h (Some (value.StrOffset place)) = text_at h.str place
 text_of h (Some (value.LineOffset place)) = text_at h.line_str place
 text_of h other = None
 
--- the number of the directory of a file, which is 0 where its entry says none
+-- the number of the directory of a file, which is 0 where its entry has none
 abbrev pub number_of_directory : Option Value → Option ℕ
 number_of_directory None = Some 0
 number_of_directory (Some (value.Unsigned n)) = Some n
 number_of_directory other = None
 
--- The name of a directory by its number. Directory 0 is the one in which the unit was compiled; in version 4 the header does
--- not say its name, and it is empty here.
+-- The name of a directory by its number. Directory 0 is the one in which the unit was compiled; in version 4 the header does not
+-- have its name, and it is empty here.
 unfoldable pub directory_text_of : PlainHeader → ℕ → Option (List ℕ)
 directory_text_of h n =
     if h.version == 4 && n == 0
@@ -79,12 +79,12 @@ abbrev pub is_nothing : List ℕ → Bool
 is_nothing [] = true
 is_nothing (b ∷ others) = false
 
--- A name in a directory: the two with a slash between them. An absolute name stays as it is, and so does each name in the
--- directory of no name.
+-- A name in a directory: the two with a slash between them. An absolute name stays as it is, and so does each name in a directory
+-- with an empty name.
 unfoldable pub joined : List ℕ → List ℕ → List ℕ
 joined directory name = if is_absolute name || is_nothing directory then name else directory ++ 47 ∷ name
 
--- where a directory lies, in directory 0
+-- the name of a directory, relative to directory 0
 unfoldable pub whole_directory_of : PlainHeader → ℕ → Option (List ℕ)
 whole_directory_of h n = do
   first ← directory_text_of h 0
@@ -109,7 +109,7 @@ name_of h n = do
 abbrev pub header_by : (line str line_str : List ℕ) → Head → PlainHeader
 header_by line str line_str head = record { bytes = take head.end line; str = str; line_str = line_str; version = head.version; tables = head.tables }
 
--- the same of the header at a place of `.debug_line`
+-- the same for the header at a place of `.debug_line`
 unfoldable pub file_name_of : (line str line_str : List ℕ) → ℕ → ℕ → Option (List ℕ)
 file_name_of line str line_str at n = do
   head ← head_of line at

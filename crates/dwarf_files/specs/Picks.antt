@@ -1,4 +1,4 @@
--- One entry of a table that is passed over.
+-- One entry of a table that the reader goes through.
 use Rattle.std.specs.Prelude.{ℕ, ◌-◌, ◌==◌, if◌then◌else◌, List, Option, Some, None, is_some, slice_get}
 use Rattle.std.specs.Option.{option_map}
 use Rattle.dwarf_files.specs.declared.entries.Entry.{Entry}
@@ -8,10 +8,10 @@ use Rattle.dwarf_files.specs.declared.picks.Pick.{Pick}
 abbrev pub picked : ℕ → Option (List Entry × ℕ) → Option (Option Entry × ℕ)
 picked n table = option_map (λ r. (slice_get r.0 n, r.1)) table
 
--- what is left to look for behind one more entry, where nothing was found yet
+-- the search after one more entry, where nothing was found yet
 abbrev pub met : ℕ → Entry → Pick
 met ahead x = if ahead == 0 then record { found = Some x; ahead = 0 } else record { found = None; ahead = ahead - 1 }
 
--- what is left to look for behind one more entry
+-- the search after one more entry
 abbrev pub passed : Pick → Entry → Pick
 passed pick x = if is_some pick.found then pick else met pick.ahead x

@@ -1,27 +1,27 @@
--- Where the entries of tables and the parts of names stand.
+-- The places of the entries of tables and of the parts of names.
 use Rattle.std.specs.Prelude.{◌≡◌, ◌⊎◌, ℕ, List, [], ◌∷◌, Option, Some}
 use Rattle.abi_base.specs.Numbers.{text_at}
 use Rattle.dwarf_files.specs.declared.heads.Head.{Head}
 use Rattle.dwarf_files.specs.Heads.{head_of}
 use Rattle.dwarf_files.specs.Names.{PlainHeader, header_by, joined}
 
--- These items stand from a place on, each where the one before it ends, and the last of them ends at another place.
+-- These items are there from a place on, each where the one before it ends, and the last of them ends at another place.
 abbrev pub StandsFrom : {A : Type 0} → (ℕ → Option (A × ℕ)) → ℕ → List A → ℕ → Type 0
 StandsFrom read at [] end = at ≡ end
 StandsFrom read at (x ∷ xs) end = (next : ℕ) × (read at ≡ Some (x, next)) × StandsFrom read next xs end
 
--- a text stands in the header, in `.debug_str` or in `.debug_line_str`
+-- a text is in the header, in `.debug_str` or in `.debug_line_str`
 abbrev pub Stands : PlainHeader → List ℕ → Type 0
 Stands h text = (place : ℕ) × ((text_at h.bytes place ≡ Some text) ⊎ ((text_at h.str place ≡ Some text) ⊎ (text_at h.line_str place ≡ Some text)))
 
--- directory 0, whose name is empty where the header does not say it, or another directory in it
+-- directory 0, whose name is empty where the header does not have it, or another directory in it
 abbrev pub IsDirectory : PlainHeader → List ℕ → Type 0
 IsDirectory h directory =
     (first : List ℕ)
     × ((first ≡ []) ⊎ Stands h first)
     × ((directory ≡ first) ⊎ ((below : List ℕ) × Stands h below × (directory ≡ joined first below)))
 
--- A name is a text that stands there, in a directory made of such texts.
+-- A name is such a text, in a directory that consists of such texts.
 pub record IsMadeOfTexts (h : PlainHeader) (name : List ℕ) : Type 0 where
   pub own : List ℕ
   pub directory : List ℕ
@@ -29,6 +29,6 @@ pub record IsMadeOfTexts (h : PlainHeader) (name : List ℕ) : Type 0 where
   pub is_directory : IsDirectory h directory
   pub is : name ≡ joined directory own
 
--- the same of the header at a place of `.debug_line`
+-- the same for the header at a place of `.debug_line`
 abbrev pub IsMadeOfTextsAt : (line str line_str : List ℕ) → ℕ → List ℕ → Type 0
 IsMadeOfTextsAt line str line_str at name = (head : Head) × (head_of line at ≡ Some head) × IsMadeOfTexts (header_by line str line_str head) name

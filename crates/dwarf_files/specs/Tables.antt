@@ -9,7 +9,7 @@ use Rattle.dwarf_files.specs.declared.entries.Entry.{Entry}
 use Rattle.dwarf_files.specs.declared.formats.Pair.{Pair}
 use Rattle.dwarf_files.specs.Steps.{◌>>=◌, if_read}
 
--- so many items that stand one after another, and the place after them
+-- a number of items one after another, and the place after them
 unfoldable pub items : {A : Type 0} → (ℕ → Option (A × ℕ)) → ℕ → ℕ → Option (List A × ℕ)
 items read zero at = Some ([], at)
 items read (suc n) at = do
@@ -19,7 +19,7 @@ items read (suc n) at = do
 
 -- ---- version 5: entries of a format that the header gives (DWARF 5, section 6.2.4)
 
--- what a value says, and its form: two numbers of variable length
+-- the content type of a value, and its form: two numbers of variable length
 abbrev pub pair_of : List ℕ → ℕ → Option (Pair × ℕ)
 pair_of bytes at = do
   content ← uleb_at bytes at
@@ -41,7 +41,7 @@ if_longer at (Some r) = if nat_lt at r.1 then Some r else None
 abbrev pub value_of : List ℕ → ℕ → ℕ → Option (Value × ℕ)
 value_of bytes form at = if_longer at (if_read (value_at form (pos 0) 0 (length bytes) 0 bytes at))
 
--- the values of an entry, in the order of its format, each with what it says, and the place after them
+-- the values of an entry, in the order of its format, each with its content type, and the place after them
 unfoldable pub values_of : List ℕ → List Pair → ℕ → Option (List (ℕ × Value) × ℕ)
 values_of bytes [] at = Some ([], at)
 values_of bytes (p ∷ format) at = do
@@ -49,7 +49,7 @@ values_of bytes (p ∷ format) at = do
   others ← values_of bytes format first.1
   Some ((p.content, first.0) ∷ others.0, others.1)
 
--- the first value that says this
+-- the first value of a content type
 abbrev pub first_of : ℕ → List (ℕ × Value) → Option Value
 first_of content values = option_map (λ v. v.1) (find (λ v. v.0 == content) values)
 

@@ -5,18 +5,19 @@ ghost use Rattle.dwarf_files.specs.Tables.{value_of, with_value, entry_of};
 
 use crate::formats::Pair;
 use abi_base::{text_at, uleb};
-use dwarf_forms::{Value, value};
+use dwarf_forms::abbreviations::Spec;
+use dwarf_forms::{UnitSpan, Value, value};
 
-// What an entry says of a directory or a file that is read here.
+// The parts of an entry for a directory or a file that this crate reads.
 #[derive(Clone, Copy)]
 pub(crate) struct Entry {
-    // where its name stands
+    // where its name is
     pub(crate) path: Option<Value>,
     // the number of the directory
     pub(crate) directory: Option<Value>,
 }
 
-// What values of entries say (DWARF 5, section 7.22 "Line Number Information").
+// The content types of values in entries (DWARF 5, section 7.22 "Line Number Information").
 
 const DW_LNCT_path: u64 = 1;
 
@@ -27,7 +28,16 @@ fn value_in(bytes: &[u8], form: u64, at: usize) -> Option<(Value, usize)>
     ensures read { result ≡ value_of bytes.now form at }
     ensures inside { IfSome result (λ r. at ≤ length bytes.now → r.1 ≤ length bytes.now) }
 {
-    match value(form, 0, 0, bytes.len() as u64, 0, bytes, at) {
+    let whole = UnitSpan {
+        start: 0,
+        end: bytes.len() as u64,
+    };
+    let spec = Spec {
+        attribute: 0,
+        form,
+        implicit: 0,
+    };
+    match value(bytes, whole, 0, spec, at) {
         Ok((found, after)) => {
             if at < after {
                 Some((found, after))

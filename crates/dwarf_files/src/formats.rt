@@ -1,11 +1,11 @@
-// The formats of entries: which forms of values they have, in which order.
+// The formats of entries: the forms of their values, in order.
 ghost use Rattle.std.specs.Prelude.{◌≡◌, IfOk};
 ghost use Rattle.dwarf_files.specs.Tables.{items, pair_of, format_of};
 
 use abi_base::{List, NoMemory, uint_at, uleb};
 use std::alloc::Global;
 
-// What a value of an entry says, and its form.
+// The content type of a value of an entry, and its form.
 #[derive(Clone, Copy)]
 pub(crate) struct Pair {
     pub(crate) content: u64,
@@ -24,7 +24,7 @@ fn pair_at(bytes: &[u8], at: usize) -> Option<(Pair, usize)>
     Some((Pair { content, form }, after))
 }
 
-// So many pairs, and the place after them.
+// A number of pairs, and the place after them.
 #[tactic(auto, using(crate::proofs::ItemLemmas::pairs_more, crate::proofs::ItemLemmas::pairs_cut, crate::proofs::ItemLemmas::pairs_done))]
 fn pairs_at(
     alloc: Global,

@@ -1,4 +1,4 @@
-// The fields at the front of a header.
+// The first fields of a header.
 ghost use Rattle.std.specs.Prelude.{◌≡◌, ◌+◌, ◌^◌, ◌<◌, ◌≤◌, length, IfSome};
 ghost use Rattle.dwarf_files.specs.Heads.{length_place_of, unit_end_of, lengths_of, head_of};
 
@@ -7,12 +7,12 @@ use abi_base::{u32_at, uint_at};
 // Lengths from this one on are of 64-bit DWARF, or reserved.
 const RESERVED_LENGTH: u64 = 0xffff_fff0;
 
-// Where the fields of the front stand: the version counts from the start of the unit, the others from the header's length.
+// The offsets of the first fields: that of the version counts from the start of the unit, the others from the header's length.
 const VERSION: usize = 4;
 
 const OPCODE_BASE: usize = 9;
 
-// What the fields at the front say: the version of DWARF, where the tables begin, and where the header ends.
+// The first fields: the version of DWARF, where the tables begin, and where the header ends.
 #[derive(Clone, Copy)]
 pub(crate) struct Head {
     pub(crate) version: u64,
@@ -33,7 +33,7 @@ fn unit_end(line: &[u8], at: usize) -> Option<usize>
     }
 }
 
-// Where the length of a header stands, by the version.
+// The place of the length of a header, by the version.
 fn length_place(version: u64, at: usize) -> Option<usize>
     requires { at < 2 ^ 63 }
     ensures read { result ≡ length_place_of version at }
@@ -68,7 +68,7 @@ fn lengths(line: &[u8], place: usize, unit_end: usize) -> Option<(usize, usize)>
     }
 }
 
-// What the front of the header at a place of `.debug_line` says.
+// The first fields of the header at a place of `.debug_line`.
 #[tactic(auto, unfolding(crate::specs::Heads::head_of))]
 pub(crate) fn head_at(line: &[u8], at: usize) -> Option<Head>
     ensures read { result ≡ head_of line.now at }

@@ -11,8 +11,8 @@ ghost use Rattle.dwarf_files.specs.Standing.{IsMadeOfTextsAt, StandsFrom};
 ghost use Rattle.dwarf_files.specs.Lists.{run_of, step_of};
 ghost use Rattle.dwarf_files.specs.Tables.{entry_of, items, pair_of};
 
-/// A table of version 5 has as many entries as its count says, one after another, and so do formats their pairs; the items of a
-/// list of version 4 stand one after another up to its 0 byte or the damage that ends it.
+/// A table of version 5 has as many entries as its count says, one after another, and a format has as many pairs; the items of a
+/// list of version 4 follow one another up to its 0 byte or the damage that ends it.
 pub fn entries_stand_one_after_another()
     ensures entries { (bytes : List ℕ) (format : List Pair) (count at : ℕ) (entries : List Entry) (end : ℕ) → items (entry_of bytes format) count at ≡ Some (entries, end) → (length entries ≡ count) × StandsFrom (entry_of bytes format) at entries end }
     ensures read { (bytes : List ℕ) (format : List Pair) (at : ℕ) (entries : List Entry) (end : ℕ) → StandsFrom (entry_of bytes format) at entries end → items (entry_of bytes format) (length entries) at ≡ Some (entries, end) }
@@ -20,7 +20,7 @@ pub fn entries_stand_one_after_another()
     ensures lists { (files : Bool) (bytes : List ℕ) (at : ℕ) → Chain (step_of files bytes) at (run_of files bytes at).items (run_of files bytes at).end }
 {}
 
-/// Each name is a text of the header, `.debug_str` or `.debug_line_str`, in a directory that is made of such texts.
+/// Each name is a text of the header, `.debug_str` or `.debug_line_str`, in a directory that consists of such texts.
 pub fn a_name_is_made_of_texts()
     ensures { (line str line_str : List ℕ) (at n : ℕ) (name : List ℕ) → file_name_of line str line_str at n ≡ Some name → IsMadeOfTextsAt line str line_str at name }
 {}
@@ -37,7 +37,7 @@ pub fn these_give_no_name()
     ensures file_0 { (line str line_str : List ℕ) (at : ℕ) → number_at 2 line (at + 4) ≡ Some 4 → file_name_of line str line_str at 0 ≡ None }
 {}
 
-/// Names do not depend on the bytes behind the header, where its front says the same.
+/// Names do not depend on the bytes after the header, where its first fields are the same.
 pub fn bytes_behind_the_header_change_nothing()
     ensures same { (line other str line_str : List ℕ) (at n : ℕ) (head : Head) → head_of line at ≡ Some head → head_of other at ≡ Some head → take head.end line ≡ take head.end other → file_name_of line str line_str at n ≡ file_name_of other str line_str at n }
     ensures appended { (line others str line_str : List ℕ) (at n : ℕ) (name : List ℕ) → file_name_of line str line_str at n ≡ Some name → file_name_of (line ++ others) str line_str at n ≡ Some name }

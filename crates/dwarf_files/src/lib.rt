@@ -1,4 +1,4 @@
-//! The names of files of the source, by the headers of line programs in `.debug_line`.
+//! The names of source files, by the headers of line programs in `.debug_line`.
 #![tactic(auto)]
 
 mod entries;
@@ -11,3 +11,4 @@ mod tables;
 mod texts;
 
 pub use names::{LineSections, file_name};
+pub use texts::join;

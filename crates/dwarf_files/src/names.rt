@@ -1,7 +1,8 @@
 // The names of files of a line program.
 ghost use Rattle.std.specs.Prelude.{◌≡◌, IfOk};
 ghost use Rattle.std.specs.Option.{option_copied, option_map};
-ghost use Rattle.dwarf_files.specs.Names.{entries_of, directory_of, file_of, place_of as the_place, text_of, number_of_directory, directory_text_of, whole_directory_of, name_by, file_name_of};
+ghost use Rattle.dwarf_files.specs.Names.{entries_of, directory_of, file_of, text_of, number_of_directory, directory_text_of, whole_directory_of, name_by, file_name_of};
+ghost use Rattle.dwarf_files.specs.Names as spec;
 ghost use Rattle.dwarf_files.specs.Picks.{picked};
 ghost use Rattle.dwarf_files.specs.Plain.{plain_header};
 
@@ -13,7 +14,7 @@ use abi_base::{NoMemory, text_at};
 use dwarf_forms::Value;
 use std::alloc::Global;
 
-/// The sections that line programs and the names in them stand in.
+/// The sections with line programs and the names in them.
 #[derive(Clone, Copy)]
 pub struct LineSections<'a> {
     /// `.debug_line`
@@ -40,7 +41,7 @@ pub(crate) struct Header<'a> {
 
 // The place in its table of a file or a directory of a number.
 fn place_of(version: u64, number: u64) -> Option<u64>
-    ensures { result ≡ the_place version number }
+    ensures { result ≡ spec.place_of version number }
 {
     if version == 5 {
         Some(number)
@@ -109,7 +110,7 @@ impl<'a> Header<'a> {
         }
     }
 
-    // The text that a name in an entry leads to.
+    // The text of a name in an entry.
     fn text(&self, path: Option<Value>) -> Option<&'a [u8]>
         ensures { option_copied result ≡ text_of (plain_header self.now) path }
     {
@@ -135,7 +136,7 @@ impl<'a> Header<'a> {
         }
     }
 
-    // Where a directory lies, in directory 0.
+    // The name of a directory, relative to directory 0.
     #[tactic(auto, unfolding(crate::specs::Names::whole_directory_of))]
     fn whole_directory(&self, alloc: Global, number: u64) -> Result<Option<Vec<u8>>, NoMemory>
         ensures { IfOk result (λ r. option_map (λ d. d.items) r ≡ whole_directory_of (plain_header self.now) number) }
@@ -173,12 +174,12 @@ impl<'a> Header<'a> {
 /// The name of a file by its number, by the header of the line program at an offset of `.debug_line` (DWARF 5, section 6.2.4
 /// "The Line Number Program Header"; DWARF 4, the same section). None exactly where the header is damaged, of another version
 /// than 4 and 5 or of 64-bit DWARF, where it has no file of this number, or where the name or its directory is no text of the
-/// header, `.debug_str` or `.debug_line_str`. A table whose entries take no bytes is damage, so that no header takes longer than
-/// its bytes.
+/// header, `.debug_str` or `.debug_line_str`. A table whose entries take no bytes is damage, so the time for a header is bounded
+/// by its bytes.
 ///
 /// Version 5 counts files from 0, which is the file that was compiled, and version 4 from 1. A name that begins with a slash
-/// stays as it is. Another one comes behind its directory and a slash; a directory that is not absolute itself, behind directory
-/// 0, in which the unit was compiled. In version 4 the header does not say that directory, and the name counts from it.
+/// stays as it is. Its directory and a slash come before any other name, and directory 0, in which the unit was compiled, before
+/// a directory that is not absolute itself. In version 4 the header does not have that directory, and the name is relative to it.
 #[tactic(auto, unfolding(crate::specs::Names::file_name_of, crate::specs::Names::name_of))]
 pub fn file_name(
     alloc: Global,

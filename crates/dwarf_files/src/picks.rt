@@ -1,10 +1,10 @@
-// One entry of a table that is passed over.
+// One entry of a table that the reader goes through.
 ghost use Rattle.std.specs.Prelude.{◌≡◌};
 ghost use Rattle.dwarf_files.specs.Picks.{passed};
 
 use crate::entries::Entry;
 
-// The entry that is looked for, if it was passed, and else how many entries stand before it.
+// The wanted entry, if it was reached, and else how many entries remain before it.
 #[derive(Clone, Copy)]
 pub(crate) struct Pick {
     pub(crate) found: Option<Entry>,
@@ -12,7 +12,7 @@ pub(crate) struct Pick {
 }
 
 impl Pick {
-    // What is left to look for behind one more entry.
+    // The search after one more entry.
     pub(crate) fn pass(self, entry: Entry) -> Pick
         ensures { result ≡ passed self entry }
     {

@@ -10,7 +10,7 @@ use crate::picks::Pick;
 use abi_base::{NoMemory, uleb};
 use std::alloc::Global;
 
-// An entry of so many that have a format, and the place after them all.
+// One of a number of entries with a format, and the place after all of them.
 #[tactic(auto, using(crate::proofs::PickLemmas::items_more, crate::proofs::PickLemmas::items_cut, crate::proofs::PickLemmas::items_done))]
 fn pick_by_format(
     bytes: &[u8],

@@ -1,6 +1,7 @@
 // Names, and names in directories.
 ghost use Rattle.std.specs.Prelude.{◌≡◌, IfOk, IsTrue, ◌↔◌};
-ghost use Rattle.dwarf_files.specs.Names.{is_absolute as the_name_is_absolute, joined};
+ghost use Rattle.dwarf_files.specs.Names.{joined};
+ghost use Rattle.dwarf_files.specs.Names as spec;
 
 use abi_base::{List, NoMemory};
 use std::alloc::Global;
@@ -8,7 +9,7 @@ use std::alloc::Global;
 const SLASH: u8 = b'/';
 
 fn is_absolute(name: &[u8]) -> bool
-    ensures { result ≡ the_name_is_absolute name.now }
+    ensures { result ≡ spec.is_absolute name.now }
 {
     match name.first() {
         Some(byte) => *byte == SLASH,
@@ -16,9 +17,10 @@ fn is_absolute(name: &[u8]) -> bool
     }
 }
 
-// A name in a directory.
+/// A name in a directory: the two with a slash between them. An absolute name stays as it is, and so does each name in the
+/// directory of no name.
 #[tactic(auto, unfolding(crate::specs::Names::joined))]
-pub(crate) fn join(alloc: Global, directory: &[u8], name: &[u8]) -> Result<Vec<u8>, NoMemory>
+pub fn join(alloc: Global, directory: &[u8], name: &[u8]) -> Result<Vec<u8>, NoMemory>
     ensures { IfOk result (λ r. r.items ≡ joined directory.now name.now) }
 {
     if is_absolute(name) || directory.is_empty() {

@@ -1,4 +1,4 @@
--- Which forms stand for themselves, and what references count from.
+-- Which forms are direct, and what references count from.
 use Rattle.std.proofs.Common.{◌≡◌, ◌≢◌, ℕ, zero, suc, ◌+◌, ◌-◌, ◌<◌, ◌≤◌, Bool, true, false, leb, List, [], ◌∷◌, length, get_or, take, Option, Some, None, Result, Ok, refl, sym, ap, arith, inl, inr}
 use Rattle.std.specs.Prelude.{ℤ, ◌==◌, ◌||◌, not, find}
 use Rattle.std.specs.List.{list_all}
@@ -57,7 +57,7 @@ only_implicit : (form : ℕ) → shape_of form ≡ Some implicit_const → form 
 unfolding shape_of forms is_implicit
 only_implicit form h = eqb-true form dw_form_implicit_const (row_found (only is_implicit dw_form_implicit_const) form forms implicit_const refl h)
 
--- a form that may stand behind its own is named as it is
+-- the shape of a form that DW_FORM_indirect may name
 pub named_shape_is : (form : ℕ) → form ≢ dw_form_indirect → form ≢ dw_form_implicit_const → named_shape (shape_of form) ≡ shape_of form
 named_shape_is form n1 n2 = cases (shape_of form) refl
   where
@@ -67,7 +67,7 @@ named_shape_is form n1 n2 = cases (shape_of form) refl
     cases (Some implicit_const) is = absurd (n2 (only_implicit form is))
     cases (Some other) is = refl
 
--- a form that stands for itself
+-- a form other than DW_FORM_indirect
 pub value_at_is : (form : ℕ) (implicit : ℤ) (unit end entry : ℕ) (bytes : List ℕ) (at : ℕ) → form ≢ dw_form_indirect → value_at form implicit unit end entry bytes at ≡ direct_at form implicit unit entry (take end bytes) at
 unfolding value_at value_of
 value_at_is form implicit unit end entry bytes at n1 = cases (shape_of form) refl
@@ -81,7 +81,7 @@ pub shape_of_indirect : shape_of dw_form_indirect ≡ Some indirect
 unfolding shape_of forms
 shape_of_indirect = refl
 
--- a form that stands before its value
+-- DW_FORM_indirect
 pub value_at_indirect : (form : ℕ) (implicit : ℤ) (unit end entry : ℕ) (bytes : List ℕ) (at : ℕ) → form ≡ dw_form_indirect → value_at form implicit unit end entry bytes at ≡ indirect_at implicit unit entry (take end bytes) at
 unfolding value_at value_of shape_of forms
 value_at_indirect form implicit unit end entry bytes at is = rw is refl
@@ -90,7 +90,7 @@ pub shape_of_implicit : shape_of dw_form_implicit_const ≡ Some implicit_const
 unfolding shape_of forms
 shape_of_implicit = refl
 
--- ---- the place after a value is the same whatever the abbreviation says, and wherever the unit begins
+-- ---- the place after a value depends neither on the constant in the abbreviation nor on the start of the unit
 
 spelled_after : (s : Shape) (i j : ℤ) (u v entry : ℕ) (bytes : List ℕ) (at : ℕ) → place_after (spelled s i u entry bytes at) ≡ place_after (spelled s j v entry bytes at)
 spelled_after (fixed size m) i j u v entry bytes at = option_cases (number_at size bytes at) (λ is. rw is refl) (λ n is. rw is refl)
@@ -114,7 +114,7 @@ after_is_same form i j u v end entry bytes at =
 
 -- ---- values that all have the same size
 
--- no form spells a number in no bytes
+-- no form encodes a number in no bytes
 has_bytes : Shape → Bool
 has_bytes (fixed zero m) = false
 has_bytes other = true

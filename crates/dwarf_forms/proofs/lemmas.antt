@@ -1,2 +1,2 @@
--- What crates above may use of proofs: laws of the definitions of `specs/`.
+-- Lemmas for the crates above: laws of the definitions of `specs/`.
 pub mod Values

@@ -13,19 +13,19 @@ use Rattle.abi_base.specs.Numbers.{number_at, text_at}
 use Rattle.abi_base.specs.Leb.{uleb_at, sleb_at}
 use Rattle.abi_base.specs.Outcome.{◌>>=◌, or_end}
 
--- how a form spells a value
+-- how a form encodes a value
 pub data Shape : Type 0 where
-  -- a number of so many bytes
+  -- a number of `size` bytes
   fixed : (size : ℕ) (meaning : Meaning) → Shape
   -- a number of variable length
   of_uleb : (meaning : Meaning) → Shape
   -- a signed number of variable length
   of_sleb : Shape
-  -- the number that stands in the abbreviation, and no bytes
+  -- the constant in the abbreviation, and no bytes
   implicit_const : Shape
   -- sixteen bytes
   sixteen_bytes : Shape
-  -- bytes behind a length of so many bytes
+  -- bytes behind a length of `size` bytes
   block_behind : (size : ℕ) → Shape
   -- bytes behind a length of variable length
   block_behind_uleb : Shape
@@ -38,7 +38,7 @@ pub data Shape : Type 0 where
   -- a reference to a supplementary file
   supplementary : Shape
 
--- each form, and how it spells a value
+-- each form, and how it encodes a value
 unfoldable pub forms : List (ℕ × Shape)
 forms =
     (dw_form_addr, fixed 8 meaning.Address)
@@ -91,7 +91,7 @@ forms =
 unfoldable pub shape_of : ℕ → Option Shape
 shape_of form = option_map (λ row. row.1) (find (λ row. row.0 == form) forms)
 
--- the value that a number stands for, in a unit at a place
+-- the value that a number means, in a unit at a place
 abbrev pub means : Meaning → ℕ → ℕ → Value
 means meaning.Address unit n = value.Address n
 means meaning.AddressIndex unit n = value.AddressIndex n
@@ -110,11 +110,11 @@ means meaning.LocationIndex unit n = value.LocationIndex n
 abbrev pub fault : FaultKind → ℕ → Fault
 fault kind entry = record { kind = kind; at = entry }
 
--- so many bytes from a place on
+-- `len` bytes from a place on
 abbrev pub block : List ℕ → ℕ → ℕ → Result (Value × ℕ) Fault → Result (Value × ℕ) Fault
 block bytes from len cut = if nat_le (from + len) (length bytes) then Ok (value.Block from (from + len), from + len) else cut
 
--- The value that a shape spells from a place on, in the bytes up to the unit's end, and the place after it.
+-- The value that a shape encodes from a place on, in the bytes up to the unit's end, and the place after it.
 abbrev pub spelled : Shape → ℤ → ℕ → ℕ → List ℕ → ℕ → Result (Value × ℕ) Fault
 spelled (fixed size m) implicit unit entry bytes at = do
   n ← or_end (number_at size bytes at) (fault kind.Cut entry)
@@ -169,7 +169,7 @@ abbrev pub place_after : {A : Type 0} → Result (A × ℕ) Fault → Result ℕ
 place_after (Ok read) = Ok read.1
 place_after (Err f) = Err f
 
--- how many bytes each value of a shape has, where all of them have as many
+-- how many bytes each value of a shape has, where all have the same number of bytes
 abbrev pub fixed_size_of : Option Shape → Option ℕ
 fixed_size_of (Some (fixed size m)) = Some size
 fixed_size_of (Some sixteen_bytes) = Some 16
@@ -182,25 +182,25 @@ abbrev pub fixed_end_of : Option ℕ → ℕ → ℕ → Option ℕ
 fixed_end_of None end at = None
 fixed_end_of (Some size) end at = if nat_le size (end - at) then Some (at + size) else None
 
--- Values of forms that fix their size end so many bytes on, where they end in the unit.
+-- Values of forms of fixed size end `size` bytes on, where they end in the unit.
 abbrev pub FixedSizesEnd : Type 0
 FixedSizesEnd =
     (form size : ℕ) (implicit : ℤ) (unit end entry : ℕ) (bytes : List ℕ) (at : ℕ) → fixed_size_of (shape_of form) ≡ Some size → size ≤ end - at → end ≤ length bytes
     → place_after (value_at form implicit unit end entry bytes at) ≡ Ok (at + size)
 
--- the value of a form that stands for itself, which is any other than DW_FORM_indirect
+-- the value of a form other than DW_FORM_indirect
 abbrev pub direct_at : ℕ → ℤ → ℕ → ℕ → List ℕ → ℕ → Result (Value × ℕ) Fault
 direct_at form implicit unit entry bytes at = do
   named ← or_end (shape_of form) (fault kind.Form entry)
   spelled named implicit unit entry bytes at
 
--- A form that spells the place of another entry in so many bytes. The place comes of the unit's offset and the number.
+-- A form that encodes the place of another entry in `size` bytes. The place follows from the unit's offset and the number.
 abbrev pub Refers : ℕ → ℕ → (ℕ → ℕ → ℕ) → Type 0
 Refers form size place =
     (implicit : ℤ) (unit end entry : ℕ) (bytes : List ℕ) (at n : ℕ) → number_at size (take end bytes) at ≡ Some n
     → value_at form implicit unit end entry bytes at ≡ Ok (value.Reference (place unit n), at + size)
 
--- the same of a number of variable length
+-- the same for a number of variable length
 abbrev pub RefersByUleb : ℕ → (ℕ → ℕ → ℕ) → Type 0
 RefersByUleb form place =
     (implicit : ℤ) (unit end entry : ℕ) (bytes : List ℕ) (at : ℕ) (n : ℕ × ℕ) → uleb_at (take end bytes) at ≡ Some n

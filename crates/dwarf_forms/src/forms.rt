@@ -3,6 +3,7 @@ ghost use Rattle.std.specs.Prelude.{◌≡◌, ◌≤◌, ◌+◌, ◌<◌, ℕ,
 ghost use Rattle.abi_base.specs.declared.fault.FaultKind.TheVariants as kind;
 ghost use Rattle.dwarf_forms.specs.Values.{value_at, direct_at, indirect_at, shape_of, fixed_size_of, fixed_end_of, place_after, fault};
 
+use crate::abbreviations::Spec;
 use crate::meaning::Meaning;
 use crate::source::Source;
 use crate::values::Value;
@@ -27,7 +28,7 @@ fn supplementary(entry: u64) -> Fault
     }
 }
 
-// The value of a form that stands for itself.
+// The value of a form other than `DW_FORM_indirect`.
 #[tactic(auto, unfolding(crate::specs::Values::shape_of, crate::specs::Values::forms))]
 fn direct(form: u64, implicit: i64, source: &Source, at: usize) -> Result<(Value, usize), Fault>
     ensures read { result ≡ direct_at form implicit source.now.unit_start source.now.entry source.now.unit.now at }
@@ -78,13 +79,13 @@ fn direct(form: u64, implicit: i64, source: &Source, at: usize) -> Result<(Value
         | DW_FORM_strp_sup
         | DW_FORM_GNU_ref_alt
         | DW_FORM_GNU_strp_alt => Err(supplementary(source.entry)),
-        // It stands before the form of a value, and for none itself.
+        // The form of the value follows it, and it has no value itself.
         DW_FORM_indirect => Err(unknown(source.entry)),
         _ => Err(unknown(source.entry)),
     }
 }
 
-// A value behind its own form, which may be any but `DW_FORM_indirect` and `DW_FORM_implicit_const`.
+// A value behind its own form, which may be any other than `DW_FORM_indirect` and `DW_FORM_implicit_const`.
 #[tactic(auto, using(crate::proofs::FormLemmas::named_shape_is, crate::proofs::FormLemmas::shape_of_indirect, crate::proofs::FormLemmas::shape_of_implicit))]
 fn indirect(implicit: i64, source: &Source, at: usize) -> Result<(Value, usize), Fault>
     ensures read { result ≡ indirect_at implicit source.now.unit_start source.now.entry source.now.unit.now at }
@@ -101,41 +102,47 @@ fn indirect(implicit: i64, source: &Source, at: usize) -> Result<(Value, usize),
     }
 }
 
-// Its result is large: in line it is not copied, which a third of the time of a reader of all entries goes to.
-/// The value of an attribute of this form from a place of `.debug_info` on, and the place after it (DWARF 5, section 7.5.6
-/// "Form Encodings"). `implicit` is the number that stands in the abbreviation. `unit_start` and `unit_end` are where the
-/// unit of the entry begins and ends: local references count from its start, and the value has to lie before its end.
-/// The fault is `Form` where the form is unknown, or stands behind `DW_FORM_indirect` and is that form again or
-/// `DW_FORM_implicit_const`, `Supplementary` where the form leads to another file, `Cut` where the value does not end in
-/// the unit or has a number of more than 64 bits; each is at the entry.
+/// Where a unit is in `.debug_info`.
+#[derive(Clone, Copy, Debug, PartialEq, Eq)]
+pub struct UnitSpan {
+    /// Where it begins.
+    pub start: u64,
+    /// The place after its last byte.
+    pub end: u64,
+}
+
+// Its result is large: without inlining, a third of the time of a reader of all entries goes to copying it.
+/// The value of an attribute of an entry from a place of `.debug_info` on, and the place after it (DWARF 5, section 7.5.6
+/// "Form Encodings"). `spec` is the pair of attribute and form in the abbreviation. Local references count from the start of
+/// the entry's unit, and the value has to end in the unit. The fault is `Form` where the form is unknown, or where the form
+/// behind `DW_FORM_indirect` is that form again or `DW_FORM_implicit_const`, `Supplementary` where the form leads to another
+/// file, `Cut` where the value does not end in the unit or has a number of more than 64 bits; each is at the entry.
 #[inline(always)]
 pub fn value(
-    form: u64,
-    implicit: i64,
-    unit_start: u64,
-    unit_end: u64,
-    entry: u64,
     bytes: &[u8],
+    unit: UnitSpan,
+    entry: u64,
+    spec: Spec,
     at: usize,
 ) -> Result<(Value, usize), Fault>
-    requires { unit_end ≤ length bytes.now }
-    ensures read { result ≡ value_at form implicit unit_start unit_end entry bytes.now at }
+    requires { unit.end ≤ length bytes.now }
+    ensures read { result ≡ value_at spec.form spec.implicit unit.start unit.end entry bytes.now at }
     ensures after { IfOk result (λ r. at ≤ r.1) }
-    ensures inside { IfOk result (λ r. at ≤ unit_end → r.1 ≤ unit_end) }
+    ensures inside { IfOk result (λ r. at ≤ unit.end → r.1 ≤ unit.end) }
 {
     let source = Source {
-        unit: &bytes[..unit_end as usize],
-        unit_start,
+        unit: &bytes[..unit.end as usize],
+        unit_start: unit.start,
         entry,
     };
-    if form == DW_FORM_indirect {
-        indirect(implicit, &source, at)
+    if spec.form == DW_FORM_indirect {
+        indirect(spec.implicit, &source, at)
     } else {
-        direct(form, implicit, &source, at)
+        direct(spec.form, spec.implicit, &source, at)
     }
 }
 
-/// How many bytes each value of a form has, where all of them have as many.
+/// How many bytes each value of a form has, where all have the same number of bytes.
 #[inline(always)]
 #[tactic(auto, unfolding(crate::specs::Values::shape_of, crate::specs::Values::forms))]
 pub fn fixed_size(form: u64) -> Option<u16>
@@ -159,9 +166,8 @@ pub fn fixed_size(form: u64) -> Option<u16>
     }
 }
 
-/// The place after the value of a form whose values all have the same size, where the value ends in the unit: it can be passed over
-/// without a look at its bytes. None where values of the form have sizes of their own, and where the unit ends before the value
-/// does.
+/// The place after the value of a form whose values all have the same size, where the value ends in the unit: a reader skips it
+/// and reads none of its bytes. None where values of the form differ in size, and where the unit ends before the value does.
 #[inline(always)]
 #[tactic(auto, using(crate::proofs::FormLemmas::fixed_ends))]
 pub fn fixed_end(form: u64, unit_end: u64, at: usize) -> Option<usize>
@@ -193,9 +199,8 @@ fn after(read: Result<(Value, usize), Fault>) -> Result<usize, Fault>
     }
 }
 
-/// The place after the value of an attribute of this form, from a place of `.debug_info` on, and the same faults as `value`: it
-/// is for those who pass over the value. The place is the same whatever number stands in the abbreviation and wherever the unit
-/// begins.
+/// The place after the value of an attribute of this form, from a place of `.debug_info` on, and the same faults as `value`: a
+/// reader calls it to skip the value. The place does not depend on the constant in the abbreviation or on the start of the unit.
 #[tactic(auto, using(crate::proofs::FormLemmas::after_is_same))]
 pub fn value_end(
     form: u64,
@@ -209,5 +214,14 @@ pub fn value_end(
     ensures after { IfOk result (λ end. at ≤ end) }
     ensures inside { IfOk result (λ end. at ≤ unit_end → end ≤ unit_end) }
 {
-    after(value(form, 0, 0, unit_end, entry, bytes, at))
+    let unit = UnitSpan {
+        start: 0,
+        end: unit_end,
+    };
+    let spec = Spec {
+        attribute: 0,
+        form,
+        implicit: 0,
+    };
+    after(value(bytes, unit, entry, spec, at))
 }

@@ -1,4 +1,4 @@
-//! Values of attributes: how each form spells one in `.debug_info`, where it ends, and the sections that values lead to.
+//! Values of attributes: how each form encodes one in `.debug_info`, where it ends, and the sections that values refer to.
 #![tactic(auto)]
 
 pub mod abbreviations;
@@ -9,6 +9,6 @@ mod sections;
 mod source;
 mod values;
 
-pub use forms::{fixed_end, fixed_size, value, value_end};
+pub use forms::{UnitSpan, fixed_end, fixed_size, value, value_end};
 pub use sections::Sections;
 pub use values::Value;

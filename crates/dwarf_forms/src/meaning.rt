@@ -1,6 +1,6 @@
-// What the numbers in values stand for.
+// What the numbers in values mean.
 
-/// What a number in a value stands for.
+/// What a number in a value means.
 #[derive(Clone, Copy, Debug, PartialEq, Eq)]
 pub enum Meaning {
     Address,

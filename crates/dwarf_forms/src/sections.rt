@@ -2,7 +2,7 @@
 ghost use Rattle.std.specs.Prelude.{◌≤◌, length};
 ghost use Rattle.abi_base.specs.Limits.{input_limit};
 
-/// What the sections of debug information of a file hold (DWARF 5, section 7.3 "Executable Objects and Shared Objects";
+/// The bytes of a file's sections of debug information (DWARF 5, section 7.3 "Executable Objects and Shared Objects";
 /// `.debug_ranges` is of DWARF 4). A section that is missing is empty. None is longer than the limit of an input.
 #[derive(Clone, Copy)]
 pub struct Sections<'a> {

@@ -1,9 +1,10 @@
-// What spells a value: numbers, blocks and texts, each in the bytes up to the end of the unit. None of these asks the
-// number that stands in the abbreviation, so clauses write 0 for it.
+// What encodes a value: numbers, blocks and texts, each in the bytes up to the end of the unit. None of these reads the
+// constant in the abbreviation, so clauses write 0 for it.
 ghost use Rattle.std.specs.Prelude.{◌≡◌, ◌≤◌, ◌+◌, ◌<◌, length, pos, IfSome, IfOk, Err};
 ghost use Rattle.abi_base.specs.Numbers.{number_at};
 ghost use Rattle.abi_base.specs.declared.fault.FaultKind.TheVariants as kind;
-ghost use Rattle.dwarf_forms.specs.Values.{fixed, of_uleb, of_sleb, sixteen_bytes, block_behind, block_behind_uleb, inline_text, means, spelled, block as the_block, fault};
+ghost use Rattle.dwarf_forms.specs.Values.{fixed, of_uleb, of_sleb, sixteen_bytes, block_behind, block_behind_uleb, inline_text, means, spelled, fault};
+ghost use Rattle.dwarf_forms.specs.Values as spec;
 
 use crate::meaning::Meaning;
 use crate::values::Value;
@@ -35,7 +36,7 @@ fn u8_at(bytes: &[u8], at: usize) -> Option<u64>
     }
 }
 
-// The number in so many bytes at a place. Those of 1, 2, 4 and 8 bytes, as most are, are read in one piece.
+// The number in `size` bytes at a place. Most have 1, 2, 4 or 8 bytes, and are read in one piece.
 #[inline(always)]
 fn fixed_at(bytes: &[u8], at: usize, size: usize) -> Option<u64>
     requires some { 0 < size }
@@ -52,7 +53,7 @@ fn fixed_at(bytes: &[u8], at: usize, size: usize) -> Option<u64>
     }
 }
 
-// What a number stands for.
+// The value that a number means.
 #[inline(always)]
 fn meant(meaning: Meaning, unit_start: u64, number: u64) -> Value
     ensures { result ≡ means meaning unit_start number }
@@ -84,7 +85,7 @@ impl<'a> Source<'a> {
         }
     }
 
-    // A number of so many bytes.
+    // A number of `size` bytes.
     #[inline(always)]
     pub(crate) fn fixed(
         &self,
@@ -141,10 +142,10 @@ impl<'a> Source<'a> {
         }
     }
 
-    // So many bytes from a place on.
+    // `len` bytes from a place on.
     fn bytes(&self, from: usize, len: u64) -> Result<(Value, usize), Fault>
         requires { from ≤ length self.now.unit.now }
-        ensures read { result ≡ the_block self.now.unit.now from len (Err (fault kind.Cut self.now.entry)) }
+        ensures read { result ≡ spec.block self.now.unit.now from len (Err (fault kind.Cut self.now.entry)) }
         ensures after { IfOk result (λ r. from ≤ r.1) }
         ensures inside { IfOk result (λ r. r.1 ≤ length self.now.unit.now) }
     {
@@ -161,7 +162,7 @@ impl<'a> Source<'a> {
         ))
     }
 
-    // Bytes behind a length of so many bytes.
+    // Bytes behind a length of `size` bytes.
     pub(crate) fn block(&self, size: usize, at: usize) -> Result<(Value, usize), Fault>
         requires some { 0 < size }
         requires few { size ≤ 8 }

@@ -16,7 +16,7 @@ pub enum Value {
     Signed(i64),
     /// A constant of 16 bytes, which begin here.
     Wide { from: u64 },
-    /// Bytes, or an expression: the bytes from a place on and before another one.
+    /// Bytes, or an expression: the bytes from `from` on and before `to`.
     Block { from: u64, to: u64 },
     /// A text that begins here and ends with a 0 byte.
     Inline { from: u64 },
@@ -41,8 +41,7 @@ pub enum Value {
 }
 
 impl Value {
-    /// The constant that is from 0 on, and none where the value is another one (DWARF 5, section 7.5.5 "Classes and Forms",
-    /// class constant).
+    /// The constant where it is at least 0, else none (DWARF 5, section 7.5.5 "Classes and Forms", class constant).
     pub fn number(&self) -> Option<u64>
         ensures { result ≡ number_of self.now }
     {
@@ -64,7 +63,7 @@ impl Value {
         }
     }
 
-    /// How many numbers there are from 0 up to the constant and with it, modulo 2^64, and none where the value is no constant.
+    /// How many numbers there are from 0 to the constant inclusive, modulo 2^64, and none where the value is no constant.
     pub fn count_up_to(&self) -> Option<u64>
         ensures { result ≡ count_up_to_of self.now }
     {
@@ -74,7 +73,7 @@ impl Value {
         }
     }
 
-    /// Whether the value is a flag that holds. A value of another class holds not.
+    /// Whether the value is a flag that holds. False for a value of another class.
     pub fn holds(&self) -> bool
         ensures { result ≡ flag_holds self.now }
     {

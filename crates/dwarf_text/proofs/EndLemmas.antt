@@ -70,7 +70,7 @@ none_before section end some inside none other place from = elim (cases_Bool (lt
   | inr past ↦ none place (ltb-false place end past)
 ]
 
--- texts end behind a 0 byte, where none begins from there on
+-- texts end after a 0 byte, where none begins from there on
 pub ends_behind : (section : List ℕ) (end : ℕ) → 0 < end → end ≤ length section → NoText section end → get_or section (end - 1) 0 ≡ 0 → TextsEnd section end
 ends_behind section end some inside none is place = elim (cases_Bool (ltb place end)) [
   | inl before ↦ there (end - 1 - place) place (omega (arith, ltb-true place end before)) ∙ sym before

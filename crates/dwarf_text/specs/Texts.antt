@@ -1,4 +1,4 @@
--- The texts and addresses that values of attributes lead to.
+-- The texts and addresses that values of attributes refer to.
 use Rattle.std.specs.Prelude.{◌≡◌, ℕ, nat_lt, is_some, List, Option, Some, None, Result, Ok, Err}
 use Rattle.abi_base.specs.declared.fault.Fault.{Fault}
 use Rattle.abi_base.specs.declared.fault.FaultKind.TheVariants as kind
@@ -9,13 +9,13 @@ use Rattle.dwarf_forms.specs.Values.{fault}
 use Rattle.dwarf_forms.specs.declared.values.Value.{Value}
 use Rattle.dwarf_forms.specs.declared.values.Value.TheVariants as value
 
--- a text of a section, which has to end with a 0 byte inside
+-- a text of a section, which has to end with a 0 byte inside the section
 abbrev pub text_in : List ℕ → ℕ → ℕ → Result (List ℕ) Fault
 text_in section place entry = or_end (text_at section place) (fault kind.Text entry)
 
--- The text that a value stands for (DWARF 5, section 7.5.5 "Classes and Forms", class string): it stands in `.debug_info`
--- itself, or at an offset into `.debug_str` or `.debug_line_str`, or at an offset into `.debug_str` that stands in
--- `.debug_str_offsets`, whose part for the unit begins at a base.
+-- The text of a value (DWARF 5, section 7.5.5 "Classes and Forms", class string): it is in `.debug_info` itself, or at an offset
+-- into `.debug_str` or `.debug_line_str`, or at an offset into `.debug_str` that `.debug_str_offsets` holds, whose part for the
+-- unit begins at a base.
 abbrev pub text_of : (info str line_str str_offsets : List ℕ) → Option ℕ → ℕ → Value → Result (List ℕ) Fault
 text_of info str line_str str_offsets base entry (value.Inline place) = text_in info place entry
 text_of info str line_str str_offsets base entry (value.StrOffset place) = text_in str place entry
@@ -34,8 +34,8 @@ fault_of (Err f) = Some f
 abbrev pub TextsEnd : List ℕ → ℕ → Type 0
 TextsEnd section end = (place : ℕ) → is_some (text_at section place) ≡ nat_lt place end
 
--- The address that a value stands for (DWARF 5, section 7.5.5, class address): it stands in the value, or in `.debug_addr`,
--- whose part for the unit begins at a base.
+-- The address of a value (DWARF 5, section 7.5.5, class address): it is the value itself, or in `.debug_addr`, whose part for
+-- the unit begins at a base.
 abbrev pub address_of : List ℕ → Option ℕ → ℕ → Value → Result ℕ Fault
 address_of addr base entry (value.Address address) = Ok address
 address_of addr base entry (value.AddressIndex k) = or_end (entry_of_table 8 addr base k) (fault kind.Index entry)

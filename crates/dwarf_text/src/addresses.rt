@@ -1,8 +1,8 @@
-// The addresses that values stand for.
+// The addresses of values.
 ghost use Rattle.std.specs.Prelude.{◌≡◌};
 ghost use Rattle.abi_base.specs.declared.fault.FaultKind.TheVariants as kind;
 ghost use Rattle.dwarf_forms.specs.Values.{fault};
-ghost use Rattle.dwarf_text.specs.Texts.{address_of as the_address_of};
+ghost use Rattle.dwarf_text.specs.Texts as spec;
 
 use crate::bases::Bases;
 use abi_base::{Fault, FaultKind, table_address};
@@ -17,11 +17,11 @@ fn no_address(entry: u64) -> Fault
     }
 }
 
-/// The address that a value of an attribute stands for (DWARF 5, sections 7.5.5 "Classes and Forms" and 7.27 "Address Table").
-/// The fault is `Index`, at the entry, where the value is an index and the unit has no base for it, or the index lies outside
-/// `.debug_addr`, and where the value is no address.
+/// The address of a value of an attribute (DWARF 5, sections 7.5.5 "Classes and Forms" and 7.27 "Address Table"). The fault is
+/// `Index`, at the entry, where the value is an index and the unit has no base for it, or the index is outside `.debug_addr`,
+/// and where the value is no address.
 pub fn address(value: &Value, bases: &Bases, sections: &Sections, entry: u64) -> Result<u64, Fault>
-    ensures { result ≡ the_address_of sections.now.addr.now bases.now.addr entry value.now }
+    ensures { result ≡ spec.address_of sections.now.addr.now bases.now.addr entry value.now }
 {
     match *value {
         Value::Address(address) => Ok(address),

@@ -1,8 +1,7 @@
 // Where a unit's parts of other sections begin.
 
-/// Where the parts of other sections begin that belong to a unit, by the attributes of its root (DWARF 5, section 3.1.1
-/// "Full and Partial Compilation Unit Entries"). Each is a place from the start of its section, and none where the root
-/// does not say it.
+/// Where a unit's parts of other sections begin, by the attributes of its root (DWARF 5, section 3.1.1 "Full and Partial
+/// Compilation Unit Entries"). Each is a place from the start of its section, and none where the root has no such attribute.
 #[derive(Clone, Copy, Debug, PartialEq, Eq)]
 pub struct Bases {
     /// The unit's part of `.debug_str_offsets` (`DW_AT_str_offsets_base`).

@@ -2,8 +2,8 @@
 ghost use Rattle.std.specs.Prelude.{◌≤◌, length};
 ghost use Rattle.dwarf_text.specs.Texts.{TextsEnd};
 
-/// The place after the last 0 byte of a section of texts, and 0 where there is none: at each place before it begins a text, which
-/// may be empty, and at no other place. Whoever asks of many places whether a text begins there need not look for the end of each.
+/// The place after the last 0 byte of a section of texts, and 0 where there is none: a text, maybe an empty one, begins at each
+/// place before it and at no other place. A caller that tests many places need not search for the end of each text.
 pub fn texts_end(section: &[u8]) -> usize
     ensures end { TextsEnd section.now result }
     ensures inside { result ≤ length section.now }

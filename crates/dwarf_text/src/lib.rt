@@ -1,4 +1,4 @@
-//! The texts and addresses that values of attributes lead to.
+//! The texts and addresses that values of attributes refer to.
 #![tactic(auto)]
 
 mod addresses;

@@ -1,9 +1,10 @@
-// The texts that values stand for.
+// The texts of values.
 ghost use Rattle.std.specs.Prelude.{◌≡◌, ℕ, List};
 ghost use Rattle.std.specs.Result.{result_map_both};
 ghost use Rattle.abi_base.specs.declared.fault.FaultKind.TheVariants as kind;
 ghost use Rattle.dwarf_forms.specs.Values.{fault};
-ghost use Rattle.dwarf_text.specs.Texts.{TextsEnd, fault_of as the_fault_of, text_of, text_in as the_text_in};
+ghost use Rattle.dwarf_text.specs.Texts.{TextsEnd, text_of};
+ghost use Rattle.dwarf_text.specs.Texts as spec;
 
 use crate::bases::Bases;
 use abi_base::{Fault, FaultKind, table_offset, text_at};
@@ -20,7 +21,7 @@ fn no_text(entry: u64) -> Fault
 
 // The text at a place of a section.
 fn text_in(section: &[u8], place: u64, entry: u64) -> Result<&[u8], Fault>
-    ensures { result_map_both (λ t. t.now) (λ f. f) result ≡ the_text_in section.now place entry }
+    ensures { result_map_both (λ t. t.now) (λ f. f) result ≡ spec.text_in section.now place entry }
 {
     match text_at(section, place) {
         Some(text) => Ok(text),
@@ -28,10 +29,10 @@ fn text_in(section: &[u8], place: u64, entry: u64) -> Result<&[u8], Fault>
     }
 }
 
-/// The text that a value of an attribute stands for, which is a part of the file, without its 0 byte (DWARF 5, sections 7.5.5
-/// "Classes and Forms" and 7.26 "String Offsets Table"). The fault is `Index` where the value is an index and the unit has no
-/// base for it, or the index lies outside `.debug_str_offsets`, and `Text` where the value is of no form of texts, or the
-/// text does not end inside its section; each is at the entry.
+/// The text of a value of an attribute, as bytes of the file without the 0 byte (DWARF 5, sections 7.5.5 "Classes and Forms" and
+/// 7.26 "String Offsets Table"). The fault is `Index` where the value is an index and the unit has no base for it, or the index
+/// is outside `.debug_str_offsets`, and `Text` where the value has no form of texts, or the text does not end inside its
+/// section; each is at the entry.
 pub fn text<'a>(
     value: &Value,
     bases: &Bases,
@@ -61,7 +62,7 @@ pub fn text<'a>(
 
 // The fault of the text at a place of a section whose texts end at another one.
 fn fault_before(end: usize, place: u64, entry: u64) -> Option<Fault>
-    ensures { (section : List ℕ) → TextsEnd section end → result ≡ the_fault_of (the_text_in section place entry) }
+    ensures { (section : List ℕ) → TextsEnd section end → result ≡ spec.fault_of (spec.text_in section place entry) }
 {
     if place < end as u64 {
         None
@@ -72,7 +73,7 @@ fn fault_before(end: usize, place: u64, entry: u64) -> Option<Fault>
 
 // The fault of what was read.
 fn fault_of(read: Result<&[u8], Fault>) -> Option<Fault>
-    ensures { result ≡ the_fault_of (result_map_both (λ t. t.now) (λ f. f) read.entry) }
+    ensures { result ≡ spec.fault_of (result_map_both (λ t. t.now) (λ f. f) read.entry) }
 {
     match read {
         Ok(_) => None,
@@ -80,8 +81,8 @@ fn fault_of(read: Result<&[u8], Fault>) -> Option<Fault>
     }
 }
 
-/// The fault of the text that a value stands for, which `text` gives, too. `str_end` is where the texts of `.debug_str` end, so
-/// that the end of a text there need not be looked for.
+/// The fault of the text of a value, the same as that of `text`. `str_end` is where the texts of `.debug_str` end, so this call
+/// need not search for the end of a text there.
 pub fn text_fault(
     value: &Value,
     bases: &Bases,
@@ -90,7 +91,7 @@ pub fn text_fault(
     entry: u64,
 ) -> Option<Fault>
     requires { TextsEnd sections.now.str.now str_end }
-    ensures { result ≡ the_fault_of (text_of sections.now.info.now sections.now.str.now sections.now.line_str.now sections.now.str_offsets.now bases.now.str_offsets entry value.now) }
+    ensures { result ≡ spec.fault_of (text_of sections.now.info.now sections.now.str.now sections.now.line_str.now sections.now.str_offsets.now bases.now.str_offsets entry value.now) }
 {
     match *value {
         Value::StrOffset(place) => fault_before(str_end, place, entry),

@@ -17,15 +17,15 @@ use Rattle.dwarf_tree.specs.declared.head.Head.{Head}
 use Rattle.dwarf_tree.specs.declared.entry_records.EntryHead.{EntryHead}
 use Rattle.dwarf_tree.specs.Keeping.{FindSame, Attributes, value_before, values_from, left_values, behind, values_of, value_read}
 
--- a pair stands at a place, before those from the next place on
+-- a pair is at a place, before the pairs from the next place on
 abbrev IsPair : List ℕ → ℕ → Spec → ℕ → Type 0
 IsPair abbrevs pairs s next = specs_run abbrevs pairs ≡ put_front s (specs_run abbrevs next)
 
--- a pair is the first one, also where it is known by its two numbers
+-- a pair is the first one, also where its two numbers are known
 pub plain_front : (abbrevs : List ℕ) (pairs attribute form next : ℕ) (s : Spec) → IsPair abbrevs pairs (plain_pair attribute form) next → s ≡ plain_pair attribute form → IsPair abbrevs pairs s next
 plain_front abbrevs pairs attribute form next s h is = h ∙ ap (λ (x : Spec). put_front x (specs_run abbrevs next)) (sym is)
 
--- a text ends behind its 0 byte
+-- a text ends after its 0 byte
 pub text_passed : (form : ℕ) (implicit : ℤ) (start end entry : ℕ) (info : List ℕ) (at : ℕ) (text : List ℕ) → form ≡ dw_form_string → Some text ≡ text_at (take end info) at
     → Ok (at + length text + 1) ≡ place_after (value_at form implicit start end entry info at)
 unfolding value_at value_of shape_of forms
@@ -44,7 +44,7 @@ first_passed name attribute v others apart = rw apart refl
 first_met : (name attribute : ℕ) (v : Value) (others : Attributes) → (attribute == name) ≡ true → attribute_of ((attribute, v) ∷ others) name ≡ Some v
 first_met name attribute v others same = rw same refl
 
--- a value that is passed over is there, and so is its place
+-- a skipped value is in the list, and so is its place
 ends_behind : (r : Result (Value × ℕ) Fault) (after : ℕ) → place_after r ≡ Ok after → (v : Value) × (r ≡ Ok (v, after))
 ends_behind (Ok read) after is = (read.0, ap (λ (n : ℕ). Ok (read.0, n)) (same_Ok read.1 after is))
 ends_behind (Err f) after is = absurd cc
@@ -53,7 +53,7 @@ faults_behind : (r : Result (Value × ℕ) Fault) (f : Fault) → place_after r 
 faults_behind (Ok read) f is = absurd cc
 faults_behind (Err e) f is = let same : e ≡ f = cc in ap (λ (x : Fault). Err x) same
 
--- the values from a pair on are those behind it, for another attribute
+-- for another attribute, the values from a pair on are those after it
 passed_over : (info abbrevs : List ℕ) (head : Head) (entry pairs at name : ℕ) (s : Spec) (next after : ℕ) → IsPair abbrevs pairs s next
     → place_after (value_at s.form s.implicit head.offset head.end entry info at) ≡ Ok after → (s.attribute == name) ≡ false
     → attribute_of (left_values info abbrevs head entry next after) name ≡ attribute_of (left_values info abbrevs head entry pairs at) name

@@ -8,13 +8,13 @@ use Rattle.std.proofs.lemmas.List.Sums.{prefix_len-le-length, prefix_len_is, pre
 use Rattle.dwarf_tree.specs.Trees.{TreeEntry, PlainTree, no_entry, entry_at, depth_at, count_below}
 use Rattle.dwarf_tree.specs.Keeping.{end_below}
 
--- the entries after one and before a position stand deeper than it
+-- the entries after one and before a position are deeper than it
 pub record AreBelow (t : PlainTree) (e end : ℕ) : Type 0 where
   pub after : e < end
   pub inside : end ≤ length t.entries
   pub deeper : (i : ℕ) → e < i → i < end → depth_at t e < depth_at t i
 
--- and the one there, if there is one, stands no deeper
+-- and the one there, if there is one, is no deeper
 abbrev pub Stops : PlainTree → ℕ → ℕ → Type 0
 Stops t e end = end < length t.entries → depth_at t end ≤ depth_at t e
 
@@ -48,7 +48,7 @@ module _ (t : PlainTree) (e : ℕ) where
       let same : end_below t e ≡ e + 1 + prefix_len is_deeper rest = omega (arith, count_is) in
       ltb-false (depth_at t e) (depth_at t (end_below t e)) (subst (λ (x : TreeEntry). is_deeper x ≡ false) (rest_at (end_below t e) (prefix_len is_deeper rest) same) stops)
 
-  -- no other position is so
+  -- no other position has this property
   pub below_ends : (end : ℕ) → AreBelow t e end → Stops t e end → end ≡ end_below t e
   below_ends end below stops =
       let count : prefix_len is_deeper rest ≡ end - (e + 1) =
@@ -62,7 +62,7 @@ module _ (t : PlainTree) (e : ℕ) where
       rw there (le-ltb (depth_at t e) (depth_at t end) (stops (omega (arith, more, length-drop (e + 1) t.entries, below.after))))) in
       omega (arith, count, count_is, below.after)
 
-  -- the entry after one begins those below it
+  -- the entries below an entry begin right after it
   pub below_start : e < length t.entries → AreBelow t e (e + 1)
   below_start inside = record { after = omega arith; inside = omega arith; deeper = λ i after before. absurd (omega arith) }
 

@@ -11,7 +11,7 @@ use Rattle.dwarf_tree.specs.Trees.{PlainTree, depth_at, count_below, children_of
 
 -- ---- numbers of a range that pass a test
 
--- what is found in a range stands in it
+-- what is found in a range is in it
 found_from : (p q : ℕ → Bool) (a n c : ℕ) → find q (filter p (range_with_len a n)) ≡ Some c → a ≤ c
 found_from p q a zero c is = absurd (none-some c is)
 found_from p q a (suc n) c is =
@@ -59,7 +59,7 @@ is_after-later : (after : Option ℕ) (a i : ℕ) → is_after after a ≡ true 
 is_after-later None a i is le = refl
 is_after-later (Some c) a i is le = lt-ltb c i (omega (arith, ltb-true c a is))
 
--- the items after a place are the first one that is, and those after it
+-- the items after a place are the first item after it, and the items after that one
 found_first : (p : ℕ → Bool) (after : Option ℕ) (a n c : ℕ) → find (is_after after) (filter p (range_with_len a n)) ≡ Some c
     → filter (is_after after) (filter p (range_with_len a n)) ≡ c ∷ filter (is_after (Some c)) (filter p (range_with_len a n))
 found_first p after a zero c is = absurd (none-some c is)
@@ -134,7 +134,7 @@ from_first t e next is = sym (from_next t e None next is) ∙ all_pass (λ i. de
 
 -- ---- the loop over the children of one tag
 
--- the children from one on that have a tag, with those that were taken before
+-- the children from one on with a tag, with the earlier ones
 abbrev pub IsTaking : PlainTree → ℕ → ℕ → List ℕ → Option ℕ → Type 0
 IsTaking t e tag list next = list ++ filter (is_tagged t tag) (from_child t e next) ≡ filter (is_tagged t tag) (children_of t e)
 
@@ -155,7 +155,7 @@ taking_more t e tag c list new next was is grown =
 pub taking_end : (t : PlainTree) (e tag : ℕ) (list : List ℕ) → IsTaking t e tag list None → list ≡ filter (is_tagged t tag) (children_of t e)
 taking_end t e tag list was = sym (append-nil list) ∙ was
 
--- a child stands before the end, and the next one behind it
+-- a child is before the end, and the next one after it
 abbrev pub children_ahead : ℕ → Option ℕ → ℕ
 children_ahead n next = option_map_or (λ child. n - child) next 0
 

@@ -84,13 +84,13 @@ child_is t e child has =
 pub child_inside : (t : PlainTree) (e : ℕ) → e < length t.entries → (child : ℕ) → Contains (children_of t e) child → child < length t.entries
 child_inside t e inside child has = let is = child_is t e child has in omega (arith, is.before, (below_is t e inside).inside)
 
--- ---- the next child by where those below an entry end
+-- ---- the next child, by the end of the entries below an entry
 
 is_early : (after : Option ℕ) (i : ℕ) → (is_after after i ≡ true → ⊥) → is_after after i ≡ false
 is_early after i not = elim (cases_Bool (is_after after i)) [ inl late ↦ absurd (not late) | inr early ↦ early ]
 
 module _ (t : PlainTree) (e : ℕ) (inside : e < length t.entries) where
-  -- none of those below an entry that stands deeper than another one is a child of that one
+  -- no entry below an entry that is deeper than another one is a child of that one
   none_between : (place i : ℕ) → e < place → place < end_below t e → IsChild t e i → place < i → end_below t place ≤ i
   none_between place i behind before is after =
       elim (cases_lt i (end_below t place)) [
@@ -121,7 +121,7 @@ module _ (t : PlainTree) (e : ℕ) (inside : e < length t.entries) where
     passed = λ i is after. absurd (omega (arith, is.before, past, ltb-true place i after));
   }
 
-  -- a place that is no child is passed over, with those below it
+  -- an entry that is no child is skipped, with the entries below it
   pub looks_on : (after : Option ℕ) (next : ℕ) → LooksFrom t e after next → next < end_below t e → depth_at t next ≢ depth_at t e + 1 → LooksFrom t e after (end_below t next)
   looks_on after next from before other = record {
     behind = omega (arith, from.behind);
@@ -139,14 +139,14 @@ module _ (t : PlainTree) (e : ℕ) (inside : e < length t.entries) where
   deep_is_child : (i : ℕ) → e + 1 ≤ i → i < end_below t e → is_child_deep t e i ≡ true → IsChild t e i
   deep_is_child i on below passes = record { after = omega arith; before = below; deep = eqb-true (depth_at t i) (depth_at t e + 1) passes }
 
-  -- what stands one deeper than the parent is the next child
+  -- an entry one deeper than the parent is the next child
   pub next_some : (after : Option ℕ) (next : ℕ) → LooksFrom t e after next → next < end_below t e → depth_at t next ≡ depth_at t e + 1 → Some next ≡ next_child_of t e after
   unfolding children_of
   next_some after next from before deep =
       sym (found (is_child_deep t e) (is_after after) (e + 1) (count_below t e) next (omega (arith, from.behind)) before (eq-eqb (depth_at t next) (depth_at t e + 1) deep) (from.later before)
       (λ i on less passes. is_early after i (λ late. omega (arith, less, from.passed i (deep_is_child i on (omega (arith, less, before)) passes) late))))
 
-  -- there is none at the end of those below the parent
+  -- there is none at the end of the entries below the parent
   pub next_none : (after : Option ℕ) (next : ℕ) → LooksFrom t e after next → end_below t e ≤ next → None ≡ next_child_of t e after
   unfolding children_of
   next_none after next from none =

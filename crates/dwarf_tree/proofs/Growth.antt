@@ -1,4 +1,4 @@
--- What was read and what is left to read, as two loops keep it: over the entries of a unit, and over the units of a section.
+-- What was read and what remains, as an invariant of two loops: over the entries of a unit, and over the units of a section.
 use Rattle.std.proofs.Common.{◌≡◌, ◌∙◌, ℕ, suc, ◌+◌, ◌<◌, ◌≤◌, ◌^◌, List, [], ◌∷◌, ◌++◌, length, map, Option, Some, None, Result, Ok, Err, zero, refl, sym, ap, arith, append_assoc, length-append}
 use Rattle.std.specs.Prelude.{flat_map}
 use Rattle.std.specs.List.{enumerate_from}
@@ -26,7 +26,7 @@ tree units entries = record { units = units; entries = entries }
 
 -- ---- the entries of a unit
 
--- what was appended, and the entries that are left, are those of the unit; and the end is the same
+-- the appended entries and the remaining ones are those of the unit; and the end is the same
 pub record AreRead (start now : PlainTree) (k : ℕ) (left whole : EntryRun) : Type 0 where
   pub units : now.units ≡ start.units
   pub entries : now.entries ++ map (placed k) left.items ≡ start.entries ++ map (placed k) whole.items
@@ -70,7 +70,7 @@ entries_in number units = flat_map placed_entries (enumerate_from number units)
 abbrev faults_of : UnitRun → Option Fault
 faults_of r = first (map (λ u. (entries_of u).end) r.items ++ r.end ∷ [])
 
--- what was read, and the units that are left, are those of the section; and the first fault is the same
+-- what was read and the remaining units are those of the section; and the first fault is the same
 pub record AreGrown (now : PlainTree) (left whole : UnitRun) : Type 0 where
   pub units : now.units ++ map head_of left.items ≡ map head_of whole.items
   pub entries : now.entries ++ entries_in (length now.units) left.items ≡ entries_in 0 whole.items

@@ -1,9 +1,9 @@
--- Entries that stand in order.
+-- Entries in order.
 use Rattle.std.proofs.Common.{ℕ, zero, suc, ◌+◌, ◌<◌, ◌≤◌, List, [], ◌∷◌, ◌++◌, length, arith}
 use Rattle.std.specs.Prelude.{slice_index_or}
 use Rattle.dwarf_tree.specs.Trees.{TreeEntry, no_entry}
 
--- An entry stands at a place or after it and before an end, no deeper than so, in a unit whose number is one of these.
+-- An entry is at a place or after it and before an end, no deeper than a bound, in a unit whose number is in a range.
 pub record IsNext (from end deepest low high : ℕ) (e : TreeEntry) : Type 0 where
   pub on : from ≤ e.offset
   pub before : e.offset < end
@@ -11,7 +11,7 @@ pub record IsNext (from end deepest low high : ℕ) (e : TreeEntry) : Type 0 whe
   pub unit : low ≤ e.unit
   pub known : e.unit < high
 
--- Entries stand so, each after the one before it, at most one deeper than it, and in no unit before its one.
+-- Entries with these bounds, each after the one before it, at most one deeper than it, and in the same unit or a later one.
 abbrev pub InOrder : ℕ → ℕ → ℕ → ℕ → ℕ → List TreeEntry → Type 0
 InOrder from end deepest low high [] = Unit {0}
 InOrder from end deepest low high (e ∷ es) = IsNext from end deepest low high e × InOrder (suc e.offset) end (suc e.depth) e.unit high es

@@ -66,7 +66,7 @@ entry_pushed attributes shapes entries shape unit e of is =
 
 -- the tables of shapes before and after an entry is stored
 module _ (abbrevs : List ℕ) (unit : ℕ) (e : Entry) (shapes : List AbbreviationLayout) (grown : LayoutTable) (entries stored : List EntryRecord) (is : IsStored abbrevs unit e shapes grown entries stored) where
-  -- entries that were stored before stay the same
+  -- earlier stored entries stay the same
   stored_stay : (attributes : Decoder) → All (λ (stored : EntryRecord). stored.shape < length shapes) entries
       → plain_entries grown.shapes attributes entries ≡ plain_entries shapes attributes entries
   stored_stay attributes inside =
@@ -114,7 +114,7 @@ module _ (abbrevs : List ℕ) (unit : ℕ) (e : Entry) (shapes : List Abbreviati
             subst (λ (l : List AbbreviationLayout). All (IsLayout abbrevs grown.slots) l) (sym new.pushed) (All-push (IsLayout abbrevs grown.slots) shapes new.shape say here)
       ]
 
-  -- each shape is of the entries of a unit that is there, the new one too
+  -- each shape belongs to a unit of the tree, the new one too
   shapes_still_there : (units : List Head) → unit < length units → All (λ (shape : AbbreviationLayout). shape.unit < length units) shapes → All (λ (shape : AbbreviationLayout). shape.unit < length units) grown.shapes
   shapes_still_there units inside there =
       elim is.shapes_are [
@@ -123,7 +123,7 @@ module _ (abbrevs : List ℕ) (unit : ℕ) (e : Entry) (shapes : List Abbreviati
             (All-push (λ (shape : AbbreviationLayout). shape.unit < length units) shapes new.shape there (omega (arith, inside, new.of.unit_is)))
       ]
 
-  -- an entry that was stored has its place as those before it have
+  -- a stored entry has its place, as the earlier ones have
   pub lie_stored : (info : List ℕ) (units : List Head) → LieInside info abbrevs units shapes grown.slots entries → unit < length units → pair_names abbrevs e.specs_from ≡ names_in e.attributes
       → LieInside info abbrevs units grown.shapes grown.slots stored
   lie_stored info units lie inside names =
@@ -137,7 +137,7 @@ module _ (abbrevs : List ℕ) (unit : ℕ) (e : Entry) (shapes : List Abbreviati
         ends_inside = lie.ends_inside;
       }
 
--- ---- the values of an entry are those that its bytes hold
+-- ---- the values of an entry are those in its bytes
 
 values_same : (u : PlainUnit) (entry : ℕ) (specs : List Spec) (at : ℕ) (r : Attributes × ℕ) → values_at u entry specs at ≡ Ok r → values_from u.info (head_of u) entry specs at ≡ r.0
 unfolding values_at values_from

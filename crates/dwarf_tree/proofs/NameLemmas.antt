@@ -68,7 +68,7 @@ names_more names specs k name here so_far i d lt inside =
 pub names_end : (names : ℕ) (specs : List Spec) (k : ℕ) → length specs ≤ k → FirstNames names specs k → HaveNames names (map (λ (s : Spec). s.attribute) specs)
 names_end names specs k le so_far = All-map (HasName names) (λ (s : Spec). s.attribute) specs (λ i d lt. so_far i d (omega arith) lt)
 
--- an attribute whose bit is not set is not there
+-- an entry does not have an attribute whose bit is not set
 pub not_there : (names : ℕ) (attributes : Attributes) (name : ℕ) → HaveNames names (names_in attributes) → (names / 2 ^ bit_of name % 2 == 1) ≡ false → attribute_of attributes name ≡ None
 not_there names [] name have none = refl
 not_there names (a ∷ others) name have none =
@@ -81,9 +81,9 @@ not_there names (a ∷ others) name have none =
           rw apart rest
     ]
 
--- ---- of an entry that is kept
+-- ---- of an entry in the tree
 
--- values that are read are of the first of the pairs
+-- values that are read belong to the first pairs
 names_first : (names : ℕ) (info : List ℕ) (head : Head) (entry : ℕ) (specs : List Spec) (at : ℕ) → HaveNames names (map (λ (s : Spec). s.attribute) specs)
     → HaveNames names (names_in (values_from info head entry specs at))
 unfolding values_from

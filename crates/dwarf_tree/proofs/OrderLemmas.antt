@@ -1,4 +1,4 @@
--- The order of a tree, in the lists that keep it.
+-- The order of a tree, in the lists of the code.
 use Rattle.std.proofs.Common.{◌≡◌, ◌∙◌, ℕ, ◌<◌, List, length, get_or, Option, Some, ap, subst, arith}
 use Rattle.std.specs.Prelude.{IsSome, position, ◌==◌}
 use Rattle.std.proofs.lemmas.List.{get_or-map, length-map}
@@ -29,7 +29,7 @@ module _ (units : List Head) (shapes : List AbbreviationLayout) (attributes : De
       let there : (get_or (plain_entries shapes attributes entries) j no_entry).unit ≡ unit_in shapes (get_or entries j d) = ap (λ (e : TreeEntry). e.unit) (same_entry j d inside) in
       omega (arith, here, there, order.units i j before (omega (arith, same_count)))
 
-  -- the root of a unit, among the entries that are kept
+  -- the root of a unit, among the entries of the tree
   root_kept : (unit : ℕ) → root_of (kept_tree units shapes attributes entries) unit ≡ position (λ stored. unit_in shapes stored == unit) entries
   unfolding root_of
   root_kept unit = position-map (λ e. e.unit == unit) (plain_stored shapes attributes) entries

@@ -1,4 +1,4 @@
--- Children by where they stand, and that each entry has one parent.
+-- Children by depth and position, and that each entry has one parent.
 use Rattle.std.proofs.Common.{◌≡◌, ℕ, zero, suc, ◌+◌, ◌<◌, ◌≤◌, List, length, None, sym, ap, arith, inl, inr}
 use Rattle.std.specs.Prelude.{◌↔◌, ◌==◌, Contains}
 use Rattle.std.proofs.lemmas.Bool.{cases_lt, cases_order, eq-eqb}
@@ -23,7 +23,7 @@ module _ (t : PlainTree) where
         between = λ k after before. below.deeper k after (omega (arith, before, is.before));
       }
 
-  -- one that stands so is not behind the end of those below
+  -- such an entry is not after the end of the entries below
   before_end : (e i : ℕ) → e < length t.entries → StandsBelow t e i → i < end_below t e
   before_end e i inside stands =
       elim (cases_lt i (end_below t e)) [
@@ -44,7 +44,7 @@ module _ (t : PlainTree) where
       filtered_there (λ n. depth_at t n == depth_at t e + 1) (e + 1) (count_below t e) i (omega (arith, stands.after)) (before_end e i inside stands)
       (eq-eqb (depth_at t i) (depth_at t e + 1) stands.deep)
 
-  -- the last entry before one that stands less deep
+  -- the last earlier entry that is less deep
   parent_before : (i j : ℕ) → ((k : ℕ) → depth_at t (k + 1) ≤ depth_at t k + 1) → depth_at t 0 ≡ 0 → i < length t.entries → 0 < depth_at t i → j ≤ i → ((k : ℕ) → j ≤ k → k < i → depth_at t i ≤ depth_at t k)
       → (e : ℕ) × StandsBelow t e i
   parent_before i zero grows first inside deep le all =

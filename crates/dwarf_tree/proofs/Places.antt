@@ -19,7 +19,7 @@ position-map p f xs =
     ap (λ (n : ℕ). cond (nat_lt n (length (map f xs))) (Some n) None) e
     ∙ ap (λ (n : ℕ). cond (nat_lt (position_or_len (λ x. p (f x)) xs) n) (Some (position_or_len (λ x. p (f x)) xs)) None) (length-map xs f)
 
--- an entry is found where it is kept
+-- an entry is found at its place
 pub found_kept : (units : List Head) (shapes : List AbbreviationLayout) (attributes : Decoder) (entries : List EntryRecord) (offset : ℕ)
     → entry_of (record { units = units; entries = plain_entries shapes attributes entries }) offset ≡ position (λ stored. stored.offset == offset) entries
 unfolding entry_of

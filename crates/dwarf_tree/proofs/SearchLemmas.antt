@@ -51,7 +51,7 @@ module _ (entries : List EntryRecord) (offset : ℕ) (ascend : Ascend entries) w
       (λ j before. ne_eqb (get_or entries j no_stored).offset offset (λ same. absurd (omega (arith, ascend j k no_stored before inside, here, same))))
       (eq-eqb (get_or entries k no_stored).offset offset here)
 
-  -- none begins there where the places between which it would stand are none
+  -- no entry begins at the offset where no place is left for it
   pub offset_missed : (from to : ℕ) → StandsBetween entries offset from to → to ≤ from → position begins entries ≡ None
   offset_missed from to between none =
       position_none begins entries no_stored (λ k inside.
@@ -68,7 +68,7 @@ module _ (entries : List EntryRecord) (offset : ℕ) (ascend : Ascend entries) w
       let here_too : (get_or entries k d).offset < offset = subst (λ (x : EntryRecord). x.offset < offset) (sym at) here in
       omega (arith, rises j k d there inside, here_too)
 
-  -- all from an entry on that begins behind the offset begin behind it
+  -- all from an entry on that begins after the offset begin after it
   pub behind_from : (k : ℕ) (e : EntryRecord) → k < length entries → offset < (get_or entries k e).offset → BeginBehind entries offset k
   behind_from k e inside here j d past j_inside =
       let at : get_or entries k d ≡ get_or entries k e = get_or_default entries k d e inside in

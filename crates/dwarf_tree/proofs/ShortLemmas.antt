@@ -1,4 +1,4 @@
--- The values that a number of four bytes spells.
+-- The values that a number of four bytes encodes.
 use Rattle.std.proofs.Common.{◌≡◌, ◌≢◌, ◌∙◌, ◌+◌, ◌≤◌, ◌%◌, ◌^◌, ℕ, List, Option, Some, None, length, arith, refl, sym, ap, inl, inr}
 use Rattle.std.specs.Prelude.{IfSome, nat_le, pos, take}
 use Rattle.std.proofs.lemmas.Bool.{cases_Bool, leb-true}
@@ -18,7 +18,7 @@ use Rattle.dwarf_tree.specs.declared.entry_records.EntryRecord.{EntryRecord}
 use Rattle.dwarf_tree.specs.Keeping.{IsAsked, IsLayout, IsSlotFor, SpellsNumber, shaped, value_read, values_of}
 use Rattle.dwarf_tree.proofs.SlotLemmas.{slot_value}
 
--- a number that is read lies inside the bytes
+-- a number that is read is inside the bytes
 number_inside : (size : ℕ) (bytes : List ℕ) (at n : ℕ) → number_at size bytes at ≡ Some n → at + size ≤ length bytes
 number_inside size bytes at n is =
     elim (cases_Bool (nat_le (at + size) (length bytes))) [
@@ -26,7 +26,7 @@ number_inside size bytes at n is =
       | inr outside ↦ absurd (let none = rw outside at is in none-some n none)
     ]
 
--- where the form of a slot is known, the number at its place spells the value
+-- where the form of a slot is known, the number at its place encodes the value
 pub spelled_short : (info abbrevs : List ℕ) (slots : List Slot) (head : Head) (shape : AbbreviationLayout) (stored : EntryRecord) (name code after : ℕ) (slot : Slot)
     → head.end ≤ length info → IsLayout abbrevs slots shape → IsSlotFor slots shape.slots_from shape.slots_to name slot → IsAsked name
     → (form : ℕ) → slot.form ≡ form → form ≢ 0

@@ -1,4 +1,4 @@
--- Where slots lead, and how they are made.
+-- The values of slots, and how slots are made.
 use Rattle.std.proofs.Common.{◌≡◌, ◌≢◌, ◌∙◌, ◌+◌, ◌-◌, ℕ, ◌≤◌, List, [], ◌∷◌, ◌++◌, length, get_or, Option, Some, None, Ok, refl, sym, ap, subst, arith, inl, inr}
 use Rattle.std.specs.Prelude.{ℤ, pos, take, nat_le}
 use Rattle.std.proofs.lemmas.Bool.{cases_Bool, cases_lt, eq-eqb, leb-true}
@@ -29,7 +29,7 @@ extends_push slots others slot more = record {
   same = λ k d lt. get_or_append_left others (slot ∷ []) d k (omega (arith, lt, more.longer)) ∙ more.same k d lt;
 }
 
--- what holds of the attributes of slots holds where others come behind them
+-- what holds of the attributes of slots holds where others are appended
 none_still : (slots others : List Slot) (from to name : ℕ) → Extends slots others → to ≤ length slots → NoneBefore others from to name → NoneBefore slots from to name
 none_still slots others from to name more inside none k d after before =
     subst (λ (slot : Slot). slot.attribute ≢ name) (more.same k d (omega (arith, before, inside))) (none k d after before)
@@ -62,7 +62,7 @@ lie_extended info abbrevs units shapes slots others entries more lie = record {
   ends_inside = lie.ends_inside;
 }
 
--- ---- where values of a size end
+-- ---- where values of a fixed size end
 
 -- the size of the values, where one of them ends before a limit
 pub record EndsBefore (size : Option ℕ) (limit at after : ℕ) : Type 0 where
@@ -79,7 +79,7 @@ ends_before (Some size) limit at after h =
       | inr isnt ↦ absurd (let none = rw isnt at h in none-some after none)
     ]
 
--- ---- the loop that passes over pairs that nobody asks for
+-- ---- the loop that skips pairs without a slot
 
 pub passed_self : (abbrevs : List ℕ) (pairs : ℕ) → PassSame abbrevs pairs pairs
 passed_self abbrevs pairs unit_end name at asked info head entry same fits = refl

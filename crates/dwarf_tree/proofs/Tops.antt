@@ -1,4 +1,4 @@
--- The entries that stand below none are the first ones of their units.
+-- The entries of depth 0 are the first ones of their units.
 use Rattle.std.proofs.Common.{◌≡◌, ◌≢◌, ◌∙◌, ℕ, zero, suc, ◌+◌, ◌<◌, ◌≤◌, Bool, true, false, List, [], ◌∷◌, ◌++◌, length, map, get_or, Option, Some, None, refl, sym, ap, subst, arith, inl, inr}
 use Rattle.std.specs.Prelude.{◌↔◌, ◌==◌, nat_lt, slice_index_or}
 use Rattle.std.specs.List.{filter_map, position_or_len}
@@ -13,14 +13,14 @@ use Rattle.dwarf_tree.specs.Trees.{TreeEntry, PlainTree, no_entry, entry_at, dep
 use Rattle.dwarf_tree.proofs.Growth.{entries_in}
 use Rattle.dwarf_tree.proofs.UnitLaws.{UnitLaws}
 
--- Each entry of a list stands below none exactly where it is not of the unit of the entry before it.
+-- Each entry of a list has depth 0 exactly when it is not of the unit of the entry before it.
 abbrev pub AreTopped : Option ℕ → List TreeEntry → Type 0
 AreTopped before [] = Unit {0}
 AreTopped before (e ∷ es) = ((e.depth ≡ 0) ↔ (before ≢ Some e.unit)) × AreTopped (Some e.unit) es
 
 -- ---- the entries of a unit
 
--- an entry that stands in a list is deeper than the root
+-- an entry in a list is deeper than the root
 some_depth : (lists : Option ℕ) → lists ≢ None → lists ≢ Some 0 → open_lists lists ≢ 0
 some_depth None begun in_list = absurd (begun refl)
 some_depth (Some zero) begun in_list = absurd (in_list refl)

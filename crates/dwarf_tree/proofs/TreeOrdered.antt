@@ -116,7 +116,7 @@ ordered laws units end is few well =
       types = λ k s signed. position-any (begins_at (head_at units k).type_entry) entries (has_type laws units 0 k s well signed);
     }
 
--- there are no more entries than bytes
+-- there are at most as many entries as bytes
 pub tree_few : (laws : UnitLaws) (info abbrevs : List ℕ) → length (tree_of info abbrevs).entries ≤ length info
 unfolding tree_of
 tree_few laws info abbrevs =
@@ -132,7 +132,7 @@ tree_ordered laws info abbrevs small none =
     ordered laws (units_of info abbrevs).items (length info) (units_in_order laws info abbrevs) (omega (arith, few, small))
     (all_well (units_of info abbrevs).items (units_of info abbrevs).end none)
 
--- each entry stands at most one deeper than the one before it, and the first one is a root
+-- each entry is at most one deeper than the one before it, and the first one is a root
 pub tree_grows : (laws : UnitLaws) (info abbrevs : List ℕ) (i : ℕ) → depth_at (tree_of info abbrevs) (i + 1) ≤ depth_at (tree_of info abbrevs) i + 1
 unfolding tree_of
 tree_grows laws info abbrevs i =

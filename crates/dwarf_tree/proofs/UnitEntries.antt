@@ -1,4 +1,4 @@
--- The entries of a unit stand in order.
+-- The entries of a unit are in order.
 use Rattle.std.proofs.Common.{ℕ, suc, ◌≤◌, Bool, true, false, List, [], ◌∷◌, map, Option, Some, None, sym, ap, subst, arith}
 use Rattle.std.specs.List.{filter_map}
 use Rattle.abi_base.specs.declared.fault.Fault.{Fault}
@@ -14,7 +14,7 @@ opened-le : (children : Bool) (n : ℕ) → opened children n ≤ suc n
 opened-le true n = omega arith
 opened-le false n = omega arith
 
--- what an entry opens is at most one list more than it stands in
+-- an entry opens at most one list
 few_lists : (u : PlainUnit) (s : State) (e : Entry) (next : State) → TokenStands u s (Some e) next → open_lists next.1 ≤ suc e.depth
 few_lists u s e next t = omega (arith, ap open_lists t.is.lists, opened-le t.is.children (open_lists s.1), t.is.depth)
 
@@ -36,7 +36,7 @@ module _ (laws : UnitLaws) (u : PlainUnit) (k : ℕ) where
       } in
       (here, tokens_in_order xs (suc e.offset) (suc e.depth) next end others (omega (arith, t.is.offset, t.on)) (few_lists u s e next t))
 
-  -- the entries of a unit stand between its root and its end
+  -- the entries of a unit are between its root and its end
   pub unit_in_order : (from : ℕ) → from ≤ root_of u → InOrder from u.end 0 k (suc k) (map (placed k) (entries_of u).items)
   unit_in_order from on =
       subst (λ (es : List Entry). InOrder from u.end 0 k (suc k) (map (placed k) es)) (sym (laws.entries u))

@@ -1,5 +1,5 @@
--- How a tree is kept: beside each entry where its attributes stand in `.debug_abbrev`, and no value. The values are those that
--- the bytes hold. Beside each entry stands where those below it end, and beside each unit its root.
+-- How a tree is kept: for each entry the place of its attributes in `.debug_abbrev`, and no value. The values are those in the
+-- bytes. It keeps for each entry where the entries below it end, and for each unit its root.
 use Rattle.std.specs.Prelude.{◌≡◌, ◌≢◌, ◌<◌, ◌≤◌, ◌+◌, ◌^◌, ◌%◌, ◌/◌, ◌⊎◌, ◌==◌, find, option_map, unwrap_or, ℕ, true, All, AllPairs, List, [], ◌∷◌, ◌++◌, length, take, map, slice_index, slice_index_or, Some, None, Option, Result, Ok, Err, pos}
 use Rattle.abi_base.specs.declared.fault.Fault.{Fault}
 use Rattle.abi_base.specs.Dwarf.{dw_at_location, dw_at_name, dw_at_byte_size, dw_at_bit_offset, dw_at_bit_size, dw_at_low_pc, dw_at_language, dw_at_const_value, dw_at_upper_bound, dw_at_abstract_origin, dw_at_count, dw_at_data_member_location, dw_at_declaration, dw_at_encoding, dw_at_specification, dw_at_type, dw_at_entry_pc, dw_at_ranges, dw_at_signature, dw_at_data_bit_offset, dw_at_str_offsets_base, dw_at_addr_base, dw_at_rnglists_base, dw_at_alignment, dw_at_gnu_vector}
@@ -22,7 +22,7 @@ use Rattle.dwarf_tree.specs.Trees.{TreeEntry, PlainTree, head_of, no_head, place
 abbrev pub Attributes : Type 0
 Attributes = List (ℕ × Value)
 
--- ---- the values of an entry, up to the first that cannot be read
+-- ---- the values of an entry, up to the first that has a fault
 
 abbrev pub value_before : ℕ → Result (Value × ℕ) Fault → (ℕ → Attributes) → Attributes
 value_before name (Ok v) others = (name, v.0) ∷ others v.1
@@ -33,7 +33,7 @@ values_from info head entry [] at = []
 values_from info head entry (s ∷ specs) at =
     value_before s.attribute (value_at s.form s.implicit head.offset head.end entry info at) (values_from info head entry specs)
 
--- the values that are left, from a place in `.debug_abbrev` and a place in `.debug_info` on
+-- the remaining values, from a place in `.debug_abbrev` and a place in `.debug_info` on
 abbrev pub left_values : List ℕ → List ℕ → Head → ℕ → ℕ → ℕ → Attributes
 left_values info abbrevs head entry pairs at = values_from info head entry (specs_run abbrevs pairs).items at
 
@@ -44,32 +44,32 @@ FindSame abbrevs unit_end name from other =
     (info : List ℕ) (head : Head) (entry : ℕ) → head.end ≡ unit_end → unit_end ≤ length info
     → attribute_of (left_values info abbrevs head entry from.0 from.1) name ≡ attribute_of (left_values info abbrevs head entry other.0 other.1) name
 
--- the value that was read, where it could be
+-- the value that was read, where it has no fault
 abbrev pub value_read : Result (Value × ℕ) Fault → Option Value
 value_read (Ok v) = Some v.0
 value_read (Err f) = None
 
--- the values behind a code
+-- the values after a code
 abbrev pub behind : Option (ℕ × ℕ) → (ℕ → Attributes) → Attributes
 behind None values = []
 behind (Some code) values = values code.1
 
--- the values of an entry that is kept
+-- the values of an entry in the tree
 unfoldable pub values_of : List ℕ → List ℕ → Head → EntryHead → Attributes
 values_of info abbrevs head kept = behind (uleb_at (take head.end info) kept.offset) (left_values info abbrevs head kept.offset kept.specs_from)
 
--- a number of four bytes spells the first value of an attribute of an entry that is kept, in a form
+-- a number of four bytes encodes the first value of an attribute of an entry, in a form
 pub record SpellsNumber (info abbrevs : List ℕ) (head : Head) (kept : EntryHead) (name form n : ℕ) : Type 0 where
   pub place : ℕ
   pub number : number_at 4 (take head.end info) place ≡ Some n
   pub value : value_read (value_at form (pos 0) head.offset head.end kept.offset info place) ≡ attribute_of (values_of info abbrevs head kept) name
 
--- ---- the tree that is kept
+-- ---- the tree
 
 abbrev pub Decoder : Type 0
 Decoder = EntryHead → Attributes
 
--- the attributes of an entry of these units, by the bytes
+-- the attributes of an entry of these units, read from the bytes
 abbrev pub decoder : List ℕ → List ℕ → List Head → Decoder
 decoder info abbrevs units kept = values_of info abbrevs (slice_index_or units kept.unit no_head) kept
 
@@ -87,11 +87,11 @@ plain_entry attributes kept = record {
 abbrev pub no_shape : AbbreviationLayout
 no_shape = record { tag = 0; names = 0; specs_from = 0; slots_from = 0; slots_to = 0; unit = 0 }
 
--- the shape of a number, and one of nothing past the end
+-- the shape of a number, and an empty one past the end
 abbrev pub shape_at : List AbbreviationLayout → ℕ → AbbreviationLayout
 shape_at shapes number = slice_index_or shapes number no_shape
 
--- an entry that is stored, with what a shape says
+-- a stored entry, with what a shape says
 abbrev pub shaped : AbbreviationLayout → EntryRecord → EntryHead
 shaped shape stored = record {
   tag = shape.tag;
@@ -102,15 +102,15 @@ shaped shape stored = record {
   names = shape.names;
 }
 
--- an entry that is stored, with what its own shape says
+-- a stored entry, with what its own shape says
 abbrev pub kept_by : List AbbreviationLayout → EntryRecord → EntryHead
 kept_by shapes stored = shaped (shape_at shapes stored.shape) stored
 
--- the first value of an attribute of an entry that is stored
+-- the first value of an attribute of a stored entry
 abbrev pub asked_value : AttributeSource → ℕ → Option Value
 asked_value asked name = attribute_of (values_of asked.info.now asked.abbrevs.now asked.head.now (shaped asked.shape.now asked.stored)) name
 
--- the number of the unit in which an entry that is stored stands
+-- the number of the unit of a stored entry
 abbrev pub unit_in : List AbbreviationLayout → EntryRecord → ℕ
 unit_in shapes stored = (shape_at shapes stored.shape).unit
 
@@ -123,7 +123,7 @@ plain_entries shapes attributes stored = map (plain_stored shapes attributes) st
 abbrev pub kept_tree : List Head → List AbbreviationLayout → Decoder → List EntryRecord → PlainTree
 kept_tree units shapes attributes entries = record { units = units; entries = plain_entries shapes attributes entries }
 
--- a tree that is being read, and the bytes that it is read from
+-- a tree during reading, and the bytes that it is read from
 pub record PartialTree : Type 0 where
   pub info : List ℕ
   pub abbrevs : List ℕ
@@ -136,7 +136,7 @@ partial_tree info abbrevs units shapes entries = record { info = info; abbrevs =
 abbrev pub now_with : PartialTree → List Head → List TreeEntry → PartialTree
 now_with g units entries = record { info = g.info; abbrevs = g.abbrevs; tree = record { units = units; entries = entries } }
 
--- the attributes that are asked of entries, each with a bit of its own
+-- the attributes that readers of entries use, each with a bit of its own
 unfoldable pub own_bits : List (ℕ × ℕ)
 own_bits =
     (dw_at_location, 0)
@@ -166,7 +166,7 @@ own_bits =
     ∷ (dw_at_gnu_vector, 24)
     ∷ []
 
--- the bit of an attribute: all that are not asked share one
+-- the bit of an attribute: all that readers do not use share one
 unfoldable pub bit_of : ℕ → ℕ
 bit_of name = unwrap_or (option_map (λ row. row.1) (find (λ row. row.0 == name) own_bits)) 63
 
@@ -174,7 +174,7 @@ bit_of name = unwrap_or (option_map (λ row. row.1) (find (λ row. row.0 == name
 abbrev pub HasName : ℕ → ℕ → Type 0
 HasName names name = names / 2 ^ bit_of name % 2 ≡ 1
 
--- an attribute is one that is asked of entries
+-- readers of entries use an attribute
 abbrev pub IsAsked : ℕ → Type 0
 IsAsked name = bit_of name ≢ 63
 
@@ -182,7 +182,7 @@ IsAsked name = bit_of name ≢ 63
 abbrev pub HaveNames : ℕ → List ℕ → Type 0
 HaveNames names attributes = All (HasName names) attributes
 
--- the attributes that values are of
+-- the attributes of values
 abbrev pub names_in : Attributes → List ℕ
 names_in attributes = map (λ a. a.0) attributes
 
@@ -190,16 +190,15 @@ names_in attributes = map (λ a. a.0) attributes
 abbrev pub pair_names : List ℕ → ℕ → List ℕ
 pair_names abbrevs from = map (λ (s : Spec). s.attribute) (specs_run abbrevs from).items
 
--- ---- where values stand
+-- ---- where values are
 
--- The value that a slot tells of is the first one of its attribute, among those of the pairs from a place on, in each unit in which
--- it begins.
+-- The value of a slot is the first one of its attribute, among those of the pairs from a place on, in each unit in which it begins.
 abbrev pub SlotLeadsTo : List ℕ → ℕ → Slot → Type 0
 SlotLeadsTo abbrevs specs_from slot =
     (info : List ℕ) (head : Head) (entry at : ℕ) → head.end ≤ length info → at + slot.from ≤ head.end
     → value_read (value_at slot.form (pos 0) head.offset head.end entry info (at + slot.from)) ≡ attribute_of (left_values info abbrevs head entry specs_from at) slot.attribute
 
--- a slot is that of a pair whose value stands so many bytes behind the code; it tells the form where no number stands behind it
+-- a slot is that of a pair whose value is some bytes after the code; it has the form where no constant follows the form
 pub record IsSlotOf (s : Spec) (bytes : ℕ) (slot : Slot) : Type 0 where
   pub attribute : slot.attribute ≡ s.attribute
   pub from : slot.from ≡ bytes
@@ -209,7 +208,8 @@ pub record IsSlotOf (s : Spec) (bytes : ℕ) (slot : Slot) : Type 0 where
 abbrev pub NoneBefore : List Slot → ℕ → ℕ → ℕ → Type 0
 NoneBefore slots from to name = (k : ℕ) (d : Slot) → from ≤ k → k < to → (slice_index_or slots k d).attribute ≢ name
 
--- the slots from one place on and before another lead to values, each where it tells a form and is the first of an attribute that is asked
+-- the slots from one place on and before another have their values, each where it has a form and is the first of an attribute that
+-- readers use
 abbrev pub AreSlots : List ℕ → ℕ → List Slot → ℕ → ℕ → Type 0
 AreSlots abbrevs specs_from slots from to =
     (k : ℕ) (d : Slot) → from ≤ k → k < to → (slice_index_or slots k d).form ≢ 0 → IsAsked (slice_index_or slots k d).attribute → NoneBefore slots from k (slice_index_or slots k d).attribute → SlotLeadsTo abbrevs specs_from (slice_index_or slots k d)
@@ -223,22 +223,22 @@ pub record IsSlotFor (slots : List Slot) (from to name : ℕ) (slot : Slot) : Ty
   pub named : slot.attribute ≡ name
   pub first : NoneBefore slots from place name
 
--- slots with others behind them
+-- slots with others after them
 pub record Extends (slots others : List Slot) : Type 0 where
   pub longer : length slots ≤ length others
   pub same : (k : ℕ) (d : Slot) → k < length slots → slice_index_or others k d ≡ slice_index_or slots k d
 
--- the value of an attribute that is asked is found from one place of pairs on as from another
+-- the value of an attribute that readers use is found from one place of pairs on as from another
 abbrev pub PassSame : List ℕ → ℕ → ℕ → Type 0
 PassSame abbrevs next pairs = (unit_end name at : ℕ) → IsAsked name → FindSame abbrevs unit_end name (next, at) (pairs, at)
 
--- From a place of pairs on, and so many bytes behind a code, the value of an attribute that is asked is found as from the first pair
--- on, where the slots are of other attributes: those from a place on.
+-- From a place of pairs on, and some bytes after a code, the value of an attribute that readers use is found as from the first pair
+-- on, where the slots from a place on are of other attributes.
 abbrev pub Passed : List ℕ → ℕ → List Slot → ℕ → ℕ → ℕ → Type 0
 Passed abbrevs specs_from slots first pairs from =
     (unit_end name at : ℕ) → at + from ≤ unit_end → IsAsked name → NoneBefore slots first (length slots) name → FindSame abbrevs unit_end name (pairs, at + from) (specs_from, at)
 
--- what a shape says of the pairs of its abbreviation is so
+-- what a shape says of the pairs of its abbreviation holds
 pub record IsLayout (abbrevs : List ℕ) (slots : List Slot) (shape : AbbreviationLayout) : Type 0 where
   pub names : HaveNames shape.names (pair_names abbrevs shape.specs_from)
   pub slots_there : shape.slots_to ≤ length slots
@@ -249,8 +249,8 @@ pub record LayoutTable : Type 0 where
   pub shapes : List AbbreviationLayout
   pub slots : List Slot
 
--- each shape is of the entries of a unit that is there, and each unit stands in the section; each entry has a shape, and there are
--- no more shapes than entries
+-- each shape belongs to a unit of the tree, and each unit is inside the section; each entry has a shape, and there are at most as
+-- many shapes as entries
 pub record LieInside (info abbrevs : List ℕ) (units : List Head) (shapes : List AbbreviationLayout) (slots : List Slot) (entries : List EntryRecord) : Type 0 where
   pub units_there : All (λ (shape : AbbreviationLayout). shape.unit < length units) shapes
   pub shapes_there : All (λ (stored : EntryRecord). stored.shape < length shapes) entries
@@ -258,21 +258,21 @@ pub record LieInside (info abbrevs : List ℕ) (units : List Head) (shapes : Lis
   pub shapes_say : All (IsLayout abbrevs slots) shapes
   pub ends_inside : All (λ (head : Head). head.end ≤ length info) units
 
--- what is kept of an entry of a unit, which has a number
+-- the entry of the tree for an entry of the unit of a number
 abbrev pub kept_of : ℕ → ℕ → Entry → EntryHead
 kept_of names unit e = record { tag = e.tag; offset = e.offset; specs_from = e.specs_from; depth = e.depth; unit = unit; names = names }
 
--- what is stored of an entry, where its shape has a number
+-- the record of an entry, where its shape has a number
 abbrev pub stored_of : ℕ → Entry → EntryRecord
 stored_of shape e = record { offset = e.offset; shape = shape; depth = e.depth }
 
--- a shape says of an entry of a unit what its abbreviation does
+-- a shape says of an entry of a unit what its abbreviation says
 pub record IsLayoutOf (shape : AbbreviationLayout) (unit : ℕ) (e : Entry) : Type 0 where
   pub tag : shape.tag ≡ e.tag
   pub place : shape.specs_from ≡ e.specs_from
   pub unit_is : shape.unit ≡ unit
 
--- the last shape of a table is new, and that of an entry of a unit, with the names of the entry's attributes
+-- the last shape of a table is new, and belongs to an entry of a unit, with the names of the entry's attributes
 pub record IsNewLayout (abbrevs : List ℕ) (shapes : List AbbreviationLayout) (unit : ℕ) (e : Entry) (grown : LayoutTable) : Type 0 where
   pub shape : AbbreviationLayout
   pub of : IsLayoutOf shape unit e
@@ -281,8 +281,8 @@ pub record IsNewLayout (abbrevs : List ℕ) (shapes : List AbbreviationLayout) (
   pub slots_lead : AreSlots abbrevs shape.specs_from grown.slots shape.slots_from shape.slots_to
   pub pushed : grown.shapes ≡ shapes ++ shape ∷ []
 
--- The last of the entries is one of a unit, and has a shape. There are no other shapes than before, or only the one of the entry
--- is new.
+-- The last of the entries belongs to a unit, and has a shape. There are no other shapes than before, or only that of the entry is
+-- new.
 pub record IsStored (abbrevs : List ℕ) (unit : ℕ) (e : Entry) (shapes : List AbbreviationLayout) (grown : LayoutTable) (entries stored : List EntryRecord) : Type 0 where
   pub shape : ℕ
   pub there : shape < length grown.shapes
@@ -304,32 +304,32 @@ Ascend = AllPairs (λ (a b : EntryRecord). a.offset < b.offset)
 abbrev pub BeginBefore : List EntryRecord → ℕ → ℕ → Type 0
 BeginBefore entries offset place = (k : ℕ) (d : EntryRecord) → k < place → (slice_index_or entries k d).offset < offset
 
--- all entries from a place on begin behind an offset
+-- all entries from a place on begin after an offset
 abbrev pub BeginBehind : List EntryRecord → ℕ → ℕ → Type 0
 BeginBehind entries offset place = (k : ℕ) (d : EntryRecord) → place ≤ k → k < length entries → offset < (slice_index_or entries k d).offset
 
--- the entry that begins at an offset, if there is one, stands at a place or later, and before another one
+-- the entry that begins at an offset, if there is one, is at a place or later, and before another one
 pub record StandsBetween (entries : List EntryRecord) (offset from to : ℕ) : Type 0 where
   pub before : BeginBefore entries offset from
   pub behind : BeginBehind entries offset to
 
--- each entry stands in the unit of those before it or in a later one, as their shapes say
+-- each entry is in the unit of the one before it or in a later one, as their shapes say
 abbrev pub UnitsRise : List AbbreviationLayout → List EntryRecord → Type 0
 UnitsRise shapes = AllPairs (λ (a b : EntryRecord). unit_in shapes a ≤ unit_in shapes b)
 
--- ---- what is kept beside entries and units
+-- ---- the ends and the roots
 
--- where the entries below an entry end: the position of the next entry that stands no deeper, or the end of the list
+-- where the entries below an entry end: the position of the next entry that is no deeper, or the end of the list
 abbrev pub end_below : PlainTree → ℕ → ℕ
 end_below t e = e + 1 + count_below t e
 
--- a child stands below its parent, one deeper
+-- a child is below its parent, one deeper
 pub record IsChild (t : PlainTree) (e i : ℕ) : Type 0 where
   pub after : e < i
   pub before : i < end_below t e
   pub deep : depth_at t i ≡ depth_at t e + 1
 
--- No child that comes after one position stands before another one, which is a place behind the parent.
+-- No child after one position is before another one, which is a place after the parent.
 pub record LooksFrom (t : PlainTree) (e : ℕ) (after : Option ℕ) (next : ℕ) : Type 0 where
   pub behind : e < next
   pub later : next < end_below t e → is_after after next ≡ true
@@ -351,7 +351,7 @@ pub record AreRoots (t : PlainTree) (roots : List ℕ) : Type 0 where
   pub count : length roots ≡ length t.units
   pub each : RootsFirst t roots
 
--- what a tree keeps is a tree in order, with its ends and roots
+-- the code's lists are a tree in order, with its ends and roots
 pub record IsKept (info abbrevs : List ℕ) (units : List Head) (shapes : List AbbreviationLayout) (slots : List Slot) (entries : List EntryRecord) (ends roots : List ℕ) : Type 0 where
   pub inside : LieInside info abbrevs units shapes slots entries
   pub ordered : IsOrdered (kept_tree units shapes (decoder info abbrevs units) entries)

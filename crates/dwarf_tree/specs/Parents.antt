@@ -1,8 +1,8 @@
--- How children and parents stand to one another, without a count of entries.
+-- The relation of children and parents, without counting entries.
 use Rattle.std.specs.Prelude.{◌≡◌, ◌<◌, ◌+◌, ℕ, length, Contains}
 use Rattle.dwarf_tree.specs.Trees.{PlainTree, depth_at, children_of}
 
--- An entry stands behind another one and one deeper, and all entries between them stand deeper than that one.
+-- An entry is after another one and one deeper, and all entries between them are deeper than that one.
 pub record StandsBelow (t : PlainTree) (e i : ℕ) : Type 0 where
   pub after : e < i
   pub inside : i < length t.entries

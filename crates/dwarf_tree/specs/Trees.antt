@@ -1,5 +1,5 @@
--- The entries of all units of `.debug_info` as one list in order of offset, and how they stand below one another (DWARF 5,
--- section 2.3 "Relationship of Debugging Information Entries").
+-- The entries of all units of `.debug_info` as one list in order of offset, and which entries are below which (DWARF 5, section 2.3
+-- "Relationship of Debugging Information Entries").
 use Rattle.std.specs.Prelude.{◌≡◌, ◌↔◌, ◌<◌, ◌≤◌, ◌+◌, ◌^◌, ◌==◌, nat_lt, ℕ, Bool, true, List, [], ◌∷◌, length, map, flat_map, filter, find, position, drop, slice_index_or, Option, Some, None, IsSome}
 use Rattle.std.specs.List.{range_with_len, enumerate_from, take_while}
 use Rattle.dwarf_forms.specs.declared.values.Value.{Value}
@@ -8,7 +8,7 @@ use Rattle.dwarf_units.specs.Units.{PlainUnit, entries_of, attribute_of}
 use Rattle.dwarf_units.specs.Sequence.{units_of}
 use Rattle.dwarf_tree.specs.declared.head.Head.{Head}
 
--- an entry, with the number of the unit in which it stands
+-- an entry, with the number of its unit
 pub record TreeEntry : Type 0 where
   pub offset : ℕ
   pub depth : ℕ
@@ -16,7 +16,7 @@ pub record TreeEntry : Type 0 where
   pub attributes : List (ℕ × Value)
   pub unit : ℕ
 
--- what the headers of units say that is asked later, and the entries of all units
+-- the fields of unit headers that readers of entries use, and the entries of all units
 pub record PlainTree : Type 0 where
   pub units : List Head
   pub entries : List TreeEntry
@@ -50,14 +50,14 @@ entry_at t e = slice_index_or t.entries e no_entry
 abbrev pub depth_at : PlainTree → ℕ → ℕ
 depth_at t e = (entry_at t e).depth
 
--- what is kept of a unit, by its number
+-- the header of a unit, by its number
 abbrev pub no_head : Head
 no_head = record { offset = 0; end = 0; version = 0; signature = None; type_entry = 0 }
 
 abbrev pub head_at : PlainTree → ℕ → Head
 head_at t k = slice_index_or t.units k no_head
 
--- the first value that an entry itself has of an attribute
+-- the first value of an attribute of an entry itself
 abbrev pub own_of : PlainTree → ℕ → ℕ → Option Value
 own_of t e name = attribute_of (entry_at t e).attributes name
 
@@ -71,11 +71,11 @@ root_of t unit = position (λ e. e.unit == unit) t.entries
 
 -- ---- children
 
--- how many entries stand below an entry: those after it, up to the next one that stands no deeper than it
+-- how many entries are below an entry: those after it, up to the next one that is no deeper than it
 unfoldable pub count_below : PlainTree → ℕ → ℕ
 count_below t e = length (take_while (λ x. nat_lt (depth_at t e) x.depth) (drop (e + 1) t.entries))
 
--- the positions of the children of an entry: of those below it that stand one deeper
+-- the positions of the children of an entry: the entries below it that are one deeper
 unfoldable pub children_of : PlainTree → ℕ → List ℕ
 children_of t e = filter (λ i. depth_at t i == depth_at t e + 1) (range_with_len (e + 1) (count_below t e))
 
@@ -87,19 +87,19 @@ is_after (Some child) i = nat_lt child i
 abbrev pub next_child_of : PlainTree → ℕ → Option ℕ → Option ℕ
 next_child_of t e after = find (is_after after) (children_of t e)
 
--- a child and those after it
+-- a child and the later ones
 abbrev pub from_child : PlainTree → ℕ → Option ℕ → List ℕ
 from_child t e None = []
 from_child t e (Some child) = child ∷ filter (is_after (Some child)) (children_of t e)
 
--- an entry is of a tag
+-- an entry has a tag
 abbrev pub is_tagged : PlainTree → ℕ → ℕ → Bool
 is_tagged t tag e = (entry_at t e).tag == tag
 
 -- ---- what holds of the tree of a section without a fault
 
--- Entries stand in order of offset, none at 0, each at most one deeper than the one before it; units are numbered from 0 in their
--- order; the entries that stand below none are their roots; and each type unit has an entry where it says that its type is.
+-- Entries are in order of offset, none at 0, each at most one deeper than the one before it; units are numbered from 0 in their
+-- order; the entries of depth 0 are their roots; and each type unit has an entry at the place that it gives for its type.
 pub record IsOrdered (t : PlainTree) : Type 0 where
   pub count : length t.entries < 2 ^ 32
   pub positive : (i : ℕ) → i < length t.entries → 0 < (entry_at t i).offset

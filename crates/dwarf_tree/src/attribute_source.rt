@@ -1,4 +1,4 @@
-// The value of an attribute, read from the bytes when it is asked.
+// The value of an attribute, read from the bytes on demand.
 ghost use Rattle.std.specs.Prelude.{◌≡◌, ◌≢◌, ◌<◌, ◌≤◌, ◌^◌, ◌%◌, ◌/◌, ◌==◌, [], IfNone, IfSome, Some, length, map};
 ghost use Rattle.std.specs.Int.RustNames.{bit_or};
 ghost use Rattle.dwarf_forms.specs.Values.{place_after, value_at};
@@ -6,7 +6,8 @@ ghost use Rattle.dwarf_forms.specs.declared.values.Value.TheVariants as value;
 ghost use Rattle.dwarf_units.specs.Units.{attribute_of};
 ghost use Rattle.abi_base.specs.Runs.{put_front};
 ghost use Rattle.dwarf_forms.specs.abbreviations.Abbrevs.{plain_pair, specs_run};
-ghost use Rattle.dwarf_tree.specs.Keeping.{FindSame, HaveNames, IsLayout, SpellsNumber, asked_value, bit_of as the_bit, shaped as the_shaped_one, value_read, values_of};
+ghost use Rattle.dwarf_tree.specs.Keeping.{FindSame, HaveNames, IsLayout, SpellsNumber, asked_value, value_read, values_of};
+ghost use Rattle.dwarf_tree.specs.Keeping as keeping;
 
 use crate::entry_records::{
     AbbreviationLayout, EntryHead, EntryRecord, FORM_UNKNOWN, Slot, shaped,
@@ -18,9 +19,9 @@ use abi_base::dwarf::{DW_FORM_ref4, DW_FORM_string, DW_FORM_strp};
 use abi_base::{Fault, text_at, u32_at, uleb};
 use dwarf_forms::abbreviations::{ShortPair, Spec, next_spec, short_pair};
 use dwarf_forms::laws::references_count_from_their_unit;
-use dwarf_forms::{Value, fixed_end, value, value_end};
+use dwarf_forms::{UnitSpan, Value, fixed_end, value, value_end};
 
-// What the attributes of an entry are asked of: the bytes, the slots of all shapes, and what is kept of the entry and of its unit.
+// Where the attributes of an entry are read from: the bytes, the slots of all shapes, the record of the entry, and its unit.
 #[derive(Clone, Copy)]
 pub(crate) struct AttributeSource<'t> {
     pub info: &'t [u8],
@@ -31,18 +32,18 @@ pub(crate) struct AttributeSource<'t> {
     pub stored: EntryRecord,
 }
 
-// The bits with the one of an attribute.
+// The bits, with that of an attribute set.
 fn with_name(names: u64, name: u64) -> u64
-    ensures { result ≡ bit_or names (2 ^ the_bit name) }
+    ensures { result ≡ bit_or names (2 ^ keeping.bit_of name) }
 {
     names | (1 << bit_of(name))
 }
 
-// Whether the bit of an attribute is there. False says that the entry has no such attribute. True says nothing, since attributes
-// that are not asked share a bit: it only saves time.
+// Whether the bit of an attribute is set. False says that the entry has no such attribute. True says nothing, since the
+// attributes that readers do not use share a bit: it only saves time.
 #[inline(always)]
 pub(crate) fn may_have(names: u64, name: u64) -> bool
-    ensures { result ≡ (names / 2 ^ the_bit name % 2 == 1) }
+    ensures { result ≡ (names / 2 ^ keeping.bit_of name % 2 == 1) }
 {
     (names >> bit_of(name)) % 2 == 1
 }
@@ -59,29 +60,23 @@ pub(crate) fn names_of(specs: &[Spec]) -> u64
     names
 }
 
-// The value of one attribute of an entry that is kept, where it can be read.
+// The value of one attribute of an entry, where it has no fault.
 #[inline(always)]
 fn value_in(info: &[u8], head: Head, kept: EntryHead, spec: Spec, at: usize) -> Option<Value>
     requires { head.end ≤ length info.now }
     ensures { result ≡ value_read (value_at spec.form spec.implicit head.offset head.end kept.offset info.now at) }
 {
-    let entry = u64::from(kept.offset);
-    match value(
-        spec.form,
-        spec.implicit,
-        head.offset,
-        head.end,
-        entry,
-        info,
-        at,
-    ) {
+    let unit = UnitSpan {
+        start: head.offset,
+        end: head.end,
+    };
+    match value(info, unit, u64::from(kept.offset), spec, at) {
         Ok((found, _)) => Some(found),
         Err(_) => None,
     }
 }
 
-// The place after that value, which is not made. A text is passed over here, since most values of a size of their own are short
-// names.
+// The place after that value, without the value. Texts are skipped here, since most values without a fixed size are short names.
 #[inline(always)]
 #[tactic(auto, using(crate::proofs::AskLemmas::text_passed))]
 fn end_in(info: &[u8], head: Head, kept: EntryHead, spec: Spec, at: usize) -> Result<usize, Fault>
@@ -123,8 +118,8 @@ fn pair_at(abbrevs: &[u8], at: usize) -> Option<(Spec, usize)>
     }
 }
 
-// Passes over pairs before the attribute whose numbers have one byte each and whose values have a size that their forms fix, as
-// most have: the place of the next pair, and that of its value.
+// Skips pairs before the attribute whose numbers have one byte each and whose forms have fixed sizes, as most have: the place of
+// the next pair, and that of its value.
 fn pass_plain(abbrevs: &[u8], unit_end: u64, name: u64, first: usize, from: usize) -> (usize, usize)
     ensures same { FindSame abbrevs.now unit_end name result (first, from) }
     ensures after { first ≤ result.0 }
@@ -144,8 +139,8 @@ fn pass_plain(abbrevs: &[u8], unit_end: u64, name: u64, first: usize, from: usiz
     (pairs, at)
 }
 
-// The first value of an attribute of an entry that is kept: the pairs of attribute and form are read beside the values, up
-// to the attribute. Values before it are passed over.
+// The first value of an attribute of an entry: it reads the pairs of attribute and form beside the values, up to the attribute,
+// and skips the values before it.
 #[tactic(auto, using(crate::proofs::AskLemmas::ask_more, crate::proofs::AskLemmas::ask_cut, crate::proofs::AskLemmas::ask_met, crate::proofs::AskLemmas::ask_end, crate::proofs::AskLemmas::ask_start, crate::proofs::AskLemmas::ask_nothing))]
 fn first_value(info: &[u8], abbrevs: &[u8], head: Head, kept: EntryHead, name: u64) -> Option<Value>
     requires { head.end ≤ length info.now }
@@ -174,7 +169,7 @@ fn first_value(info: &[u8], abbrevs: &[u8], head: Head, kept: EntryHead, name: u
     }
 }
 
-// The same of an entry that is stored.
+// The same for a stored entry.
 #[inline(never)]
 fn walked(asked: &AttributeSource<'_>, name: u64) -> Option<Value>
     requires { asked.now.head.now.end ≤ length asked.now.info.now }
@@ -184,8 +179,8 @@ fn walked(asked: &AttributeSource<'_>, name: u64) -> Option<Value>
     first_value(asked.info, asked.abbrevs, *asked.head, kept, name)
 }
 
-// The first value of an attribute of an entry that is stored. A slot of its shape tells where the value stands, where all before it
-// have sizes that their forms fix; another is looked for from the first pair on.
+// The first value of an attribute of a stored entry. A slot of its shape gives the place of the value, where all values before it
+// have fixed sizes; without a slot, the search for the value starts at the first pair.
 #[tactic(auto, using(crate::proofs::AskLemmas::ask_nothing))]
 pub(crate) fn value_of(asked: &AttributeSource<'_>, name: u64) -> Option<Value>
     requires inside { asked.now.head.now.end ≤ length asked.now.info.now }
@@ -214,14 +209,14 @@ pub(crate) fn value_of(asked: &AttributeSource<'_>, name: u64) -> Option<Value>
     value_in(asked.info, head, kept, plain(pair), at)
 }
 
-// The number of four bytes that spells the first value of an attribute of an entry that is stored, where a slot of its shape tells
-// where the value stands and that it has this form.
+// The number of four bytes that encodes the first value of an attribute of a stored entry, where a slot of its shape gives the
+// value's place and this form.
 #[inline(always)]
 fn short_number(asked: &AttributeSource<'_>, name: u64, form: u64) -> Option<u32>
     requires inside { asked.now.head.now.end ≤ length asked.now.info.now }
     requires shape { IsLayout asked.now.abbrevs.now asked.now.slots.now asked.now.shape.now }
     requires told { form ≢ 0 }
-    ensures { IfSome result (SpellsNumber asked.now.info.now asked.now.abbrevs.now asked.now.head.now (the_shaped_one asked.now.shape.now asked.now.stored) name form) }
+    ensures { IfSome result (SpellsNumber asked.now.info.now asked.now.abbrevs.now asked.now.head.now (keeping.shaped asked.now.shape.now asked.now.stored) name form) }
 {
     let unit = &asked.info[..asked.head.end as usize];
     let slot = slot_for(asked.slots, *asked.shape, name)?;
@@ -232,8 +227,8 @@ fn short_number(asked: &AttributeSource<'_>, name: u64, form: u64) -> Option<u32
     u32_at(unit, after + usize::from(slot.from))
 }
 
-// The place of the entry that an attribute of an entry that is stored refers to, where the attribute has the form `DW_FORM_ref4`
-// and a slot tells its place. It only saves time: none says nothing, and `value_of` gives the answer.
+// The place of the entry that an attribute of a stored entry refers to, where the attribute has the form `DW_FORM_ref4` and a slot
+// gives its place. It only saves time: none says nothing, and `value_of` gives the answer.
 #[inline(always)]
 #[tactic(auto, using(crate::proofs::ShortLemmas::refers_short))]
 pub(crate) fn short_reference_of(asked: &AttributeSource<'_>, name: u64) -> Option<u64>
@@ -246,8 +241,8 @@ pub(crate) fn short_reference_of(asked: &AttributeSource<'_>, name: u64) -> Opti
     Some(u64::from(number).wrapping_add(asked.head.offset))
 }
 
-// The place of the text in `.debug_str` that an attribute of an entry that is stored is, where the attribute has the form
-// `DW_FORM_strp` and a slot tells its place. It only saves time: none says nothing, and `value_of` gives the answer.
+// The place in `.debug_str` of the text of an attribute of a stored entry, where the attribute has the form `DW_FORM_strp` and a
+// slot gives its place. It only saves time: none says nothing, and `value_of` gives the answer.
 #[inline(always)]
 #[tactic(auto, using(crate::proofs::ShortLemmas::text_short))]
 pub(crate) fn short_text_of(asked: &AttributeSource<'_>, name: u64) -> Option<u64>

@@ -6,8 +6,8 @@ use crate::tree_builder::TreeBuilder;
 use abi_base::NoMemory;
 use std::alloc::Global;
 
-// The position of the next entry that stands no deeper than this one, where the ends are known of those after it. Each
-// entry is passed over by its parent alone, so all calls together take as many steps as there are entries.
+// The position of the next entry that is no deeper than this one, where the ends of the later entries are known. Only its parent
+// steps over an entry, so all calls together take as many steps as there are entries.
 fn end_in(growing: &TreeBuilder<'_>, ends: &[u32], e: usize) -> usize
     requires inside { e < length growing.now.tree.entries }
     requires count { length ends.now ≡ length growing.now.tree.entries }

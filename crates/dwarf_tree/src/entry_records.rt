@@ -1,38 +1,39 @@
 // An entry as the tree keeps it.
 ghost use Rattle.std.specs.Prelude.{◌≡◌};
-ghost use Rattle.dwarf_tree.specs.Keeping.{shaped as the_shaped_one, unit_in as the_unit_in};
+ghost use Rattle.dwarf_tree.specs.Keeping as spec;
 
-// The form of a pair with a number behind it, which the slot does not tell: `DW_FORM_implicit_const`. No form has this number.
+// The form in the slot of a pair with a constant after it, which the slot does not keep: `DW_FORM_implicit_const`. No form has
+// this number.
 pub(crate) const FORM_UNKNOWN: u8 = 0;
 
-// A pair of attribute and form, and where its value stands, which is known without a look at the values before it: those have
-// sizes that their forms fix.
+// A pair of attribute and form, and where its value begins, which is known without reading the values before it: their forms have
+// fixed sizes.
 #[derive(Clone, Copy)]
 pub(crate) struct Slot {
     pub attribute: u8,
-    // How the value is spelled, or `FORM_UNKNOWN`.
+    // How the value is encoded, or `FORM_UNKNOWN`.
     pub form: u8,
-    // How many bytes behind the end of the entry's code the value begins.
+    // How many bytes after the end of the entry's code the value begins.
     pub from: u16,
 }
 
-// What an abbreviation says of its entries in one unit, which is kept once for all of them. Almost every unit has abbreviations of
-// its own, so that there are hardly more shapes for naming the unit here, and entries need not.
+// What an abbreviation says of its entries in one unit, which the tree keeps once for all of them. Almost every unit has
+// abbreviations of its own, so naming the unit here adds few shapes, and an entry does not have to name it.
 #[derive(Clone, Copy)]
 pub(crate) struct AbbreviationLayout {
     pub tag: u64,
-    // The bits of its attributes. Those that are not asked of entries share one.
+    // The bits of its attributes. The attributes that readers do not use share one.
     pub names: u64,
     // Where its pairs of attribute and form begin in `.debug_abbrev`.
     pub specs_from: u32,
-    // Its slots, in the list of all slots: from the first one on and before another.
+    // Its slots, in the list of all slots: from the first one on and before the second.
     pub slots_from: u32,
     pub slots_to: u32,
     // The number of the unit.
     pub unit: u32,
 }
 
-// What is stored of each entry: what its abbreviation says, and its unit, stand in the shape of this number.
+// The record of an entry: its shape, by its number, has what its abbreviation says, and its unit.
 #[derive(Clone, Copy)]
 pub(crate) struct EntryRecord {
     pub offset: u32,
@@ -40,7 +41,7 @@ pub(crate) struct EntryRecord {
     pub depth: u32,
 }
 
-// An entry without its attributes: where they stand in `.debug_abbrev`. Their values stand in `.debug_info`, behind its code.
+// An entry without its attributes: where their pairs begin in `.debug_abbrev`. Their values are in `.debug_info`, after its code.
 #[derive(Clone, Copy)]
 pub(crate) struct EntryHead {
     pub tag: u64,
@@ -51,10 +52,10 @@ pub(crate) struct EntryHead {
     pub names: u64,
 }
 
-// An entry that is stored, with what its shape says.
+// A stored entry, with what its shape says.
 #[inline(always)]
 pub(crate) fn shaped(shape: AbbreviationLayout, stored: EntryRecord) -> EntryHead
-    ensures { result ≡ the_shaped_one shape stored }
+    ensures { result ≡ spec.shaped shape stored }
 {
     EntryHead {
         tag: shape.tag,
@@ -66,9 +67,9 @@ pub(crate) fn shaped(shape: AbbreviationLayout, stored: EntryRecord) -> EntryHea
     }
 }
 
-// The number of the unit in which an entry that is stored stands.
+// The number of the unit of a stored entry.
 pub(crate) fn unit_in(shapes: &[AbbreviationLayout], stored: EntryRecord) -> u32
-    ensures { result ≡ the_unit_in shapes.now stored }
+    ensures { result ≡ spec.unit_in shapes.now stored }
 {
     match shapes.get(stored.shape as usize) {
         Some(shape) => shape.unit,

@@ -1,5 +1,5 @@
-// Where to look first for the entry that begins at an offset. Hints only save time: a search checks each one, and finds the same
-// entry whatever they say.
+// Where a search looks first for the entry that begins at an offset. Hints only save time: a search checks each one, and finds
+// the same entry whatever they say.
 ghost use Rattle.std.specs.Prelude.{◌<◌, ◌^◌, length};
 
 use crate::entry_records::EntryRecord;
@@ -9,11 +9,11 @@ use std::alloc::Global;
 // How many bytes of `.debug_info` share a hint.
 const HINT_BYTES: u32 = 32;
 
-// How many entries begin in that many bytes at most: each has one byte, at least.
+// How many entries at most begin in that many bytes: each has at least one byte.
 pub(crate) const MOST_BETWEEN: usize = 32;
 
-// For each so many bytes of `.debug_info` the place of the first entry that begins there, and 0 where none does. No contract says
-// so, since hints only save time.
+// For each block of that many bytes of `.debug_info` the place of the first entry that begins in it, and 0 where none does. No
+// contract says so, since hints only save time.
 pub(crate) fn hints_of(alloc: Global, entries: &[EntryRecord]) -> Result<Vec<u32>, NoMemory>
     requires { length entries.now < 2 ^ 32 }
 {
@@ -32,7 +32,7 @@ pub(crate) fn hints_of(alloc: Global, entries: &[EntryRecord]) -> Result<Vec<u32
     Ok(hints)
 }
 
-// The hint for an offset. It may be any number: whoever uses it checks it.
+// The hint for an offset. It may be any number: the caller checks it.
 pub(crate) fn hint_for(hints: &[u32], offset: u64) -> usize {
     let Ok(number) = usize::try_from(offset / u64::from(HINT_BYTES)) else {
         return 0;

@@ -1,6 +1,7 @@
-// The attributes that are asked of entries.
+// The attributes that readers of entries use.
 ghost use Rattle.std.specs.Prelude.{◌≡◌, ◌<◌, false, true};
-ghost use Rattle.dwarf_tree.specs.Keeping.{IsAsked, bit_of as the_bit};
+ghost use Rattle.dwarf_tree.specs.Keeping.{IsAsked};
+ghost use Rattle.dwarf_tree.specs.Keeping as spec;
 
 use abi_base::dwarf::{
     DW_AT_GNU_vector, DW_AT_abstract_origin, DW_AT_addr_base, DW_AT_alignment, DW_AT_bit_offset,
@@ -10,15 +11,15 @@ use abi_base::dwarf::{
     DW_AT_specification, DW_AT_str_offsets_base, DW_AT_type, DW_AT_upper_bound,
 };
 
-// The bit of all attributes that are not asked of entries.
+// The bit of all attributes that readers do not use.
 const OTHER_NAMES: u32 = 63;
 
-// The bit of an attribute. Those that are asked of entries have one each, and all others share one, so that they stand for none of
-// those that are asked.
+// The bit of an attribute. Each attribute that readers use has a bit of its own, and all others share one, so that none of them
+// sets a bit of a used attribute.
 #[inline(always)]
 #[tactic(auto, unfolding(crate::specs::Keeping::bit_of, crate::specs::Keeping::own_bits))]
 pub(crate) fn bit_of(name: u64) -> u32
-    ensures is { result ≡ the_bit name }
+    ensures is { result ≡ spec.bit_of name }
     ensures small { result < 64 }
 {
     match name {
@@ -51,11 +52,11 @@ pub(crate) fn bit_of(name: u64) -> u32
     }
 }
 
-// Whether an attribute is one that is asked of entries.
+// Whether readers of entries use an attribute.
 #[inline(always)]
 pub(crate) fn is_asked(name: u64) -> bool
     ensures asked { result ≡ true → IsAsked name }
-    ensures other { result ≡ false → the_bit name ≡ 63 }
+    ensures other { result ≡ false → spec.bit_of name ≡ 63 }
 {
     bit_of(name) != OTHER_NAMES
 }

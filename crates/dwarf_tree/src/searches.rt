@@ -1,6 +1,7 @@
 // Searches in the lists of a tree.
 ghost use Rattle.std.specs.Prelude.{◌≡◌, ◌≤◌, ◌==◌, true, IsSome, Some, length, position};
-ghost use Rattle.dwarf_tree.specs.Keeping.{Ascend, BeginBefore, StandsBetween, UnitsRise, unit_in as the_unit_in};
+ghost use Rattle.dwarf_tree.specs.Keeping.{Ascend, BeginBefore, StandsBetween, UnitsRise};
+ghost use Rattle.dwarf_tree.specs.Keeping as spec;
 
 use crate::entry_records::{AbbreviationLayout, EntryRecord, unit_in};
 use crate::hints::MOST_BETWEEN;
@@ -43,8 +44,8 @@ fn are_before(entries: &[EntryRecord], place: usize, offset: u64) -> bool
     }
 }
 
-// The place of the entry that begins at an offset. A hint is a place where it may stand, or up to so many places behind: a wrong
-// one costs time alone. Most entries stand at most a few places behind, so these are looked at one by one.
+// The place of the entry that begins at an offset. A hint is a place where the entry may be, or up to some places later: a wrong
+// one only costs time. Most entries are at most a few places later, so the search tries these one by one.
 pub(crate) fn place_near(entries: &[EntryRecord], offset: u64, hint: usize) -> Option<usize>
     requires { Ascend entries.now }
     ensures { result ≡ position (λ stored. stored.offset == offset) entries.now }
@@ -69,11 +70,11 @@ pub(crate) fn place_near(entries: &[EntryRecord], offset: u64, hint: usize) -> O
     place_between(entries, offset, place, entries.len())
 }
 
-// The place of the first entry of a unit that has one, by binary search.
+// The place of the first entry of a unit that has entries, by binary search.
 pub(crate) fn root_in(shapes: &[AbbreviationLayout], entries: &[EntryRecord], unit: usize) -> usize
     requires rise { UnitsRise shapes.now entries.now }
-    requires there { IsSome (position (λ stored. the_unit_in shapes.now stored == unit) entries.now) }
-    ensures { position (λ stored. the_unit_in shapes.now stored == unit) entries.now ≡ Some result }
+    requires there { IsSome (position (λ stored. spec.unit_in shapes.now stored == unit) entries.now) }
+    ensures { position (λ stored. spec.unit_in shapes.now stored == unit) entries.now ≡ Some result }
 {
     entries.partition_point(|stored| (unit_in(shapes, *stored) as usize) < unit)
 }

@@ -10,13 +10,13 @@ use dwarf_units::Outline;
 use std::alloc::Global;
 use std::marker::Model;
 
-/// The shapes of entries, in the order in which they were met. Contracts see them as a `LayoutTable`.
+/// The shapes of entries, in the order of their first entries. Contracts see them as a `LayoutTable`.
 #[derive(Drop)]
 pub(crate) struct AbbreviationLayouts {
     list: Vec<AbbreviationLayout>,
     slots: Vec<Slot>,
-    // For each place of `.debug_abbrev` the number of the last shape whose pairs begin there, and one more; 0 where none was met.
-    // It is a hint: what stands there is looked at before it is taken.
+    // For each place of `.debug_abbrev` the number of the last shape whose pairs begin there, plus 1; 0 where there is none. It is
+    // a hint: a caller checks the shape before it takes it.
     at: Vec<u32>,
 }
 
@@ -32,7 +32,7 @@ impl Model for AbbreviationLayouts {
 }
 
 impl AbbreviationLayouts {
-    /// No shape, and room to note where the pairs of shapes begin in so many bytes.
+    /// No shape, and room for the hints of all places of `.debug_abbrev`.
     pub fn new(alloc: Global, bytes: usize) -> Result<AbbreviationLayouts, NoMemory>
         ensures { IfOk result (λ shapes. shapes ≡ record { shapes = []; slots = [] }) }
     {
@@ -43,7 +43,7 @@ impl AbbreviationLayouts {
         })
     }
 
-    // The number of the shape that was noted last where pairs begin at a place.
+    // The number of the last shape noted for the place where its pairs begin.
     fn noted(&self, specs_from: u64) -> Option<u32>
         ensures inside { IfSome result (λ number. number < length self.now.shapes) }
         ensures place { IfSome result (λ number. (shape_at self.now.shapes number).specs_from ≡ specs_from) }
@@ -58,7 +58,7 @@ impl AbbreviationLayouts {
         }
     }
 
-    /// The number of a shape of a unit and a tag whose pairs begin at a place, where it was the last one that was noted there.
+    /// The number of a shape of a unit and a tag whose pairs begin at a place, where it is the last one noted there.
     pub fn find(&self, unit: u32, tag: u64, specs_from: u64) -> Option<u32>
         ensures inside { IfSome result (λ number. number < length self.now.shapes) }
         ensures unit { IfSome result (λ number. (shape_at self.now.shapes number).unit ≡ unit) }
@@ -74,8 +74,8 @@ impl AbbreviationLayouts {
         }
     }
 
-    // Where the slots of pairs stand: from the first one on and before another. They are those of a shape that was noted for the same
-    // pairs, if there is one, so that units that share their abbreviations share slots too; and new ones otherwise.
+    // The slots of pairs: from the first number on and before the second. They are the slots of a shape noted for the same pairs, if
+    // there is one, so that units that share their abbreviations share slots too; otherwise new ones.
     fn slots_of(&mut self, abbrevs: &[u8], specs_from: u64) -> Result<(u32, u32), NoMemory>
         requires say { All (IsLayout abbrevs.now self.old.slots) self.old.shapes }
         ensures there { IfOk result (λ place. place.1 ≤ length self.new.slots) }
@@ -92,7 +92,7 @@ impl AbbreviationLayouts {
         Ok((slots_from, self.slots.len() as u32))
     }
 
-    /// Appends the shape of an entry of a unit, and notes where its pairs begin. It gives the number of the shape.
+    /// Appends the shape of an entry of a unit, and notes where its pairs begin. It returns the number of the shape.
     pub fn push(
         &mut self,
         abbrevs: &[u8],
@@ -124,14 +124,14 @@ impl AbbreviationLayouts {
         Ok(number)
     }
 
-    /// The shapes alone.
+    /// The shapes without their slots.
     pub fn as_slice(&self) -> &[AbbreviationLayout]
         ensures { result.now ≡ self.now.shapes }
     {
         self.list.as_slice()
     }
 
-    /// Gives back the room that is not used.
+    /// Frees the unused room.
     pub fn shrink(&mut self)
         ensures { self.new ≡ self.old }
     {
@@ -139,7 +139,7 @@ impl AbbreviationLayouts {
         self.slots.shrink_to_fit();
     }
 
-    /// The shapes and their slots alone.
+    /// The shapes and their slots.
     pub fn into_lists(self) -> (Vec<AbbreviationLayout>, Vec<Slot>)
         ensures shapes { result.0.items ≡ self.shapes }
         ensures slots { result.1.items ≡ self.slots }

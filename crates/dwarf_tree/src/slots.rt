@@ -1,7 +1,8 @@
-// Where the values of the entries of an abbreviation stand.
+// Where the values of the entries of an abbreviation begin.
 ghost use Rattle.std.specs.Prelude.{◌≡◌, ◌<◌, ◌≤◌, ◌^◌, length, true, IfSome, OnOk, Some};
 ghost use Rattle.dwarf_forms.specs.Values.{fixed_size_of, shape_of};
-ghost use Rattle.dwarf_tree.specs.Keeping.{AreSlots, Extends, IsAsked, IsSlotFor, IsSlotOf, PassSame, bit_of as the_bit};
+ghost use Rattle.dwarf_tree.specs.Keeping.{AreSlots, Extends, IsAsked, IsSlotFor, IsSlotOf, PassSame};
+ghost use Rattle.dwarf_tree.specs.Keeping as keeping;
 
 use crate::entry_records::{AbbreviationLayout, FORM_UNKNOWN, Slot};
 use crate::names::is_asked;
@@ -10,11 +11,11 @@ use dwarf_forms::abbreviations::{Spec, next_spec};
 use dwarf_forms::laws::values_of_a_fixed_size_end_behind_it;
 use dwarf_forms::{fixed_end, fixed_size};
 
-// How many slots an abbreviation has at most.
+// The maximal number of slots of an abbreviation.
 const MOST_SLOTS: usize = 255;
 
-// The slot of a pair whose value stands so many bytes behind the code. None where a number of the pair has more than one byte, as
-// those of extensions have.
+// The slot of a pair whose value begins `from` bytes after the code. None where a number of the pair has more than one byte, as
+// in extensions.
 fn slot_of(spec: Spec, from: usize) -> Option<Slot>
     requires { from < 2 ^ 16 }
     ensures { IfSome result (IsSlotOf spec from) }
@@ -36,15 +37,15 @@ fn slot_of(spec: Spec, from: usize) -> Option<Slot>
     })
 }
 
-// Whether a pair is passed over: its attribute is not asked of entries, and its values take no bytes.
+// Whether a pair gets no slot: readers of entries do not use its attribute, and its values take no bytes.
 fn is_passed(spec: Spec) -> bool
-    ensures other { result ≡ true → the_bit spec.attribute ≡ 63 }
+    ensures other { result ≡ true → keeping.bit_of spec.attribute ≡ 63 }
     ensures sized { result ≡ true → fixed_size_of (shape_of spec.form) ≡ Some 0 }
 {
     !is_asked(spec.attribute) && matches!(fixed_size(spec.form), Some(0))
 }
 
-// The place of the next pair that is not passed over. It only saves time: without it these pairs would have slots, too.
+// The place of the next pair that gets a slot. It only saves time: without it the pairs that it skips would have slots, too.
 #[tactic(auto, using(crate::proofs::SlotLemmas::passed_self, crate::proofs::SlotLemmas::passed_next))]
 fn pass_unasked(abbrevs: &[u8], from: usize) -> usize
     ensures { PassSame abbrevs.now result from }
@@ -60,8 +61,8 @@ fn pass_unasked(abbrevs: &[u8], from: usize) -> usize
     pairs
 }
 
-// Appends the slots of the pairs from a place of `.debug_abbrev` on. All slots together are no more than that section has bytes,
-// whatever it holds.
+// Appends the slots of the pairs from a place of `.debug_abbrev` on. All slots together are at most as many as that section has
+// bytes, whatever it holds.
 pub(crate) fn push_slots(
     abbrevs: &[u8],
     specs_from: usize,
@@ -95,7 +96,7 @@ pub(crate) fn push_slots(
     Ok(())
 }
 
-// The first slot of a shape for an attribute that is asked of entries.
+// The first slot of a shape for an attribute in the list of `names`.
 #[inline(always)]
 pub(crate) fn slot_for(slots: &[Slot], shape: AbbreviationLayout, name: u64) -> Option<Slot>
     requires { shape.slots_to ≤ length slots.now }

@@ -25,21 +25,21 @@ use std::alloc::Global;
 use std::marker::Model;
 
 /// The entries of all units of `.debug_info`, in order of offset. Contracts see it as a `PlainTree`. A position counts the
-/// entries from 0, and is below `len`. It keeps no value: values are read from the bytes when they are asked.
+/// entries from 0, and is below `len`. It keeps no values: a look-up reads a value from the bytes.
 #[derive(Drop)]
 pub struct Tree<'a> {
     info: &'a [u8],
     abbrevs: &'a [u8],
     units: Vec<Head>,
-    // What is told of entries by their abbreviations.
+    // What the abbreviations say of their entries.
     shapes: Vec<AbbreviationLayout>,
     slots: Vec<Slot>,
     entries: Vec<EntryRecord>,
-    // For each entry the position where those below it end.
+    // For each entry the position where the entries below it end.
     ends: Vec<u32>,
     // For each unit the position of its root.
     roots: Vec<u32>,
-    // Where to look first for the entry that begins at an offset. They only save time.
+    // Where a search looks first for the entry that begins at an offset. They only save time.
     hints: Vec<u32>,
 }
 
@@ -55,7 +55,7 @@ impl<'a> Model for Tree<'a> {
     ghost invariant = { λ t. IsKept t.info.now t.abbrevs.now t.units.items t.shapes.items t.slots.items t.entries.items t.ends.items t.roots.items };
 }
 
-// The tree that was read, in no more room than it takes.
+// The tree that was read, without unused room.
 fn finished<'a>(alloc: Global, mut growing: TreeBuilder<'a>) -> Result<Tree<'a>, NoMemory>
     requires { IsOrdered growing.tree }
     ensures { IfOk result (λ t. t ≡ growing.entry.tree) }
@@ -114,7 +114,7 @@ impl<'a> Tree<'a> {
         u64::from(stored.offset)
     }
 
-    /// How many entries an entry stands below. The root of a unit has 0.
+    /// The depth of an entry: the number of entries above it. The root of a unit has 0.
     pub fn depth(&self, e: usize) -> u32
         requires { e < length self.now.entries }
         ensures { result ≡ (entry_at self.now e).depth }
@@ -123,7 +123,7 @@ impl<'a> Tree<'a> {
         stored.depth
     }
 
-    /// What an entry is, `DW_TAG_..`.
+    /// The tag of an entry, `DW_TAG_..`.
     pub fn tag(&self, e: usize) -> u64
         requires { e < length self.now.entries }
         ensures { result ≡ (entry_at self.now e).tag }
@@ -132,7 +132,7 @@ impl<'a> Tree<'a> {
         self.shapes[stored.shape as usize].tag
     }
 
-    /// The number of the unit in which an entry stands.
+    /// The number of the unit of an entry.
     pub fn unit(&self, e: usize) -> usize
         requires { e < length self.now.entries }
         ensures { result ≡ (entry_at self.now e).unit }
@@ -141,8 +141,8 @@ impl<'a> Tree<'a> {
         self.shapes[stored.shape as usize].unit as usize
     }
 
-    /// Whether an entry may have an attribute, by bits that are kept of its abbreviation. False says that it has none, and true
-    /// says nothing: this call only saves time, since `own` gives the answer.
+    /// Whether an entry may have an attribute, by the bits of its abbreviation. False says that it does not have it, and true says
+    /// nothing: this call only saves time, since `own` gives the answer.
     #[inline(always)]
     pub fn may_have(&self, e: usize, name: u64) -> bool
         requires { e < length self.now.entries }
@@ -152,7 +152,7 @@ impl<'a> Tree<'a> {
         may_have(self.shapes[stored.shape as usize].names, name)
     }
 
-    // What the attributes of an entry are asked of.
+    // Where the attributes of an entry are read from.
     #[inline(always)]
     fn asked(&self, e: usize) -> AttributeSource<'_>
         requires { e < length self.now.entries }
@@ -172,7 +172,7 @@ impl<'a> Tree<'a> {
         }
     }
 
-    /// The first value that an entry itself has of an attribute, and none where it has none. It is read from the bytes.
+    /// The first value of an attribute of an entry itself, and none where it has none. The call reads it from the bytes.
     #[inline(always)]
     pub fn own(&self, e: usize, name: u64) -> Option<Value>
         requires { e < length self.now.entries }
@@ -184,7 +184,7 @@ impl<'a> Tree<'a> {
         self.read_own(e, name)
     }
 
-    // The same, by what the bytes hold.
+    // The same, stated by the bytes.
     #[inline(never)]
     fn read_own(&self, e: usize, name: u64) -> Option<Value>
         requires { e < length self.now.entries }
@@ -194,7 +194,7 @@ impl<'a> Tree<'a> {
     }
 
     /// The place of the entry that an attribute of an entry itself refers to, where the attribute has the form `DW_FORM_ref4` and
-    /// the entry's abbreviation tells where its value stands, as most references have. None says nothing of the attribute: this
+    /// the entry's abbreviation fixes the place of its value, as for most references. None says nothing of the attribute: this
     /// call only saves time, since `own` gives the answer.
     #[inline(always)]
     pub fn short_reference(&self, e: usize, name: u64) -> Option<u64>
@@ -207,7 +207,7 @@ impl<'a> Tree<'a> {
         self.read_reference(e, name)
     }
 
-    // The same, by what the bytes hold.
+    // The same, stated by the bytes.
     #[inline(never)]
     fn read_reference(&self, e: usize, name: u64) -> Option<u64>
         requires { e < length self.now.entries }
@@ -216,9 +216,9 @@ impl<'a> Tree<'a> {
         short_reference_of(&self.asked(e), name)
     }
 
-    /// The place of the text in `.debug_str` that an attribute of an entry itself is, where the attribute has the form
-    /// `DW_FORM_strp` and the entry's abbreviation tells where its value stands. None says nothing of the attribute: this call only
-    /// saves time, since `own` gives the answer.
+    /// The place in `.debug_str` of the text of an attribute of an entry itself, where the attribute has the form `DW_FORM_strp` and
+    /// the entry's abbreviation fixes the place of its value. None says nothing of the attribute: this call only saves time, since
+    /// `own` gives the answer.
     #[inline(always)]
     pub fn short_text(&self, e: usize, name: u64) -> Option<u64>
         requires { e < length self.now.entries }
@@ -230,7 +230,7 @@ impl<'a> Tree<'a> {
         self.read_text(e, name)
     }
 
-    // The same, by what the bytes hold.
+    // The same, stated by the bytes.
     #[inline(never)]
     fn read_text(&self, e: usize, name: u64) -> Option<u64>
         requires { e < length self.now.entries }
@@ -246,7 +246,7 @@ impl<'a> Tree<'a> {
         self.units.len()
     }
 
-    /// What is kept of the header of a unit, by its number.
+    /// The header of a unit, by its number.
     pub fn head(&self, unit: usize) -> Head
         requires { unit < length self.now.units }
         ensures { result ≡ head_at self.now unit }
@@ -272,7 +272,7 @@ impl<'a> Tree<'a> {
         self.ends[e] as usize
     }
 
-    // A place behind an entry, such that each child of it that comes after a position stands there or later.
+    // A place after an entry such that each of its children after a position is there or later.
     fn start(&self, e: usize, after: Option<usize>) -> usize
         requires { e < length self.now.entries }
         ensures { LooksFrom self.now e after result }
@@ -287,8 +287,8 @@ impl<'a> Tree<'a> {
         if place > e { self.end(place) } else { e + 1 }
     }
 
-    /// The first child of an entry, or the next one after a position. None exactly where there is no other. After a child it
-    /// takes one step.
+    /// The first child of an entry, or the next one after a position. None exactly where there is no other. From one child to the
+    /// next it takes one step.
     pub fn next_child(&self, e: usize, after: Option<usize>) -> Option<usize>
         requires { e < length self.now.entries }
         ensures next { result ≡ next_child_of self.now e after }
@@ -308,7 +308,7 @@ impl<'a> Tree<'a> {
         None
     }
 
-    /// The children of an entry that are of one tag, in order.
+    /// The children of an entry with one tag, in order.
     pub fn tagged(&self, alloc: Global, e: usize, tag: u64) -> Result<Vec<usize>, NoMemory>
         requires { e < length self.now.entries }
         ensures { IfOk result (λ list. list.items ≡ filter (is_tagged self.now tag) (children_of self.now e)) }
@@ -322,7 +322,7 @@ impl<'a> Tree<'a> {
         Ok(list)
     }
 
-    // Appends a child where it is of a tag.
+    // Appends a child if it has a tag.
     fn take_tagged(&self, list: &mut Vec<usize>, child: usize, tag: u64) -> Result<(), NoMemory>
         requires { child < length self.now.entries }
         ensures { OnOk result (list.new.items ≡ list.old.items ++ filter (is_tagged self.now tag) (child ∷ [])) }
@@ -333,7 +333,7 @@ impl<'a> Tree<'a> {
         Ok(())
     }
 
-    /// Does nothing. It tells what holds of each tree: how its entries stand, and how many there are at most.
+    /// Does nothing. Its contract says what holds of each tree: the order of its entries, and a bound on their number.
     pub fn known(&self)
         ensures { IsOrdered self.now }
     {

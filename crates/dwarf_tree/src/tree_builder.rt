@@ -1,4 +1,4 @@
-// A tree that is being read.
+// A tree during reading.
 ghost use Rattle.std.specs.Prelude.{◌≡◌, ◌<◌, ◌≤◌, ◌+◌, ◌^◌, [], ◌∷◌, ◌++◌, All, length, IfOk, OnErr, OnOk, Some};
 ghost use Rattle.dwarf_tree.specs.Keeping.{Extends, IsLayout, IsStored, decoder, kept_of, names_in, now_with, pair_names, stored_of};
 ghost use Rattle.dwarf_tree.specs.Trees.{IsOrdered, depth_at, placed, root_of};
@@ -12,7 +12,7 @@ use dwarf_units::Outline;
 use std::alloc::Global;
 use std::marker::Model;
 
-// What is stored of an entry whose shape has a number.
+// The record of an entry whose shape has a number.
 fn entry_record_of(shape: u32, entry: &Outline<'_, '_>) -> EntryRecord
     requires { entry.now.offset < 2 ^ 32 }
     ensures { result ≡ stored_of shape entry.now }
@@ -41,7 +41,7 @@ fn store_first(
     ensures same_shapes { OnErr result (shapes.new.shapes ≡ shapes.old.shapes) }
     ensures same_entries { OnErr result (entries.new.items ≡ entries.old.items) }
 {
-    // With room for the entry, nothing can fail once its shape is in.
+    // With room for the entry, nothing can fail after its shape is stored.
     entries.reserve(1)?;
     let shape = shapes.push(abbrevs, unit, entry)?;
     entries.push(entry_record_of(shape, entry))?;
@@ -124,7 +124,7 @@ impl<'a> TreeBuilder<'a> {
         self.entries.len()
     }
 
-    /// How many entries an entry stands below.
+    /// The depth of an entry: the number of entries above it.
     pub fn depth(&self, e: usize) -> u32
         requires { e < length self.now.tree.entries }
         ensures { result ≡ depth_at self.now.tree e }
@@ -143,7 +143,7 @@ impl<'a> TreeBuilder<'a> {
         root_in(self.shapes.as_slice(), self.entries.as_slice(), unit)
     }
 
-    /// Gives back the room that is not used.
+    /// Frees the unused room.
     pub fn shrink(&mut self)
         ensures { self.new ≡ self.old }
     {
@@ -152,7 +152,7 @@ impl<'a> TreeBuilder<'a> {
         self.entries.shrink_to_fit();
     }
 
-    /// Appends what is kept of a unit.
+    /// Appends the header of a unit.
     pub fn push_head(&mut self, head: Head) -> Result<(), NoMemory>
         requires { head.end ≤ length self.old.info }
         ensures { OnOk result (self.new ≡ now_with self.old (self.old.tree.units ++ head ∷ []) self.old.tree.entries) }
@@ -161,7 +161,7 @@ impl<'a> TreeBuilder<'a> {
         Ok(())
     }
 
-    /// Appends an entry of the unit of a number, whose values stand in the bytes.
+    /// Appends an entry of the unit of a number, whose values are in the bytes.
     pub fn push_entry(&mut self, unit: u32, entry: &Outline<'_, '_>) -> Result<(), NoMemory>
         requires inside { unit < length self.old.tree.units }
         requires offset { entry.now.offset < 2 ^ 32 }

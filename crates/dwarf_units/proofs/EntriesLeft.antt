@@ -1,4 +1,4 @@
--- The entries that are left go on as the tokens do.
+-- The remaining entries follow the tokens.
 use Rattle.std.proofs.Common.{◌≡◌, ℕ, ◌-◌, ◌≤◌, Bool, true, false, Option, Some, None, Err, Ok, refl, sym, ap, ◌∙◌, arith}
 use Rattle.std.specs.Prelude.{not, ◌||◌, ◌&&◌}
 use Rattle.std.specs.List.{list_any}
@@ -59,16 +59,16 @@ left_give moves u s next met now_met e h same =
 pub left_pass : (moves : ValuesMove) (u : PlainUnit) (s next : State) (met : Bool) → token_at u s ≡ Ok (None, next) → entries_left u s met ≡ entries_left u next met
 left_pass moves u s next met h = ap (λ (r : Run Entry (Option Fault)). judged u met r) (entries_pass moves u s next h)
 
--- what a unit that has come to its end ends with
+-- the fault at a unit's end, or none
 pub left_end : (u : PlainUnit) (s : State) (met : Bool) → token_at u s ≡ Err None → entries_left u s met ≡ ended (fault_if (is_type_unit u && not met) kind.TypeOffset u.offset)
 left_end u s met h = ap (λ (r : Run Entry (Option Fault)). judged u met r) (entries_end u s None h) ∙ judged-ended u met
 
 pub left_fault : (u : PlainUnit) (s : State) (met : Bool) (f : Fault) → token_at u s ≡ Err (Some f) → entries_left u s met ≡ ended (Some f)
 left_fault u s met f h = ap (λ (r : Run Entry (Option Fault)). judged u met r) (entries_end u s (Some f) h) ∙ judged-faulty u met f
 
--- ---- a reader that passes over the ends of lists
+-- ---- a reader that skips the ends of lists
 
--- where it has come to, with what was left where it began
+-- its state, and what remained at its start
 pub record IsReading (u : PlainUnit) (s : State) (met : Bool) (begun : State) : Type 0 where
   pub below : open_lists s.1 ≤ s.0
   pub here : entries_left u s met ≡ entries_left u begun met

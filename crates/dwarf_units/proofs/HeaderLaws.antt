@@ -20,7 +20,7 @@ use Rattle.dwarf_units.specs.Units.{PlainUnit}
 use Rattle.dwarf_units.proofs.Cases.{option_cases, result_cases}
 use Rattle.dwarf_units.proofs.UnitsLeft.{units_chain}
 
--- ---- what a test tells
+-- ---- what follows from a test
 
 abbrev Tells : Bool → Type 0 → Type 0
 Tells b P = (b ≡ true → P) × (b ≡ false → P → ⊥)
@@ -144,7 +144,7 @@ units_whole info abbrevs h =
     let all = up_to info abbrevs 0 (units_of info abbrevs).items None (subst (λ (e : Option Fault). Chain (unit_step info abbrevs) 0 (units_of info abbrevs).items e) h (units_chain info abbrevs)) in
     (all.0, all.1, judged_as info abbrevs all.0 (Err None) all.2)
 
--- ---- what stands so is read so
+-- ---- the reader reads what the bytes hold
 
 first_not : (Holds : FaultKind → Type 0) (ks : List FaultKind) (k : FaultKind) → IsFirst Holds ks k → NoRow Holds ks → ⊥
 first_not Holds [] k h none = h

@@ -1,4 +1,4 @@
--- What is read of a unit of version 4 does not depend on whether it is a partial one, so its root says that.
+-- The root of a unit of version 4 is read alike whether the unit is partial or not, so its tag can decide that.
 use Rattle.std.proofs.Common.{◌≡◌, ◌∙◌, ℕ, zero, suc, ltb, Bool, true, false, List, [], ◌∷◌, length, Option, Some, None, Result, Ok, Err, refl, sym, ap, subst, inl, inr, eq-eqb}
 use Rattle.std.specs.Prelude.{All, ◌==◌}
 use Rattle.std.proofs.lemmas.Bool.{cases_Bool}

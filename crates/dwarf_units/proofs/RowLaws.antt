@@ -36,7 +36,7 @@ Reading = Result (Value × ℕ) Fault
 abbrev Spelling : Shape → ℕ → Fault → Type 0
 Spelling s entry f = (f ≡ fault kind.Cut entry) ⊎ (((s ≡ supplementary) × (f ≡ fault kind.Supplementary entry)) ⊎ ((s ≡ indirect) × (f ≡ fault kind.Form entry)))
 
--- two faults that are one are of one kind
+-- equal faults have the same kind
 kind_of : {A : Type 0} (f g : Fault) → ◌≡◌ {A = Result A Fault} (Err f) (Err g) → f.kind ≡ g.kind
 kind_of f g e = ap (λ (x : Fault). x.kind) (same_Err f g e)
 
@@ -485,7 +485,7 @@ no_fault_whole moves u is =
     let s : State = (root_of u, None) in
     all_whole moves u s (tokens_from u s).items (subst (λ (e : Option Fault). Chain (token_at u) s (tokens_from u s).items e) is (tokens_chain moves u s))
 
--- ---- what stands so is read so
+-- ---- the reader reads what the bytes hold
 
 -- the same code ends a list and begins no entry
 end_same : (u : PlainUnit) (s : State) (n : State) (y : Option Entry) (m : State) → GoesOn u s None n → GoesOn u s y m → ◌≡◌ {A = Option Entry × State} (None, n) (y, m)
@@ -603,7 +603,7 @@ end_none : (u : PlainUnit) (met : Bool) (e : Option Fault) → end_with u met e 
 end_none u met (Some g) h = absurd cc
 end_none u met None h = (refl, typed_none (is_type_unit u) met u.offset h)
 
--- how all ends, by all that stands
+-- how the entries end, by what the bytes hold
 abbrev TokenRun : Type 0
 TokenRun = Run (Option Entry) (Option Fault)
 

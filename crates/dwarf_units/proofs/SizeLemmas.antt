@@ -10,7 +10,7 @@ use Rattle.dwarf_units.proofs.ValuesLoop.{passed_more, passed_all}
 
 -- ---- the pairs of an abbreviation
 
--- the values of the first pairs have so many bytes
+-- how many bytes the values of the first pairs have
 pub record Sized (specs : List Spec) (i size : ℕ) : Type 0 where
   pub passed : (u : PlainUnit) (entry at : ℕ) → size ≤ u.end - at → u.end ≤ length u.info
       → place_after (values_at u entry (drop i specs) (at + size)) ≡ place_after (values_at u entry specs at)

@@ -1,4 +1,4 @@
--- What stands at a place of a unit, and that reading moves on.
+-- The token at a place of a unit, and that reading moves on.
 use Rattle.std.proofs.Common.{◌≡◌, ◌≢◌, ℕ, zero, suc, ◌+◌, ◌-◌, ◌<◌, ◌≤◌, Bool, true, false, ltb, Option, Some, None, Ok, refl, ap, subst, arith, inl, inr}
 use Rattle.std.specs.Prelude.{not, ◌==◌, slice_index}
 use Rattle.std.proofs.lemmas.Bool.{cases_Bool, ltb-true, eqb-false}
@@ -31,7 +31,7 @@ entry_after moves u at depth code e h =
 stands : (u : PlainUnit) (s : State) (x y : Option Entry) (a b : State) → ◌≡◌ {A = Token} (Ok (x, a)) (Ok (y, b)) → TokenStands u s x a → TokenStands u s y b
 stands u s x y a b h is = subst (λ (p : Option Entry × State). TokenStands u s p.0 p.1) (same_Ok (x, a) (y, b) h) is
 
--- an entry that was read says where it stands
+-- an entry that was read has the place where it was read
 record StandsAt (at lists : ℕ) (e : Entry) : Type 0 where
   offset : e.offset ≡ at
   depth : e.depth ≡ lists
@@ -47,7 +47,7 @@ stands_at u at depth code e h =
     subst (λ (x : Entry). StandsAt at depth x) (ap (λ (p : Entry × (Bool × ℕ)). p.0) (same_Ok (made, (form.children, v.1)) e h2)) (record { offset = refl; depth = refl }))
     (λ f js. absurd (let g = rw js at h1 in cc)))
 
--- an entry that was read behind a code, so deep
+-- an entry that was read after a code, at a depth
 entry_stands : (moves : ValuesMove) (u : PlainUnit) (at : ℕ) (lists : Option ℕ) (code : ℕ × ℕ) (e : Entry × (Bool × ℕ)) → lists ≢ Some 0 → at < u.end → uleb_at (unit_bytes u) at ≡ Some code → (code.0 == 0) ≡ false
     → entry_at u at (open_lists lists) code ≡ Ok e → TokenStands u (at, lists) (Some e.0) (e.1.1, Some (opened e.1.0 (open_lists lists)))
 entry_stands moves u at lists code e in_list inside begins other read =
@@ -138,7 +138,7 @@ token_stands moves u (at, Some (suc n)) x next h =
 
 -- ---- reading moves on
 
--- a token moves on, and opens one list at most
+-- a token moves on, and opens at most one list
 pub record Moves (s next : State) : Type 0 where
   pub on : s.0 < next.0
   pub lists : open_lists next.1 ≤ suc (open_lists s.1)

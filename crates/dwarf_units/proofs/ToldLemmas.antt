@@ -1,4 +1,4 @@
--- The values of each entry stand where the entry says.
+-- The values of each entry are where the entry says.
 use Rattle.std.proofs.Common.{◌≡◌, ℕ, suc, ◌<◌, Bool, ltb, List, length, Option, Some, None, Ok, refl, ap, subst, inl, inr}
 use Rattle.std.specs.Prelude.{◌==◌, All}
 use Rattle.std.proofs.lemmas.Bool.{cases_Bool}
@@ -57,7 +57,7 @@ record IsMade (info abbrevs : List ℕ) (u : PlainUnit) : Type 0 where
   info_is : u.info ≡ info
   has : All (HasPairs abbrevs) u.table
 
--- the pairs of each abbreviation of each table stand where it says
+-- the pairs of each abbreviation of each table are where it says
 abbrev TellsPairs : List ℕ → Type 0
 TellsPairs abbrevs = (at : ℕ) → All (HasPairs abbrevs) (table_run abbrevs at).items
 

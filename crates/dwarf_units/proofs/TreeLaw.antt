@@ -24,7 +24,7 @@ use Rattle.dwarf_units.proofs.Cases.{option_cases, result_cases}
 abbrev EntryRun : Type 0
 EntryRun = Run Entry (Option Fault)
 
--- ---- what stands at a place of a unit that ends well
+-- ---- the token at a place of a unit that ends without a fault
 
 no_fault : (u : PlainUnit) (s : State) (f : Fault) → token_at u s ≡ Err (Some f) → (entries_from u s).end ≡ None → ⊥
 no_fault u s f is none = let same = ap (λ (r : EntryRun). r.end) (sym (entries_end u s (Some f) is)) ∙ none in cc
@@ -69,7 +69,7 @@ passed_left moves u s next is none =
     let gives = entries_pass moves u s next is in
     (ap (λ (r : EntryRun). r.items) gives, ap (λ (r : EntryRun). r.end) (sym gives) ∙ none)
 
--- ---- a list that ends well is spelled by siblings
+-- ---- a list that ends without a fault is a list of siblings
 
 abbrev AreSiblings : PlainUnit → ℕ → ℕ → Type 0
 AreSiblings u n at =
@@ -303,7 +303,7 @@ entries_judged : (u : PlainUnit) → entries_of u ≡ judged u false (entries_fr
 unfolding entries_of
 entries_judged u = refl
 
--- a unit has these entries and no fault exactly where they are its tree, with the entry of its type
+-- a unit has these entries and no fault exactly when they are its tree, with the entry of its type
 pub one_tree : (moves : ValuesMove) (u : PlainUnit) (entries : List Entry) → (entries_of u ≡ faultless entries) ↔ (IsTree u entries × HasType u entries)
 one_tree moves u entries = (
   (λ is.

@@ -1,4 +1,4 @@
--- Units stand one after the other inside the section.
+-- Units follow one another inside the section.
 use Rattle.std.proofs.Common.{◌≡◌, ℕ, ◌+◌, ◌<◌, ◌≤◌, ltb, Bool, true, false, List, [], ◌∷◌, length, Option, Some, None, Ok, refl, ap, subst, arith, lit<, inl, inr}
 use Rattle.std.specs.Prelude.{◌&&◌, ◌==◌, nat_lt, nat_le, is_some, if◌then◌else◌}
 use Rattle.std.proofs.lemmas.Bool.{cases_Bool, ltb-false, or_parts}
@@ -21,7 +21,7 @@ not_faulty : (b : Bool) (k : FaultKind) (at : ℕ) → fault_if b k at ≡ None 
 not_faulty true k at h = absurd cc
 not_faulty false k at h = refl
 
--- a unit without a fault ends behind its header and inside the section
+-- a unit without a fault ends after its header and inside the section
 record LiesInside (info : List ℕ) (at : ℕ) : Type 0 where
   inside : unit_end info at ≤ length info
   header : at + header_size_at info at ≤ unit_end info at
@@ -39,7 +39,7 @@ header_inside info at none =
       header = ltb-false (unit_end info at) (at + header_size_at info at) short.1;
     }
 
--- a unit has a signature exactly where it is a type unit
+-- a unit has a signature exactly when it is a type unit
 signed : (is_type : Bool) (signature : ℕ) → is_some (if is_type then Some signature else None) ≡ is_type
 signed true signature = refl
 signed false signature = refl

@@ -1,4 +1,4 @@
--- The units that are left, one after the other.
+-- The remaining units, one after the other.
 use Rattle.std.proofs.Common.{◌≡◌, ℕ, suc, ◌-◌, ◌<◌, ◌≤◌, ltb, false, List, length, Option, None, Ok, Err, refl, ap, arith, inl, inr}
 use Rattle.std.proofs.lemmas.Bool.{cases_Bool, ltb-true, le-ltb}
 use Rattle.abi_base.specs.declared.fault.Fault.{Fault}
@@ -48,7 +48,7 @@ pub header_fault_is : (info : List ℕ) (at : ℕ) → header_fault info at ≡ 
 unfolding header_fault
 header_fault_is info at = first-append (length_rows info at) (kind_rows info at)
 
--- the units are the one chain that stands in the section
+-- the units are the one chain in the section
 pub units_chain : (info abbrevs : List ℕ) → Chain (unit_step info abbrevs) 0 (units_from info abbrevs 0).items (units_from info abbrevs 0).end
 unfolding units_from
 units_chain info abbrevs = run_chain (unit_step info abbrevs) None (λ at. length info - at) (suc (length info)) 0 (unit_falls info abbrevs) (omega arith)

@@ -7,7 +7,7 @@ use Rattle.dwarf_forms.specs.Values.{value_at}
 use Rattle.dwarf_units.specs.Units.{PlainUnit, values_at}
 use Rattle.dwarf_units.proofs.Cases.{result_cases, same_Ok}
 
--- the place after a value is not before its own
+-- the place after a value is not before the value
 abbrev pub ValuesMove : Type 0
 ValuesMove = (form : ℕ) (implicit : ℤ) (unit end entry : ℕ) (bytes : List ℕ) (at : ℕ) (read : Value × ℕ) → value_at form implicit unit end entry bytes at ≡ Ok read → at ≤ read.1
 

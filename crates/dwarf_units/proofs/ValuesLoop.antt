@@ -43,7 +43,7 @@ values_end u entry specs i at front whole le so_far =
     let e : values_before front (values_at u entry (drop i specs) at) ≡ Ok (front, at) = rw none (ap (λ (ys : List (ℕ × Value)). Ok (ys, at)) (append-nil front)) in
     sym so_far ∙ e
 
--- ---- a loop that passes over them
+-- ---- a loop that skips them
 
 passed_front : (x : ℕ × Value) (r : Result (List (ℕ × Value) × ℕ) Fault) → place_after (r >>= λ others. Ok (x ∷ others.0, others.1)) ≡ place_after r
 passed_front x (Ok r) = refl

@@ -21,17 +21,17 @@ listed ended_list = []
 listed (leaf entry others) = entry ∷ listed others
 listed (branch entry children others) = entry ∷ (listed children ++ listed others)
 
--- an entry stands at a place, at a depth, and has children or not; the place after it
+-- an entry is at a place, at a depth, and has children or not; the place after it
 abbrev pub IsEntry : PlainUnit → ℕ → ℕ → Entry → Bool → ℕ → Type 0
 IsEntry u depth at entry children after =
     (code : ℕ × ℕ) × (at < u.end) × (uleb_at (unit_bytes u) at ≡ Some code) × (code.0 ≢ 0) × (entry_at u at depth code ≡ Ok (entry, (children, after)))
 
--- the code 0 stands at a place; the place after it
+-- the code 0 is at a place; the place after it
 abbrev pub IsEnd : PlainUnit → ℕ → ℕ → Type 0
 IsEnd u at after = (at < u.end) × (uleb_at (unit_bytes u) at ≡ Some (0, after))
 
--- An entry stands at a place, as deep as there are open lists, and opens one more where it has children. None stands behind the
--- root's own list.
+-- An entry is at a place, as deep as there are open lists, and opens one more where it has children. None follows the root's own
+-- list.
 pub record EntryStands (u : PlainUnit) (s : State) (entry : Entry) (next : State) : Type 0 where
   pub children : Bool
   pub there : IsEntry u (open_lists s.1) s.0 entry children next.0
@@ -40,32 +40,32 @@ pub record EntryStands (u : PlainUnit) (s : State) (entry : Entry) (next : State
   pub lists : next.1 ≡ Some (opened children (open_lists s.1))
   pub in_list : s.1 ≢ Some 0
 
--- What is no entry ends a list, or pads the unit behind its root, and opens no list.
+-- A token other than an entry ends a list, or pads the unit after its root, and opens no list.
 pub record EndStands (s next : State) : Type 0 where
   pub begun : s.1 ≢ None
   pub left : ℕ
   pub lists : next.1 ≡ Some left
   pub fewer : left ≤ open_lists s.1
 
--- what stands at a place: an entry, or what is none
+-- the token at a place: an entry, or another one
 abbrev pub IsThere : PlainUnit → State → Option Entry → State → Type 0
 IsThere u s (Some entry) next = EntryStands u s entry next
 IsThere u s None next = EndStands s next
 
--- a token stands before the unit's end, and the next one after it
+-- a token is before the unit's end, and the next one after it
 pub record TokenStands (u : PlainUnit) (s : State) (x : Option Entry) (next : State) : Type 0 where
   pub inside : s.0 < u.end
   pub on : s.0 < next.0
   pub is : IsThere u s x next
 
--- a list of entries stands at a place, at a depth, up to the code 0 that ends it; the place after that
+-- a list of entries is at a place, at a depth, up to the code 0 that ends it; the place after that
 unfoldable pub Spells : PlainUnit → ℕ → ℕ → Siblings → ℕ → Type 0
 Spells u depth at ended_list after = IsEnd u at after
 Spells u depth at (leaf entry others) after = (next : ℕ) × IsEntry u depth at entry false next × Spells u depth next others after
 Spells u depth at (branch entry children others) after =
     (inner : ℕ) × (next : ℕ) × IsEntry u depth at entry true inner × Spells u (suc depth) inner children next × Spells u depth next others after
 
--- only 0 bytes stand from a place on up to the unit's end
+-- only 0 bytes from a place on up to the unit's end
 abbrev pub IsPadding : PlainUnit → ℕ → Type 0
 IsPadding u at = (i : ℕ) → at ≤ i → i < u.end → slice_index u.info i ≡ 0
 
@@ -74,7 +74,7 @@ abbrev pub RootHas : PlainUnit → Bool → ℕ → List Entry → Type 0
 RootHas u false after below = (below ≡ []) × IsPadding u after
 RootHas u true after below = (children : Siblings) × (end : ℕ) × Spells u 1 after children end × (below ≡ listed children) × IsPadding u end
 
--- The unit is one tree: a root of its kind in a language that is read, what is below it, and padding.
+-- The unit is one tree: a root of its kind in a supported language, the entries below it, and padding.
 pub record IsTree (u : PlainUnit) (entries : List Entry) : Type 0 where
   pub root : Entry
   pub children : Bool
@@ -86,7 +86,7 @@ pub record IsTree (u : PlainUnit) (entries : List Entry) : Type 0 where
   pub has : RootHas u children after below
   pub all : entries ≡ root ∷ below
 
--- an entry of a type unit stands where the unit says that its type is
+-- an entry of a type unit is at the place that the unit gives for its type
 abbrev pub HasType : PlainUnit → List Entry → Type 0
 HasType u entries = is_type_unit u ≡ true → list_any (is_type_entry u) entries ≡ true
 

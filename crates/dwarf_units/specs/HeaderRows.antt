@@ -1,5 +1,5 @@
--- The faults of a unit's header row by row: each row is a condition at the unit's place, and of the rows that hold there the
--- first one counts.
+-- The faults of a unit's header row by row: each row is a condition at the unit's place, and the first row that holds there
+-- decides.
 use Rattle.std.specs.Prelude.{◌≡◌, ◌<◌, ◌≤◌, ◌⊎◌, ℕ, ◌+◌, List, [], ◌∷◌, length, Some, None}
 use Rattle.abi_base.specs.Dwarf.{dw_ut_compile, dw_ut_type, dw_ut_partial, dwarf_4, dwarf_5, length_size, dwarf64_length, reserved_length, header_size_4, x86_64_address_size}
 use Rattle.abi_base.specs.declared.fault.Fault.{Fault}
@@ -10,7 +10,7 @@ use Rattle.dwarf_units.specs.Rows.{IsFirst, NoRow}
 use Rattle.dwarf_units.specs.Sequence.{unit_length, unit_end, unit_version, unit_type, unit_address_size, unit_abbrevs, header_size_at, unit_of}
 use Rattle.dwarf_units.specs.Units.{PlainUnit}
 
--- The length field or the unit does not lie inside, the length is reserved, or the unit is too short for its header.
+-- The length field or the unit is not inside the section, the length is reserved, or the unit is too short for its header.
 abbrev pub LengthRow : List ℕ → ℕ → Type 0
 LengthRow info at =
     (length info < at + length_size)
@@ -37,7 +37,7 @@ pub record UnitWhole (info abbrevs : List ℕ) (at : ℕ) : Type 0 where
   pub header : NoRow (HeaderRow info at) header_rows
   pub table : (table_run abbrevs (unit_abbrevs info at)).end ≡ None
 
--- A unit begins there, and the fault is that of the first row of its header, or where none holds, that of its table.
+-- A unit begins there, and the fault is that of the first row of its header that holds, or where none holds, that of its table.
 abbrev pub UnitFaulty : List ℕ → List ℕ → ℕ → Fault → Type 0
 UnitFaulty info abbrevs at f =
     (at < length info)
@@ -49,7 +49,7 @@ abbrev pub UnitsUpTo : List ℕ → List ℕ → ℕ → List PlainUnit → ℕ 
 UnitsUpTo info abbrevs at [] end = at ≡ end
 UnitsUpTo info abbrevs at (u ∷ others) end = UnitWhole info abbrevs at × (u ≡ unit_of info abbrevs at) × UnitsUpTo info abbrevs u.end others end
 
--- The fault of the units: whole ones from the section's start on, and the fault of the next one.
+-- The fault of the units: whole units from the section's start on, and the fault of the next one.
 abbrev pub IsFaultOfUnits : List ℕ → List ℕ → Fault → Type 0
 IsFaultOfUnits info abbrevs f = (units : List PlainUnit) × (at : ℕ) × UnitsUpTo info abbrevs 0 units at × UnitFaulty info abbrevs at f
 

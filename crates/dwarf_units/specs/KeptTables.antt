@@ -1,4 +1,4 @@
--- What the reader of units answers, and what it keeps.
+-- What the reader of units returns, and what it keeps.
 use Rattle.std.specs.Prelude.{◌≡◌, ℕ, List, Option, Some, None, Result, Ok, Err, IfSome}
 use Rattle.abi_base.specs.declared.fault.Fault.{Fault}
 use Rattle.abi_base.specs.declared.fault.Refusal.{Refusal}
@@ -10,14 +10,14 @@ use Rattle.dwarf_units.specs.declared.unit.Unit.{Unit}
 use Rattle.dwarf_units.specs.Plain.{plain_unit}
 use Rattle.dwarf_units.specs.Sequence.{unit_step}
 
--- a reader's answer as `NextIs` says it, where the item is seen by a view
+-- a reader's result as in `NextIs`, where the item is seen by a view
 abbrev pub NextIsBy : {T X : Type 0} → (T → X) → Run X (Option Fault) → Result (Option T) Refusal → Run X (Option Fault) → Type 0
 NextIsBy see old (Ok (Some x)) new = old ≡ put_front (see x) new
 NextIsBy see old (Ok None) new = (old ≡ ended None) × (new ≡ old)
 NextIsBy see old (Err (refusal.Fault f)) new = (old ≡ ended (Some f)) × (new ≡ old)
 NextIsBy see old (Err refusal.NoMemory) new = new ≡ old
 
--- what a reader of one unit answers, where a unit begins
+-- what a reader of one unit returns, where a unit begins
 abbrev pub IsUnit : List ℕ → List ℕ → ℕ → Result Unit Refusal → Type 0
 IsUnit info abbrevs at (Ok u) = unit_step info abbrevs at ≡ Ok (plain_unit u, u.end)
 IsUnit info abbrevs at (Err (refusal.Fault f)) = unit_step info abbrevs at ≡ Err (Some f)

@@ -1,5 +1,5 @@
--- The faults of a unit's entries row by row: each row is a condition at a place, and of the rows that hold there the least one
--- counts. No row asks how a reader goes on.
+-- The faults of a unit's entries row by row: each row is a condition at a place, and the first row that holds there decides. No
+-- row depends on how a reader goes on.
 use Rattle.std.specs.Prelude.{◌≡◌, ◌≢◌, ◌<◌, ◌≤◌, ◌⊎◌, ℕ, zero, suc, ◌+◌, Bool, true, false, List, [], ◌∷◌, Option, Some, None, Ok, slice_index}
 use Rattle.std.specs.List.{list_any, filter_map}
 use Rattle.abi_base.specs.Dwarf.{dw_at_language}
@@ -22,13 +22,13 @@ use Rattle.dwarf_units.specs.Units.{PlainUnit, State, unit_bytes, is_root_tag, l
 abbrev pub HasValue : PlainUnit → ℕ → Spec → ℕ → Value × ℕ → Type 0
 HasValue u entry s at v = value_at s.form s.implicit u.offset u.end entry u.info at ≡ Ok v
 
--- the form is unknown, or stands before one that is unknown there
+-- the form is unknown, or it is DW_FORM_indirect and names a form that is unknown or not allowed there
 abbrev pub IsUnknown : PlainUnit → Spec → ℕ → Type 0
 IsUnknown u s at =
     (shape_of s.form ≡ None)
     ⊎ ((shape_of s.form ≡ Some indirect) × (n : ℕ × ℕ) × (uleb_at (unit_bytes u) at ≡ Some n) × (named_shape (shape_of n.0) ≡ None))
 
--- the form, or the one that it stands before, refers to a supplementary file
+-- the form, or the one that it names as DW_FORM_indirect, refers to a supplementary file
 abbrev pub IsElsewhere : PlainUnit → Spec → ℕ → Type 0
 IsElsewhere u s at =
     (shape_of s.form ≡ Some supplementary)
@@ -40,7 +40,7 @@ pub record IsCut (u : PlainUnit) (entry : ℕ) (s : Spec) (at : ℕ) : Type 0 wh
   pub known : IsUnknown u s at → ⊥
   pub here : IsElsewhere u s at → ⊥
 
--- of the values from a place on, the first one that cannot be read is of this kind
+-- the fault of the first value from a place on that has one is of this kind
 abbrev pub FirstUnread : PlainUnit → ℕ → (Spec → ℕ → Type 0) → List Spec → ℕ → Type 0
 FirstUnread u entry Kind [] at = ⊥
 FirstUnread u entry Kind (s ∷ specs) at = Kind s at ⊎ ((v : Value × ℕ) × HasValue u entry s at v × FirstUnread u entry Kind specs v.1)
@@ -58,12 +58,12 @@ pub record Begins (u : PlainUnit) (s : State) (code : ℕ × ℕ) : Type 0 where
   pub code_is : uleb_at (unit_bytes u) s.0 ≡ Some code
   pub no_end : code.0 ≢ 0
 
--- the same of a code that the table has
+-- the same for a code that the table has
 pub record HasForm (u : PlainUnit) (s : State) (code : ℕ × ℕ) (form : Abbrev) : Type 0 where
   pub begins : Begins u s code
   pub form_is : abbrev_of u.table code.0 ≡ Some form
 
--- an entry begins there, and the first of its values that cannot be read is of this kind
+-- an entry begins there, and the fault of the first of its values that has one is of this kind
 abbrev pub HasUnread : PlainUnit → State → (Spec → ℕ → Type 0) → Type 0
 HasUnread u s Kind = (code : ℕ × ℕ) × (form : Abbrev) × HasForm u s code form × FirstUnread u s.0 Kind form.specs code.1
 
@@ -75,18 +75,18 @@ CutRow u s = (IsDue u s × (uleb_at (unit_bytes u) s.0 ≡ None)) ⊎ HasUnread 
 abbrev pub CodeRow : PlainUnit → State → Type 0
 CodeRow u s = (code : ℕ × ℕ) × Begins u s code × (abbrev_of u.table code.0 ≡ None)
 
--- a root of a tag that its unit does not have
+-- a root with a tag that its unit does not allow
 abbrev pub HasOtherRoot : PlainUnit → State → Type 0
 HasOtherRoot u s = (code : ℕ × ℕ) × (form : Abbrev) × HasForm u s code form × (is_root_tag u form.tag ≡ false)
 
--- The unit ends before its root, or a code 0 stands there, or a root of another tag; a byte other than 0 stands behind the
--- root's own list; the unit ends inside a list.
+-- The unit ends before its root, or a code 0 is there, or a root with another tag; a byte other than 0 follows the root's own
+-- list; the unit ends inside a list.
 abbrev pub TreeRow : PlainUnit → ℕ → Option ℕ → Type 0
 TreeRow u at None = (u.end ≤ at) ⊎ (((after : ℕ) × IsEnd u at after) ⊎ HasOtherRoot u (at, None))
 TreeRow u at (Some zero) = (at < u.end) × (slice_index u.info at ≢ 0)
 TreeRow u at (Some (suc n)) = u.end ≤ at
 
--- a root whose language is none that is read
+-- a root with a language that is not supported
 abbrev pub LanguageRow : PlainUnit → ℕ → Option ℕ → Type 0
 LanguageRow u at None = (e : Entry) × (children : Bool) × (after : ℕ) × IsEntry u 0 at e children after × (language_fits (attribute_of e.attributes dw_at_language) ≡ false)
 LanguageRow u at (Some n) = ⊥
@@ -104,7 +104,7 @@ Row u s other = ⊥
 abbrev pub rows : List FaultKind
 rows = kind.Cut ∷ kind.AbbrevCode ∷ kind.Form ∷ kind.Supplementary ∷ kind.Tree ∷ kind.Language ∷ []
 
--- of rows in their order one holds, and none before it
+-- one of the rows holds, and none before it
 abbrev pub IsFirst : (FaultKind → Type 0) → List FaultKind → FaultKind → Type 0
 IsFirst Holds [] k = ⊥
 IsFirst Holds (j ∷ others) k = ((k ≡ j) × Holds j) ⊎ ((Holds j → ⊥) × IsFirst Holds others k)
@@ -116,31 +116,31 @@ NoRow Holds (j ∷ others) = (Holds j → ⊥) × NoRow Holds others
 
 -- ---- one after the other
 
--- What stands at a place, and the next place: an entry, the code 0 that ends a list, or a byte 0 behind the root's own list.
+-- The token at a place, and the next place: an entry, the code 0 that ends a list, or a byte 0 after the root's own list.
 abbrev pub GoesOn : PlainUnit → State → Option Entry → State → Type 0
 GoesOn u s (Some e) next = EntryStands u s e next
 GoesOn u (at, None) None next = ⊥
 GoesOn u (at, Some zero) None next = (at < u.end) × (slice_index u.info at ≡ 0) × (next ≡ (at + 1, Some 0))
 GoesOn u (at, Some (suc n)) None next = (after : ℕ) × IsEnd u at after × (next ≡ (after, Some n))
 
--- these stand one after the other up to a place, later ones at greater places, and no row holds at any of them
+-- these follow one another up to a place, later ones at greater places, and no row holds at any of them
 abbrev pub WholeUpTo : PlainUnit → State → List (Option Entry) → State → Type 0
 WholeUpTo u s [] end = s ≡ end
 WholeUpTo u s (x ∷ others) end = (next : State) × GoesOn u s x next × (s.0 < next.0) × NoRow (Row u s) rows × WholeUpTo u next others end
 
--- the fault of a row, at a place up to which all is whole, and of the rows there the first
+-- the fault of the first row that holds at a place, where all is whole up to that place
 abbrev pub FaultStands : PlainUnit → State → List (Option Entry) → Fault → Type 0
 FaultStands u s before f = (lists : Option ℕ) × WholeUpTo u s before (f.at, lists) × IsFirst (Row u (f.at, lists)) rows f.kind
 
--- all is whole up to the unit's end, behind the root's own list, and there too
+-- all is whole up to the unit's end, after the root's own list, and there too
 abbrev pub AllWhole : PlainUnit → State → List (Option Entry) → Type 0
 AllWhole u s all = (at : ℕ) × WholeUpTo u s all (at, Some 0) × (u.end ≤ at) × NoRow (Row u (at, Some 0)) rows
 
--- a type unit of whose entries none stands where the unit says that its type is
+-- a type unit with no entry at the place that it gives for its type
 abbrev pub LacksType : PlainUnit → List (Option Entry) → Type 0
 LacksType u all = (is_type_unit u ≡ true) × (list_any (is_type_entry u) (filter_map (λ x. x) all) ≡ false)
 
--- The fault of a unit's entries: that of the first row of the first place that has one, or, where all is whole, that of the
+-- The fault of a unit's entries: that of the first row of the first place where one holds, or, where all is whole, that of the
 -- type's entry.
 abbrev pub IsFaultOf : PlainUnit → Fault → Type 0
 IsFaultOf u f =

@@ -11,7 +11,7 @@ use Rattle.dwarf_forms.specs.abbreviations.Abbrevs.{table_run}
 use Rattle.dwarf_units.specs.declared.entry.Entry.{Entry}
 use Rattle.dwarf_units.specs.Units.{PlainUnit, header_size_of, root_of, entries_of}
 
--- the length of the unit at a place, behind its length field, and where the unit ends
+-- the length of the unit at a place, counted from after the length field, and where the unit ends
 abbrev pub unit_length : List ℕ → ℕ → ℕ
 unit_length info at = number 4 info at
 
@@ -21,14 +21,14 @@ unit_end info at = at + length_size + unit_length info at
 abbrev pub unit_version : List ℕ → ℕ → ℕ
 unit_version info at = number 2 info (at + version_at)
 
--- in version 5 the type of the unit stands behind the version
+-- in version 5 the type of the unit follows the version
 abbrev pub unit_type : List ℕ → ℕ → ℕ
 unit_type info at = slice_index info (at + unit_type_at)
 
 abbrev pub is_type_at : List ℕ → ℕ → Bool
 is_type_at info at = unit_version info at == dwarf_5 && unit_type info at == dw_ut_type
 
--- in version 4 the address size stands behind the place of the abbreviations, in version 5 before it
+-- in version 4 the address size follows the place of the abbreviations, in version 5 it precedes it
 abbrev pub unit_address_size : List ℕ → ℕ → ℕ
 unit_address_size info at = slice_index info (if unit_version info at == dwarf_4 then at + address_size_4_at else at + address_size_at)
 
@@ -39,8 +39,8 @@ unit_abbrevs info at = number 4 info (if unit_version info at == dwarf_4 then at
 abbrev pub header_size_at : List ℕ → ℕ → ℕ
 header_size_at info at = header_size_of (unit_version info at) (is_type_at info at)
 
--- The length field or the unit does not lie inside, the length is reserved, or the unit is too short for its header: for
--- the least one that there is, or for the one of its version and type.
+-- The length field or the unit is not inside the section, the length is reserved, or the unit is too short for its header: for
+-- the shortest header, or for the header of its version and type.
 abbrev pub bad_length : List ℕ → ℕ → Bool
 bad_length info at =
     nat_lt (length info) (at + length_size)
@@ -54,7 +54,7 @@ is_version version = version == dwarf_4 || version == dwarf_5
 abbrev pub is_read_type : ℕ → Bool
 is_read_type type = type == dw_ut_compile || (type == dw_ut_type || type == dw_ut_partial)
 
--- the rows of a header that ask its length, and those that ask what it says
+-- the rows about a header's length, and those about its other fields
 abbrev pub length_rows : List ℕ → ℕ → List (Option Fault)
 length_rows info at =
     fault_if (nat_le (at + length_size) (length info) && unit_length info at == dwarf64_length) kind.Dwarf64 at
@@ -68,7 +68,7 @@ kind_rows info at =
     ∷ fault_if (not (unit_address_size info at == x86_64_address_size)) kind.AddressSize at
     ∷ []
 
--- the fault of a unit's header: the first of its rows
+-- the fault of a unit's header: that of the first of its rows that holds
 unfoldable pub header_fault : List ℕ → ℕ → Option Fault
 header_fault info at = first (length_rows info at ++ kind_rows info at)
 
@@ -76,17 +76,17 @@ header_fault info at = first (length_rows info at ++ kind_rows info at)
 unfoldable pub unit_fault : List ℕ → List ℕ → ℕ → Option Fault
 unit_fault info abbrevs at = first (header_fault info at ∷ (table_run abbrevs (unit_abbrevs info at)).end ∷ [])
 
--- the first of a unit's entries, its root, is that of a partial unit
+-- the first entry of a unit, its root, has the tag of a partial unit
 abbrev pub begins_partial : List Entry → Bool
 begins_partial [] = false
 begins_partial (root ∷ others) = root.tag == dw_tag_partial_unit
 
--- Whether a unit is a partial one: in version 5 its type says so, in version 4 the tag of its root. A root that has a fault says
--- nothing.
+-- Whether a unit is a partial unit: in version 5 its type decides, in version 4 the tag of its root. A unit whose root has a fault
+-- is no partial unit in version 4.
 unfoldable pub is_partial : PlainUnit → Bool
 is_partial u = if u.version == dwarf_4 then begins_partial (entries_of u).items else unit_type u.info u.offset == dw_ut_partial
 
--- the unit at a place, as a partial one or as another
+-- the unit at a place, read as a partial unit or as another one
 abbrev pub unit_with : List ℕ → List ℕ → ℕ → Bool → PlainUnit
 unit_with info abbrevs at partial =
     record {
@@ -116,7 +116,7 @@ unit_step info abbrevs at = if not (nat_lt at (length info)) then Err None else 
 unfoldable pub units_from : List ℕ → List ℕ → ℕ → Run PlainUnit (Option Fault)
 units_from info abbrevs at = run (unit_step info abbrevs) None (suc (length info)) at
 
--- where a unit stands: its root behind the place where it begins, its end at the next one, and inside the section
+-- where a unit is: its root after its start, its end at the start of the next one, and inside the section
 pub record UnitStands (info : List ℕ) (at : ℕ) (u : PlainUnit) (next : ℕ) : Type 0 where
   pub root : at < root_of u
   pub on : root_of u ≤ next

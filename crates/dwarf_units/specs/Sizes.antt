@@ -1,4 +1,4 @@
--- How many bytes the values of an entry have, where its abbreviation says that alone.
+-- How many bytes the values of an entry have, where the forms of its abbreviation have fixed sizes.
 use Rattle.std.specs.Prelude.{◌≡◌, ◌≤◌, ℕ, ◌+◌, ◌-◌, length, List, Option, Some, Ok, slice_get}
 use Rattle.dwarf_forms.specs.declared.abbreviations.abbrev.Abbrev.{Abbrev}
 use Rattle.dwarf_forms.specs.declared.abbreviations.abbrev.Spec.{Spec}
@@ -6,7 +6,7 @@ use Rattle.dwarf_forms.specs.abbreviations.Abbrevs.{abbrev_of}
 use Rattle.dwarf_forms.specs.Values.{place_after}
 use Rattle.dwarf_units.specs.Units.{PlainUnit, values_at}
 
--- In each unit the values of these pairs end so many bytes behind the place where they begin, if the unit does not end before.
+-- In each unit the values of these pairs end `size` bytes after the place where they begin, if the unit does not end before.
 pub record EndBehind (specs : List Spec) (size : ℕ) : Type 0 where
   pub ends : (u : PlainUnit) (entry at : ℕ) → size ≤ u.end - at → u.end ≤ length u.info → place_after (values_at u entry specs at) ≡ Ok (at + size)
 

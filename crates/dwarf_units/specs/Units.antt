@@ -36,7 +36,7 @@ is_type_unit u = is_some u.signature
 abbrev pub header_size_of : ℕ → Bool → ℕ
 header_size_of version is_type = if version == dwarf_4 then header_size_4 else (if is_type then type_header_size else header_size)
 
--- where the root stands
+-- the place of the root
 abbrev pub root_of : PlainUnit → ℕ
 root_of u = u.offset + header_size_of u.version (is_type_unit u)
 
@@ -56,13 +56,13 @@ values_at u entry (s ∷ specs) at = do
 abbrev pub attribute_of : List (ℕ × Value) → ℕ → Option Value
 attribute_of attributes name = option_map (λ a. a.1) (find (λ a. a.0 == name) attributes)
 
--- the languages that are read: C, and assembler
+-- the languages that the reader supports: C, and assembler
 abbrev pub is_language : ℕ → Bool
 is_language n =
     n == dw_lang_c89
     || (n == dw_lang_c || (n == dw_lang_c99 || (n == dw_lang_c11 || (n == dw_lang_c17 || n == dw_lang_mips_assembler))))
 
--- a language that is read, or none
+-- a supported language, or none
 abbrev pub language_fits : Option Value → Bool
 language_fits None = true
 language_fits (Some (value.Unsigned n)) = is_language n
@@ -76,14 +76,14 @@ is_root_tag u tag =
     then tag == dw_tag_compile_unit || tag == dw_tag_partial_unit
     else tag == (if is_type_unit u then dw_tag_type_unit else (if u.partial then dw_tag_partial_unit else dw_tag_compile_unit))
 
--- an entry that begins with a code other than 0, inside so many lists; whether it has children; the place after it
+-- an entry that begins with a code other than 0, inside a number of open lists; whether it has children; the place after it
 unfoldable pub entry_at : PlainUnit → ℕ → ℕ → ℕ × ℕ → Result (Entry × (Bool × ℕ)) Fault
 entry_at u at depth code = do
   form ← or_end (abbrev_of u.table code.0) (fault kind.AbbrevCode at)
   values ← values_at u at form.specs code.1
   Ok (record { offset = at; depth = depth; tag = form.tag; specs_from = form.specs_from; attributes = values.0 }, (form.children, values.1))
 
--- Where reading stands: a place, and the number of open lists, which is none before the root.
+-- The state of reading: a place, and the number of open lists, which is none before the root.
 abbrev pub State : Type 0
 State = ℕ × Option ℕ
 
@@ -104,7 +104,7 @@ abbrev pub opened : Bool → ℕ → ℕ
 opened true n = suc n
 opened false n = n
 
--- the root has a tag of its unit, and its language is one that is read
+-- the root has a tag that its unit allows, and a supported language or none
 abbrev pub root_token : PlainUnit → ℕ → Result (Entry × (Bool × ℕ)) Fault → Token
 root_token u at (Err f) = Err (Some f)
 root_token u at (Ok e) =
@@ -116,8 +116,8 @@ abbrev pub inner_token : ℕ → Result (Entry × (Bool × ℕ)) Fault → Token
 inner_token n (Err f) = Err (Some f)
 inner_token n (Ok e) = Ok (Some e.0, (e.1.1, Some (opened e.1.0 n)))
 
--- What stands at a place: the root, where nothing was read; after the root's own list only 0 bytes up to the unit's end;
--- inside a list an entry, or the code 0 that ends the list.
+-- The token at a place: the root, where nothing was read; after the root's own list only 0 bytes up to the unit's end; inside a
+-- list an entry, or the code 0 that ends the list.
 unfoldable pub token_at : PlainUnit → State → Token
 token_at u (at, None) =
     if not (nat_lt at u.end) then tree_fault at else (do
@@ -131,8 +131,8 @@ token_at u (at, Some (suc n)) =
       code ← or_end (uleb_at (unit_bytes u) at) (Some (fault kind.Cut at))
       if code.0 == 0 then Ok (None, (code.1, Some n)) else inner_token (suc n) (entry_at u at (suc n) code))
 
--- all that stands from a state on, entries and ends of lists, and the fault of an entry or of the tree that it ends with, if
--- there is one
+-- all tokens from a state on, entries and ends of lists, and the fault of an entry or of the tree that they end with, if there
+-- is one
 unfoldable pub tokens_from : PlainUnit → State → Run (Option Entry) (Option Fault)
 tokens_from u s = run (token_at u) None (suc u.end) s
 
@@ -140,13 +140,13 @@ tokens_from u s = run (token_at u) None (suc u.end) s
 unfoldable pub entries_from : PlainUnit → State → Run Entry (Option Fault)
 entries_from u s = given (tokens_from u s)
 
--- ---- the entry that a type unit is for
+-- ---- the entry of a type unit's type
 
--- the entry stands where the unit says that its type is
+-- the entry is at the place that the unit gives for its type
 abbrev pub is_type_entry : PlainUnit → Entry → Bool
 is_type_entry u e = e.offset == u.type_entry
 
--- A type unit that has come to its end has a fault where no entry stands there. `met` says whether one was met before.
+-- A type unit without an entry at that place has a fault at its end. `met` says whether an earlier entry was there.
 abbrev pub end_with : PlainUnit → Bool → Option Fault → Option Fault
 end_with u met None = fault_if (is_type_unit u && not met) kind.TypeOffset u.offset
 end_with u met (Some f) = Some f
@@ -154,7 +154,7 @@ end_with u met (Some f) = Some f
 unfoldable pub judged : PlainUnit → Bool → Run Entry (Option Fault) → Run Entry (Option Fault)
 judged u met r = record { items = r.items; end = end_with u (met || list_any (is_type_entry u) r.items) r.end }
 
--- the entries that are left, and the fault that they end with
+-- the remaining entries, and the fault that they end with
 abbrev pub entries_left : PlainUnit → State → Bool → Run Entry (Option Fault)
 entries_left u s met = judged u met (entries_from u s)
 

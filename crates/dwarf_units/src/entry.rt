@@ -7,12 +7,12 @@ use dwarf_forms::Value;
 pub struct Entry {
     /// Where it begins in `.debug_info`.
     pub offset: u64,
-    /// How many entries it stands below. The root of a unit has 0.
+    /// Its depth: the number of entries above it. The root of a unit has 0.
     pub depth: u32,
-    /// What it is, `DW_TAG_..`.
+    /// Its tag, `DW_TAG_..`.
     pub tag: u64,
     /// Where the pairs of attribute and form of its abbreviation begin in `.debug_abbrev`.
     pub specs_from: u64,
-    /// The attributes, `DW_AT_..`, and their values, in their order.
+    /// The attributes, `DW_AT_..`, and their values, in order.
     pub attributes: List<(u64, Value)>,
 }

@@ -1,8 +1,9 @@
-// The header of a unit: its faults, and what it says.
+// The header of a unit: its faults and its fields.
 ghost use Rattle.std.specs.Prelude.{◌≡◌, ◌≤◌, ◌<◌, ◌+◌, ◌||◌, nat_lt, length, true, IfNone};
 ghost use Rattle.abi_base.specs.Dwarf.{header_size_4, length_size};
 ghost use Rattle.abi_base.specs.Outcome.{first};
-ghost use Rattle.dwarf_units.specs.Sequence.{header_fault, header_size_at, is_read_type as the_type_is_read, is_type_at, is_version as the_version_is_read, kind_rows, length_rows, unit_abbrevs, unit_end, unit_version};
+ghost use Rattle.dwarf_units.specs.Sequence.{header_fault, header_size_at, is_type_at, kind_rows, length_rows, unit_abbrevs, unit_end, unit_version};
+ghost use Rattle.dwarf_units.specs.Sequence as spec;
 
 use crate::constants::{
     ADDRESS_SIZE, ADDRESS_SIZE_4, DEBUG_ABBREV_OFFSET, DEBUG_ABBREV_OFFSET_4, DWARF_4, DWARF_5,
@@ -37,7 +38,7 @@ fn header_size_in(info: &[u8], at: usize) -> u64
     }
 }
 
-// Whether a unit that lies inside is too short for its header.
+// Whether a unit inside the section is too short for its header.
 fn is_short(info: &[u8], at: usize, rest: u64) -> bool
     requires { at + length_size + rest ≤ length info.now }
     ensures { result ≡ (nat_lt (at + length_size + rest) (at + header_size_4) || nat_lt (at + length_size + rest) (at + header_size_at info.now at)) }
@@ -48,7 +49,7 @@ fn is_short(info: &[u8], at: usize, rest: u64) -> bool
     LENGTH_SIZE + rest < header_size_in(info, at)
 }
 
-// The fault of a unit's length, where the unit begins inside.
+// The fault of a unit's length, where the unit begins inside the section.
 fn length_fault_in(info: &[u8], at: usize) -> Option<Fault>
     requires { at < length info.now }
     ensures fault { result ≡ first (length_rows info.now at) }
@@ -77,23 +78,23 @@ fn length_fault_in(info: &[u8], at: usize) -> Option<Fault>
 }
 
 fn is_version(version: u16) -> bool
-    ensures { result ≡ the_version_is_read version }
+    ensures { result ≡ spec.is_version version }
 {
     matches!(version, DWARF_4 | DWARF_5)
 }
 
 fn is_read_type(kind: u8) -> bool
-    ensures { result ≡ the_type_is_read kind }
+    ensures { result ≡ spec.is_read_type kind }
 {
     matches!(kind, DW_UT_compile | DW_UT_type | DW_UT_partial)
 }
 
-// The fault of what a header says, where the header lies inside.
+// The fault of the fields of a header that is inside the section.
 fn kind_fault_in(info: &[u8], at: usize) -> Option<Fault>
     requires header { at + header_size_at info.now at ≤ length info.now }
     requires least { at + header_size_4 ≤ length info.now }
     ensures fault { result ≡ first (kind_rows info.now at) }
-    ensures version { IfNone result (the_version_is_read (unit_version info.now at) ≡ true) }
+    ensures version { IfNone result (spec.is_version (unit_version info.now at) ≡ true) }
 {
     let version = u16_in(info, at + VERSION);
     if !is_version(version) {
@@ -113,7 +114,7 @@ fn kind_fault_in(info: &[u8], at: usize) -> Option<Fault>
     None
 }
 
-/// The first fault of a unit's header, where the unit begins inside.
+/// The first fault of a unit's header, where the unit begins inside the section.
 #[tactic(auto, using(crate::proofs::UnitsLeft::header_fault_is))]
 pub fn header_fault_in(info: &[u8], at: usize) -> Option<Fault>
     requires { at < length info.now }

@@ -9,8 +9,7 @@ use dwarf_forms::abbreviations::{Abbrev, Spec};
 use std::alloc::Global;
 use std::marker::Model;
 
-/// An entry of a unit whose values were passed over: they are read when they are asked for. Contracts see it as the entry, with
-/// its values.
+/// An entry of a unit whose values were skipped: a call of `entry` reads them. Contracts see it as the entry, with its values.
 #[derive(Drop)]
 pub struct Outline<'u, 'a> {
     pub(crate) unit: &'u Unit<'a>,
@@ -18,7 +17,7 @@ pub struct Outline<'u, 'a> {
     pub(crate) form: &'u Abbrev,
     pub(crate) offset: u64,
     pub(crate) depth: u32,
-    // Where its values begin, behind its code.
+    // Where its values begin, after its code.
     pub(crate) values: usize,
 }
 
@@ -46,7 +45,7 @@ impl<'u, 'a> Outline<'u, 'a> {
         self.offset
     }
 
-    /// How many entries it stands below. The root of a unit has 0.
+    /// Its depth: the number of entries above it. The root of a unit has 0.
     #[inline]
     pub fn depth(&self) -> u32
         ensures { result ≡ self.now.depth }
@@ -54,7 +53,7 @@ impl<'u, 'a> Outline<'u, 'a> {
         self.depth
     }
 
-    /// What it is, `DW_TAG_..`.
+    /// Its tag, `DW_TAG_..`.
     #[inline]
     pub fn tag(&self) -> u64
         ensures { result ≡ self.now.tag }
@@ -70,7 +69,7 @@ impl<'u, 'a> Outline<'u, 'a> {
         self.form.specs_from
     }
 
-    /// The pairs of attribute and form of its abbreviation: its attributes are theirs, in order.
+    /// The pairs of attribute and form of its abbreviation, in the order of its attributes.
     #[inline]
     pub fn specs(&self) -> &[Spec]
         ensures { map (λ s. s.attribute) result.now ≡ map (λ a. a.0) self.now.attributes }

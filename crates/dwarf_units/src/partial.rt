@@ -1,7 +1,8 @@
-// Whether a unit is a partial one.
+// Whether a unit is a partial unit.
 ghost use Rattle.std.specs.Prelude.{◌≡◌, IfOk};
 ghost use Rattle.dwarf_units.specs.Plain.{plain_unit};
-ghost use Rattle.dwarf_units.specs.Sequence.{begins_partial, is_partial as the_partial_one};
+ghost use Rattle.dwarf_units.specs.Sequence.{begins_partial};
+ghost use Rattle.dwarf_units.specs.Sequence as spec;
 ghost use Rattle.dwarf_units.specs.Units.{entries_of};
 
 use crate::constants::{DWARF_4, UNIT_TYPE};
@@ -11,7 +12,7 @@ use abi_base::dwarf::{DW_TAG_partial_unit, DW_UT_partial};
 use abi_base::{NoMemory, Refusal};
 use std::alloc::Global;
 
-// Whether the root of a unit has no fault, and is that of a partial unit.
+// Whether the root of a unit has no fault and the tag of a partial unit.
 fn has_partial_root(alloc: Global, unit: &Unit<'_>) -> Result<bool, NoMemory>
     ensures { IfOk result (λ is. is ≡ begins_partial (entries_of (plain_unit unit.now)).items) }
 {
@@ -24,10 +25,10 @@ fn has_partial_root(alloc: Global, unit: &Unit<'_>) -> Result<bool, NoMemory>
     }
 }
 
-/// Whether a unit is a partial one: in version 5 its type says so, in version 4 the tag of its root, where that has no fault.
+/// Whether a unit is a partial unit: in version 5 its type decides, in version 4 the tag of its root, where that has no fault.
 #[tactic(auto, unfolding(crate::specs::Sequence::is_partial))]
 pub fn is_partial(alloc: Global, unit: &Unit<'_>) -> Result<bool, NoMemory>
-    ensures { IfOk result (λ is. is ≡ the_partial_one (plain_unit unit.now)) }
+    ensures { IfOk result (λ is. is ≡ spec.is_partial (plain_unit unit.now)) }
 {
     if unit.version == DWARF_4 {
         return has_partial_root(alloc, unit);

@@ -5,7 +5,8 @@ ghost use Rattle.abi_base.specs.Runs.{NextIs};
 ghost use Rattle.abi_base.specs.declared.fault.FaultKind.TheVariants as kind;
 ghost use Rattle.dwarf_units.specs.Following.{ComesTo};
 ghost use Rattle.dwarf_units.specs.Plain.{plain_unit};
-ghost use Rattle.dwarf_units.specs.Units.{is_type_entry as the_type_entry, open_lists};
+ghost use Rattle.dwarf_units.specs.Units.{open_lists};
+ghost use Rattle.dwarf_units.specs.Units as spec;
 
 use crate::outline::Outline;
 use crate::tokens::{Token, token_in};
@@ -15,7 +16,7 @@ use dwarf_forms::laws::reading_moves_on_inside_the_unit;
 use std::alloc::Global;
 use std::marker::Model;
 
-/// The entries of a unit that are left. Contracts see them as a list, and the fault that they end with, if there is one.
+/// The remaining entries of a unit. Contracts see them as a list, and the fault that they end with, if there is one.
 #[derive(Drop)]
 pub struct Entries<'u, 'a> {
     pub(crate) unit: &'u Unit<'a>,
@@ -41,15 +42,15 @@ impl<'u, 'a> Model for Entries<'u, 'a> {
     ghost invariant = { λ r. open_lists r.lists ≤ r.at };
 }
 
-// Whether an entry is the one that its unit is for, or was met before.
+// Whether an entry is the one of its unit's type, or that entry came before.
 #[inline]
 fn is_met(unit: &Unit<'_>, met: bool, entry: &Outline<'_, '_>) -> bool
-    ensures { result ≡ (met || the_type_entry (plain_unit unit.now) entry.now) }
+    ensures { result ≡ (met || spec.is_type_entry (plain_unit unit.now) entry.now) }
 {
     met || entry.offset() == unit.type_entry
 }
 
-// The fault of a type unit whose type's entry was not met.
+// The fault of a type unit without the entry of its type.
 fn unmet(unit: &Unit<'_>, met: bool) -> Option<Fault>
     ensures { result ≡ fault_if (is_some unit.now.signature && not met) kind.TypeOffset unit.now.offset }
 {
@@ -63,7 +64,7 @@ fn unmet(unit: &Unit<'_>, met: bool) -> Option<Fault>
     }
 }
 
-/// An entry, the place after it, and the number of lists that are open there.
+/// An entry, the place after it, and the number of open lists there.
 #[derive(Drop)]
 pub struct Following<'u, 'a> {
     pub entry: Outline<'u, 'a>,
@@ -71,7 +72,7 @@ pub struct Following<'u, 'a> {
     pub lists: u32,
 }
 
-// The next entry from a place on, inside so many lists, or none at the unit's end.
+// The next entry from a place on, inside a number of open lists, or none at the unit's end.
 #[inline]
 #[tactic(auto, using(crate::proofs::EntriesLeft::left_pass, crate::proofs::EntriesLeft::left_end, crate::proofs::TokenLaws::token_moves))]
 fn next_in<'u, 'a>(
@@ -123,10 +124,10 @@ fn next_in<'u, 'a>(
 }
 
 impl<'u, 'a> Entries<'u, 'a> {
-    /// The next entry, whose values are passed over, or none at the unit's end. Only for the root it takes memory. The faults
-    /// are `Cut`, `AbbrevCode`, `Form` and `Supplementary` at an entry, `Tree` at the place where the tree of entries breaks,
-    /// `Language` at the root, and at the end of a type unit `TypeOffset` at the unit. After a fault the same fault is answered
-    /// from then on; after `NoMemory` the reader is as before, and the call may be made again.
+    /// The next entry, whose values are skipped, or none at the unit's end. It allocates only for the root. The faults are
+    /// `Cut`, `AbbrevCode`, `Form` and `Supplementary` at an entry, `Tree` at the place where the tree of entries breaks,
+    /// `Language` at the root, and at the end of a type unit `TypeOffset` at the unit. After a fault every later call returns
+    /// the same fault; after `NoMemory` the reader is as before, and the caller may call again.
     #[inline]
     pub fn next_outline(&mut self, alloc: Global) -> Result<Option<Outline<'u, 'a>>, Refusal>
         ensures { NextIs self.old result self.new }

@@ -17,12 +17,12 @@ const USUAL_CODES: usize = 64;
 // From this code on sizes are not kept.
 const MOST_CODES: u64 = 0x10000;
 
-/// A table of abbreviations, and how many bytes the values of an entry have where its abbreviation says that alone. Contracts
-/// see it as the list of its abbreviations.
+/// A table of abbreviations, and for an abbreviation whose forms all have fixed sizes, how many bytes the values of its entries
+/// have. Contracts see it as the list of its abbreviations.
 #[derive(Drop)]
 pub struct SizedTable {
     table: Table,
-    // The sizes by code. Producers number from 1 on, and those of codes behind the first that is left out are not kept.
+    // The sizes by code, from code 1 on. Producers number from 1 on. Sizes of codes after the first gap are not kept.
     sizes: Vec<Option<u16>>,
 }
 
@@ -38,7 +38,7 @@ impl Model for SizedTable {
     ghost invariant = { λ t. AreSizes t.table t.sizes.items };
 }
 
-// How many bytes the values of these pairs have together, where the form of each fixes its size and they are not very many.
+// How many bytes the values of these pairs have together, where each form has a fixed size and the sum fits in 16 bits.
 fn whole_size(specs: &[Spec]) -> Option<u16>
     ensures { IfSome result (EndBehind specs.now) }
 {
@@ -56,7 +56,7 @@ fn whole_size(specs: &[Spec]) -> Option<u16>
     Some(size)
 }
 
-// The sizes of the codes of a table that follow one another from 1 on.
+// The sizes for the consecutive codes of a table from 1 on.
 fn sizes_of(alloc: Global, table: &Table) -> Result<Vec<Option<u16>>, NoMemory>
     ensures { IfOk result (λ sizes. AreSizes table.now sizes.items) }
 {
@@ -89,7 +89,8 @@ impl SizedTable {
         self.table.find(code)
     }
 
-    /// How many bytes the values of an entry of a code have, where its abbreviation says that alone. None says nothing.
+    /// How many bytes the values of an entry of a code have, where the forms of its abbreviation have fixed sizes. None says
+    /// nothing.
     #[inline]
     pub fn size(&self, code: u64) -> Option<u16>
         ensures { IfSome result (IsSizeIn self.now code) }

@@ -17,7 +17,7 @@ pub struct KeptTable {
     pub table: Rc<SizedTable>,
 }
 
-/// The table at a place: the one that was read last, where that stands there. Else it is read anew, and kept.
+/// The table at a place: the table that was read last, if it is the one at this place. Else it is read, and kept.
 pub fn table_in(
     alloc: Global,
     abbrevs: &[u8],

@@ -1,4 +1,4 @@
-// One entry, or one end of a list.
+// One entry, or one end of a list of siblings.
 ghost use Rattle.std.specs.Prelude.{◌≡◌, ◌≤◌, ◌<◌, ◌==◌, find, Some, None};
 ghost use Rattle.std.specs.Option.{option_copied};
 ghost use Rattle.abi_base.specs.declared.fault.FaultKind.TheVariants as kind;
@@ -85,7 +85,7 @@ fn entry_in<'u, 'a>(
     }
 }
 
-// Whether a language is one that is read.
+// Whether the reader supports a language.
 fn is_read(language: u64) -> bool
     ensures { result ≡ is_language language }
 {
@@ -111,7 +111,7 @@ fn attribute(attributes: &[(u64, Value)], name: u64) -> Option<Value>
     }
 }
 
-// Whether a root that has this language, or none, is read.
+// Whether the reader supports a root with this language, or without one.
 fn fits(language: Option<Value>) -> bool
     ensures { result ≡ language_fits language }
 {
@@ -140,7 +140,7 @@ fn has_root_tag(unit: &Unit<'_>, tag: u64) -> bool
     tag == wanted
 }
 
-// The root, at a place before the unit's end. Its values are read, for its language.
+// The root, at a place before the unit's end. It reads the values, for the language.
 #[inline(never)]
 #[tactic(auto, unfolding(crate::specs::Units::token_at))]
 fn root_in<'u, 'a>(alloc: Global, unit: &'u Unit<'a>, at: usize) -> Result<Token<'u, 'a>, Refusal>
@@ -175,7 +175,7 @@ fn root_in<'u, 'a>(alloc: Global, unit: &'u Unit<'a>, at: usize) -> Result<Token
     }
 }
 
-// What stands at a place before the unit's end, inside so many lists.
+// The token at a place before the unit's end, inside a number of open lists.
 #[inline]
 #[tactic(auto, unfolding(crate::specs::Units::token_at))]
 fn inner_in<'u, 'a>(unit: &'u Unit<'a>, at: usize, lists: u32) -> Result<Token<'u, 'a>, Refusal>
@@ -203,7 +203,7 @@ fn inner_in<'u, 'a>(unit: &'u Unit<'a>, at: usize, lists: u32) -> Result<Token<'
     }
 }
 
-/// What stands at a place, inside so many lists, or none before the root. Only at the root it takes memory.
+/// The token at a place, inside a number of open lists, or none before the root. It allocates only at the root.
 #[inline]
 #[tactic(auto, unfolding(crate::specs::Units::token_at))]
 pub fn token_in<'u, 'a>(

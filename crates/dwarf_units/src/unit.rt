@@ -16,13 +16,13 @@ pub struct Unit<'a> {
     pub end: u64,
     /// The version of DWARF: 4 or 5.
     pub version: u16,
-    /// Whether it is a partial unit. In version 4 the tag of its root says so, where the root has no fault.
+    /// Whether it is a partial unit. In version 4 the tag of its root decides, where the root has no fault.
     pub partial: bool,
     /// Its signature, where it is a type unit.
     pub signature: Option<u64>,
-    /// Where the entry of its type stands, or 0 where it is no type unit.
+    /// The place of the entry of its type, or 0 where it is no type unit.
     pub type_entry: u64,
-    /// Its abbreviations. Units that follow one another and name the same table share it.
+    /// Its abbreviations. Consecutive units with the same table share it.
     pub table: Rc<SizedTable>,
     /// The whole of `.debug_info`.
     pub info: &'a [u8],

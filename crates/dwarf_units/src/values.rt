@@ -9,22 +9,18 @@ ghost use Rattle.dwarf_units.specs.Units.{values_at};
 use crate::unit::Unit;
 use abi_base::{Fault, List, Refusal};
 use dwarf_forms::abbreviations::{Abbrev, Spec};
-use dwarf_forms::{Value, fixed_end, value, value_end};
+use dwarf_forms::{UnitSpan, Value, fixed_end, value, value_end};
 use std::alloc::Global;
 
 // The value of one attribute of an entry.
 fn value_in(unit: &Unit<'_>, spec: Spec, entry: u64, at: usize) -> Result<(Value, usize), Fault>
     ensures { result ≡ value_at spec.form spec.implicit unit.now.offset unit.now.end entry unit.now.info.now at }
 {
-    value(
-        spec.form,
-        spec.implicit,
-        unit.offset,
-        unit.end,
-        entry,
-        unit.info,
-        at,
-    )
+    let span = UnitSpan {
+        start: unit.offset,
+        end: unit.end,
+    };
+    value(unit.info, span, entry, spec, at)
 }
 
 /// The attributes of an entry with their values, and the place after them.
@@ -52,7 +48,7 @@ pub fn values_in(
     Ok((attributes, place))
 }
 
-// The place after the values of an entry, which are passed over, or the fault of the first that cannot be read.
+// The place after the values of an entry, which are skipped, or the fault of the first value that has one.
 #[inline(never)]
 #[tactic(auto, using(crate::proofs::ValuesLoop::passed_all))]
 fn values_end(unit: &Unit<'_>, entry: u64, specs: &[Spec], at: usize) -> Result<usize, Fault>
@@ -71,8 +67,8 @@ fn values_end(unit: &Unit<'_>, entry: u64, specs: &[Spec], at: usize) -> Result<
     Ok(place)
 }
 
-/// The place after the values of an entry of a code, which begin at a place and are passed over, or the fault of the first that
-/// cannot be read.
+/// The place after the values of an entry of a code, which begin at a place and are skipped, or the fault of the first value that
+/// has one.
 #[inline(always)]
 pub fn entry_end(
     unit: &Unit<'_>,

@@ -1,4 +1,4 @@
-//! The numbers of ELF-64 files under their standard names, grouped as the standards group them.
+//! The numbers of ELF-64 files under their standard names, in the groups of the standards.
 
 // ---- System V gABI: "ELF Header", "Section Header"
 
@@ -11,34 +11,34 @@ pub const SHDR_SIZE: usize = 64;
 /// The first four bytes of a file.
 pub const ELFMAG: [u8; 4] = *b"\x7fELF";
 
-/// The byte of a file that says its class: how wide its addresses are.
+/// The byte of a file with its class: the size of its addresses.
 pub const EI_CLASS: usize = 4;
 
-/// The byte of a file that says its byte order.
+/// The byte of a file with its byte order.
 pub const EI_DATA: usize = 5;
 
-/// The byte of a file that says the version of its identification.
+/// The byte of a file with the version of its identification.
 pub const EI_VERSION: usize = 6;
 
-/// Where the file's type stands in the file header.
+/// The offset of the file's type in the file header.
 pub const E_TYPE: usize = 16;
 
-/// Where the machine stands in the file header.
+/// The offset of the machine in the file header.
 pub const E_MACHINE: usize = 18;
 
-/// Where the version of the format stands in the file header.
+/// The offset of the version of the format in the file header.
 pub const E_VERSION: usize = 20;
 
-/// Where the file header says where the section table begins.
+/// The offset in the file header of the place of the section table.
 pub const E_SHOFF: usize = 40;
 
-/// Where the file header says how many bytes a section header has.
+/// The offset in the file header of the size of a section header.
 pub const E_SHENTSIZE: usize = 58;
 
-/// Where the file header says how many section headers there are: 0 where section 0 says it.
+/// The offset in the file header of the number of section headers, which is 0 where section 0 has that number.
 pub const E_SHNUM: usize = 60;
 
-/// Where the file header says the number of the section of names: `SHN_XINDEX` where section 0 says it.
+/// The offset in the file header of the number of the section of names, which is `SHN_XINDEX` where section 0 has that number.
 pub const E_SHSTRNDX: usize = 62;
 
 /// The class of 64-bit files.
@@ -56,34 +56,34 @@ pub const ET_DYN: u16 = 3;
 /// The machine x86-64.
 pub const EM_X86_64: u16 = 62;
 
-/// An `e_shstrndx` that says that the index stands in the link of section 0.
+/// An `e_shstrndx` that says that the link of section 0 is the index.
 pub const SHN_XINDEX: u16 = 0xffff;
 
-/// Where a section header says where its name begins in the section of names.
+/// The offset in a section header of the place of its name in the section of names.
 pub const SH_NAME: usize = 0;
 
-/// Where a section header says its type.
+/// The offset in a section header of its type.
 pub const SH_TYPE: usize = 4;
 
-/// Where a section header says its flags.
+/// The offset in a section header of its flags.
 pub const SH_FLAGS: usize = 8;
 
-/// Where a section header says where its contents begin.
+/// The offset in a section header of the place of its contents.
 pub const SH_OFFSET: usize = 24;
 
-/// Where a section header says how many bytes the section has.
+/// The offset in a section header of the size of the section.
 pub const SH_SIZE: usize = 32;
 
-/// Where a section header says the number of a section that goes with it.
+/// The offset in a section header of the number of a related section.
 pub const SH_LINK: usize = 40;
 
-/// Where a section header says what its type needs besides.
+/// The offset in a section header of its extra information, which depends on the type.
 pub const SH_INFO: usize = 44;
 
-/// Where a section header says how many bytes an entry has.
+/// The offset in a section header of the size of an entry.
 pub const SH_ENTSIZE: usize = 56;
 
-/// A section header that is not used.
+/// An unused section header.
 pub const SHT_NULL: u32 = 0;
 
 /// A string table.
@@ -110,10 +110,10 @@ pub const SHT_GNU_VERSYM: u32 = 0x6fff_ffff;
 /// The flag of a compressed section.
 pub const SHF_COMPRESSED: u64 = 0x800;
 
-/// How the names of debug sections begin.
+/// The prefix of the names of debug sections.
 pub const DEBUG_PREFIX: [u8; 7] = *b".debug_";
 
-/// How the names of debug sections begin that an older form of compression packed.
+/// The prefix of the names of debug sections in an older form of compression.
 pub const ZDEBUG_PREFIX: [u8; 8] = *b".zdebug_";
 
 // ---- System V gABI: "Symbol Table", "Dynamic Section" (STB_GNU_UNIQUE and STT_GNU_IFUNC are those of GNU)
@@ -121,28 +121,28 @@ pub const ZDEBUG_PREFIX: [u8; 8] = *b".zdebug_";
 /// The size of a symbol, `Elf64_Sym`.
 pub const SYM_SIZE: usize = 24;
 
-/// Where a symbol says where its name begins in the string table.
+/// The offset in a symbol of the place of its name in the string table.
 pub const ST_NAME: usize = 0;
 
-/// Where a symbol says its binding, in the high half of a byte, and its type, in the low half.
+/// The offset in a symbol of the byte with its binding, in the high half, and its type, in the low half.
 pub const ST_INFO: usize = 4;
 
-/// Where a symbol says its visibility, in the two lowest bits of a byte.
+/// The offset in a symbol of the byte with its visibility, in the two lowest bits.
 pub const ST_OTHER: usize = 5;
 
-/// Where a symbol says the number of the section that it stands in.
+/// The offset in a symbol of the number of its section.
 pub const ST_SHNDX: usize = 6;
 
-/// Where a symbol says its value.
+/// The offset in a symbol of its value.
 pub const ST_VALUE: usize = 8;
 
-/// Where a symbol says how many bytes it has.
+/// The offset in a symbol of its size.
 pub const ST_SIZE: usize = 16;
 
-/// A symbol that only its own file sees.
+/// A symbol that is visible only in its own file.
 pub const STB_LOCAL: u8 = 0;
 
-/// A symbol that all files see.
+/// A symbol that is visible in all files.
 pub const STB_GLOBAL: u8 = 1;
 
 /// A global symbol of lower precedence.
@@ -151,7 +151,7 @@ pub const STB_WEAK: u8 = 2;
 /// A global symbol of which a process has one.
 pub const STB_GNU_UNIQUE: u8 = 10;
 
-/// A symbol whose type is not said.
+/// A symbol without a type.
 pub const STT_NOTYPE: u8 = 0;
 
 /// A data object.
@@ -166,16 +166,16 @@ pub const STT_COMMON: u8 = 5;
 /// A thread-local object.
 pub const STT_TLS: u8 = 6;
 
-/// A function that a resolver picks when the file is loaded.
+/// A function that a resolver picks at load time.
 pub const STT_GNU_IFUNC: u8 = 10;
 
-/// The visibility that the binding says.
+/// The visibility that follows from the binding.
 pub const STV_DEFAULT: u8 = 0;
 
-/// Seen by other files, and not replaced by them.
+/// Visible in other files, and not replaced by them.
 pub const STV_PROTECTED: u8 = 3;
 
-/// The section of a symbol that is not defined.
+/// The section of an undefined symbol.
 pub const SHN_UNDEF: u16 = 0;
 
 /// The section of a symbol whose value is no address of the file.
@@ -184,10 +184,10 @@ pub const SHN_ABS: u16 = 0xfff1;
 /// The size of an entry of the dynamic table, `Elf64_Dyn`.
 pub const DYN_SIZE: usize = 16;
 
-/// Where an entry of the dynamic table says its tag.
+/// The offset in an entry of the dynamic table of its tag.
 pub const D_TAG: usize = 0;
 
-/// Where an entry of the dynamic table says its value.
+/// The offset in an entry of the dynamic table of its value.
 pub const D_VAL: usize = 8;
 
 /// The tag that ends the table.
@@ -198,41 +198,41 @@ pub const DT_SONAME: u64 = 14;
 
 // ---- GNU symbol versioning (Linux Standard Base, "Symbol Versioning")
 
-/// How many bytes the version index of a symbol has, `Elf64_Versym`.
+/// The size of the version index of a symbol, `Elf64_Versym`.
 pub const VERSYM_SIZE: usize = 2;
 
 /// The bit of a version index that says that the version is hidden, that is, not the default one of its symbol.
 pub const VERSYM_HIDDEN: u16 = 0x8000;
 
-/// The index of symbols that only their own file sees.
+/// The index of symbols that are visible only in their own file.
 pub const VER_NDX_LOCAL: u16 = 0;
 
-/// The index of symbols without a version that all files see.
+/// The index of symbols without a version that are visible in all files.
 pub const VER_NDX_GLOBAL: u16 = 1;
 
-/// How many bytes a version definition has, `Elf64_Verdef`.
+/// The size of a version definition, `Elf64_Verdef`.
 pub const VERDEF_SIZE: usize = 20;
 
-/// Where a definition says its own version.
+/// The offset in a definition of its own version.
 pub const VD_VERSION: usize = 0;
 
-/// Where a definition says its index.
+/// The offset in a definition of its index.
 pub const VD_NDX: usize = 4;
 
-/// Where a definition says how many auxiliary entries it has.
+/// The offset in a definition of the number of its auxiliary entries.
 pub const VD_CNT: usize = 6;
 
-/// Where a definition says where its first auxiliary entry begins, counted from the definition.
+/// The offset in a definition of the place of its first auxiliary entry, which counts from the definition.
 pub const VD_AUX: usize = 12;
 
-/// Where a definition says where the next definition begins, counted from this one.
+/// The offset in a definition of the place of the next definition, which counts from this one.
 pub const VD_NEXT: usize = 16;
 
 /// The one version of definitions.
 pub const VER_DEF_CURRENT: u16 = 1;
 
-/// How many bytes an auxiliary entry has, `Elf64_Verdaux`.
+/// The size of an auxiliary entry, `Elf64_Verdaux`.
 pub const VERDAUX_SIZE: usize = 8;
 
-/// Where an auxiliary entry says where its name begins in the string table.
+/// The offset in an auxiliary entry of the place of its name in the string table.
 pub const VDA_NAME: usize = 0;

@@ -2,8 +2,9 @@
 ghost use Rattle.std.specs.Prelude.{◌≡◌, ◌↔◌, IsTrue};
 ghost use Rattle.std.specs.Option.{option_copied};
 ghost use Rattle.abi_types.specs.Plain.{plain_export, plain_exports};
-ghost use Rattle.elf_bind.specs.Binding.{bind_to, has_version as it_has_version, has_first_version as it_has_first_version, is_default_version as it_is_default_version, only_default_version};
-ghost use Rattle.elf_bind.specs.Exports.{same_name as the_names_are_same};
+ghost use Rattle.elf_bind.specs.Binding.{bind_to, only_default_version};
+ghost use Rattle.elf_bind.specs.Binding as binding;
+ghost use Rattle.elf_bind.specs.Exports as exports;
 ghost use Rattle.elf_bind.specs.Placed.{place_of, number_of};
 
 use abi_types::Export;
@@ -13,7 +14,7 @@ pub const FIRST_VERSION: u16 = 2;
 
 /// Whether two names are equal, or there is none on either side.
 pub fn same_name(one: Option<&[u8]>, other: Option<&[u8]>) -> bool
-    ensures same { result ≡ the_names_are_same (option_copied one.entry) (option_copied other.entry) }
+    ensures same { result ≡ exports.same_name (option_copied one.entry) (option_copied other.entry) }
     ensures equal { IsTrue result ↔ (option_copied one.entry ≡ option_copied other.entry) }
 {
     match (one, other) {
@@ -25,28 +26,28 @@ pub fn same_name(one: Option<&[u8]>, other: Option<&[u8]>) -> bool
 
 /// Whether an export has this name and this version, or no version.
 pub fn has_version(export: &Export, name: &[u8], version: Option<&[u8]>) -> bool
-    ensures { result ≡ it_has_version name.now (option_copied version.entry) (plain_export export.now) }
+    ensures { result ≡ binding.has_version name.now (option_copied version.entry) (plain_export export.now) }
 {
     export.name == name && same_name(export.version, version)
 }
 
 /// Whether an export has this name and is of the first version of its library.
 pub fn has_first_version(export: &Export, name: &[u8]) -> bool
-    ensures { result ≡ it_has_first_version name.now (plain_export export.now) }
+    ensures { result ≡ binding.has_first_version name.now (plain_export export.now) }
 {
     export.name == name && export.index == FIRST_VERSION
 }
 
 /// Whether an export has this name and its version is the default one.
 pub fn is_default_version(export: &Export, name: &[u8]) -> bool
-    ensures { result ≡ it_is_default_version name.now (plain_export export.now) }
+    ensures { result ≡ binding.is_default_version name.now (plain_export export.now) }
 {
     export.name == name && export.version.is_some() && !export.hidden
 }
 
 // The place of the first export of this name and this version, or of no version.
 fn place_of_version(offered: &[Export], name: &[u8], version: Option<&[u8]>) -> Option<usize>
-    ensures { result ≡ place_of (it_has_version name.now (option_copied version.entry)) offered.now }
+    ensures { result ≡ place_of (binding.has_version name.now (option_copied version.entry)) offered.now }
 {
     offered
         .iter()
@@ -55,7 +56,7 @@ fn place_of_version(offered: &[Export], name: &[u8], version: Option<&[u8]>) -> 
 
 // The place of the first export of this name that is of the first version.
 fn place_of_first_version(offered: &[Export], name: &[u8]) -> Option<usize>
-    ensures { result ≡ place_of (it_has_first_version name.now) offered.now }
+    ensures { result ≡ place_of (binding.has_first_version name.now) offered.now }
 {
     offered
         .iter()
@@ -74,7 +75,7 @@ fn place_of_only_default_version(offered: &[Export], name: &[u8]) -> Option<usiz
 }
 
 fn count_of_default_versions(offered: &[Export], name: &[u8]) -> usize
-    ensures { result ≡ number_of (it_is_default_version name.now) offered.now }
+    ensures { result ≡ number_of (binding.is_default_version name.now) offered.now }
 {
     offered
         .iter()
@@ -83,7 +84,7 @@ fn count_of_default_versions(offered: &[Export], name: &[u8]) -> usize
 }
 
 fn place_of_default_version(offered: &[Export], name: &[u8]) -> Option<usize>
-    ensures { result ≡ place_of (it_is_default_version name.now) offered.now }
+    ensures { result ≡ place_of (binding.is_default_version name.now) offered.now }
 {
     offered
         .iter()

@@ -4,7 +4,7 @@ ghost use Rattle.std.specs.Option.{option_map};
 ghost use Rattle.abi_types.specs.Plain.{plain_export};
 ghost use Rattle.elf.specs.symbols.Plain.{plain_symbol};
 ghost use Rattle.elf.specs.versions.Plain.{plain_version};
-ghost use Rattle.elf_bind.specs.Exports.{kind_of as the_kind_of, is_marker as the_symbol_is_marker, export_with as the_export_with, export_of as the_export_of};
+ghost use Rattle.elf_bind.specs.Exports as spec;
 
 use crate::bind_one::same_name;
 use abi_types::{Export, SymbolKind};
@@ -16,7 +16,7 @@ use elf::versions::Version;
 
 // What a symbol is, by its type.
 fn kind_of(kind: u8) -> SymbolKind
-    ensures { result ≡ the_kind_of kind }
+    ensures { result ≡ spec.kind_of kind }
 {
     match kind {
         STT_OBJECT => SymbolKind::Object,
@@ -30,14 +30,14 @@ fn kind_of(kind: u8) -> SymbolKind
 
 // Whether a symbol stands for its version alone.
 fn is_marker(symbol: &Symbol, version: &Version) -> bool
-    ensures { result ≡ the_symbol_is_marker (plain_symbol symbol.now) (plain_version version.now) }
+    ensures { result ≡ spec.is_marker (plain_symbol symbol.now) (plain_version version.now) }
 {
     symbol.section == SHN_ABS && same_name(Some(symbol.name), version.name)
 }
 
 // The export of a symbol and its version.
 fn export_with<'a>(symbol: &Symbol<'a>, version: &Version<'a>) -> Export<'a>
-    ensures { plain_export result ≡ the_export_with (plain_symbol symbol.now) (plain_version version.now) }
+    ensures { plain_export result ≡ spec.export_with (plain_symbol symbol.now) (plain_version version.now) }
 {
     Export {
         symbol: symbol.number,
@@ -56,7 +56,7 @@ fn export_with<'a>(symbol: &Symbol<'a>, version: &Version<'a>) -> Export<'a>
 
 /// The export that a symbol of a version is, where it is one.
 pub fn export_of<'a>(symbol: &Symbol<'a>, version: Option<Version<'a>>) -> Option<Export<'a>>
-    ensures { option_map plain_export result ≡ the_export_of (plain_symbol symbol.now) (option_map plain_version version.entry) }
+    ensures { option_map plain_export result ≡ spec.export_of (plain_symbol symbol.now) (option_map plain_version version.entry) }
 {
     match version {
         None => None,

@@ -2,7 +2,8 @@
 ghost use Rattle.std.specs.Prelude.{◌≡◌, find, count_by};
 ghost use Rattle.std.specs.Option.{option_copied};
 ghost use Rattle.abi_types.specs.Plain.{plain_export, plain_exports};
-ghost use Rattle.elf_bind.specs.Binding.{bind_to, has_version as it_has_version, has_first_version as it_has_first_version, is_default_version as it_is_default_version};
+ghost use Rattle.elf_bind.specs.Binding.{bind_to};
+ghost use Rattle.elf_bind.specs.Binding as spec;
 ghost use Rattle.elf_bind.specs.Named.{passes_at, only_default_version_among, bind_among as what_it_binds_to_among};
 
 use crate::bind_one::{has_first_version, has_version, is_default_version};
@@ -11,7 +12,7 @@ use abi_types::{Export, Index, Library};
 // Whether the export at a position has this name and this version, or no version.
 #[tactic(auto, using(crate::proofs::NamedLemmas::reads))]
 fn has_version_at(offered: &[Export], place: usize, name: &[u8], version: Option<&[u8]>) -> bool
-    ensures { result ≡ passes_at (it_has_version name.now (option_copied version.entry)) (plain_exports offered.now) place }
+    ensures { result ≡ passes_at (spec.has_version name.now (option_copied version.entry)) (plain_exports offered.now) place }
 {
     match offered.get(place) {
         Some(export) => has_version(export, name, version),
@@ -22,7 +23,7 @@ fn has_version_at(offered: &[Export], place: usize, name: &[u8], version: Option
 // Whether the export at a position has this name and is of the first version of its library.
 #[tactic(auto, using(crate::proofs::NamedLemmas::reads))]
 fn has_first_version_at(offered: &[Export], place: usize, name: &[u8]) -> bool
-    ensures { result ≡ passes_at (it_has_first_version name.now) (plain_exports offered.now) place }
+    ensures { result ≡ passes_at (spec.has_first_version name.now) (plain_exports offered.now) place }
 {
     match offered.get(place) {
         Some(export) => has_first_version(export, name),
@@ -33,7 +34,7 @@ fn has_first_version_at(offered: &[Export], place: usize, name: &[u8]) -> bool
 // Whether the export at a position has this name and its version is the default one.
 #[tactic(auto, using(crate::proofs::NamedLemmas::reads))]
 fn is_default_version_at(offered: &[Export], place: usize, name: &[u8]) -> bool
-    ensures { result ≡ passes_at (it_is_default_version name.now) (plain_exports offered.now) place }
+    ensures { result ≡ passes_at (spec.is_default_version name.now) (plain_exports offered.now) place }
 {
     match offered.get(place) {
         Some(export) => is_default_version(export, name),
@@ -48,7 +49,7 @@ fn place_of_version(
     name: &[u8],
     version: Option<&[u8]>,
 ) -> Option<usize>
-    ensures { result ≡ find (passes_at (it_has_version name.now (option_copied version.entry)) (plain_exports offered.now)) places.now }
+    ensures { result ≡ find (passes_at (spec.has_version name.now (option_copied version.entry)) (plain_exports offered.now)) places.now }
 {
     places
         .iter()
@@ -58,7 +59,7 @@ fn place_of_version(
 
 // The first of these positions whose export has this name and is of the first version.
 fn place_of_first_version(offered: &[Export], places: &[usize], name: &[u8]) -> Option<usize>
-    ensures { result ≡ find (passes_at (it_has_first_version name.now) (plain_exports offered.now)) places.now }
+    ensures { result ≡ find (passes_at (spec.has_first_version name.now) (plain_exports offered.now)) places.now }
 {
     places
         .iter()
@@ -67,7 +68,7 @@ fn place_of_first_version(offered: &[Export], places: &[usize], name: &[u8]) -> 
 }
 
 fn count_of_default_versions(offered: &[Export], places: &[usize], name: &[u8]) -> usize
-    ensures { result ≡ count_by (passes_at (it_is_default_version name.now) (plain_exports offered.now)) places.now }
+    ensures { result ≡ count_by (passes_at (spec.is_default_version name.now) (plain_exports offered.now)) places.now }
 {
     places
         .iter()
@@ -76,7 +77,7 @@ fn count_of_default_versions(offered: &[Export], places: &[usize], name: &[u8]) 
 }
 
 fn place_of_default_version(offered: &[Export], places: &[usize], name: &[u8]) -> Option<usize>
-    ensures { result ≡ find (passes_at (it_is_default_version name.now) (plain_exports offered.now)) places.now }
+    ensures { result ≡ find (passes_at (spec.is_default_version name.now) (plain_exports offered.now)) places.now }
 {
     places
         .iter()

@@ -4,7 +4,8 @@ ghost use Rattle.std.specs.List.{range_with_len};
 ghost use Rattle.abi_base.specs.Outcome.{Judges, first};
 ghost use Rattle.abi_types.specs.Plain.{plain_exports};
 ghost use Rattle.elf.specs.symbols.Plain.{plain_symbol, plain_symbols};
-ghost use Rattle.elf_bind.specs.Exports.{export_fault, exports_with, version_fault_of as the_version_fault_of};
+ghost use Rattle.elf_bind.specs.Exports.{export_fault, exports_with};
+ghost use Rattle.elf_bind.specs.Exports as spec;
 
 use crate::duplicates::duplicate_fault;
 use crate::exporting::export_of;
@@ -16,7 +17,7 @@ use std::alloc::{AllocError, Global};
 
 // The fault of a symbol whose version is not defined.
 fn version_fault_of(symbol: &Symbol, versions: &Versions) -> Option<Fault>
-    ensures { result ≡ the_version_fault_of versions.now (plain_symbol symbol.now) }
+    ensures { result ≡ spec.version_fault_of versions.now (plain_symbol symbol.now) }
 {
     if symbol.is_exported() && versions.version_of(symbol.number as usize).is_none() {
         Some(Fault {
@@ -30,7 +31,7 @@ fn version_fault_of(symbol: &Symbol, versions: &Versions) -> Option<Fault>
 
 // The first fault of symbols whose version is not defined.
 fn version_fault(symbols: &[Symbol], versions: &Versions) -> Option<Fault>
-    ensures { result ≡ first (map (the_version_fault_of versions.now) (plain_symbols symbols.now)) }
+    ensures { result ≡ first (map (spec.version_fault_of versions.now) (plain_symbols symbols.now)) }
 {
     for symbol in symbols {
         if let Some(fault) = version_fault_of(symbol, versions) {

@@ -133,7 +133,7 @@ pub specs_chain : (bytes : List ℕ) (at : ℕ) → Chain (spec_step bytes) at (
 unfolding specs_run
 specs_chain bytes at = run_chain (spec_step bytes) None (λ at. length bytes - at) (suc (length bytes)) at (spec_falls bytes) (omega arith)
 
--- the pairs that are read stand there
+-- the pairs that are read are in the bytes
 pub specs_read : (bytes : List ℕ) (at : ℕ) (r : List Spec × ℕ) → specs_at bytes at ≡ Some r → PairsAt bytes at r.0 r.1
 specs_read bytes at r h = at_end (specs_run bytes at).end refl h
   where
@@ -153,7 +153,7 @@ pub specs_over : (bytes : List ℕ) (at : ℕ) (e : Option ℕ) → spec_step by
 unfolding specs_run
 specs_over bytes at e is = ap (λ (r : Run Spec (Option ℕ)). r.items) (run_end (spec_step bytes) None (length bytes) at e is)
 
--- ---- a pair of one byte each, with no value behind it
+-- ---- a pair of one byte each, with no value after it
 
 pub short_step : (bytes : List ℕ) (at attribute form : ℕ) → uleb_at bytes at ≡ Some (attribute, at + 1) → uleb_at bytes (at + 1) ≡ Some (form, at + 1 + 1) → 0 < attribute → 0 < form → form ≢ dw_form_implicit_const
     → spec_step bytes at ≡ Ok (plain_pair attribute form, at + 2)
@@ -189,7 +189,7 @@ specs_end bytes place e xs whole is so_far = loop_end (spec_step bytes) None (le
 
 -- ---- an abbreviation
 
--- what a step read: an abbreviation that stands there, of a code that none before it has, put last
+-- what a step read: an abbreviation at that place with a new code, appended
 pub record Reads (bytes : List ℕ) (s : ℕ × List Abbrev) (x : Abbrev) (next : ℕ × List Abbrev) : Type 0 where
   pub there : AbbrevAt bytes s.0 x next.0
   pub is_new : list_any (λ a. a.code == x.code) s.1 ≡ false

@@ -1,4 +1,4 @@
--- One more abbreviation is found, and so are those that stood before it.
+-- After an abbreviation is appended, it is found by its code, and so are the earlier ones.
 use Rattle.std.proofs.Common.{◌≡◌, ℕ, zero, suc, ◌+◌, ◌-◌, ◌<◌, ◌≤◌, Bool, true, false, cond, List, [], ◌∷◌, ◌++◌, length, Option, Some, None, refl, sym, ap, ◌∙◌, subst, arith, length-append, ⊎_elim, eq-eqb, inl, inr}
 use Rattle.std.specs.Prelude.{◌==◌, ◌||◌, slice_get, nat_eq, option_and_then, is_some, find}
 use Rattle.std.specs.Borrow.{Bor}
@@ -95,7 +95,7 @@ module _ (abbrevs : List Abbrev) (old : Elsewhere) (made : Abbrev) (so_far : Pla
   not_at_own : at_own_place abbrevs made.code ≡ None
   not_at_own = first_none (at_own_place abbrevs made.code) (at_kept_place abbrevs old made.code) (so_far.finds made.code ∙ is_new)
 
-  -- ---- it stands at the place of its code
+  -- ---- it is at the place of its code
 
   pub placed_own : made.code - 1 ≡ length abbrevs → Placed more old
   placed_own e = record {
@@ -162,7 +162,7 @@ module _ (abbrevs : List Abbrev) (old : Elsewhere) (made : Abbrev) (so_far : Pla
                 omega (arith, longer)
           ]
 
--- ---- whether a code stands
+-- ---- whether the table has a code
 
 pub copied_is_some : {X : Type 0} (o : Option (Bor X)) → is_some o ≡ is_some (option_copied o)
 copied_is_some None = refl

@@ -1,4 +1,4 @@
--- The table that is read is the one that stands in the bytes.
+-- The table that is read is the one in the bytes.
 use Rattle.std.proofs.Common.{◌≡◌, ◌≢◌, ℕ, zero, suc, ◌+◌, ◌-◌, ◌<◌, ◌≤◌, Bool, true, false, List, [], ◌∷◌, ◌++◌, length, get_or, Option, Some, None, Result, Ok, Err, refl, sym, ap, ◌∙◌, subst, arith, append_assoc, length-append, eq-eqb, inl, inr}
 use Rattle.std.specs.Prelude.{slice_get, ◌==◌, All}
 use Rattle.std.proofs.lemmas.List.Elements.{All-nil, All-cons}
@@ -29,7 +29,7 @@ chain_length step measure s (x ∷ xs) e falls h =
     let le = chain_length step measure h.0 xs e falls h.2 in
     omega (arith, lt, le)
 
--- ---- pairs that stand there are read
+-- ---- pairs in the bytes are read
 
 spec_made : (bytes : List ℕ) (at : ℕ) (x : Spec) (next : ℕ) → PairAt bytes at x next → spec_step bytes at ≡ Ok (x, next)
 unfolding spec_step
@@ -108,7 +108,7 @@ abbrev_fault bytes s f h =
     this : ◌≡◌ {A = Result (Abbrev × (ℕ × List Abbrev)) (Option Fault)} (Err (Some (record { kind = kind.Abbrev; at = s.0 }))) (Err (Some f)) → f ≡ record { kind = kind.Abbrev; at = s.0 }
     this e = cc
 
--- ---- codes apart
+-- ---- different codes
 
 none_of : (test : Abbrev → Bool) (xs : List Abbrev) → list_any test xs ≡ false → (k : ℕ) (d : Abbrev) → k < length xs → test (get_or xs k d) ≡ false
 none_of test [] none k d lt = absurd (omega arith)
@@ -137,7 +137,7 @@ apart_new seen x others apart = list_any_none (λ a. a.code == x.code) seen (λ 
 
 -- ---- the whole table
 
--- what a chain of steps comes to: abbreviations that follow, of codes apart, and the step at their end
+-- what a chain of steps gives: abbreviations one after the other with different codes, and the step at their end
 pub record Follows (bytes : List ℕ) (at : ℕ) (seen xs : List Abbrev) (e : Option Fault) : Type 0 where
   pub place : ℕ
   pub follow : FollowAt bytes at xs place

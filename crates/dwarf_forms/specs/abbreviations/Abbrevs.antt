@@ -13,11 +13,11 @@ use Rattle.abi_base.specs.Leb.{uleb_at, sleb_at}
 use Rattle.abi_base.specs.Outcome.{◌>>=◌, or_end}
 use Rattle.abi_base.specs.Runs.{Run, run}
 
--- the value after a form: a signed LEB behind DW_FORM_implicit_const, and nothing behind another
+-- the value after a form: a signed LEB128 number after DW_FORM_implicit_const, and nothing after any other form
 abbrev pub implicit_at : List ℕ → ℕ → ℕ → Option (ℤ × ℕ)
 implicit_at bytes form at = if form == dw_form_implicit_const then sleb_at bytes at else Some (pos 0, at)
 
--- a pair of attribute and form with no value behind it
+-- a pair of attribute and form with no value after it
 abbrev pub plain_pair : ℕ → ℕ → Spec
 plain_pair attribute form = record { attribute = attribute; form = form; implicit = pos 0 }
 
@@ -26,18 +26,18 @@ abbrev pub short_number_of : Option ℕ → Option ℕ
 short_number_of None = None
 short_number_of (Some byte) = if nat_lt 0 byte && nat_lt byte 128 then Some byte else None
 
--- two such numbers, of which the second is the form of values that stand in the entry
+-- two such numbers, the second the form of values that the entry holds
 abbrev pub short_pair_of : Option ℕ → Option ℕ → Option (ℕ × ℕ)
 short_pair_of None form = None
 short_pair_of (Some attribute) None = None
 short_pair_of (Some attribute) (Some form) = if form == dw_form_implicit_const then None else Some (attribute, form)
 
--- a pair that stands in two bytes
+-- a pair in two bytes
 abbrev pub short_pair_at : List ℕ → ℕ → Option (ℕ × ℕ)
 short_pair_at bytes at = short_pair_of (short_number_of (slice_get bytes at)) (short_number_of (slice_get bytes (at + 1)))
 
 -- A pair of attribute and form, and the place after it. The list ends at the pair 0 0, with the place after it,
--- and where none can be read or one alone is 0, with no place.
+-- and where none can be read or only one is 0, with no place.
 unfoldable pub spec_step : List ℕ → ℕ → Result (Spec × ℕ) (Option ℕ)
 spec_step bytes at = do
   attribute ← or_end (uleb_at bytes at) None
@@ -61,7 +61,7 @@ abbrev pub children_of : Option ℕ → Option Bool
 children_of None = None
 children_of (Some b) = if b == dw_children_no then Some false else (if b == dw_children_yes then Some true else None)
 
--- The abbreviation at a place, after those that stood before it, and the state after it. Code 0 ends the table.
+-- The abbreviation at a place, after the earlier ones, and the state after it. Code 0 ends the table.
 unfoldable pub abbrev_step : List ℕ → ℕ × List Abbrev → Result (Abbrev × (ℕ × List Abbrev)) (Option Fault)
 abbrev_step bytes s =
     let fault : Option Fault = Some (record { kind = kind.Abbrev; at = s.0 }) in do
@@ -81,7 +81,7 @@ abbrev_step bytes s =
 unfoldable pub table_run : List ℕ → ℕ → Run Abbrev (Option Fault)
 table_run bytes at = run (abbrev_step bytes) None (suc (length bytes)) (at, [])
 
--- what a reader of one abbreviation answers, after those that stood before
+-- what a reader of one abbreviation returns, after the earlier ones
 abbrev pub ReadsAbbrev : List ℕ → ℕ → List Abbrev → Result (Option (Abbrev × ℕ)) Refusal → Type 0
 ReadsAbbrev bytes at seen (Ok (Some a)) = abbrev_step bytes (at, seen) ≡ Ok (a.0, (a.1, seen ++ a.0 ∷ []))
 ReadsAbbrev bytes at seen (Ok None) = abbrev_step bytes (at, seen) ≡ Err None

@@ -1,5 +1,5 @@
--- Where the abbreviation of a code is looked for. Producers number the codes of a table 1, 2, 3, .., so a code c mostly
--- stands at place c - 1. The standard lets codes be any numbers, so the places of the others are kept in a map.
+-- Where a lookup finds the abbreviation of a code. Producers number the codes of a table 1, 2, 3, .., so a code c is mostly
+-- at place c - 1. The standard lets codes be any numbers, so a map keeps the places of the others.
 use Rattle.std.specs.Prelude.{◌≡◌, ℕ, ◌-◌, ◌<◌, ◌==◌, if◌then◌else◌, nat_eq, List, length, slice_get, Option, Some, None, option_and_then}
 use Rattle.std.specs.Option.{option_or}
 use Rattle.std.specs.HashMap.{HashMap, get}
@@ -25,7 +25,7 @@ at_own_place abbrevs code = if_of_code code (slice_get abbrevs (code - 1))
 abbrev pub at_kept_place : List Abbrev → Elsewhere → ℕ → Option Abbrev
 at_kept_place abbrevs elsewhere code = option_and_then (slice_get abbrevs) (get nat_eq elsewhere code)
 
--- Each code is found at one of the two, exactly where an abbreviation has it, and the map leads into the list.
+-- A code is found at one of the two places exactly when an abbreviation has it, and the map's places are inside the list.
 pub record Placed (abbrevs : List Abbrev) (elsewhere : Elsewhere) : Type 0 where
   pub finds : (code : ℕ) → option_or (at_own_place abbrevs code) (at_kept_place abbrevs elsewhere code) ≡ abbrev_of abbrevs code
   pub inside : (code place : ℕ) → get nat_eq elsewhere code ≡ Some place → place < length abbrevs

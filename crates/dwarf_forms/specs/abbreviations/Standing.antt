@@ -1,4 +1,4 @@
--- What stands in `.debug_abbrev`, as a relation between bytes and what they say, with no step and no end by itself (DWARF 5,
+-- The contents of `.debug_abbrev`, as a relation between bytes and abbreviations that says nothing of how they are read (DWARF 5,
 -- section 7.5.3 "Abbreviations Tables").
 use Rattle.std.specs.Prelude.{◌≡◌, ◌≢◌, ◌<◌, ℕ, ◌+◌, length, List, [], ◌∷◌, slice_get, Some, AllPairs}
 use Rattle.dwarf_forms.specs.declared.abbreviations.abbrev.Spec.{Spec}
@@ -6,7 +6,7 @@ use Rattle.dwarf_forms.specs.declared.abbreviations.abbrev.Abbrev.{Abbrev}
 use Rattle.abi_base.specs.Leb.{uleb_at}
 use Rattle.dwarf_forms.specs.abbreviations.Abbrevs.{implicit_at, children_of, specs_run}
 
--- The bytes from a place on are a pair of attribute and form, with a value behind a form that has one.
+-- The bytes from a place on are a pair of attribute and form, with a value after a form that has one.
 pub record PairAt (bytes : List ℕ) (at : ℕ) (pair : Spec) (after : ℕ) : Type 0 where
   pub form_at : ℕ
   pub value_at : ℕ
@@ -27,7 +27,7 @@ abbrev pub PairsAt : List ℕ → ℕ → List Spec → ℕ → Type 0
 PairsAt bytes at [] after = NoPairAt bytes at after
 PairsAt bytes at (pair ∷ others) after = (next : ℕ) × PairAt bytes at pair next × PairsAt bytes next others after
 
--- an abbreviation: its code, its tag, a byte for its children, and behind that byte its pairs
+-- an abbreviation: its code, its tag, a byte for its children, and after that byte its pairs
 pub record AbbrevAt (bytes : List ℕ) (at : ℕ) (made : Abbrev) (after : ℕ) : Type 0 where
   pub tag_at : ℕ
   pub children_at : ℕ
@@ -43,11 +43,11 @@ abbrev pub FollowAt : List ℕ → ℕ → List Abbrev → ℕ → Type 0
 FollowAt bytes at [] after = at ≡ after
 FollowAt bytes at (made ∷ others) after = (next : ℕ) × AbbrevAt bytes at made next × FollowAt bytes next others after
 
--- no two abbreviations have one code
+-- no two abbreviations have the same code
 abbrev pub CodesApart : List Abbrev → Type 0
 CodesApart abbrevs = AllPairs (λ a b. a.code ≢ b.code) abbrevs
 
--- a whole table: abbreviations of codes that are apart, and then a code 0
+-- a whole table: abbreviations with different codes, and then a code 0
 pub record TableAt (bytes : List ℕ) (at : ℕ) (abbrevs : List Abbrev) : Type 0 where
   pub end_at : ℕ
   pub after : ℕ
@@ -55,7 +55,7 @@ pub record TableAt (bytes : List ℕ) (at : ℕ) (abbrevs : List Abbrev) : Type 
   pub end : uleb_at bytes end_at ≡ Some (0, after)
   pub apart : CodesApart abbrevs
 
--- The pairs of an abbreviation stand where it says, inside the section.
+-- The pairs of an abbreviation are where it says, inside the section.
 pub record HasPairs (bytes : List ℕ) (made : Abbrev) : Type 0 where
   pub inside : made.specs_from < length bytes
   pub pairs : (specs_run bytes made.specs_from).items ≡ made.specs

@@ -2,7 +2,8 @@
 ghost use Rattle.std.specs.Prelude.{◌≡◌, ◌-◌, [], ◌∷◌, ◌++◌, None, OnOk};
 ghost use Rattle.std.specs.Option.{option_copied};
 ghost use Rattle.dwarf_forms.specs.abbreviations.Abbrevs.{abbrev_of};
-ghost use Rattle.dwarf_forms.specs.abbreviations.Places.{at_kept_place as the_kept_one, at_own_place as the_own_one, Placed};
+ghost use Rattle.dwarf_forms.specs.abbreviations.Places.{Placed};
+ghost use Rattle.dwarf_forms.specs.abbreviations.Places as spec;
 
 use crate::abbreviations::Abbrev;
 use abi_base::{List, NoMemory};
@@ -38,9 +39,9 @@ fn own_place(code: u64) -> usize
     code.saturating_sub(1) as usize
 }
 
-// The abbreviation of a code, where it stands at the place of the code.
+// The abbreviation of a code, where it is at the place of the code.
 fn at_own_place(abbrevs: &[Abbrev], code: u64) -> Option<&Abbrev>
-    ensures { option_copied result ≡ the_own_one abbrevs.now code }
+    ensures { option_copied result ≡ spec.at_own_place abbrevs.now code }
 {
     match abbrevs.get(own_place(code)) {
         Some(made) if made.code == code => Some(made),
@@ -55,7 +56,7 @@ fn at_kept_place<'a>(
     elsewhere: &HashMap<u64, usize>,
     code: u64,
 ) -> Option<&'a Abbrev>
-    ensures { option_copied result ≡ the_kept_one abbrevs.now elsewhere.now code }
+    ensures { option_copied result ≡ spec.at_kept_place abbrevs.now elsewhere.now code }
 {
     match elsewhere.get(&code) {
         Some(place) => abbrevs.get(*place),
@@ -74,7 +75,7 @@ impl Table {
         }
     }
 
-    // Puts an abbreviation last, whose code is new in the table. After `NoMemory` the table is of no use.
+    // Appends an abbreviation whose code is new in the table. After `NoMemory` the table is of no use.
     pub(crate) fn push(&mut self, alloc: Global, made: Abbrev) -> Result<(), NoMemory>
         requires { abbrev_of self.old made.code ≡ None }
         ensures { OnOk result (self.new ≡ self.old ++ made ∷ []) }

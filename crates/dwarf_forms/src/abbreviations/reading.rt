@@ -80,9 +80,9 @@ fn short_number(bytes: &[u8], at: usize) -> Option<u8>
     }
 }
 
-/// The pair of attribute and form at a place of `.debug_abbrev`, where each of its numbers has one byte and no value stands
-/// behind them. The next pair begins two bytes on. None where the numbers are longer, a value stands there, or there is no
-/// pair: `next_spec` reads each of these.
+/// The pair of attribute and form at a place of `.debug_abbrev`, where each of its numbers has one byte and no value follows
+/// them. The next pair begins two bytes on. None where the numbers are longer, a value follows, or there is no pair:
+/// `next_spec` reads each of these.
 #[inline(always)]
 pub fn short_pair(bytes: &[u8], at: usize) -> Option<ShortPair>
     ensures exact { option_map (λ p. (p.attribute, p.form)) result ≡ short_pair_at bytes.now at }
@@ -168,7 +168,7 @@ fn children_in(bytes: &[u8], at: usize) -> Option<bool>
     }
 }
 
-// Whether an abbreviation that stood before has this code.
+// Whether an earlier abbreviation has this code.
 fn has_code(seen: &Table, code: u64) -> bool
     ensures { result ≡ list_any (λ a. a.code == code) seen.now }
 {
@@ -224,8 +224,8 @@ fn next_abbrev(
 /// "Abbreviations Tables").
 ///
 /// It has a fault, `FaultKind::Abbrev` at the byte where an abbreviation begins, where the bytes there are no whole
-/// abbreviation: a number or a byte is cut off or too large, the byte for children is neither 0 nor 1, one number of a
-/// pair alone is 0, or the code stood before.
+/// abbreviation: a number or a byte is cut off or too large, the byte for children is neither 0 nor 1, only one number of a
+/// pair is 0, or an earlier abbreviation has the code.
 #[tactic(auto, using(crate::proofs::abbreviations_lemmas::AbbrevsLemmas::table_more, crate::proofs::abbreviations_lemmas::AbbrevsLemmas::table_end, crate::proofs::abbreviations_lemmas::AbbrevsLemmas::abbrev_after, crate::proofs::abbreviations_lemmas::AbbrevsLemmas::abbrev_is_new), unfolding(crate::specs::abbreviations::Abbrevs::table_run))]
 pub fn table(alloc: Global, bytes: &[u8], at: u64) -> Result<Table, Refusal>
     ensures judged { Judges result (table_run bytes.now at).end }

@@ -81,7 +81,7 @@ kind_after addr addr_base entry bytes code s x next h =
     fields_same : (r : Entry × State) → ◌≡◌ {A = Result (Entry × State) (Option Fault)} (Ok r) (Ok (x, next)) → ◌≡◌ {A = Result (Entry × State) Fault} (Ok r) (Ok (x, next))
     fields_same r e = ap (λ (p : Entry × State). let o : Result (Entry × State) Fault = Ok p in o) (same_Ok r (x, next) e)
 
--- what is left of a section from a state on
+-- how many bytes of a section remain from a state on
 abbrev left : List ℕ → State → ℕ
 left bytes s = length bytes - s.0
 

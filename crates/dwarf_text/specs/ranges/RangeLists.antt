@@ -24,7 +24,7 @@ use Rattle.dwarf_text.specs.declared.ranges.lists.ListAt.TheVariants as list_at
 abbrev pub laid_out : Role → Field → Field → Layout
 laid_out role first second = record { role = role; first = first; second = second }
 
--- each kind of entry but the end, with what its first field is, and its two fields
+-- each kind of entry except the end of the list, with the meaning of its first field, and its two fields
 unfoldable pub kinds : List (ℕ × Layout)
 kinds =
     (dw_rle_base_addressx, laid_out role.Base field.Index field.Absent)
@@ -60,7 +60,7 @@ State = ℕ × ℕ
 abbrev pub Entry : Type 0
 Entry = Option ℕ
 
--- an end that is a fault
+-- an end with a fault
 abbrev pub or_fault : {A : Type 0} → Result A Fault → Result A (Option Fault)
 or_fault (Ok x) = Ok x
 or_fault (Err f) = Err (Some f)
@@ -71,7 +71,7 @@ meant role.Base base n = (None, n)
 meant role.Offset base n = (Some ((base + n) % 2 ^ 64), base)
 meant role.Start base n = (Some n, base)
 
--- the entry whose kind stands before a place
+-- the entry whose kind is the byte before a place
 abbrev pub fields_step : List ℕ → Option ℕ → ℕ → List ℕ → Layout → State → Result (Entry × State) Fault
 fields_step addr addr_base entry bytes layout s = do
   first ← field_at addr addr_base entry bytes layout.first s.0
@@ -124,7 +124,7 @@ first_or_end [] (Some f) = Err f
 abbrev pub first_start : Run Entry (Option Fault) → Result (Option ℕ) Fault
 first_start list = first_or_end (given list).items list.end
 
--- The place of the list of a number: the offset of that number in the unit's part, counted from where the part begins.
+-- The place of the list of a number: the offset of that number in the unit's part, counted from the start of the part.
 abbrev pub place_of_list : List ℕ → Option ℕ → ℕ → Option ℕ
 place_of_list bytes None k = None
 place_of_list bytes (Some base) k = option_map (λ offset. base + offset) (entry_of_table 4 bytes (Some base) k)

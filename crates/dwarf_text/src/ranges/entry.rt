@@ -2,7 +2,8 @@
 ghost use Rattle.std.specs.Prelude.{◌≡◌, ◌+◌, ◌<◌, ◌≤◌, length, IfOk, IfSome};
 ghost use Rattle.abi_base.specs.declared.fault.FaultKind.TheVariants as kind;
 ghost use Rattle.dwarf_forms.specs.Values.{fault};
-ghost use Rattle.dwarf_text.specs.ranges.RangeLists.{field_at, fields_step, kind_step, list_step, pair_step, meant as the_meaning, pair_means};
+ghost use Rattle.dwarf_text.specs.ranges.RangeLists.{field_at, fields_step, kind_step, list_step, pair_step, pair_means};
+ghost use Rattle.dwarf_text.specs.ranges.RangeLists as spec;
 ghost use Rattle.dwarf_text.specs.declared.ranges.layout.Field.TheVariants as the_field;
 ghost use Rattle.dwarf_text.specs.ranges.EntrySteps.{seen_entry, seen_step};
 
@@ -15,7 +16,7 @@ const KIND_SIZE: usize = 1;
 
 const ADDRESS_SIZE: usize = 8;
 
-// Where lists of ranges are read from.
+// The bytes that lists of ranges are read from.
 #[derive(Clone, Copy)]
 pub(crate) struct Source<'a> {
     // `.debug_rnglists`, or `.debug_ranges`
@@ -24,7 +25,7 @@ pub(crate) struct Source<'a> {
     pub(crate) addr: &'a [u8],
     // where the unit's part of it begins
     pub(crate) addr_base: Option<u64>,
-    // where the debug entry begins that has the list
+    // where the debugging information entry with the list begins
     pub(crate) entry: u64,
 }
 
@@ -38,7 +39,7 @@ pub(crate) struct Entry {
 
 // What an entry means by its first field.
 fn meant(role: Role, base: u64, number: u64) -> (Option<u64>, u64)
-    ensures { result ≡ the_meaning role base number }
+    ensures { result ≡ spec.meant role base number }
 {
     match role {
         Role::Base => (None, number),
@@ -57,7 +58,7 @@ impl<'a> Source<'a> {
         }
     }
 
-    // The address that an index of variable length leads to.
+    // The address of an index of variable length.
     fn indexed(&self, at: usize) -> Result<(u64, usize), Fault>
         ensures read { result ≡ field_at self.now.addr.now self.now.addr_base self.now.entry self.now.bytes.now the_field.Index at }
         ensures after { IfOk result (λ r. at ≤ r.1) }
@@ -96,7 +97,7 @@ impl<'a> Source<'a> {
         }
     }
 
-    // The entry whose kind stands before a place.
+    // The entry whose kind is the byte before a place.
     fn fields(&self, layout: Layout, at: usize, base: u64) -> Result<Entry, Fault>
         requires { at ≤ length self.now.bytes.now }
         ensures read { seen_entry result ≡ fields_step self.now.addr.now self.now.addr_base self.now.entry self.now.bytes.now layout (at, base) }

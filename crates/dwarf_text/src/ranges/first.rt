@@ -9,7 +9,7 @@ use crate::ranges::lists::ListAt;
 use abi_base::{Fault, FaultKind, table_offset};
 use dwarf_forms::Sections;
 
-// The place of the list of a number. It counts from where the unit's part begins.
+// The place of the list of a number. It counts from the start of the unit's part.
 fn place_of(rnglists: &[u8], base: Option<u64>, index: u64) -> Option<u64>
     ensures { result ≡ place_of_list rnglists.now base index }
 {
@@ -69,10 +69,10 @@ fn first_in_pairs(source: &Source, place: u64, low: u64) -> Result<Option<u64>, 
 /// Where the first range of a list begins, an empty range too, and none exactly where the list has no range (DWARF 5, sections
 /// 2.17.3 "Non-Contiguous Address Ranges" and 7.25; for pairs DWARF 4, section 2.17.3). `bases` are where the unit's parts of
 /// `.debug_rnglists` and `.debug_addr` begin, with the first base of its ranges. Sums of addresses are modulo 2^64.
-/// What stands after the first range is not read. Up to and with it, the fault is `Ranges` where the list does not lie in its
-/// section, or has a number that does not fit 64 bits or an entry of an unknown kind, and `Index` where the number of the list
-/// or of an address has no base or lies outside its section. Both are at the entry, and the first one counts as the fields are
-/// read.
+/// The call reads nothing after the first range. Up to its end, the fault is `Ranges` where the list is not inside its section,
+/// or has a number that does not fit 64 bits or an entry of an unknown kind, and `Index` where the number of the list or of an
+/// address has no base or is outside its section. Both are at the entry, and the fault is the first one in the order of the
+/// fields.
 pub fn first_address(
     list: ListAt,
     bases: &Bases,

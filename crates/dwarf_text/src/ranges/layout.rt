@@ -7,7 +7,7 @@ use crate::ranges::constants::{
     DW_RLE_start_length, DW_RLE_startx_endx, DW_RLE_startx_length,
 };
 
-// A field behind the byte of an entry's kind.
+// A field after the byte of an entry's kind.
 #[derive(Clone, Copy)]
 pub(crate) enum Field {
     // the number of an address in the unit's part of `.debug_addr`, of variable length

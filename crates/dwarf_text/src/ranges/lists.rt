@@ -1,6 +1,6 @@
-// Where lists of ranges stand.
+// The places of lists of ranges.
 
-/// Where a list of ranges of addresses stands.
+/// The place of a list of ranges of addresses.
 #[derive(Clone, Copy, Debug, PartialEq, Eq)]
 pub enum ListAt {
     /// At a place of `.debug_rnglists`.

@@ -1,4 +1,4 @@
--- What a file without a fault keeps, and its sections one by one.
+-- The fields of a file without a fault, and its sections one by one.
 use Rattle.std.proofs.Common.{◌≡◌, ℕ, List, Option, map, ap, ◌∙◌, ◌++◌}
 use Rattle.std.specs.Option.{option_or}
 use Rattle.abi_base.specs.declared.fault.Fault.{Fault}

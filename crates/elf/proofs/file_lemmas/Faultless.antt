@@ -61,7 +61,7 @@ is_not_compressed f name i none lt named =
     let no : option_map_or (λ n. is_compressed n (section f i).flags) (section_name f i) false ≡ false = fault_if-none _ kind.Compressed i free in
     rw named at no
 
--- Only where there is no section is no name found.
+-- A look-up by name fails only where there is no section.
 pub no_name_outside : (f : List ℕ) (i : ℕ) (found : Option (Bor (List ℕ))) → elf_fault f ≡ None → option_copied found ≡ section_name f i → IfNone found ((table f).count ≤ i)
 no_name_outside f i (Some name) none is = tt
 no_name_outside f i None none is = elim (cases_lt i (table f).count) [

@@ -1,4 +1,4 @@
--- What a search among the entries before the end finds.
+-- The result of a search among the entries before the end.
 use Rattle.std.proofs.Common.{◌≡◌, ℕ, ◌+◌, ◌/◌, ◌<◌, ◌≤◌, zero, suc, Bool, true, false, List, [], ◌∷◌, length, Option, Some, None, refl, arith, inl, inr}
 use Rattle.std.specs.Prelude.{find, take_while, is_none, option_and_then}
 use Rattle.std.specs.List.{range_with_len}

@@ -1,4 +1,4 @@
--- The symbols of a table are numbered by their places, and fill it where it has no fault.
+-- The number of a symbol is its place, and the symbols fill a table without a fault.
 use Rattle.std.proofs.Common.{◌≡◌, ℕ, ◌+◌, ◌*◌, ◌/◌, ◌%◌, ◌<◌, zero, suc, false, List, [], ◌∷◌, length, map, Option, Some, None, refl, sym, ◌∙◌, ap, arith}
 use Rattle.std.specs.Prelude.{is_none, unwrap_or}
 use Rattle.std.specs.List.{range_with_len}

@@ -41,12 +41,12 @@ find_nothing p (x ∷ xs) none = cases (p x) none (find_nothing p xs)
 
 -- ---- faults
 
--- the fault of a definition that is malformed by itself
+-- the fault of a malformed definition
 pub malformed_fault : (table strings : List ℕ) (count k : ℕ) → is_malformed table strings count k ≡ true → definition_fault table strings count k ≡ Some (record { kind = kind.VersionDefinition; at = k })
 unfolding is_bad
 malformed_fault table strings count k bad = rw bad refl
 
--- the fault of a definition whose index stood before
+-- the fault of a definition whose index an earlier one has
 pub repeated_fault : (table strings : List ℕ) (count k : ℕ) → stood_before table k ≡ true → definition_fault table strings count k ≡ Some (record { kind = kind.VersionDefinition; at = k })
 unfolding is_bad
 repeated_fault table strings count k bad = rw bad (either (is_malformed table strings count k))
@@ -82,7 +82,7 @@ read_none table strings count names empty =
       judged = rw all refl;
     }
 
--- an index under which a name stands is that of a definition before
+-- an index with a name is that of an earlier definition
 pub was_there : (table strings : List ℕ) (count number at : ℕ) (names : Names) (index : ℕ) → ReadBefore table strings count number at names
     → index ≡ index_of table number → is_some (get nat_eq names index) ≡ true → stood_before table number ≡ true
 was_there table strings count number at names index so_far same under =

@@ -1,4 +1,4 @@
--- What the definitions of versions come to.
+-- What follows from the definitions of versions.
 use Rattle.std.proofs.Common.{◌≡◌, ◌≢◌, ℕ, zero, suc, ◌+◌, ◌<◌, ◌≤◌, Bool, true, false, List, ◌∷◌, length, map, Option, Some, None, refl, sym, ◌∙◌, ap, arith, inl, inr}
 use Rattle.std.specs.Prelude.{find, ◌==◌, ◌||◌, ◌&&◌, not, nat_lt, is_none}
 use Rattle.std.specs.List.{range_with_len, list_any}

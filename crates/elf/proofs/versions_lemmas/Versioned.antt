@@ -47,7 +47,7 @@ pub all_versions : (f : List ℕ) (symbols : ℕ) (names : Names) → IsNames na
 all_versions f symbols names is =
     same_along (λ i. version_from (name_under names) (index_in (index_table f) i)) (version_at f symbols) 0 symbols (λ i lt. version_here f symbols i names is (omega arith))
 
--- the same of the table that a reader found
+-- the same for the table that a reader found
 pub versions_read : (f : List ℕ) (symbols : ℕ) (names : Names) (table : Option (List ℕ)) → IsNames names (version_name f) → table ≡ index_table f
     → map (λ i. version_from (name_under names) (index_in table i)) (range_with_len 0 symbols) ≡ versions_of f symbols
 versions_read f symbols names table is same = rw same (all_versions f symbols names is)

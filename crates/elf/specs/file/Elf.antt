@@ -1,6 +1,6 @@
--- ELF-64 files: the section table, what a section holds, and the first fault of a file. A file is the list of its bytes,
--- and a section is named by its number in the section table. All look-ups are total: where a file is damaged they give
--- what stands there, and an earlier fault says that it means nothing.
+-- ELF-64 files: the section table, the contents of a section, and the first fault of a file. A file is the list of its bytes,
+-- and a section has a number, its place in the section table. All look-ups are total: where a file is damaged they give the
+-- bytes there, and an earlier fault says that they mean nothing.
 use Rattle.std.specs.Prelude.{ℕ, ◌+◌, ◌*◌, ◌/◌, ◌%◌, ◌≡◌, ◌<◌, ◌≤◌, nat_lt, nat_le, ◌==◌, Bool, false, not, ◌||◌, ◌&&◌, if◌then◌else◌, is_none, List, [], ◌∷◌, ◌++◌, length, take, drop, map, slice_index, Option, Some, None, find}
 use Rattle.std.specs.List.{range_with_len}
 use Rattle.std.specs.Option.{option_map, option_map_or}
@@ -28,7 +28,7 @@ header_at f at = record {
   entsize = number 8 f (at + sh_entsize);
 }
 
--- A count of 0 in the file's header stands in the size of section 0, and an index of `shn_xindex` in its link.
+-- For a count of 0 in the file's header the size of section 0 is the count, and for an index of `shn_xindex` its link is the index.
 unfoldable pub table : List ℕ → SectionTable
 table f =
     let at = number 8 f e_shoff in
@@ -47,11 +47,11 @@ section f i = header_at f ((table f).at + shdr_size * i)
 abbrev pub all_sections : List ℕ → List ℕ
 all_sections f = range_with_len 0 (table f).count
 
--- Section 0 and those of type NULL and NOBITS hold nothing.
+-- Section 0 and sections of type NULL and NOBITS are empty.
 abbrev pub holds_bytes : ℕ → SectionHeader → Bool
 holds_bytes i s = not (i == 0 || (s.kind == sht_null || s.kind == sht_nobits))
 
--- what the section of a number holds
+-- the contents of the section of a number
 unfoldable pub contents : List ℕ → ℕ → List ℕ
 contents f i = if holds_bytes i (section f i) then take (section f i).size (drop (section f i).offset f) else []
 
@@ -68,7 +68,7 @@ has_name f name i = option_map_or (λ n. bytes_eq n name) (section_name f i) fal
 abbrev pub section_number : List ℕ → List ℕ → Option ℕ
 section_number f name = find (has_name f name) (all_sections f)
 
--- what the first section of a name holds
+-- the contents of the first section of a name
 abbrev pub section_named : List ℕ → List ℕ → Option (List ℕ)
 section_named f name = option_map (contents f) (section_number f name)
 
@@ -76,7 +76,7 @@ section_named f name = option_map (contents f) (section_number f name)
 abbrev pub starts : List ℕ → List ℕ → Bool
 starts name prefix = bytes_eq (take (length prefix) name) prefix
 
--- a section, without where it lies in memory
+-- a section, without its place in memory
 pub record SectionView : Type 0 where
   pub index : ℕ
   pub bytes : List ℕ
@@ -91,7 +91,7 @@ section_view f i = record { index = i; bytes = contents f i; link = (section f i
 abbrev pub section_of_kind : List ℕ → ℕ → Option SectionView
 section_of_kind f k = option_map (section_view f) (find (λ i. (section f i).kind == k) (all_sections f))
 
--- what the section of a number holds, where there is one and it is a string table
+-- the contents of the section of a number, where there is one and it is a string table
 abbrev pub strings_of : List ℕ → ℕ → Option (List ℕ)
 strings_of f i = if nat_lt i (table f).count && (section f i).kind == sht_strtab then Some (contents f i) else None
 
@@ -101,7 +101,7 @@ name_of_section f i = if nat_lt i (table f).count then section_name f i else Non
 
 -- ---- faults
 
--- There is no table, or it does not lie in the file, or none of its sections is the string table of the names.
+-- There is no table, or it is not inside the file, or none of its sections is the string table of the names.
 abbrev pub is_table_bad : List ℕ → Bool
 is_table_bad f =
     let t = table f in
@@ -122,7 +122,7 @@ header_faults f =
     ∷ fault_if (is_table_bad f) kind.SectionTable e_shoff
     ∷ []
 
--- A section that holds bytes lies in the file.
+-- A section that holds bytes is inside the file.
 unfoldable pub range_fault : List ℕ → ℕ → Option Fault
 range_fault f i =
     fault_if (holds_bytes i (section f i) && nat_lt (length f) ((section f i).offset + (section f i).size)) kind.SectionRange i
@@ -131,7 +131,7 @@ range_fault f i =
 unfoldable pub name_fault : List ℕ → ℕ → Option Fault
 name_fault f i = fault_if (is_none (section_name f i)) kind.SectionName i
 
--- a debug section with the flag of compression, or one that its name says is compressed
+-- a debug section with the flag of compression, or one that is compressed by its name
 abbrev pub is_compressed : List ℕ → ℕ → Bool
 is_compressed name flags = (starts name debug_prefix && (flags / shf_compressed) % 2 == 1) || starts name zdebug_prefix
 
@@ -140,7 +140,7 @@ unfoldable pub compressed_fault : List ℕ → ℕ → Option Fault
 compressed_fault f i =
     fault_if (option_map_or (λ name. is_compressed name (section f i).flags) (section_name f i) false) kind.Compressed i
 
--- each list of places in its order: the header's bytes, then the sections for each kind of fault by itself
+-- each list of places in its order: the header's bytes, then the sections, one list for each kind of fault
 abbrev pub elf_faults : List ℕ → List (Option Fault)
 elf_faults f =
     header_faults f ++ (map (range_fault f) (all_sections f) ++ (map (name_fault f) (all_sections f) ++ map (compressed_fault f) (all_sections f)))
@@ -149,13 +149,13 @@ elf_faults f =
 unfoldable pub elf_fault : List ℕ → Option Fault
 elf_fault f = first (elf_faults f)
 
--- ---- what a file without a fault has
+-- ---- a file without a fault
 
--- the table lies in the file, and one of its sections holds the names
+-- the table is inside the file, and one of its sections holds the names
 pub record HasTable (f : List ℕ) : Type 0 where
   pub inside : (table f).at + shdr_size * (table f).count ≤ length f
   pub names : (table f).names < (table f).count
 
--- each section that holds bytes lies in the file
+-- each section that holds bytes is inside the file
 abbrev pub HasRanges : List ℕ → Type 0
 HasRanges f = (i : ℕ) → i < (table f).count → range_fault f i ≡ None

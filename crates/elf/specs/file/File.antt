@@ -1,4 +1,4 @@
--- What a file that was read keeps.
+-- The fields of a file that was read.
 use Rattle.std.specs.Prelude.{◌≡◌, ◌≤◌, ℕ, List, length, None}
 use Rattle.abi_base.specs.Limits.{input_limit}
 use Rattle.elf.specs.declared.file.records.SectionTable.{SectionTable}
@@ -13,6 +13,6 @@ pub record IsOpen (f : List ℕ) (sections : SectionTable) (names : List ℕ) : 
   pub has : HasTable f
   pub ranges : HasRanges f
 
--- a section of the code, without where its bytes lie in memory
+-- a section of the code, without the place of its bytes in memory
 abbrev pub viewed : Section → SectionView
 viewed s = record { index = s.index; bytes = s.bytes.now; link = s.link; info = s.info; entsize = s.entsize }

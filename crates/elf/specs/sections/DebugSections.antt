@@ -5,7 +5,7 @@ use Rattle.std.specs.Option.{unwrap_or}
 use Rattle.dwarf_forms.specs.declared.sections.Sections.{Sections}
 use Rattle.elf.specs.file.Elf.{section_named}
 
--- what the first section of a name holds, and nothing where there is none
+-- the contents of the first section of a name, and no bytes where there is none
 abbrev pub section_or_none : List ℕ → List ℕ → List ℕ
 section_or_none f name = unwrap_or (section_named f name) []
 

@@ -33,7 +33,7 @@ entry_numbers table = take_while (is_used table) (range_with_len 0 (length table
 abbrev pub soname_entry : List ℕ → Option ℕ
 soname_entry table = find (is_soname table) (entry_numbers table)
 
--- The entry of a number has the tag SONAME, and none before it has, and none before it ends the table.
+-- The entry of a number has the tag SONAME, and no earlier entry has this tag or ends the table.
 pub record IsFirstSoname (table : List ℕ) (i : ℕ) : Type 0 where
   pub inside : dyn_size * (i + 1) ≤ length table
   pub tagged : tag_in table i ≡ dt_soname
@@ -42,7 +42,7 @@ pub record IsFirstSoname (table : List ℕ) (i : ℕ) : Type 0 where
 
 -- ---- of a file
 
--- what the dynamic table and its string table hold, nothing where there is none
+-- the contents of the dynamic table and its string table, no bytes where there is none
 abbrev pub dynamic_table : List ℕ → List ℕ
 dynamic_table f = option_map_or (λ s. s.bytes) (section_of_kind f sht_dynamic) []
 

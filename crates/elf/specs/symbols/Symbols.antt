@@ -11,7 +11,7 @@ use Rattle.elf.specs.file.Elf.{section_of_kind, strings_of}
 use Rattle.elf.specs.symbols.Tables.{is_table_bad}
 use Rattle.abi_base.specs.Elf.{sht_dynsym, sym_size, st_name, st_info, st_other, st_shndx, st_value, st_size, stb_global, stb_weak, stb_gnu_unique, stt_notype, stt_object, stt_func, stt_common, stt_tls, stt_gnu_ifunc, stv_default, stv_protected, shn_undef}
 
--- a symbol, without where its name lies in memory
+-- a symbol, without the place of its name in memory
 pub record PlainSymbol : Type 0 where
   pub number : ℕ
   pub name : List ℕ
@@ -46,7 +46,7 @@ symbol_in table strings i =
 abbrev pub symbol_numbers : List ℕ → List ℕ
 symbol_numbers table = range_with_len 0 (length table / sym_size)
 
--- all symbols of a table, in order, the reserved one too
+-- all symbols of a table, in order, the reserved one included
 abbrev pub symbols_in : List ℕ → List ℕ → List PlainSymbol
 symbols_in table strings = map (symbol_in table strings) (symbol_numbers table)
 
@@ -56,14 +56,14 @@ symbol_name_fault table strings i = fault_if (is_none (name_in table strings i))
 
 -- ---- of a file
 
--- what the symbol table and its string table hold, nothing where there is none
+-- the contents of the symbol table and its string table, no bytes where there is none
 abbrev pub symbol_table : List ℕ → List ℕ
 symbol_table f = option_map_or (λ s. s.bytes) (section_of_kind f sht_dynsym) []
 
 abbrev pub symbol_strings : List ℕ → List ℕ
 symbol_strings f = unwrap_or (option_and_then (λ s. strings_of f s.link) (section_of_kind f sht_dynsym)) []
 
--- all dynamic symbols of a file, in order, the reserved one too
+-- all dynamic symbols of a file, in order, the reserved one included
 unfoldable pub symbols_of : List ℕ → List PlainSymbol
 symbols_of f = symbols_in (symbol_table f) (symbol_strings f)
 
@@ -80,8 +80,8 @@ symbol_fault f = first (symbol_faults f)
 
 -- ---- exports
 
--- Other files may bind to the symbol, as far as its own record says: it is not the reserved one, is of binding GLOBAL,
--- WEAK or GNU_UNIQUE and of visibility DEFAULT or PROTECTED, is defined, and is of a type that names something.
+-- Other files may bind to the symbol by its own record: it is not the reserved one, has the binding GLOBAL, WEAK or GNU_UNIQUE
+-- and the visibility DEFAULT or PROTECTED, is defined, and has the type NOTYPE, OBJECT, FUNC, COMMON, TLS or GNU_IFUNC.
 abbrev pub is_exported : PlainSymbol → Bool
 is_exported s =
     not (s.number == 0)

@@ -1,5 +1,5 @@
--- The version definitions of a file, and their first fault. They stand in the first section of type GNU verdef: as many as
--- its header's info says, each saying where the next one begins, with their names in the string table that its link names.
+-- The version definitions of a file, and their first fault. They are in the first section of type GNU verdef: as many as its
+-- header's info says, each with the place of the next one, and their names are in the string table that the header's link names.
 use Rattle.std.specs.Prelude.{ℕ, zero, suc, ◌+◌, ◌%◌, ◌==◌, nat_lt, Bool, false, not, ◌||◌, ◌&&◌, is_none, List, [], ◌∷◌, length, map, find, Option, unwrap_or, option_and_then}
 use Rattle.std.specs.List.{range_with_len, list_any}
 use Rattle.std.specs.Option.{option_map_or}
@@ -14,12 +14,13 @@ use Rattle.abi_base.specs.GnuVersions.{sht_gnu_verdef, versym_hidden, verdef_siz
 
 -- ---- one definition, by its number, in the contents of the section
 
--- where the definition of a number begins: the first one at the beginning, and each other one where the one before it says
+-- where the definition of a number begins: the first one at the beginning, and each other one at the place that the one before
+-- it gives
 unfoldable pub place_of : List ℕ → ℕ → ℕ
 place_of table zero = 0
 place_of table (suc k) = place_of table k + number 4 table (place_of table k + vd_next)
 
--- its index, without the bit that says hidden
+-- its index, without the bit for hidden
 unfoldable pub index_of : List ℕ → ℕ → ℕ
 index_of table k = number 2 table (place_of table k + vd_ndx) % versym_hidden
 
@@ -31,12 +32,12 @@ auxiliary_of table k = place_of table k + number 4 table (place_of table k + vd_
 unfoldable pub name_of : List ℕ → List ℕ → ℕ → Option (List ℕ)
 name_of table strings k = text_at strings (number 4 table (auxiliary_of table k + vda_name))
 
--- an index is that of a definition before this one
+-- an index is that of an earlier definition
 abbrev pub stood_before : List ℕ → ℕ → Bool
 stood_before table k = list_any (λ j. index_of table j == index_of table k) (range_with_len 0 k)
 
--- The definition or its first auxiliary entry lies outside, or it is of another version, has no auxiliary entry or no
--- index, has a name that does not end in the strings, or is not the last and names no next.
+-- The definition or its first auxiliary entry is outside the section, or it is of another version, has no auxiliary entry or no
+-- index, has a name that does not end in the strings, or is not the last one and gives no next one.
 unfoldable pub is_malformed : List ℕ → List ℕ → ℕ → ℕ → Bool
 is_malformed table strings count k =
     let at = place_of table k in
@@ -66,7 +67,7 @@ definition_with table count index = find (λ k. index_of table k == index) (rang
 
 -- ---- of a file
 
--- what the section of definitions and its string table hold, and how many definitions there are; nothing where there is none
+-- the contents of the section of definitions and its string table, and the number of definitions; no bytes where there is none
 abbrev pub definition_table : List ℕ → List ℕ
 definition_table f = option_map_or (λ s. s.bytes) (section_of_kind f sht_gnu_verdef) []
 

@@ -3,7 +3,8 @@ ghost use Rattle.std.specs.Prelude.{◌≡◌, ◌≢◌, ◌≤◌, ◌<◌, If
 ghost use Rattle.std.specs.Option.{option_copied, option_map, option_map_or};
 ghost use Rattle.std.specs.Str.{bytes_eq};
 ghost use Rattle.abi_base.specs.Outcome.{Judges};
-ghost use Rattle.elf.specs.file.Elf.{table, elf_fault, section_named, section_of_kind as the_section_of_kind, section_number as the_section_number, strings_of, name_of_section};
+ghost use Rattle.elf.specs.file.Elf.{table, elf_fault, section_named, strings_of, name_of_section};
+ghost use Rattle.elf.specs.file.Elf as spec;
 ghost use Rattle.elf.specs.file.File.{viewed};
 ghost use Rattle.abi_base.specs.Limits.{input_limit};
 
@@ -37,8 +38,8 @@ impl<'a> Model for ElfFile<'a> {
 }
 
 /// Reads the header and the section table of a file. The fault is the first one of `ShortFile` to `Compressed`, kind by
-/// kind: that of an earlier kind comes first, wherever it stands, and of one kind that of the least section. It takes no
-/// memory. The answer keeps the bytes, and its look-ups read them anew.
+/// kind: that of an earlier kind comes first, at whatever place, and of one kind that of the least section. It allocates
+/// nothing. The result borrows the bytes, and its look-ups read them.
 #[tactic(auto, using(crate::proofs::file_lemmas::ElfLemmas::elf_fault_is))]
 pub fn read_elf<'a>(bytes: &'a [u8]) -> Result<ElfFile<'a>, Refusal>
     requires { length bytes.now ≤ input_limit }
@@ -82,7 +83,7 @@ fn is_name(found: Option<&[u8]>, name: &[u8]) -> bool
 }
 
 impl<'a> ElfFile<'a> {
-    /// What the first section of a name holds, or none exactly where there is no such section.
+    /// The contents of the first section of a name, or none exactly where there is no such section.
     pub fn section(&self, name: &[u8]) -> Option<&'a [u8]>
         ensures found { option_copied result ≡ section_named self.now name.now }
         ensures small { IfSome result (λ bytes. length bytes.now ≤ input_limit) }
@@ -96,7 +97,7 @@ impl<'a> ElfFile<'a> {
     /// The number of the first section of a name, or none exactly where there is no such section.
     #[tactic(auto, using(abi_base::proofs::lemmas::Places::find_more, abi_base::proofs::lemmas::Places::find_here, abi_base::proofs::lemmas::Places::find_none))]
     pub fn section_number(&self, name: &[u8]) -> Option<u32>
-        ensures found { result ≡ the_section_number self.now name.now }
+        ensures found { result ≡ spec.section_number self.now name.now }
         ensures inside { IfSome result (λ i. i < (table self.now).count) }
     {
         for number in 0..self.sections.count {
@@ -111,7 +112,7 @@ impl<'a> ElfFile<'a> {
     /// `SHT_DYNSYM`.
     #[tactic(auto, using(abi_base::proofs::lemmas::Places::find_more, abi_base::proofs::lemmas::Places::find_here, abi_base::proofs::lemmas::Places::find_none))]
     pub fn section_of_kind(&self, kind: u32) -> Option<Section<'a>>
-        ensures found { option_map viewed result ≡ the_section_of_kind self.now kind }
+        ensures found { option_map viewed result ≡ spec.section_of_kind self.now kind }
         ensures inside { IfSome result (λ s. s.index < (table self.now).count) }
         ensures small { IfSome result (λ s. length s.bytes.now ≤ input_limit) }
     {
@@ -130,7 +131,7 @@ impl<'a> ElfFile<'a> {
         None
     }
 
-    /// What the section of a number holds, or none exactly where there is no such section or it is no string table.
+    /// The contents of the section of a number, or none exactly where there is no such section or it is no string table.
     pub fn strings(&self, index: u32) -> Option<&'a [u8]>
         ensures held { option_copied result ≡ strings_of self.now index }
         ensures small { IfSome result (λ bytes. length bytes.now ≤ input_limit) }

@@ -1,7 +1,8 @@
 // The file's header and the section headers, and the faults of the header.
 ghost use Rattle.std.specs.Prelude.{◌≡◌, ◌+◌, ◌*◌, ◌<◌, ◌≤◌, Some, length, IfNone};
 ghost use Rattle.abi_base.specs.Outcome.{first};
-ghost use Rattle.elf.specs.file.Elf.{header_at, table, section, is_table_bad as the_table_is_bad, header_faults, HasTable};
+ghost use Rattle.elf.specs.file.Elf.{header_at, table, section, header_faults, HasTable};
+ghost use Rattle.elf.specs.file.Elf as spec;
 ghost use Rattle.abi_base.specs.Elf.{ehdr_size, shdr_size};
 
 use crate::constants::{
@@ -13,7 +14,7 @@ use crate::constants::{
 use crate::file::records::{SectionHeader, SectionTable};
 use abi_base::{Fault, FaultKind, u16_in, u32_in, u64_in};
 
-// The section header at a place, which lies inside.
+// The section header at a place inside the file.
 #[tactic(auto, unfolding(crate::specs::file::Elf::header_at))]
 fn header_in(bytes: &[u8], at: usize) -> SectionHeader
     requires { at + shdr_size ≤ length bytes.now }
@@ -31,8 +32,8 @@ fn header_in(bytes: &[u8], at: usize) -> SectionHeader
     }
 }
 
-/// Where the section table is, what it counts, and where the names are, where section 0 lies in the file. A count of 0
-/// stands in the size of section 0, and an index of `SHN_XINDEX` in its link.
+/// The place of the section table, the number of its headers, and the number of the section of names, where section 0 is in
+/// the file. For a count of 0 the size of section 0 is the count, and for an index of `SHN_XINDEX` its link is the index.
 #[tactic(auto, unfolding(crate::specs::file::Elf::table))]
 pub fn table_in(bytes: &[u8]) -> SectionTable
     requires header { ehdr_size ≤ length bytes.now }
@@ -69,12 +70,12 @@ pub fn section_in(bytes: &[u8], sections: SectionTable, number: u64) -> SectionH
     header_in(bytes, (sections.at + SHDR_SIZE as u64 * number) as usize)
 }
 
-// Whether there is no section table, or it does not lie in the file, or none of its sections is the string table of the
-// names. Sizes are compared with the room that is left, since a sum could pass the end of its type.
+// Whether there is no section table, or it is not inside the file, or none of its sections is the string table of the
+// names. It compares sizes with the remaining room, since a sum could overflow.
 #[tactic(auto, unfolding(crate::specs::file::Elf::table, crate::specs::file::Elf::section))]
 fn is_table_bad(bytes: &[u8]) -> bool
     requires { ehdr_size ≤ length bytes.now }
-    ensures { result ≡ the_table_is_bad bytes.now }
+    ensures { result ≡ spec.is_table_bad bytes.now }
 {
     let len = bytes.len();
     let at = u64_in(bytes, E_SHOFF);

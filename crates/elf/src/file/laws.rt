@@ -9,7 +9,7 @@ use crate::constants::{
     SHT_DYNAMIC, SHT_DYNSYM, SHT_GNU_VERDEF, SHT_GNU_VERNEED, SHT_GNU_VERSYM, SHT_STRTAB,
 };
 
-/// Each type of section that look-ups are given has its number of the System V gABI, "Sections", and those of GNU theirs.
+/// Each section type for look-ups has its number of the System V gABI, "Sections", and those of GNU have theirs.
 pub fn section_types_have_their_numbers()
     ensures { (SHT_STRTAB ≡ sht_strtab)
         × (SHT_DYNAMIC ≡ sht_dynamic)
@@ -19,7 +19,7 @@ pub fn section_types_have_their_numbers()
         × (SHT_GNU_VERSYM ≡ sht_gnu_versym) }
 {}
 
-/// In a file without a fault each section that holds bytes lies in the file, and what it holds are as many bytes as its
+/// In a file without a fault each section that holds bytes is inside the file, and its contents are as many bytes as its
 /// header says.
 pub fn sections_lie_inside()
     ensures inside { (f : List ℕ) (i : ℕ) → elf_fault f ≡ None → i < (table f).count → holds_bytes i (section f i) ≡ true → (section f i).offset + (section f i).size ≤ length f }

@@ -1,5 +1,5 @@
-//! An ELF-64 x86-64 shared object: its section table, what its sections hold, and the first fault of its header and its
-//! sections (System V gABI, "ELF Header", "Sections", "String Table").
+//! An ELF-64 x86-64 shared object: its section table, the contents of its sections, and the first fault of its header and
+//! its sections (System V gABI, "ELF Header", "Sections", "String Table").
 
 mod file;
 mod header;

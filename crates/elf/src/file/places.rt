@@ -1,8 +1,9 @@
-// What the sections hold and are called, and their faults, place by place.
+// The contents and names of sections, and their faults, place by place.
 ghost use Rattle.std.specs.Prelude.{◌≡◌, ◌<◌, ◌≤◌, IfNone, length, map};
 ghost use Rattle.std.specs.Option.{option_copied};
 ghost use Rattle.abi_base.specs.Outcome.{first};
-ghost use Rattle.elf.specs.file.Elf.{table, contents, section_name, all_sections, range_fault, name_fault, compressed_fault, holds_bytes, is_compressed as the_name_is_compressed, HasTable, HasRanges};
+ghost use Rattle.elf.specs.file.Elf.{table, contents, section_name, all_sections, range_fault, name_fault, compressed_fault, holds_bytes, HasTable, HasRanges};
+ghost use Rattle.elf.specs.file.Elf as spec;
 
 use crate::constants::{DEBUG_PREFIX, SHF_COMPRESSED, SHT_NOBITS, SHT_NULL, ZDEBUG_PREFIX};
 use crate::file::header::section_in;
@@ -16,8 +17,8 @@ fn has_bytes(number: u64, header: SectionHeader) -> bool
     !(number == 0 || header.kind == SHT_NULL || header.kind == SHT_NOBITS)
 }
 
-// The fault of a section that does not lie in the file. Its size is compared with the room that is left, since the sum of
-// offset and size could pass the end of its type.
+// The fault of a section that is not inside the file. It compares the size with the remaining room, since the sum of
+// offset and size could overflow.
 #[tactic(auto, unfolding(crate::specs::file::Elf::range_fault))]
 fn range_fault_at(bytes: &[u8], sections: SectionTable, number: u64) -> Option<Fault>
     requires table { sections ≡ table bytes.now }
@@ -37,7 +38,7 @@ fn range_fault_at(bytes: &[u8], sections: SectionTable, number: u64) -> Option<F
     }
 }
 
-/// The fault of the first section that does not lie in the file.
+/// The fault of the first section that is not inside the file.
 pub fn range_fault_in(bytes: &[u8], sections: SectionTable) -> Option<Fault>
     requires table { sections ≡ table bytes.now }
     requires has { HasTable bytes.now }
@@ -53,7 +54,7 @@ pub fn range_fault_in(bytes: &[u8], sections: SectionTable) -> Option<Fault>
     None
 }
 
-/// What the section of a number holds.
+/// The contents of the section of a number.
 #[tactic(auto, unfolding(crate::specs::file::Elf::contents, crate::specs::file::Elf::range_fault))]
 pub fn contents_in<'a>(bytes: &'a [u8], sections: SectionTable, number: u64) -> &'a [u8]
     requires table { sections ≡ table bytes.now }
@@ -72,7 +73,7 @@ pub fn contents_in<'a>(bytes: &'a [u8], sections: SectionTable, number: u64) -> 
     }
 }
 
-/// The name of the section of a number, in what the section of the names holds (gABI, "String Table").
+/// The name of the section of a number, in the contents of the section of names (gABI, "String Table").
 #[tactic(auto, unfolding(crate::specs::file::Elf::section_name))]
 pub fn name_in<'a>(
     bytes: &[u8],
@@ -90,7 +91,7 @@ pub fn name_in<'a>(
     text_at(names, u64::from(header.name))
 }
 
-// The fault of a section whose name does not end in what the section of the names holds.
+// The fault of a section whose name does not end in the contents of the section of names.
 #[tactic(auto, unfolding(crate::specs::file::Elf::name_fault))]
 fn name_fault_at(bytes: &[u8], sections: SectionTable, names: &[u8], number: u64) -> Option<Fault>
     requires table { sections ≡ table bytes.now }
@@ -108,7 +109,7 @@ fn name_fault_at(bytes: &[u8], sections: SectionTable, names: &[u8], number: u64
     }
 }
 
-/// The fault of the first section whose name does not end in what the section of the names holds.
+/// The fault of the first section whose name does not end in the contents of the section of names.
 pub fn name_fault_in(bytes: &[u8], sections: SectionTable, names: &[u8]) -> Option<Fault>
     requires table { sections ≡ table bytes.now }
     requires has { HasTable bytes.now }
@@ -124,17 +125,17 @@ pub fn name_fault_in(bytes: &[u8], sections: SectionTable, names: &[u8]) -> Opti
     None
 }
 
-// Whether a section of this name and these flags is a debug section that is compressed (gABI, "Section Compression"; the
-// names with a z are of an older form).
+// Whether a section of this name and these flags is a compressed debug section (gABI, "Section Compression"; the names with
+// a z are of an older form).
 fn is_compressed(name: &[u8], flags: u64) -> bool
-    ensures { result ≡ the_name_is_compressed name.now flags }
+    ensures { result ≡ spec.is_compressed name.now flags }
 {
     // The flag is one bit: the lowest one of the quotient by its value.
     let has_flag = (flags / SHF_COMPRESSED) % 2 == 1;
     (name.starts_with(&DEBUG_PREFIX) && has_flag) || name.starts_with(&ZDEBUG_PREFIX)
 }
 
-// The fault of a debug section that is compressed. One without a name has none here: that is a fault by itself.
+// The fault of a compressed debug section. A section without a name has none here: that is another fault.
 #[tactic(auto, unfolding(crate::specs::file::Elf::compressed_fault))]
 fn compressed_fault_at(
     bytes: &[u8],
@@ -164,7 +165,7 @@ fn compressed_fault_at(
     }
 }
 
-/// The fault of the first debug section that is compressed.
+/// The fault of the first compressed debug section.
 pub fn compressed_fault_in(bytes: &[u8], sections: SectionTable, names: &[u8]) -> Option<Fault>
     requires table { sections ≡ table bytes.now }
     requires has { HasTable bytes.now }

@@ -1,48 +1,48 @@
-// What a section table says (gABI, "Section Header").
+// The records of a section table (gABI, "Section Header").
 
-/// A section header, of the fields that are read (`Elf64_Shdr`).
+/// The fields of a section header that this crate uses (`Elf64_Shdr`).
 #[derive(Clone, Copy, Debug, PartialEq, Eq)]
 pub struct SectionHeader {
     /// Where its name begins in the section of names.
     pub name: u32,
     /// Its type, as `SHT_STRTAB`.
     pub kind: u32,
-    /// Its flags, of which only `SHF_COMPRESSED` is read.
+    /// Its flags, of which this crate uses only `SHF_COMPRESSED`.
     pub flags: u64,
     /// The byte of the file at which its contents begin.
     pub offset: u64,
-    /// How many bytes it holds.
+    /// Its size in bytes.
     pub size: u64,
-    /// The number of a section that goes with it, as a symbol table's string table.
+    /// The number of a related section, as a symbol table's string table.
     pub link: u32,
-    /// What its type says, as the number of version definitions.
+    /// Extra information that depends on the type, as the number of version definitions.
     pub info: u32,
-    /// How many bytes an entry has, in a section of entries.
+    /// The size of an entry, in a section of entries.
     pub entsize: u64,
 }
 
-/// Where the section table lies in the file, how many headers it has, and which of them is that of the names.
+/// The place of the section table in the file, the number of its headers, and which of them is that of the names.
 #[derive(Clone, Copy, Debug, PartialEq, Eq)]
 pub struct SectionTable {
     /// The byte of the file at which the table begins.
     pub at: u64,
-    /// How many section headers it has, that of section 0 too.
+    /// The number of section headers, that of section 0 included.
     pub count: u64,
-    /// The number of the section that holds the sections' names.
+    /// The number of the section with the sections' names.
     pub names: u64,
 }
 
-/// A section that was found: its number, its contents, and what its header says of them.
+/// A section that was found: its number, its contents, and the fields of its header about them.
 #[derive(Clone, Copy, Debug)]
 pub struct Section<'a> {
     /// Its place in the section table, counted from 0.
     pub index: u32,
-    /// What it holds: nothing in section 0 and in one of type NULL or NOBITS.
+    /// Its contents: none in section 0 and in one of type NULL or NOBITS.
     pub bytes: &'a [u8],
-    /// The number of a section that goes with it, as a symbol table's string table.
+    /// The number of a related section, as a symbol table's string table.
     pub link: u32,
-    /// What its type says, as the number of version definitions.
+    /// Extra information that depends on the type, as the number of version definitions.
     pub info: u32,
-    /// How many bytes an entry has, in a section of entries.
+    /// The size of an entry, in a section of entries.
     pub entsize: u64,
 }

@@ -7,7 +7,7 @@ ghost use Rattle.elf.specs.sections.DebugSections.{section_or_none, AreSectionsO
 use crate::file::ElfFile;
 use dwarf_forms::Sections;
 
-// What the first section of a name holds, and nothing where there is none.
+// The contents of the first section of a name, and no bytes where there is none.
 fn section_in<'a>(file: &ElfFile<'a>, name: &[u8]) -> &'a [u8]
     ensures holds { result.now ≡ section_or_none file.now name.now }
     ensures small { length result.now ≤ input_limit }
@@ -18,8 +18,8 @@ fn section_in<'a>(file: &ElfFile<'a>, name: &[u8]) -> &'a [u8]
     }
 }
 
-/// The sections of debug information of a file, each the first one of its name; one that is missing is empty (DWARF 5, section
-/// 7.3 "Executable Objects and Shared Objects").
+/// The sections of debug information of a file, each the first one of its name; a missing one is empty (DWARF 5, section 7.3
+/// "Executable Objects and Shared Objects").
 pub fn debug_sections<'a>(file: &ElfFile<'a>) -> Sections<'a>
     ensures { AreSectionsOf file.now result }
 {

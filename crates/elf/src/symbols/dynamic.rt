@@ -19,7 +19,7 @@ fn tag_at(table: &[u8], number: usize) -> u64
     u64_in(table, DYN_SIZE * number + D_TAG)
 }
 
-// The number of the entry that gives the soname.
+// The number of the entry with the soname.
 fn soname_entry_in(table: &[u8]) -> Option<usize>
     ensures entry { result ≡ soname_entry table.now }
     ensures inside { IfSome result (λ i. dyn_size * (i + 1) ≤ length table.now) }
@@ -37,7 +37,7 @@ fn soname_entry_in(table: &[u8]) -> Option<usize>
 }
 
 /// The soname of a file, or none where it has no dynamic table or the table names none. The fault is the first one of
-/// `DynamicTable`. It takes no memory.
+/// `DynamicTable`. It allocates nothing.
 #[tactic(auto, unfolding(crate::specs::symbols::Dynamic::dynamic_fault, crate::specs::symbols::Dynamic::soname_of))]
 pub fn soname<'a>(file: &ElfFile<'a>) -> Result<Option<&'a [u8]>, Fault>
     ensures judged { Settles result (dynamic_fault file.now) }
@@ -55,7 +55,7 @@ pub fn soname<'a>(file: &ElfFile<'a>) -> Result<Option<&'a [u8]>, Fault>
     }
 }
 
-// The soname that a dynamic table names in its strings, or the fault that it has.
+// The soname that a dynamic table names in its strings, or its fault.
 #[tactic(auto, unfolding(crate::specs::symbols::Dynamic::soname_fault, crate::specs::symbols::Dynamic::value_in))]
 fn soname_in<'a>(table: &[u8], strings: &'a [u8]) -> Result<Option<&'a [u8]>, Fault>
     ensures judged { Settles result (option_and_then (soname_fault table.now strings.now) (soname_entry table.now)) }

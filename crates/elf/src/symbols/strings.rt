@@ -6,8 +6,8 @@ ghost use Rattle.elf.specs.symbols.Tables.{is_table_bad};
 
 use crate::file::{ElfFile, Section};
 
-/// The string table of a table whose entries have so many bytes. None exactly where the table is malformed: its entries
-/// have another size, it is no whole number of them, or it has no string table.
+/// The string table of a table whose entries have a size. None exactly where the table is malformed: its entries have another
+/// size, it is no whole number of them, or it has no string table.
 pub fn strings_for<'a>(file: &ElfFile<'a>, section: Section<'a>, size: usize) -> Option<&'a [u8]>
     requires { 0 < size }
     ensures bad { is_none result ≡ is_table_bad size file.now (viewed section.entry) }

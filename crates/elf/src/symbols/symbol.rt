@@ -6,7 +6,7 @@ use crate::constants::{
     STT_NOTYPE, STT_OBJECT, STT_TLS, STV_DEFAULT, STV_PROTECTED,
 };
 
-/// A dynamic symbol, as its record in the symbol table says (`Elf64_Sym`).
+/// A dynamic symbol, by its record in the symbol table (`Elf64_Sym`).
 #[derive(Clone, Copy, Debug)]
 pub struct Symbol<'a> {
     /// Its place in the table, counted from 0, which is the reserved symbol.
@@ -19,22 +19,21 @@ pub struct Symbol<'a> {
     pub kind: u8,
     /// Its visibility, as `STV_DEFAULT`.
     pub visibility: u8,
-    /// The number of the section that it stands in, or `SHN_UNDEF` or another special one.
+    /// The number of its section, or `SHN_UNDEF` or another special one.
     pub section: u16,
     /// Its value, mostly an address.
     pub value: u64,
-    /// How many bytes it has, or 0.
+    /// Its size in bytes, or 0.
     pub size: u64,
 }
 
 impl Symbol<'_> {
     ghost use Rattle.elf.specs.symbols.Plain.{plain_symbol};
-    ghost use Rattle.elf.specs.symbols.Symbols.{is_exported as the_symbol_is_exported};
+    ghost use Rattle.elf.specs.symbols.Symbols as spec;
 
-    /// Whether other files may bind to the symbol, as far as its own record says: all terms of an export but those of
-    /// its version.
+    /// Whether other files may bind to the symbol by its own record: all conditions of an export except those of its version.
     pub fn is_exported(&self) -> bool
-        ensures { result ≡ the_symbol_is_exported (plain_symbol self.now) }
+        ensures { result ≡ spec.is_exported (plain_symbol self.now) }
     {
         self.number != 0
             && matches!(self.binding, STB_GLOBAL | STB_WEAK | STB_GNU_UNIQUE)

@@ -4,7 +4,8 @@ ghost use Rattle.std.specs.List.{range_with_len};
 ghost use Rattle.std.specs.Option.{option_copied};
 ghost use Rattle.abi_base.specs.Outcome.{Judges, Settles, first};
 ghost use Rattle.elf.specs.symbols.Plain.{plain_symbol, plain_symbols};
-ghost use Rattle.elf.specs.symbols.Symbols.{symbol_in as the_symbol_in, symbols_in as the_symbols_in, name_in, symbol_name_fault, symbol_numbers, symbol_fault, symbols_of};
+ghost use Rattle.elf.specs.symbols.Symbols.{name_in, symbol_name_fault, symbol_numbers, symbol_fault, symbols_of};
+ghost use Rattle.elf.specs.symbols.Symbols as spec;
 ghost use Rattle.abi_base.specs.Limits.{input_limit};
 ghost use Rattle.abi_base.specs.Elf.{sym_size};
 
@@ -17,12 +18,12 @@ use crate::symbols::symbol::Symbol;
 use abi_base::{Fault, FaultKind, INPUT_LIMIT, Refusal, text_at, u16_in, u32_in, u64_in};
 use std::alloc::Global;
 
-// The symbol of a number, or the fault that its name has.
+// The symbol of a number, or the fault of its name.
 #[tactic(auto, unfolding(crate::specs::symbols::Symbols::symbol_in, crate::specs::symbols::Symbols::name_in, crate::specs::symbols::Symbols::symbol_name_fault))]
 fn symbol_in<'a>(table: &[u8], strings: &'a [u8], number: u32) -> Result<Symbol<'a>, Fault>
     requires { sym_size * (number + 1) ≤ length table.now }
     ensures judged { Settles result (symbol_name_fault table.now strings.now number) }
-    ensures read { IfOk result (λ s. plain_symbol s ≡ the_symbol_in table.now strings.now number) }
+    ensures read { IfOk result (λ s. plain_symbol s ≡ spec.symbol_in table.now strings.now number) }
 {
     let at = SYM_SIZE * number as usize;
     // A byte holds two numbers: ELF64_ST_BIND and ELF64_ST_TYPE take them apart, and ELF64_ST_VISIBILITY leaves the two
@@ -55,7 +56,7 @@ fn symbols_in<'a>(
 ) -> Result<Vec<Symbol<'a>>, Refusal>
     requires { length table.now ≤ input_limit }
     ensures judged { Judges result (first (map (symbol_name_fault table.now strings.now) (symbol_numbers table.now))) }
-    ensures read { IfOk result (λ symbols. plain_symbols symbols.items ≡ the_symbols_in table.now strings.now) }
+    ensures read { IfOk result (λ symbols. plain_symbols symbols.items ≡ spec.symbols_in table.now strings.now) }
     ensures numbered { IfOk result (λ symbols. map (λ s. s.number) (plain_symbols symbols.items) ≡ range_with_len 0 (length symbols.items)) }
     ensures few { IfOk result (λ symbols. length symbols.items < 2 ^ 32) }
 {
@@ -70,7 +71,7 @@ fn symbols_in<'a>(
     Ok(symbols)
 }
 
-/// All dynamic symbols of a file, in order, the reserved one too: the symbol at place i has the number i. The fault is
+/// All dynamic symbols of a file, in order, the reserved one included: the symbol at place i has the number i. The fault is
 /// the first one of `NoDynamicSymbols` and `SymbolTable`.
 #[tactic(auto, unfolding(crate::specs::symbols::Symbols::symbol_fault, crate::specs::symbols::Symbols::symbols_of))]
 pub fn symbols<'a>(alloc: Global, file: &ElfFile<'a>) -> Result<Vec<Symbol<'a>>, Refusal>

@@ -16,7 +16,7 @@ use abi_base::{Fault, FaultKind, INPUT_LIMIT, Refusal, text_at, u16_in, u32_in};
 use std::alloc::Global;
 use std::collections::HashMap;
 
-// What a definition says: its index, the name of its version, and where the next one begins.
+// A definition: its index, the name of its version, and where the next one begins.
 #[derive(Clone, Copy)]
 struct Definition<'a> {
     index: u16,
@@ -24,7 +24,7 @@ struct Definition<'a> {
     next: usize,
 }
 
-// Whether not all of so many bytes from a place on lie inside.
+// Whether some of a number of bytes from a place on are outside.
 fn is_outside(table: &[u8], at: usize, size: usize) -> bool
     ensures { result ≡ nat_lt (length table.now) (at + size) }
 {
@@ -81,7 +81,7 @@ fn bad_definition(number: u32) -> Refusal
     })
 }
 
-// The names of the versions of a table by their indexes, or the fault of the first bad definition. The table may say any
+// The names of the versions of a table by their indexes, or the fault of the first bad definition. The table may have any
 // count: indexes have 15 bits and may not repeat, so a bad one comes soon enough.
 fn names_in<'a>(
     alloc: Global,

@@ -1,4 +1,4 @@
-// The versions of the dynamic symbols of a file, as they are kept.
+// The versions of the dynamic symbols of a file, as the code keeps them.
 ghost use Rattle.std.specs.Prelude.{◌≡◌, map};
 ghost use Rattle.std.specs.Option.{option_map};
 ghost use Rattle.elf.specs.versions.Plain.{plain_version};
@@ -34,8 +34,8 @@ impl<'a> Versions<'a> {
         Versions { all }
     }
 
-    /// The version of the symbol of a number. None exactly where there are not so many symbols, or the symbol's index is
-    /// that of no definition and neither `VER_NDX_LOCAL` nor `VER_NDX_GLOBAL`. It takes no memory.
+    /// The version of the symbol of a number. None exactly where there is no symbol of this number, or the symbol's index is
+    /// that of no definition and neither `VER_NDX_LOCAL` nor `VER_NDX_GLOBAL`. It allocates nothing.
     pub fn version_of(&self, symbol: usize) -> Option<Version<'a>>
         ensures { option_map plain_version result ≡ version_in self.now symbol }
     {

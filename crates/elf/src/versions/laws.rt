@@ -1,4 +1,4 @@
-//! What the definitions of versions come to. Each law is the contract of a function that does nothing.
+//! What follows from the definitions of versions. Each law is the contract of a function that does nothing.
 ghost use Rattle.std.specs.Prelude.{◌≡◌, ◌≢◌, ◌+◌, ◌<◌, ◌≤◌, ℕ, false, List, length, Some, None};
 ghost use Rattle.elf.specs.file.Elf.{section_of_kind};
 ghost use Rattle.abi_base.specs.GnuVersions.{sht_gnu_versym, ver_ndx_local, ver_ndx_global, verdef_size};
@@ -19,8 +19,8 @@ pub fn each_symbol_has_its_version()
     ensures unversioned { (f : List ℕ) (symbols : ℕ) (i : ℕ) → section_of_kind f sht_gnu_versym ≡ None → i < symbols → version_at f symbols i ≡ Some (record { name = None; index = ver_ndx_global; hidden = false }) }
 {}
 
-/// Without a fault each definition lies inside its section and has a name, no two have one index, and under the index of each
-/// stands its own name.
+/// Without a fault each definition is inside its section and has a name, no two have the same index, and each index gives the
+/// name of its own definition.
 pub fn each_definition_names_its_index()
     ensures inside { (f : List ℕ) (symbols : ℕ) (k : ℕ) → version_fault f symbols ≡ None → k < definition_count f → place_of (definition_table f) k + verdef_size ≤ length (definition_table f) }
     ensures named { (f : List ℕ) (symbols : ℕ) (k : ℕ) → version_fault f symbols ≡ None → k < definition_count f → name_of (definition_table f) (definition_strings f) k ≢ None }

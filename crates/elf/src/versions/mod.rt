@@ -1,5 +1,5 @@
 //! The symbol versions of a shared object: the definitions of its versions, and the version of each of its dynamic
-//! symbols (GNU symbol versioning, as the Linux Standard Base, "Symbol Versioning", has it).
+//! symbols (GNU symbol versioning: Linux Standard Base, "Symbol Versioning").
 
 mod definitions;
 mod indexes;

@@ -10,8 +10,8 @@ use crate::versions::kept::Versions;
 use abi_base::Refusal;
 use std::alloc::Global;
 
-/// The versions of the dynamic symbols of a file, of which there are `symbols`. The fault is the first one of
-/// `VersionTable` and `VersionDefinition`.
+/// The versions of the dynamic symbols of a file with `symbols` symbols. The fault is the first one of `VersionTable` and
+/// `VersionDefinition`.
 #[tactic(auto, unfolding(crate::specs::versions::Versions::version_fault))]
 pub fn versions<'a>(
     alloc: Global,
