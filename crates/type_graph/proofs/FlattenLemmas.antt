@@ -90,6 +90,9 @@ module _ (d : PlainDwarf) (laws : TypeLaws d) (found : List ℕ) (closed : IsClo
   pub member_shallow : (c m : ℕ) → Contains found c → Contains (members_of d.tree c) m → IsShallow d (type_of d.tree m)
   member_shallow c m there has = found-shallow d laws found closed shallow (type_of d.tree m) (member_found c m there has)
 
+  pub member_lower : (c m : ℕ) → Contains found c → Contains (members_of d.tree c) m → (facts_of d (type_of d.tree m)).rank < (facts_of d (Some c)).rank
+  member_lower c m there has = laws.falls (Some c) (type_of d.tree m) (shallow c there) (laws.member_step c m has)
+
   pub nested-is : (c m inner : ℕ) → Contains found c → Contains (members_of d.tree c) m → replacing (summary_of (facts_of d (type_of d.tree m))) ≡ Some inner → IsNested d found c m inner
   nested-is c m inner there has replaced =
       let ty : Type_ = type_of d.tree m in
@@ -97,7 +100,7 @@ module _ (d : PlainDwarf) (laws : TypeLaws d) (found : List ℕ) (closed : IsClo
       let ty_shallow = member_shallow c m there has in
       let is : core_of d ty ≡ Some inner = elim (cases_Bool (facts_of d ty).aggregate) [ inl yes' ↦ rw yes' at replaced | inr no' ↦ absurd (none-some inner (rw no' at replaced)) ] in
       let core = subst (IsPeeledCore d ty) is (laws.cores ty ty_shallow) in
-      let falls = laws.falls (Some c) ty (shallow c there) (laws.member_step c m has) in
+      let falls = member_lower c m there has in
       record {
         there = subst (IsFound found) is (laws.found found ty closed ty_shallow ty_there);
         last = core.last;

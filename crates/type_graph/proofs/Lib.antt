@@ -1,3 +1,4 @@
+mod CountLemmas
 mod FlattenLemmas
 mod FormLemmas
 mod GraphLemmas

@@ -1,6 +1,6 @@
--- What the members of an aggregate, and the nodes of all that was found, come to.
+-- The members of an aggregate, and the nodes of all entries that were found.
 use Rattle.std.proofs.Common.{◌≡◌, ◌<◌, ◌≤◌, ◌+◌, ℕ, false, List, [], ◌∷◌, ◌++◌, length, map, take, get_or, slice_get, Some, None, refl, sym, ◌∙◌, ap, subst, arith}
-use Rattle.std.specs.Prelude.{All, Contains, IfSome, pos, ◌+ℤ◌}
+use Rattle.std.specs.Prelude.{All, Contains, IfSome, ℤ, pos, ◌+ℤ◌}
 use Rattle.std.specs.List.{list_any}
 use Rattle.std.proofs.lemmas.Int.{ints}
 use Rattle.std.proofs.lemmas.List.{take_more, take_all, map-append}
@@ -30,8 +30,8 @@ moved-zero (x ∷ xs) =
     let later = moved-zero xs in
     ap (λ z. record x { bit = z } ∷ map (moved (pos 0)) xs) here ∙ ap (λ ys. x ∷ ys) later
 
-pub put-whole : (items none : List Placed) (flats : List Flat) → none ≡ [] → plain_members items ≡ plain_members none ++ map (moved (pos 0)) flats → plain_members items ≡ flats
-put-whole items none flats is put = put ∙ ap (λ xs. plain_members xs ++ map (moved (pos 0)) flats) is ∙ moved-zero flats
+pub put-whole : (items none : List Placed) (flats : List Flat) (base : ℤ) → none ≡ [] → base ≡ pos 0 → plain_members items ≡ plain_members none ++ map (moved base) flats → plain_members items ≡ flats
+put-whole items none flats base is outermost put = put ∙ ap (λ xs. plain_members xs ++ map (moved base) flats) is ∙ ap (λ bit. map (moved bit) flats) outermost ∙ moved-zero flats
 
 pub near-each : (items : List Placed) (flats : List Flat) → plain_members items ≡ flats → list_any begins_beyond flats ≡ false → All (λ (m : Placed). is_out_of_range m.bit ≡ false) items
 near-each items flats is none k d lt =

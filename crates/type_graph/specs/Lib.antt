@@ -1,3 +1,4 @@
+pub mod Counts
 pub mod Large
 pub mod Nodes
 pub mod Placed

@@ -11,6 +11,6 @@ plain_member p = record { name = p.name.now; bit = p.bit; width = p.width; to = 
 abbrev pub plain_members : List Placed → List Flat
 plain_members = map plain_member
 
--- the structure or union whose members replace a nameless member, by what is kept of its type
+-- the structure or union whose members replace a nameless member, by the summary of its type
 abbrev pub replacing : Summary → Type_
 replacing x = if x.aggregate then x.core else None

@@ -7,7 +7,7 @@ use Rattle.type_reach.specs.References.{Type_}
 use Rattle.type_reach.specs.Flat.{core_of}
 use Rattle.type_graph.specs.Nodes.{made_node, found_types}
 
--- a core is another entry than the type that comes to it
+-- the core of a type is another entry than the type
 abbrev pub is_other : Type_ → Type_ → Bool
 is_other None r = false
 is_other (Some c) None = false

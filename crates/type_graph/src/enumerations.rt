@@ -4,8 +4,9 @@ ghost use Rattle.std.specs.List.{list_all};
 ghost use Rattle.abi_base.specs.Dwarf.{dw_tag_enumerator};
 ghost use Rattle.type_reach.specs.References.{tagged_children};
 ghost use Rattle.type_reach.specs.Facts.{facts_of};
-ghost use Rattle.type_reach.specs.Views.{is_quad_name as the_name_is_of_a_quad, group_of as the_group_of};
-ghost use Rattle.type_reach.specs.Shapes.{group_by as the_group_by, encoding_group, is_good_enumerator as the_enumerator_is_good};
+ghost use Rattle.type_reach.specs.Views as views;
+ghost use Rattle.type_reach.specs.Shapes.{encoding_group};
+ghost use Rattle.type_reach.specs.Shapes as shapes;
 
 use crate::labels::name_or_empty;
 use crate::limits::QUAD_SIZE;
@@ -23,7 +24,7 @@ use type_reach::{natural_of, wrapped_of};
 // What the bits of a base type mean, by its encoding.
 #[tactic(auto, unfolding(type_reach::specs::Shapes::group_by))]
 fn group_by(encoding: u64) -> Option<Group>
-    ensures { result ≡ the_group_by encoding }
+    ensures { result ≡ shapes.group_by encoding }
 {
     match encoding {
         DW_ATE_boolean => Some(Group::Bool),
@@ -51,7 +52,7 @@ pub(crate) fn group_of_encoding(dwarf: &Dwarf, e: usize) -> Option<Group>
 #[tactic(auto, unfolding(type_reach::specs::Shapes::is_good_enumerator))]
 fn is_good_enumerator(dwarf: &Dwarf, c: usize) -> bool
     requires { c < length dwarf.now.tree.entries }
-    ensures { result ≡ the_enumerator_is_good dwarf.now.tree c }
+    ensures { result ≡ shapes.is_good_enumerator dwarf.now.tree c }
 {
     wrapped_of(dwarf.attr(c, DW_AT_const_value)).is_some()
 }
@@ -59,7 +60,7 @@ fn is_good_enumerator(dwarf: &Dwarf, c: usize) -> bool
 // Whether all of these have a constant.
 fn are_good_enumerators(dwarf: &Dwarf, enumerators: &[usize]) -> bool
     requires { All (λ c. c < length dwarf.now.tree.entries) enumerators.now }
-    ensures { result ≡ list_all (the_enumerator_is_good dwarf.now.tree) enumerators.now }
+    ensures { result ≡ list_all (shapes.is_good_enumerator dwarf.now.tree) enumerators.now }
 {
     enumerators.iter().all(|c| is_good_enumerator(dwarf, *c))
 }
@@ -68,7 +69,7 @@ fn are_good_enumerators(dwarf: &Dwarf, enumerators: &[usize]) -> bool
 #[tactic(auto, unfolding(type_reach::specs::References::tagged_children))]
 pub(crate) fn good_enumerators(alloc: Global, dwarf: &Dwarf, e: usize) -> Result<bool, NoMemory>
     requires { e < length dwarf.now.tree.entries }
-    ensures { IfOk result (λ good. good ≡ list_all (the_enumerator_is_good dwarf.now.tree) (tagged_children dwarf.now.tree e dw_tag_enumerator)) }
+    ensures { IfOk result (λ good. good ≡ list_all (shapes.is_good_enumerator dwarf.now.tree) (tagged_children dwarf.now.tree e dw_tag_enumerator)) }
 {
     let enumerators = dwarf.tagged(alloc, e, DW_TAG_enumerator)?;
     Ok(are_good_enumerators(dwarf, enumerators.as_slice()))
@@ -76,7 +77,7 @@ pub(crate) fn good_enumerators(alloc: Global, dwarf: &Dwarf, e: usize) -> Result
 
 // Whether a name is that of a floating-point type of 128 bits.
 fn is_quad_name(name: &[u8]) -> bool
-    ensures { result ≡ the_name_is_of_a_quad name.now }
+    ensures { result ≡ views.is_quad_name name.now }
 {
     name == b"_Float128".as_slice() || name == b"__float128".as_slice()
 }
@@ -86,7 +87,7 @@ fn is_quad_name(name: &[u8]) -> bool
 pub(crate) fn group_of(dwarf: &Dwarf, c: usize, size: u64) -> Group
     requires inside { c < length dwarf.now.tree.entries }
     requires size { size ≡ (facts_of dwarf.now (Some c)).size }
-    ensures { result ≡ the_group_of dwarf.now c }
+    ensures { result ≡ views.group_of dwarf.now c }
 {
     match group_of_encoding(dwarf, c) {
         Some(Group::Float) => {

@@ -1,22 +1,20 @@
 // The flat members of structures and unions.
-ghost use Rattle.std.specs.Prelude.{◌≡◌, ◌<◌, ◌≤◌, ◌+◌, ◌-◌, ◌+ℤ◌, ◌++◌, length, map, Contains, Some, OnOk};
+ghost use Rattle.std.specs.Prelude.{◌≡◌, ◌≤◌, ◌+◌, ◌++◌, map, Contains, Some, OnOk};
 ghost use Rattle.abi_base.specs.Limits.{depth_limit};
 ghost use Rattle.type_reach.specs.ByValue.{IsClosed};
 ghost use Rattle.type_reach.specs.TypeReferences.{AreTypeReferences};
-ghost use Rattle.type_reach.specs.Placement.{bit_of as the_bit_of, IsNear};
 ghost use Rattle.type_reach.specs.Facts.{facts_of};
 ghost use Rattle.type_reach.specs.Summaries.{AreSummaries};
 ghost use Rattle.type_reach.specs.PeeledCores.{StandsForNone};
 ghost use Rattle.type_reach.specs.Flat.{moved, flat_of};
-ghost use Rattle.type_graph.specs.Placed.{replacing as the_replacing, plain_members};
+ghost use Rattle.type_graph.specs.Placed.{plain_members};
+ghost use Rattle.type_graph.specs.Placed as spec;
 
 use crate::judged::JudgedTypes;
 use abi_base::NoMemory;
-use dwarf_entries::Dwarf;
-use type_reach::constants::DEPTH_LIMIT;
 use type_reach::laws::laws_of_types;
 use type_reach::{
-    Summary, bit_of, member_type, members_among, parts_at, role_of, summary_at, types_at, width_of,
+    Start, Summary, member_type, members_among, parts_at, role_of, summary_at, types_at, width_of,
 };
 
 /// A flat member: the bit at which it begins, how wide it is as a bit field, and its type.
@@ -28,29 +26,9 @@ pub(crate) struct Placed<'a> {
     pub(crate) to: Option<usize>,
 }
 
-/// Where something begins, in bits.
-#[derive(Clone, Copy)]
-pub(crate) struct Start {
-    pub(crate) bit: i128,
-}
-
-// Where a member begins, from the summary of its type. Each structure around it is one more step by value, so no member stands in
-// more than `depth_limit` of them, and the sum of their places does not overflow.
-fn start_of(dwarf: &Dwarf, m: usize, of_type: &Summary, base: Start, depth: u32) -> Start
-    requires inside { m < length dwarf.now.tree.entries }
-    requires base { IsNear depth base.bit }
-    requires depth { depth ≤ depth_limit }
-    ensures is { result.bit ≡ base.bit +ℤ the_bit_of dwarf.now m of_type.now.size }
-    ensures near { IsNear (depth + 1) result.bit }
-{
-    Start {
-        bit: base.bit + bit_of(dwarf, m, of_type.size),
-    }
-}
-
-// The structure or union whose members replace a nameless member, from the summary of its type.
-fn replacing(of_type: &Summary) -> Option<usize>
-    ensures { result ≡ the_replacing of_type.now }
+/// The structure or union whose members replace a nameless member, from the summary of its type.
+pub(crate) fn replacing(of_type: &Summary) -> Option<usize>
+    ensures { result ≡ spec.replacing of_type.now }
 {
     if of_type.aggregate {
         of_type.core
@@ -59,26 +37,22 @@ fn replacing(of_type: &Summary) -> Option<usize>
     }
 }
 
-/// Appends the flat members of a structure or a union, each moved by `base`. At most `budget` steps by value lead on from it.
+/// Appends the flat members of a structure or a union that begins at `base`.
 pub(crate) fn push_flat<'a>(
     types: &JudgedTypes<'_, 'a>,
     out: &mut Vec<Placed<'a>>,
     c: usize,
     base: Start,
-    budget: u32,
 ) -> Result<(), NoMemory>
     requires closed { IsClosed types.now.dwarf.now.tree types.now.found.now }
     requires leads { AreTypeReferences types.now.dwarf.now.tree types.now.found.now types.now.leads.now }
     requires summaries { AreSummaries types.now.dwarf.now types.now.found.now types.now.summaries.now }
     requires there { Contains types.now.found.now c }
     requires last { StandsForNone types.now.dwarf.now c }
-    requires low { (facts_of types.now.dwarf.now (Some c)).rank ≤ budget }
-    requires budget { budget ≤ depth_limit }
-    requires base { IsNear (depth_limit - budget) base.bit }
+    requires low { base.depth + (facts_of types.now.dwarf.now (Some c)).rank ≤ depth_limit }
     ensures { OnOk result (plain_members out.new.items ≡ plain_members out.old.items ++ map (moved base.bit) (flat_of types.now.dwarf.now (Some c))) }
 {
     laws_of_types();
-    let depth = DEPTH_LIMIT - budget;
     let dwarf = types.dwarf;
     let number = types.found.number_of(c);
     let parts = parts_at(dwarf, types.found, types.leads, number, c);
@@ -88,7 +62,7 @@ pub(crate) fn push_flat<'a>(
         let m = members[k] as usize;
         let to = member_type(dwarf, c, members, leads_to, k);
         let of_type = summary_at(dwarf, types.found, types.summaries, to);
-        let start = start_of(dwarf, m, &of_type, base, depth);
+        let start = base.later(dwarf, m, of_type.size);
         if let Some(name) = dwarf.name_of(m) {
             let width = width_of(dwarf, m);
             out.push(Placed {
@@ -100,7 +74,7 @@ pub(crate) fn push_flat<'a>(
             continue;
         }
         match replacing(&of_type) {
-            Some(inner) => push_flat(types, out, inner, start, budget - 1)?,
+            Some(inner) => push_flat(types, out, inner, start)?,
             None => {}
         }
     }

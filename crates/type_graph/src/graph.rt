@@ -4,6 +4,7 @@ ghost use Rattle.abi_base.specs.Outcome.{Judges};
 ghost use Rattle.type_reach.specs.Faults.{types_fault};
 ghost use Rattle.type_graph.specs.Nodes.{made_nodes, nodes_of};
 
+use crate::counts::ask_parts;
 use crate::judged::JudgedTypes;
 use crate::judging::{ask_shapes, ask_sizes};
 use crate::laws::the_nodes_are_a_graph;
@@ -46,13 +47,14 @@ fn reached_nodes<'a, Ix: Index>(
         leads: &leads,
         summaries: summaries.as_slice(),
     };
+    ask_parts(&types)?;
     let nodes = nodes(alloc, &types)?;
     Ok(nodes)
 }
 
 /// The graph of the types that the roots reach: the node of void, then one for each reached entry in order of offset. Functions
 /// have no call places yet. The fault is the first one of a shape in order of offset, else the first one of a depth, else the
-/// first one of a size.
+/// first one of a size. Types with more flat members and parameters than a library may have count as no memory.
 pub fn raw_graph<'a, Ix: Index>(
     alloc: Global,
     dwarf: &Dwarf<'a>,

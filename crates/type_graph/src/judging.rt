@@ -6,9 +6,9 @@ ghost use Rattle.type_reach.specs.ByValue.{IsClosed};
 ghost use Rattle.type_reach.specs.TypeReferences.{AreTypeReferences};
 ghost use Rattle.type_reach.specs.Facts.{AreAllFacts, facts_of};
 ghost use Rattle.type_reach.specs.TypeLaws.{IsShallow};
-ghost use Rattle.type_reach.specs.Shapes.{has_shape as the_entry_has_a_shape};
-ghost use Rattle.type_reach.specs.Sizes.{is_too_large as the_entry_is_too_large};
-ghost use Rattle.type_graph.specs.Large.{are_too_large as the_facts_are_too_large};
+ghost use Rattle.type_reach.specs.Shapes as shapes_spec;
+ghost use Rattle.type_reach.specs.Sizes as sizes;
+ghost use Rattle.type_graph.specs.Large as large;
 ghost use Rattle.type_reach.specs.Faults.{shape_fault, large_fault};
 
 use crate::limits::{ALIGN_LIMIT, ROOMS_LIMIT, SIZE_LIMIT, WEIGHT_LIMIT};
@@ -69,7 +69,7 @@ pub(crate) fn ask_shapes(
 
 // Whether facts exceed a limit.
 fn are_too_large(facts: &Facts) -> bool
-    ensures { result ≡ the_facts_are_too_large facts.now }
+    ensures { result ≡ large.are_too_large facts.now }
 {
     SIZE_LIMIT < facts.size
         || SIZE_LIMIT < facts.count
@@ -83,7 +83,7 @@ fn are_too_large(facts: &Facts) -> bool
 fn is_too_large(dwarf: &Dwarf, e: usize, facts: &Facts) -> bool
     requires facts { facts.now ≡ facts_of dwarf.now (Some e) }
     requires shallow { IsShallow dwarf.now (Some e) }
-    ensures { result ≡ the_entry_is_too_large dwarf.now e }
+    ensures { result ≡ sizes.is_too_large dwarf.now e }
 {
     laws_of_types();
     are_too_large(facts)

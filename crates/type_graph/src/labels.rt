@@ -3,10 +3,11 @@ ghost use Rattle.std.specs.Prelude.{◌≡◌, ◌<◌, ◌++◌, length, map, I
 ghost use Rattle.abi_types.specs.Plain.{plain_label};
 ghost use Rattle.dwarf_entries.specs.Chains.{name_of};
 ghost use Rattle.type_reach.specs.declared.role.Role.TheVariants as role;
-ghost use Rattle.type_reach.specs.References.{role_of as the_role_of, type_of as the_type_of};
+ghost use Rattle.type_reach.specs.References as references;
 ghost use Rattle.type_reach.specs.PeeledCores.{StandsForNone};
 ghost use Rattle.type_reach.specs.TypeLaws.{IsShallow};
-ghost use Rattle.type_reach.specs.Flat.{text_or_empty, label_kind as the_label_kind, own_label, labels_of as the_labels_of};
+ghost use Rattle.type_reach.specs.Flat.{text_or_empty, own_label};
+ghost use Rattle.type_reach.specs.Flat as flat;
 
 use abi_base::dwarf::{
     DW_TAG_base_type, DW_TAG_enumeration_type, DW_TAG_structure_type, DW_TAG_typedef,
@@ -33,7 +34,7 @@ pub(crate) fn name_or_empty<'a>(dwarf: &Dwarf<'a>, e: usize) -> &'a [u8]
 // The kind of name that an entry of a tag gives; none where it gives no name.
 #[tactic(auto, unfolding(type_reach::specs::Flat::label_kind))]
 fn label_kind(tag: u64) -> Option<LabelKind>
-    ensures { result ≡ the_label_kind tag }
+    ensures { result ≡ flat.label_kind tag }
 {
     match tag {
         DW_TAG_typedef => Some(LabelKind::Typedef),
@@ -69,7 +70,7 @@ fn push_label<'a>(dwarf: &Dwarf<'a>, labels: &mut Vec<Label<'a>>, e: usize) -> R
 // The type that an entry stands for; none where it is a core.
 fn passed_to(dwarf: &Dwarf, e: usize) -> Option<usize>
     requires { e < length dwarf.now.tree.entries }
-    ensures passed { the_role_of dwarf.now.tree e ≡ role.Wrapper → result ≡ the_type_of dwarf.now.tree e }
+    ensures passed { references.role_of dwarf.now.tree e ≡ role.Wrapper → result ≡ references.type_of dwarf.now.tree e }
     ensures last { StandsForNone dwarf.now e → result ≡ None }
     ensures inside { IfSome result (λ f. f < length dwarf.now.tree.entries) }
 {
@@ -87,7 +88,7 @@ pub(crate) fn labels_of<'a>(
 ) -> Result<List<Label<'a>>, NoMemory>
     requires shallow { IsShallow dwarf.now ty }
     requires inside { IfSome ty (λ e. e < length dwarf.now.tree.entries) }
-    ensures { IfOk result (λ labels. map plain_label labels ≡ the_labels_of dwarf.now ty) }
+    ensures { IfOk result (λ labels. map plain_label labels ≡ flat.labels_of dwarf.now ty) }
 {
     laws_of_types();
     let mut labels = Vec::new(alloc);

@@ -1,6 +1,7 @@
 //! The graph of the types that functions and variables reach: a node for each reached entry, and one for void.
 #![tactic(auto)]
 
+mod counts;
 mod enumerations;
 mod flatten;
 mod graph;

@@ -17,3 +17,9 @@ pub(crate) const ROOMS_LIMIT: u64 = 0x4000_0000_0000_0000;
 
 /// The size of a floating-point number of 128 bits, in bytes.
 pub(crate) const QUAD_SIZE: u64 = 16;
+
+/// How many parts a library may have in all for each of its entries.
+pub(crate) const PARTS_AN_ENTRY: usize = 4;
+
+/// How many more it may have, however few entries it has.
+pub(crate) const PARTS_AT_LEAST: usize = 16_384;

@@ -4,9 +4,10 @@ ghost use Rattle.type_reach.specs.ByValue.{IsClosed};
 ghost use Rattle.type_reach.specs.TypeReferences.{AreTypeReferences};
 ghost use Rattle.type_reach.specs.Summaries.{AreSummaries};
 ghost use Rattle.type_reach.specs.Sizes.{is_too_large};
-ghost use Rattle.type_reach.specs.Views.{offset_of as the_offset_of};
+ghost use Rattle.type_reach.specs.Views as views_spec;
 ghost use Rattle.type_graph.specs.Nodes.{made_nodes};
-ghost use Rattle.type_graph.specs.Sharing.{first_node, first_nodes as the_first_nodes};
+ghost use Rattle.type_graph.specs.Sharing.{first_node};
+ghost use Rattle.type_graph.specs.Sharing as sharing_spec;
 
 use crate::judged::JudgedTypes;
 use crate::labels::labels_of;
@@ -22,7 +23,7 @@ use type_reach::summary_at;
 // The offset of a type's entry; 0 for void.
 fn offset_of(dwarf: &Dwarf, ty: Option<usize>) -> u64
     requires { IfSome ty (λ e. e < length dwarf.now.tree.entries) }
-    ensures { result ≡ the_offset_of dwarf.now.tree ty }
+    ensures { result ≡ views_spec.offset_of dwarf.now.tree ty }
 {
     match ty {
         Some(e) => dwarf.offset(e),
@@ -65,7 +66,7 @@ fn first_nodes<'a, Ix: Index>(
     requires leads { AreTypeReferences types.now.dwarf.now.tree types.now.found.now types.now.leads.now }
     requires summaries { AreSummaries types.now.dwarf.now types.now.found.now types.now.summaries.now }
     requires fits { (e : ℕ) → Contains types.now.found.now e → is_too_large types.now.dwarf.now e ≡ false }
-    ensures { IfOk result (λ nodes. nodes ≡ the_first_nodes types.now.dwarf.now types.now.found.now) }
+    ensures { IfOk result (λ nodes. nodes ≡ sharing_spec.first_nodes types.now.dwarf.now types.now.found.now) }
 {
     let mut nodes = List::of(Vec::with_capacity(alloc, types.found.len() + 1)?);
     nodes.push(node(alloc, types, None)?)?;

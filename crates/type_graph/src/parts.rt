@@ -4,7 +4,8 @@ ghost use Rattle.std.specs.List.{list_any};
 ghost use Rattle.abi_types.specs.Parts.{plain_part};
 ghost use Rattle.abi_types.specs.Types.{Outcome};
 ghost use Rattle.type_reach.specs.declared.role.Role.TheVariants as role;
-ghost use Rattle.type_reach.specs.References.{has_type, role_of as the_role_of, parts_of as the_parts_of, type_of as the_type_of};
+ghost use Rattle.type_reach.specs.References.{has_type};
+ghost use Rattle.type_reach.specs.References as references;
 ghost use Rattle.type_reach.specs.ByValue.{IsClosed};
 ghost use Rattle.type_reach.specs.TypeReferences.{AreTypeReferences};
 ghost use Rattle.type_reach.specs.Placement.{is_out_of_range};
@@ -12,11 +13,12 @@ ghost use Rattle.type_reach.specs.Summaries.{AreSummaries};
 ghost use Rattle.type_reach.specs.PeeledCores.{StandsForNone};
 ghost use Rattle.type_reach.specs.Flat.{flat_of};
 ghost use Rattle.type_reach.specs.Sizes.{begins_beyond};
-ghost use Rattle.type_reach.specs.Views.{bit_number as the_bit_number, member_part, param_part, enumerator_part, enumerators_of as the_enumerators_of, parts_under};
+ghost use Rattle.type_reach.specs.Views.{member_part, param_part, enumerator_part, parts_under};
+ghost use Rattle.type_reach.specs.Views as views;
 ghost use Rattle.type_graph.specs.Nodes.{number_in};
 ghost use Rattle.type_graph.specs.Placed.{plain_members};
 
-use crate::flatten::{Placed, Start, push_flat};
+use crate::flatten::{Placed, push_flat};
 use crate::judged::JudgedTypes;
 use crate::labels::name_or_empty;
 use abi_base::NoMemory;
@@ -24,9 +26,10 @@ use abi_base::dwarf::{DW_AT_const_value, DW_TAG_enumerator};
 use abi_types::{Index, Part, Parts};
 use dwarf_entries::Dwarf;
 use std::alloc::Global;
-use type_reach::constants::DEPTH_LIMIT;
 use type_reach::laws::laws_of_types;
-use type_reach::{ReachedEntries, Role, own_type, part_type, parts_at, types_at, wrapped_of};
+use type_reach::{
+    ReachedEntries, Role, Start, own_type, part_type, parts_at, types_at, wrapped_of,
+};
 
 // The index of a type's node: void comes first, then the entries in the order of their numbers.
 fn node_of<Ix: Index>(found: &ReachedEntries, ty: Option<usize>) -> Ix
@@ -48,7 +51,7 @@ fn node_of<Ix: Index>(found: &ReachedEntries, ty: Option<usize>) -> Ix
 // The number of a bit that is in range.
 fn bit_number(bit: i128) -> u64
     requires { is_out_of_range bit ≡ false }
-    ensures { result ≡ the_bit_number bit }
+    ensures { result ≡ views.bit_number bit }
 {
     u64::try_from(bit).unwrap_or(0)
 }
@@ -92,7 +95,7 @@ fn aggregate_parts<'a, Ix: Index>(
 {
     laws_of_types();
     let mut members = Vec::new(alloc);
-    push_flat(types, &mut members, c, Start { bit: 0 }, DEPTH_LIMIT)?;
+    push_flat(types, &mut members, c, Start::outermost())?;
     let parts = member_parts(alloc, types.found, members.as_slice())?;
     Ok(parts)
 }
@@ -107,8 +110,8 @@ fn function_parts<'a, Ix: Index>(
     requires closed { IsClosed types.now.dwarf.now.tree types.now.found.now }
     requires leads { AreTypeReferences types.now.dwarf.now.tree types.now.found.now types.now.leads.now }
     requires at { slice_get types.now.found.now number ≡ Some c }
-    requires role { the_role_of types.now.dwarf.now.tree c ≡ role.Function }
-    ensures { IfOk result (λ parts. map (plain_part Ix.number_of) parts.items ≡ Outcome (number_in types.now.found.now (the_type_of types.now.dwarf.now.tree c)) ∷ map (param_part (number_in types.now.found.now) types.now.dwarf.now.tree) (the_parts_of types.now.dwarf.now.tree c)) }
+    requires role { references.role_of types.now.dwarf.now.tree c ≡ role.Function }
+    ensures { IfOk result (λ parts. map (plain_part Ix.number_of) parts.items ≡ Outcome (number_in types.now.found.now (references.type_of types.now.dwarf.now.tree c)) ∷ map (param_part (number_in types.now.found.now) types.now.dwarf.now.tree) (references.parts_of types.now.dwarf.now.tree c)) }
 {
     let params = parts_at(types.dwarf, types.found, types.leads, number, c);
     let leads_to = types_at(types.dwarf, types.found, types.leads, number, c);
@@ -128,7 +131,7 @@ fn function_parts<'a, Ix: Index>(
 #[tactic(auto, unfolding(type_reach::specs::Views::enumerators_of, type_reach::specs::References::tagged_children))]
 fn enumerators_of(alloc: Global, dwarf: &Dwarf, c: usize) -> Result<Vec<usize>, NoMemory>
     requires { c < length dwarf.now.tree.entries }
-    ensures enumerators { IfOk result (λ list. list.items ≡ the_enumerators_of dwarf.now.tree c) }
+    ensures enumerators { IfOk result (λ list. list.items ≡ views.enumerators_of dwarf.now.tree c) }
     ensures inside { IfOk result (λ list. All (λ e. e < length dwarf.now.tree.entries) list.items) }
 {
     if dwarf.is_declaration(c) {
@@ -144,7 +147,7 @@ fn enumerator_parts<'a, Ix: Index>(
     c: usize,
 ) -> Result<Vec<Part<'a, Ix>>, NoMemory>
     requires { c < length dwarf.now.tree.entries }
-    ensures { IfOk result (λ parts. map (plain_part Ix.number_of) parts.items ≡ map (enumerator_part dwarf.now) (the_enumerators_of dwarf.now.tree c)) }
+    ensures { IfOk result (λ parts. map (plain_part Ix.number_of) parts.items ≡ map (enumerator_part dwarf.now) (views.enumerators_of dwarf.now.tree c)) }
 {
     let enumerators = enumerators_of(alloc, dwarf, c)?;
     let mut parts = Vec::with_capacity(alloc, enumerators.len())?;
@@ -162,8 +165,8 @@ fn type_alone(types: &JudgedTypes<'_, '_>, number: usize, c: usize) -> Option<us
     requires closed { IsClosed types.now.dwarf.now.tree types.now.found.now }
     requires leads { AreTypeReferences types.now.dwarf.now.tree types.now.found.now types.now.leads.now }
     requires at { slice_get types.now.found.now number ≡ Some c }
-    requires own { has_type (the_role_of types.now.dwarf.now.tree c) ≡ true }
-    ensures is { result ≡ the_type_of types.now.dwarf.now.tree c }
+    requires own { has_type (references.role_of types.now.dwarf.now.tree c) ≡ true }
+    ensures is { result ≡ references.type_of types.now.dwarf.now.tree c }
     ensures there { IfSome result (λ e. Contains types.now.found.now e) }
 {
     own_type(
@@ -185,10 +188,10 @@ pub(crate) fn parts_of_peeled<'a, Ix: Index>(
     requires leads { AreTypeReferences types.now.dwarf.now.tree types.now.found.now types.now.leads.now }
     requires summaries { AreSummaries types.now.dwarf.now types.now.found.now types.now.summaries.now }
     requires at { slice_get types.now.found.now number ≡ Some c }
-    requires role { role ≡ the_role_of types.now.dwarf.now.tree c }
+    requires role { role ≡ references.role_of types.now.dwarf.now.tree c }
     requires last { StandsForNone types.now.dwarf.now c }
     requires near { list_any begins_beyond (flat_of types.now.dwarf.now (Some c)) ≡ false }
-    ensures { IfOk result (λ parts. parts ≡ parts_under (the_role_of types.now.dwarf.now.tree c) (number_in types.now.found.now) types.now.dwarf.now c) }
+    ensures { IfOk result (λ parts. parts ≡ parts_under (references.role_of types.now.dwarf.now.tree c) (number_in types.now.found.now) types.now.dwarf.now c) }
 {
     match role {
         Role::Aggregate => Parts::of(alloc, aggregate_parts(alloc, types, c)?),

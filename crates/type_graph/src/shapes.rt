@@ -1,9 +1,11 @@
 // Whether entries have the shape of types.
 ghost use Rattle.std.specs.Prelude.{◌≡◌, ◌<◌, length, All, IfOk, IfSome};
 ghost use Rattle.std.specs.List.{list_all};
-ghost use Rattle.type_reach.specs.References.{tagged_children, parts_of as the_parts_of, types_of as the_types_of};
-ghost use Rattle.type_reach.specs.Values.{is_small as the_number_is_small};
-ghost use Rattle.type_reach.specs.Shapes.{is_type_tag as the_tag_is_of_a_type, is_type as the_type_is_one, is_natural_small as the_value_is_small, has_size as the_entry_has_a_size, has_pointer_size as the_pointer_has_its_size, has_byte as the_member_has_a_byte, has_place as the_member_has_a_place, has_width as the_member_has_a_width, is_good_member as the_member_is_good, has_size_unless_declared as the_type_has_a_size, has_shape_for, has_shape as the_entry_has_a_shape};
+ghost use Rattle.type_reach.specs.References.{tagged_children};
+ghost use Rattle.type_reach.specs.References as references;
+ghost use Rattle.type_reach.specs.Values as values;
+ghost use Rattle.type_reach.specs.Shapes.{has_shape_for};
+ghost use Rattle.type_reach.specs.Shapes as shapes;
 
 use crate::enumerations::{good_enumerators, group_of_encoding};
 use crate::limits::VALUE_LIMIT;
@@ -22,7 +24,7 @@ use type_reach::{Role, is_there, natural_of, place_of, role_of};
 
 #[tactic(auto, unfolding(type_reach::specs::Shapes::is_type_tag))]
 fn is_type_tag(tag: u64) -> bool
-    ensures { result ≡ the_tag_is_of_a_type tag }
+    ensures { result ≡ shapes.is_type_tag tag }
 {
     matches!(
         tag,
@@ -43,7 +45,7 @@ fn is_type_tag(tag: u64) -> bool
 
 fn is_type(dwarf: &Dwarf, ty: Option<u32>) -> bool
     requires { IfSome ty (λ e. e < length dwarf.now.tree.entries) }
-    ensures { result ≡ the_type_is_one dwarf.now.tree ty }
+    ensures { result ≡ shapes.is_type dwarf.now.tree ty }
 {
     match ty {
         Some(e) => is_type_tag(dwarf.tag(e as usize)),
@@ -54,14 +56,14 @@ fn is_type(dwarf: &Dwarf, ty: Option<u32>) -> bool
 // Whether all of these are types.
 fn are_types(dwarf: &Dwarf, types: &[Option<u32>]) -> bool
     requires { All (λ ty. IfSome ty (λ e. e < length dwarf.now.tree.entries)) types.now }
-    ensures { result ≡ list_all (the_type_is_one dwarf.now.tree) types.now }
+    ensures { result ≡ list_all (shapes.is_type dwarf.now.tree) types.now }
 {
     types.iter().all(|ty| is_type(dwarf, *ty))
 }
 
 // Whether a number is from 0 to 2^63 - 1.
 fn is_small(number: Option<u64>) -> bool
-    ensures { result ≡ the_number_is_small number }
+    ensures { result ≡ values.is_small number }
 {
     match number {
         Some(number) => number < VALUE_LIMIT,
@@ -72,7 +74,7 @@ fn is_small(number: Option<u64>) -> bool
 // Whether an attribute is missing, or is a constant from 0 to 2^63 - 1.
 fn is_natural_small(dwarf: &Dwarf, e: usize, name: u64) -> bool
     requires { e < length dwarf.now.tree.entries }
-    ensures { result ≡ the_value_is_small dwarf.now.tree e name }
+    ensures { result ≡ shapes.is_natural_small dwarf.now.tree e name }
 {
     match dwarf.attr(e, name) {
         Some(value) => is_small(natural_of(Some(value))),
@@ -83,7 +85,7 @@ fn is_natural_small(dwarf: &Dwarf, e: usize, name: u64) -> bool
 #[tactic(auto, unfolding(type_reach::specs::Shapes::has_size))]
 fn has_size(dwarf: &Dwarf, e: usize) -> bool
     requires { e < length dwarf.now.tree.entries }
-    ensures { result ≡ the_entry_has_a_size dwarf.now.tree e }
+    ensures { result ≡ shapes.has_size dwarf.now.tree e }
 {
     is_there(dwarf, e, DW_AT_byte_size) && is_natural_small(dwarf, e, DW_AT_byte_size)
 }
@@ -92,7 +94,7 @@ fn has_size(dwarf: &Dwarf, e: usize) -> bool
 #[tactic(auto, unfolding(type_reach::specs::Shapes::has_pointer_size))]
 fn has_pointer_size(dwarf: &Dwarf, e: usize) -> bool
     requires { e < length dwarf.now.tree.entries }
-    ensures { result ≡ the_pointer_has_its_size dwarf.now.tree e }
+    ensures { result ≡ shapes.has_pointer_size dwarf.now.tree e }
 {
     if !is_there(dwarf, e, DW_AT_byte_size) {
         return true;
@@ -106,7 +108,7 @@ fn has_pointer_size(dwarf: &Dwarf, e: usize) -> bool
 #[tactic(auto, unfolding(type_reach::specs::Shapes::has_byte))]
 fn has_byte(dwarf: &Dwarf, m: usize) -> bool
     requires { m < length dwarf.now.tree.entries }
-    ensures { result ≡ the_member_has_a_byte dwarf.now m }
+    ensures { result ≡ shapes.has_byte dwarf.now m }
 {
     match dwarf.attr(m, DW_AT_data_member_location) {
         Some(value) => is_small(place_of(dwarf, Some(value))),
@@ -118,7 +120,7 @@ fn has_byte(dwarf: &Dwarf, m: usize) -> bool
 #[tactic(auto, unfolding(type_reach::specs::Shapes::has_place))]
 fn has_place(dwarf: &Dwarf, m: usize) -> bool
     requires { m < length dwarf.now.tree.entries }
-    ensures { result ≡ the_member_has_a_place dwarf.now m }
+    ensures { result ≡ shapes.has_place dwarf.now m }
 {
     if is_there(dwarf, m, DW_AT_data_bit_offset) {
         return is_natural_small(dwarf, m, DW_AT_data_bit_offset);
@@ -136,7 +138,7 @@ fn has_place(dwarf: &Dwarf, m: usize) -> bool
 #[tactic(auto, unfolding(type_reach::specs::Shapes::has_width))]
 fn has_width(dwarf: &Dwarf, m: usize) -> bool
     requires { m < length dwarf.now.tree.entries }
-    ensures { result ≡ the_member_has_a_width dwarf.now.tree m }
+    ensures { result ≡ shapes.has_width dwarf.now.tree m }
 {
     if !is_natural_small(dwarf, m, DW_AT_bit_size) {
         return false;
@@ -150,7 +152,7 @@ fn has_width(dwarf: &Dwarf, m: usize) -> bool
 #[tactic(auto, unfolding(type_reach::specs::Shapes::is_good_member))]
 fn is_good_member(dwarf: &Dwarf, m: usize) -> bool
     requires { m < length dwarf.now.tree.entries }
-    ensures { result ≡ the_member_is_good dwarf.now m }
+    ensures { result ≡ shapes.is_good_member dwarf.now m }
 {
     has_place(dwarf, m) && has_width(dwarf, m) && is_natural_small(dwarf, m, DW_AT_alignment)
 }
@@ -158,7 +160,7 @@ fn is_good_member(dwarf: &Dwarf, m: usize) -> bool
 // Whether all of these are members that can be read.
 fn are_good_members(dwarf: &Dwarf, members: &[u32]) -> bool
     requires { All (λ m. m < length dwarf.now.tree.entries) members.now }
-    ensures { result ≡ list_all (the_member_is_good dwarf.now) members.now }
+    ensures { result ≡ list_all (shapes.is_good_member dwarf.now) members.now }
 {
     members.iter().all(|m| is_good_member(dwarf, *m as usize))
 }
@@ -166,7 +168,7 @@ fn are_good_members(dwarf: &Dwarf, members: &[u32]) -> bool
 // Whether an entry that is no declaration has a size.
 fn has_size_unless_declared(dwarf: &Dwarf, e: usize) -> bool
     requires { e < length dwarf.now.tree.entries }
-    ensures { result ≡ the_type_has_a_size dwarf.now.tree e }
+    ensures { result ≡ shapes.has_size_unless_declared dwarf.now.tree e }
 {
     dwarf.is_declaration(e) || has_size(dwarf, e)
 }
@@ -180,7 +182,7 @@ fn has_shape_of_role(
     parts: &[u32],
 ) -> Result<bool, NoMemory>
     requires inside { e < length dwarf.now.tree.entries }
-    requires parts { parts.now ≡ the_parts_of dwarf.now.tree e }
+    requires parts { parts.now ≡ references.parts_of dwarf.now.tree e }
     requires parts_inside { All (λ p. p < length dwarf.now.tree.entries) parts.now }
     ensures { IfOk result (λ good. good ≡ has_shape_for role dwarf.now e) }
 {
@@ -206,11 +208,11 @@ pub(crate) fn has_shape(
     types: &[Option<u32>],
 ) -> Result<bool, NoMemory>
     requires inside { e < length dwarf.now.tree.entries }
-    requires parts { parts.now ≡ the_parts_of dwarf.now.tree e }
+    requires parts { parts.now ≡ references.parts_of dwarf.now.tree e }
     requires parts_inside { All (λ p. p < length dwarf.now.tree.entries) parts.now }
-    requires types { types.now ≡ the_types_of dwarf.now.tree e }
+    requires types { types.now ≡ references.types_of dwarf.now.tree e }
     requires types_inside { All (λ ty. IfSome ty (λ f. f < length dwarf.now.tree.entries)) types.now }
-    ensures { IfOk result (λ good. good ≡ the_entry_has_a_shape dwarf.now e) }
+    ensures { IfOk result (λ good. good ≡ shapes.has_shape dwarf.now e) }
 {
     let good = has_shape_of_role(alloc, dwarf, e, role_of(dwarf, e), parts)?;
     Ok(are_types(dwarf, types) && good && is_natural_small(dwarf, e, DW_AT_alignment))

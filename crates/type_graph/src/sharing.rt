@@ -3,7 +3,8 @@ ghost use Rattle.std.specs.Prelude.{◌≡◌, ◌<◌, ◌+◌, set, length, If
 ghost use Rattle.type_reach.specs.ByValue.{IsClosed};
 ghost use Rattle.type_reach.specs.Summaries.{AreSummaries};
 ghost use Rattle.type_graph.specs.Nodes.{made_nodes};
-ghost use Rattle.type_graph.specs.Sharing.{first_nodes as the_first_nodes, with_parts, AreShared};
+ghost use Rattle.type_graph.specs.Sharing.{with_parts, AreShared};
+ghost use Rattle.type_graph.specs.Sharing as spec;
 ghost use Rattle.abi_types.specs.Graphs.{node_at};
 
 use crate::judged::JudgedTypes;
@@ -71,7 +72,7 @@ pub(crate) fn share_parts<'a, Ix: Index>(
 ) -> Result<Vec<Node<'a, Ix>>, NoMemory>
     requires closed { IsClosed types.now.dwarf.now.tree types.now.found.now }
     requires summaries { AreSummaries types.now.dwarf.now types.now.found.now types.now.summaries.now }
-    requires nodes { nodes.items ≡ the_first_nodes types.now.dwarf.now types.now.found.now }
+    requires nodes { nodes.items ≡ spec.first_nodes types.now.dwarf.now types.now.found.now }
     ensures { IfOk result (λ shared. shared.items ≡ made_nodes types.now.dwarf.now types.now.found.now) }
 {
     'shared: for number in 0..types.found.len() {

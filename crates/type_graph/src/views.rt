@@ -2,8 +2,8 @@
 ghost use Rattle.std.specs.Prelude.{◌≡◌, ◌<◌, [], ℕ, if◌then◌else◌, false, length, Contains, Some, IfOk, IfSome};
 ghost use Rattle.std.specs.List.{list_any};
 ghost use Rattle.abi_types.specs.Graphs.{void_view};
-ghost use Rattle.abi_types.specs.Forms.{has_tag as the_kind_has_a_tag};
-ghost use Rattle.type_reach.specs.References.{role_of as the_role_of};
+ghost use Rattle.abi_types.specs.Forms as forms;
+ghost use Rattle.type_reach.specs.References as references;
 ghost use Rattle.type_reach.specs.ByValue.{IsClosed};
 ghost use Rattle.type_reach.specs.TypeReferences.{AreTypeReferences};
 ghost use Rattle.type_reach.specs.Facts.{facts_of};
@@ -12,9 +12,11 @@ ghost use Rattle.type_reach.specs.PeeledCores.{StandsForNone};
 ghost use Rattle.dwarf_entries.specs.Chains.{name_of};
 ghost use Rattle.type_reach.specs.Flat.{text_or_empty, flat_of};
 ghost use Rattle.type_reach.specs.Sizes.{begins_beyond, is_too_large};
-ghost use Rattle.type_reach.specs.Views.{kind_of as the_kind_of, group_for, is_vector as the_array_is_a_vector, variadic_for, core_view, view_by};
+ghost use Rattle.type_reach.specs.Views.{group_for, variadic_for, core_view, view_by};
+ghost use Rattle.type_reach.specs.Views as views;
 ghost use Rattle.type_graph.specs.Nodes.{number_in};
-ghost use Rattle.type_graph.specs.Sharing.{is_other as the_core_is_other, first_view};
+ghost use Rattle.type_graph.specs.Sharing.{first_view};
+ghost use Rattle.type_graph.specs.Sharing as sharing;
 ghost use Rattle.type_reach.specs.Flat.{core_of};
 
 use crate::enumerations::group_of;
@@ -33,7 +35,7 @@ use type_reach::{Role, Summary, body_of, role_of, summary_by_number};
 #[tactic(auto, unfolding(type_reach::specs::Views::is_vector))]
 fn is_vector(dwarf: &Dwarf, c: usize) -> bool
     requires { c < length dwarf.now.tree.entries }
-    ensures { result ≡ the_array_is_a_vector dwarf.now.tree c }
+    ensures { result ≡ views.is_vector dwarf.now.tree c }
 {
     dwarf.flag_value(c, DW_AT_GNU_vector)
 }
@@ -42,8 +44,8 @@ fn is_vector(dwarf: &Dwarf, c: usize) -> bool
 #[tactic(auto, unfolding(type_reach::specs::Views::kind_of))]
 fn kind_of(dwarf: &Dwarf, c: usize, role: Role) -> Kind
     requires inside { c < length dwarf.now.tree.entries }
-    requires role { role ≡ the_role_of dwarf.now.tree c }
-    ensures { result ≡ the_kind_of dwarf.now.tree c }
+    requires role { role ≡ references.role_of dwarf.now.tree c }
+    ensures { result ≡ views.kind_of dwarf.now.tree c }
 {
     match role {
         Role::Aggregate => {
@@ -70,7 +72,7 @@ fn kind_of(dwarf: &Dwarf, c: usize, role: Role) -> Kind
 
 // Whether types of a kind have a tag.
 fn has_tag(kind: Kind) -> bool
-    ensures { result ≡ the_kind_has_a_tag kind }
+    ensures { result ≡ forms.has_tag kind }
 {
     matches!(kind, Kind::Structure | Kind::Union | Kind::Enumeration)
 }
@@ -105,7 +107,7 @@ fn group(dwarf: &Dwarf, c: usize, role: Role, size: u64) -> Group
 // The tag of a core of a kind; empty where it has none.
 fn tag<'a>(dwarf: &Dwarf<'a>, c: usize, kind: Kind) -> &'a [u8]
     requires { c < length dwarf.now.tree.entries }
-    ensures { result.now ≡ (if the_kind_has_a_tag kind then text_or_empty (name_of dwarf.now c) else []) }
+    ensures { result.now ≡ (if forms.has_tag kind then text_or_empty (name_of dwarf.now c) else []) }
 {
     if has_tag(kind) {
         name_or_empty(dwarf, c)
@@ -175,7 +177,7 @@ fn view_of_peeled<'a, Ix: Index>(
 
 // Whether the core of a type is another entry.
 fn is_other(core: Option<usize>, ty: Option<usize>) -> bool
-    ensures { result ≡ the_core_is_other core ty }
+    ensures { result ≡ sharing.is_other core ty }
 {
     match (core, ty) {
         (Some(c), Some(e)) => c != e,
@@ -197,7 +199,7 @@ pub(crate) fn view<'a, Ix: Index>(
     requires own { own.now ≡ summary_of (facts_of types.now.dwarf.now ty) }
     requires there { IfSome ty (λ e. Contains types.now.found.now e) }
     requires fits { (e : ℕ) → Contains types.now.found.now e → is_too_large types.now.dwarf.now e ≡ false }
-    ensures { IfOk result (λ view. view ≡ first_view (the_core_is_other (core_of types.now.dwarf.now ty) ty) (view_by (number_in types.now.found.now) types.now.dwarf.now ty)) }
+    ensures { IfOk result (λ view. view ≡ first_view (sharing.is_other (core_of types.now.dwarf.now ty) ty) (view_by (number_in types.now.found.now) types.now.dwarf.now ty)) }
 {
     laws_of_types();
     match own.core {

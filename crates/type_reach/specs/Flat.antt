@@ -14,7 +14,7 @@ use Rattle.type_reach.specs.ByValue.{by_value}
 use Rattle.type_reach.specs.Placement.{bit_of, width_of}
 use Rattle.type_reach.specs.Facts.{facts_of}
 
--- the entry that a type comes to, once all that stands for its type is passed
+-- the core of a type: the entry behind all typedefs, qualifiers and variables
 abbrev pub core_of : PlainDwarf → Type_ → Type_
 core_of d r = (facts_of d r).core
 
@@ -24,7 +24,7 @@ abbrev pub text_or_empty : Option (List ℕ) → List ℕ
 text_or_empty None = []
 text_or_empty (Some text) = text
 
--- what kind of name an entry of a tag is spoken of by
+-- the kind of name that an entry of a tag has
 unfoldable pub label_kind : ℕ → Option LabelKind
 label_kind tag =
     if tag == dw_tag_typedef then Some label.Typedef

@@ -1,6 +1,6 @@
 // How many elements arrays have.
 ghost use Rattle.std.specs.Prelude.{◌≡◌, ◌<◌, length, map, All, IfOk};
-ghost use Rattle.type_reach.specs.Facts.{subrange_count as the_subrange_count, product as the_product, array_count as the_array_count};
+ghost use Rattle.type_reach.specs.Facts as spec;
 
 use crate::values::{counted_to, natural_of};
 use abi_base::NoMemory;
@@ -12,7 +12,7 @@ use std::alloc::Global;
 #[tactic(auto, unfolding(crate::specs::Facts::subrange_count))]
 fn subrange_count(dwarf: &Dwarf, subrange: usize) -> u64
     requires { subrange < length dwarf.now.tree.entries }
-    ensures { result ≡ the_subrange_count dwarf.now.tree subrange }
+    ensures { result ≡ spec.subrange_count dwarf.now.tree subrange }
 {
     match natural_of(dwarf.attr(subrange, DW_AT_count)) {
         Some(count) => count,
@@ -23,7 +23,7 @@ fn subrange_count(dwarf: &Dwarf, subrange: usize) -> u64
 // How many elements dimensions have together.
 fn product(dwarf: &Dwarf, subranges: &[usize]) -> u64
     requires { All (λ s. s < length dwarf.now.tree.entries) subranges.now }
-    ensures { result ≡ the_product (map (the_subrange_count dwarf.now.tree) subranges.now) }
+    ensures { result ≡ spec.product (map (spec.subrange_count dwarf.now.tree) subranges.now) }
 {
     let mut all: u64 = 1;
     let mut k = subranges.len();
@@ -39,7 +39,7 @@ fn product(dwarf: &Dwarf, subranges: &[usize]) -> u64
 #[tactic(auto, unfolding(crate::specs::Facts::array_count, crate::specs::References::tagged_children))]
 pub(crate) fn array_count(alloc: Global, dwarf: &Dwarf, e: usize) -> Result<u64, NoMemory>
     requires { e < length dwarf.now.tree.entries }
-    ensures { IfOk result (λ count. count ≡ the_array_count dwarf.now.tree e) }
+    ensures { IfOk result (λ count. count ≡ spec.array_count dwarf.now.tree e) }
 {
     let subranges = dwarf.tagged(alloc, e, DW_TAG_subrange_type)?;
     if subranges.is_empty() {

@@ -1,8 +1,9 @@
 // What is made of a type from the same of the types that it holds by value.
 ghost use Rattle.std.specs.Prelude.{◌≡◌, ◌<◌, ◌≤◌, ◌+◌, length, map, drop, All, Some, IfOk, IfSome};
 ghost use Rattle.abi_base.specs.Limits.{depth_limit};
-ghost use Rattle.type_reach.specs.References.{role_of as the_role_of, parts_of as the_parts_of};
-ghost use Rattle.type_reach.specs.Facts.{above as the_above, total as the_total, rank_in, weight_in, room_of as the_room_of, first_of, own_size as the_own_size, size_for, count_for, weight_for, core_for, aggregate_for, rooms_for, align_from, members_with, member_align, most, span_in, beyond_in, facts_from, IsSpanNear};
+ghost use Rattle.type_reach.specs.References as references_spec;
+ghost use Rattle.type_reach.specs.Facts.{rank_in, weight_in, first_of, size_for, count_for, weight_for, core_for, aggregate_for, rooms_for, align_from, members_with, member_align, most, span_in, beyond_in, facts_from, IsSpanNear};
+ghost use Rattle.type_reach.specs.Facts as facts_spec;
 
 use crate::arrays::array_count;
 use crate::constants::{ALIGN_ROOM, POINTER_SIZE};
@@ -46,7 +47,7 @@ pub struct Facts {
     pub rooms: u64,
     /// Where the flat members of its core begin; none where it has none.
     pub span: Option<Span>,
-    /// The entry that it comes to, none for void.
+    /// The entry of its core, none for void.
     pub core: Option<usize>,
 }
 
@@ -67,7 +68,7 @@ pub const VOID: Facts = Facts {
 // The number above all ranks.
 fn above(facts: &[Facts]) -> u32
     requires { All (λ x. x.rank < depth_limit) facts.now }
-    ensures above { result ≡ the_above (map rank_in facts.now) }
+    ensures above { result ≡ facts_spec.above (map rank_in facts.now) }
     ensures bound { result ≤ depth_limit }
     ensures each { All (λ x. x.rank < result) facts.now }
 {
@@ -85,7 +86,7 @@ fn above(facts: &[Facts]) -> u32
 
 // All weights together.
 fn all_weights(facts: &[Facts]) -> u64
-    ensures { result ≡ the_total (map weight_in facts.now) }
+    ensures { result ≡ facts_spec.total (map weight_in facts.now) }
 {
     let mut all: u64 = 0;
     let mut k = facts.len();
@@ -99,7 +100,7 @@ fn all_weights(facts: &[Facts]) -> u64
 
 // The sizes of parameters together, with room for their alignments.
 fn all_rooms(params: &[Facts]) -> u64
-    ensures { result ≡ the_total (map the_room_of params.now) }
+    ensures { result ≡ facts_spec.total (map facts_spec.room_of params.now) }
 {
     let mut all: u64 = 0;
     let mut k = params.len();
@@ -136,7 +137,7 @@ fn first(facts: &[Facts]) -> Facts
 #[tactic(auto, unfolding(crate::specs::Facts::own_size))]
 fn own_size(dwarf: &Dwarf, e: usize) -> u64
     requires { e < length dwarf.now.tree.entries }
-    ensures { result ≡ the_own_size dwarf.now.tree e }
+    ensures { result ≡ facts_spec.own_size dwarf.now.tree e }
 {
     if dwarf.is_declaration(e) {
         0
@@ -145,7 +146,7 @@ fn own_size(dwarf: &Dwarf, e: usize) -> u64
     }
 }
 
-// The size of a type, whose core has so many elements if it is an array.
+// The size of a type. Where its core is an array, `count` is how many elements that has.
 fn size(dwarf: &Dwarf, e: usize, role: Role, facts: &[Facts], count: u64) -> u64
     requires inside { e < length dwarf.now.tree.entries }
     requires count { count ≡ count_for role dwarf.now.tree e facts.now }
@@ -207,7 +208,7 @@ fn rooms(role: Role, facts: &[Facts]) -> u64
     }
 }
 
-// The entry that a type comes to.
+// The entry of the core of a type.
 fn core(e: usize, role: Role, facts: &[Facts]) -> Option<usize>
     ensures { result ≡ core_for role e facts.now }
 {
@@ -234,7 +235,7 @@ fn aggregate(role: Role, facts: &[Facts]) -> bool
 #[tactic(auto, unfolding(crate::specs::Facts::align_from))]
 fn align(dwarf: &Dwarf, e: usize, role: Role, facts: &[Facts], held: u64) -> u64
     requires inside { e < length dwarf.now.tree.entries }
-    requires role { role ≡ the_role_of dwarf.now.tree e }
+    requires role { role ≡ references_spec.role_of dwarf.now.tree e }
     requires held { held ≡ most (map (member_align dwarf.now) (members_with dwarf.now.tree e facts.now)) }
     ensures { result ≡ align_from dwarf.now e facts.now }
 {
@@ -246,7 +247,7 @@ fn align(dwarf: &Dwarf, e: usize, role: Role, facts: &[Facts], held: u64) -> u64
     own_align(dwarf, e).max(passed.max(held))
 }
 
-// Where the flat members of the core begin, where these are an entry's own.
+// Where the flat members of the core begin; `own` is where those of the entry itself begin.
 fn flat_span(role: Role, facts: &[Facts], own: Option<Span>) -> Option<Span>
     ensures { result ≡ span_in role facts.now own }
 {
@@ -257,7 +258,7 @@ fn flat_span(role: Role, facts: &[Facts], own: Option<Span>) -> Option<Span>
     }
 }
 
-// Whether a member of the core begins out of range, where this says so of an entry's own.
+// Whether a member of the core begins out of range; `own` is whether one of the entry itself does.
 fn beyond(role: Role, facts: &[Facts], own: bool) -> bool
     ensures { result ≡ beyond_in role facts.now own }
 {
@@ -278,7 +279,7 @@ pub(crate) fn combine(
     facts: &[Facts],
 ) -> Result<Facts, NoMemory>
     requires inside { e < length dwarf.now.tree.entries }
-    requires parts { parts.now ≡ the_parts_of dwarf.now.tree e }
+    requires parts { parts.now ≡ references_spec.parts_of dwarf.now.tree e }
     requires parts_inside { All (λ c. c < length dwarf.now.tree.entries) parts.now }
     requires ranks { All (λ x. x.rank < depth_limit) facts.now }
     requires near { All IsSpanNear facts.now }

@@ -1,4 +1,4 @@
-//! What the definitions come to. Each law is the contract of a function that does nothing.
+//! Laws of the definitions. Each law is the contract of a function that does nothing.
 ghost use Rattle.std.specs.Prelude.{◌≡◌, ◌↔◌, ◌<◌, ◌≤◌, ◌*◌, ◌||◌, ℕ, List, true, Some, map, length, Contains};
 ghost use Rattle.std.specs.List.{list_any};
 ghost use Rattle.dwarf_tree.specs.Trees.{PlainTree};
@@ -33,7 +33,7 @@ pub fn walks_find_the_list()
     ensures { (t : PlainTree) (roots found : List ℕ) → ((e : ℕ) → Contains roots e → e < length t.entries) → IsWalk t roots found → by_offset found (length t.entries) ≡ reached_of t roots }
 {}
 
-/// The list of the definition holds exactly the reached entries, each once, and with an entry all to which it leads.
+/// The list of the definition holds exactly the reached entries, each once, and with each entry all that it leads to.
 pub fn the_list_holds_the_reached()
     ensures walk { (t : PlainTree) (roots : List ℕ) → ((e : ℕ) → Contains roots e → e < length t.entries) → IsWalk t roots (reached_of t roots) }
     ensures closed { (t : PlainTree) (roots : List ℕ) → ((e : ℕ) → Contains roots e → e < length t.entries) → IsClosed t (reached_of t roots) }
@@ -44,7 +44,7 @@ pub fn depth_is_a_chain()
     ensures { (t : PlainTree) (n : ℕ) (r : Type_) → (steps_on t n r ≡ true) ↔ StepsOn t n r }
 {}
 
-/// From what a type holds by value fewer steps lead on than from the type, and from none more than the limit.
+/// A type has a higher rank than each type that it holds by value, and no rank is above the limit.
 pub fn ranks_fall()
     ensures shallow { (t : PlainTree) (r s : Type_) → (IsTooDeep t r → ⊥) → Contains (steps_from t r) s → IsTooDeep t s → ⊥ }
     ensures bound { (d : PlainDwarf) (r : Type_) → (IsTooDeep d.tree r → ⊥) → (facts_of d r).rank ≤ depth_limit }
@@ -56,12 +56,12 @@ pub fn facts_recur()
     ensures { (d : PlainDwarf) (r : Type_) → (IsTooDeep d.tree r → ⊥) → facts_of d r ≡ facts_from d r (map (facts_of d) (steps_from d.tree r)) }
 {}
 
-/// Labels are made of those of the type that is passed to.
+/// The labels of a type are its own and those of the type that it stands for.
 pub fn labels_recur()
     ensures { (d : PlainDwarf) (r : Type_) → (IsTooDeep d.tree r → ⊥) → labels_of d r ≡ labels_made d r (map (labels_of d) (steps_from d.tree r)) }
 {}
 
-/// Flat members are made of those of the types of members: those of a nameless aggregate stand at its bit and theirs.
+/// Flat members are made of the flat members of the members' types: those of a nameless aggregate move by the bit where it stands.
 pub fn flat_members_recur()
     ensures { (d : PlainDwarf) (r : Type_) → (IsTooDeep d.tree r → ⊥) → flat_of d r ≡ flat_made d r (map (flat_of d) (steps_from d.tree r)) }
 {}
@@ -71,7 +71,7 @@ pub fn cores_are_last()
     ensures { (d : PlainDwarf) (r : Type_) → (IsTooDeep d.tree r → ⊥) → IsPeeledCore d r (core_of d r) }
 {}
 
-/// The core of what was found was found, too, where all was found to which entries lead.
+/// Where all was found that the found entries lead to, so was the core of each.
 pub fn cores_are_found()
     ensures { (d : PlainDwarf) (found : List ℕ) (r : Type_) → IsClosed d.tree found → (IsTooDeep d.tree r → ⊥) → IsFound found r → IsFound found (core_of d r) }
 {}
@@ -81,7 +81,7 @@ pub fn flat_members_are_lower()
     ensures { (d : PlainDwarf) (found : List ℕ) → IsClosed d.tree found → (r : Type_) → (IsTooDeep d.tree r → ⊥) → IsFound found r → (m : Flat) → Contains (flat_of d r) m → IsLower d found r m }
 {}
 
-/// An array that keeps the limit of sizes has the size of its elements together.
+/// An array within the limit of sizes has the size of its elements together.
 pub fn arrays_are_whole()
     ensures { (d : PlainDwarf) (e : ℕ) → (IsTooDeep d.tree (Some e) → ⊥) → role_of d.tree e ≡ role.Array → (facts_of d (Some e)).size ≤ size_limit → (facts_of d (Some e)).size ≡ (facts_of d (Some e)).count * (facts_of d (type_of d.tree e)).size }
 {}

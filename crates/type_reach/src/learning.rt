@@ -177,7 +177,7 @@ pub fn learn_all(
     Ok(collect(alloc, &types, &mut known)?)
 }
 
-/// The facts of a type that was found, of those of all that was.
+/// The facts of a type that was found.
 pub fn facts_at(dwarf: &Dwarf, found: &ReachedEntries, facts: &[Facts], ty: Option<usize>) -> Facts
     requires facts { AreAllFacts dwarf.now found.now facts.now }
     requires there { IfSome ty (λ e. Contains found.now e) }

@@ -14,6 +14,7 @@ mod references;
 mod role;
 mod rows;
 mod searches;
+mod start;
 mod summaries;
 mod type_references;
 mod values;
@@ -22,10 +23,11 @@ mod walking;
 
 pub use facts::{Facts, Span, VOID};
 pub use learning::{facts_at, facts_by_number, in_order, learn_all};
-pub use placement::{bit_of, is_nameless, is_out_of_range, width_of};
+pub use placement::{is_nameless, is_out_of_range, width_of};
 pub use reached_entries::ReachedEntries;
 pub use references::{body_of, members_among, type_of};
 pub use role::{Role, is_signed, role_of};
+pub use start::Start;
 pub use summaries::{Summary, summaries_of, summary_at, summary_by_number};
 pub use type_references::{
     TypeReferences, member_type, own_type, part_type, parts_at, type_references_of, types_at,

@@ -1,31 +1,33 @@
-// What the members of an aggregate come to, each beside the facts of its type.
+// Totals over the members of an aggregate, each member beside the facts of its type.
 ghost use Rattle.std.specs.Prelude.{◌≡◌, ◌<◌, ◌≤◌, ◌+◌, ◌||◌, length, map, zip, All, IfSome, ◌+ℤ◌};
 ghost use Rattle.std.specs.List.{list_any};
 ghost use Rattle.abi_base.specs.Limits.{depth_limit};
-ghost use Rattle.type_reach.specs.Placement.{bit_of as the_bit_of, is_nameless as the_member_is_nameless, IsNear};
-ghost use Rattle.type_reach.specs.Facts.{own_align as the_own_align, member_align as the_member_align, most as the_most, moved_span as the_moved_span, joined as the_joined, member_span as the_member_span, spread as the_spread, span_out_of_range as the_span_is_beyond, member_beyond as the_member_is_beyond, IsSpanNear};
+ghost use Rattle.type_reach.specs.Placement.{IsNear};
+ghost use Rattle.type_reach.specs.Placement as placement_spec;
+ghost use Rattle.type_reach.specs.Facts.{IsSpanNear};
+ghost use Rattle.type_reach.specs.Facts as facts_spec;
 
 use crate::facts::{Facts, Span};
-use crate::placement::{is_nameless, is_out_of_range, near_bit_of};
+use crate::placement::{bit_of, is_nameless, is_out_of_range};
 use crate::values::number_at;
 use abi_base::dwarf::DW_AT_alignment;
 use dwarf_entries::Dwarf;
 
-// The explicit alignment that an entry says itself.
+// The explicit alignment that an entry states itself.
 #[tactic(auto, unfolding(crate::specs::Facts::own_align))]
 pub(crate) fn own_align(dwarf: &Dwarf, e: usize) -> u64
     requires { e < length dwarf.now.tree.entries }
-    ensures { result ≡ the_own_align dwarf.now.tree e }
+    ensures { result ≡ facts_spec.own_align dwarf.now.tree e }
 {
     number_at(dwarf, e, DW_AT_alignment)
 }
 
-// The explicit alignment that a member brings, which has a name or none.
+// The explicit alignment that a member adds: its own, and where it is nameless that of its structure or union.
 #[tactic(auto, unfolding(crate::specs::Facts::member_align, crate::specs::Facts::is_replaced))]
 fn member_align(dwarf: &Dwarf, m: usize, of_type: &Facts, nameless: bool) -> u64
     requires inside { m < length dwarf.now.tree.entries }
-    requires nameless { nameless ≡ the_member_is_nameless dwarf.now m }
-    ensures { result ≡ the_member_align dwarf.now (m, of_type.now) }
+    requires nameless { nameless ≡ placement_spec.is_nameless dwarf.now m }
+    ensures { result ≡ facts_spec.member_align dwarf.now (m, of_type.now) }
 {
     let own = own_align(dwarf, m);
     if nameless && of_type.aggregate {
@@ -35,7 +37,7 @@ fn member_align(dwarf: &Dwarf, m: usize, of_type: &Facts, nameless: bool) -> u64
     }
 }
 
-// A bit so much later.
+// The bit that stands `by` bits later.
 fn later(by: i128, bit: i128, rank: u32) -> i128
     requires by { IsNear 1 by }
     requires bit { IsNear (rank + 1) bit }
@@ -46,13 +48,13 @@ fn later(by: i128, bit: i128, rank: u32) -> i128
     by + bit
 }
 
-// Bits that begin so much later.
+// The span that stands `by` bits later.
 fn moved_span(by: i128, span: Option<Span>, rank: u32) -> Option<Span>
     requires by { IsNear 1 by }
     requires low { IfSome span (λ s. IsNear (rank + 1) s.low) }
     requires high { IfSome span (λ s. IsNear (rank + 1) s.high) }
     requires rank { rank < depth_limit }
-    ensures is { result ≡ the_moved_span by span }
+    ensures is { result ≡ facts_spec.moved_span by span }
     ensures low { IfSome result (λ s. IsNear (rank + 2) s.low) }
     ensures high { IfSome result (λ s. IsNear (rank + 2) s.high) }
 {
@@ -65,9 +67,9 @@ fn moved_span(by: i128, span: Option<Span>, rank: u32) -> Option<Span>
     }
 }
 
-// The bits of both.
+// The span that covers both.
 fn joined(a: Option<Span>, b: Option<Span>) -> Option<Span>
-    ensures { result ≡ the_joined a b }
+    ensures { result ≡ facts_spec.joined a b }
 {
     match a {
         None => b,
@@ -81,15 +83,15 @@ fn joined(a: Option<Span>, b: Option<Span>) -> Option<Span>
     }
 }
 
-// Where a member begins that stands at a bit, or the members that replace it.
+// Where a member at `bit` begins, or where the members begin that replace it.
 #[tactic(auto, unfolding(crate::specs::Facts::member_span))]
 fn member_span(dwarf: &Dwarf, m: usize, of_type: &Facts, bit: i128, nameless: bool) -> Option<Span>
-    requires bit { bit ≡ the_bit_of dwarf.now m of_type.now.size }
+    requires bit { bit ≡ placement_spec.bit_of dwarf.now m of_type.now.size }
     requires bit_near { IsNear 1 bit }
-    requires nameless { nameless ≡ the_member_is_nameless dwarf.now m }
+    requires nameless { nameless ≡ placement_spec.is_nameless dwarf.now m }
     requires near { IsSpanNear of_type.now }
     requires rank { of_type.now.rank < depth_limit }
-    ensures is { result ≡ the_member_span dwarf.now (m, of_type.now) }
+    ensures is { result ≡ facts_spec.member_span dwarf.now (m, of_type.now) }
     ensures low { IfSome result (λ s. IsNear (of_type.now.rank + 2) s.low) }
     ensures high { IfSome result (λ s. IsNear (of_type.now.rank + 2) s.high) }
 {
@@ -108,7 +110,7 @@ fn member_span(dwarf: &Dwarf, m: usize, of_type: &Facts, bit: i128, nameless: bo
 
 // Whether bits are out of range.
 pub(crate) fn span_out_of_range(span: Option<Span>) -> bool
-    ensures { result ≡ the_span_is_beyond span }
+    ensures { result ≡ facts_spec.span_out_of_range span }
 {
     match span {
         Some(span) => is_out_of_range(span.low) || is_out_of_range(span.high),
@@ -116,19 +118,19 @@ pub(crate) fn span_out_of_range(span: Option<Span>) -> bool
     }
 }
 
-// Whether a member begins out of range that stands at a bit, or another one does.
+// Whether a member at `bit` begins out of range, or another member does.
 #[tactic(auto, unfolding(crate::specs::Facts::member_beyond))]
 fn either_out_of_range(dwarf: &Dwarf, m: usize, of_type: &Facts, bit: i128, other: bool) -> bool
-    requires { bit ≡ the_bit_of dwarf.now m of_type.now.size }
-    ensures { result ≡ (the_member_is_beyond dwarf.now (m, of_type.now) || other) }
+    requires { bit ≡ placement_spec.bit_of dwarf.now m of_type.now.size }
+    ensures { result ≡ (facts_spec.member_beyond dwarf.now (m, of_type.now) || other) }
 {
     is_out_of_range(bit) || other
 }
 
-/// What members come to.
+/// Totals over members.
 #[derive(Drop)]
 pub(crate) struct MemberTotals {
-    /// The greatest explicit alignment that they bring.
+    /// The greatest explicit alignment that they add.
     pub(crate) align: u64,
     /// Where they begin, or those that replace them.
     pub(crate) span: Option<Span>,
@@ -136,7 +138,7 @@ pub(crate) struct MemberTotals {
     pub(crate) beyond: bool,
 }
 
-/// What members come to, each beside the facts of its type.
+/// The totals over members, each beside the facts of its type.
 pub(crate) fn member_totals_of(
     dwarf: &Dwarf,
     members: &[u32],
@@ -147,11 +149,11 @@ pub(crate) fn member_totals_of(
     requires near { All IsSpanNear of_types.now }
     requires ranks { All (λ x. x.rank < rank) of_types.now }
     requires rank { rank ≤ depth_limit }
-    ensures align { result.align ≡ the_most (map (the_member_align dwarf.now) (zip members.now of_types.now)) }
-    ensures span { result.span ≡ the_spread (map (the_member_span dwarf.now) (zip members.now of_types.now)) }
+    ensures align { result.align ≡ facts_spec.most (map (facts_spec.member_align dwarf.now) (zip members.now of_types.now)) }
+    ensures span { result.span ≡ facts_spec.spread (map (facts_spec.member_span dwarf.now) (zip members.now of_types.now)) }
     ensures low { IfSome result.span (λ s. IsNear (rank + 1) s.low) }
     ensures high { IfSome result.span (λ s. IsNear (rank + 1) s.high) }
-    ensures beyond { result.beyond ≡ list_any (the_member_is_beyond dwarf.now) (zip members.now of_types.now) }
+    ensures beyond { result.beyond ≡ list_any (facts_spec.member_beyond dwarf.now) (zip members.now of_types.now) }
 {
     let mut align: u64 = 0;
     let mut span = None;
@@ -161,7 +163,7 @@ pub(crate) fn member_totals_of(
         k -= 1;
         let m = members[k] as usize;
         let of_type = of_types[k];
-        let bit = near_bit_of(dwarf, m, of_type.size);
+        let bit = bit_of(dwarf, m, of_type.size);
         let nameless = is_nameless(dwarf, m);
         align = member_align(dwarf, m, &of_type, nameless).max(align);
         span = joined(member_span(dwarf, m, &of_type, bit, nameless), span);

@@ -1,6 +1,7 @@
 // Where members stand in their aggregates.
 ghost use Rattle.std.specs.Prelude.{◌≡◌, ◌<◌, length};
-ghost use Rattle.type_reach.specs.Placement.{byte_of as the_byte_of, storage_of as the_storage_of, width_of as the_width_of, bit_of as the_bit_of, is_out_of_range as the_bit_is_beyond, is_nameless as the_member_is_nameless, IsNear};
+ghost use Rattle.type_reach.specs.Placement.{IsNear};
+ghost use Rattle.type_reach.specs.Placement as spec;
 
 use crate::constants::BIT_LIMIT;
 use crate::values::{is_there, number_at, place_of};
@@ -14,7 +15,7 @@ use dwarf_entries::Dwarf;
 #[tactic(auto, unfolding(crate::specs::Placement::byte_of))]
 fn byte_of(dwarf: &Dwarf, m: usize) -> u64
     requires { m < length dwarf.now.tree.entries }
-    ensures { result ≡ the_byte_of dwarf.now m }
+    ensures { result ≡ spec.byte_of dwarf.now m }
 {
     place_of(dwarf, dwarf.attr(m, DW_AT_data_member_location)).unwrap_or(0)
 }
@@ -23,7 +24,7 @@ fn byte_of(dwarf: &Dwarf, m: usize) -> u64
 #[tactic(auto, unfolding(crate::specs::Placement::storage_of))]
 fn storage_of(dwarf: &Dwarf, m: usize, size: u64) -> u64
     requires { m < length dwarf.now.tree.entries }
-    ensures { result ≡ the_storage_of dwarf.now m size }
+    ensures { result ≡ spec.storage_of dwarf.now m size }
 {
     if is_there(dwarf, m, DW_AT_byte_size) {
         number_at(dwarf, m, DW_AT_byte_size)
@@ -36,16 +37,17 @@ fn storage_of(dwarf: &Dwarf, m: usize, size: u64) -> u64
 #[tactic(auto, unfolding(crate::specs::Placement::width_of))]
 pub fn width_of(dwarf: &Dwarf, m: usize) -> u64
     requires { m < length dwarf.now.tree.entries }
-    ensures { result ≡ the_width_of dwarf.now m }
+    ensures { result ≡ spec.width_of dwarf.now m }
 {
     number_at(dwarf, m, DW_AT_bit_size)
 }
 
-// The bit at which a member begins. It is near 0, so that sums of such bits do not overflow.
+// The bit at which a member begins, from the begin of its aggregate, where its type has a size in bytes. It is near 0, so that sums
+// of such bits do not overflow.
 #[tactic(auto, unfolding(crate::specs::Placement::bit_of))]
-pub(crate) fn near_bit_of(dwarf: &Dwarf, m: usize, size: u64) -> i128
+pub(crate) fn bit_of(dwarf: &Dwarf, m: usize, size: u64) -> i128
     requires { m < length dwarf.now.tree.entries }
-    ensures is { result ≡ the_bit_of dwarf.now m size }
+    ensures is { result ≡ spec.bit_of dwarf.now m size }
     ensures near { IsNear 1 result }
 {
     if is_there(dwarf, m, DW_AT_data_bit_offset) {
@@ -62,18 +64,9 @@ pub(crate) fn near_bit_of(dwarf: &Dwarf, m: usize, size: u64) -> i128
     }
 }
 
-/// The bit at which a member begins, counted from the begin of its aggregate, where its type has a size in bytes.
-pub fn bit_of(dwarf: &Dwarf, m: usize, size: u64) -> i128
-    requires { m < length dwarf.now.tree.entries }
-    ensures is { result ≡ the_bit_of dwarf.now m size }
-    ensures near { IsNear 1 result }
-{
-    near_bit_of(dwarf, m, size)
-}
-
 /// Whether a bit is not from 0 to 2^63 - 1.
 pub fn is_out_of_range(bit: i128) -> bool
-    ensures { result ≡ the_bit_is_beyond bit }
+    ensures { result ≡ spec.is_out_of_range bit }
 {
     bit < 0 || BIT_LIMIT <= bit
 }
@@ -82,7 +75,7 @@ pub fn is_out_of_range(bit: i128) -> bool
 #[tactic(auto, unfolding(crate::specs::Placement::is_nameless))]
 pub fn is_nameless(dwarf: &Dwarf, m: usize) -> bool
     requires { m < length dwarf.now.tree.entries }
-    ensures { result ≡ the_member_is_nameless dwarf.now m }
+    ensures { result ≡ spec.is_nameless dwarf.now m }
 {
     match dwarf.name_of(m) {
         Some(_) => false,

@@ -1,6 +1,6 @@
 // The types to which entries lead, and their parts.
 ghost use Rattle.std.specs.Prelude.{◌≡◌, ◌<◌, length, All, IfOk, IfSome};
-ghost use Rattle.type_reach.specs.References.{role_of as the_role_of, type_of as the_type_of, body_of as the_body_of, parts_of as the_parts_of, members_of as the_members_of, types_of as the_types_of, steps_of as the_steps_of, has_type as the_role_has_a_type, holds_none as the_role_holds_none};
+ghost use Rattle.type_reach.specs.References as spec;
 
 use crate::role::{Role, is_signed, role_of};
 use abi_base::NoMemory;
@@ -14,7 +14,7 @@ use std::alloc::Global;
 #[tactic(auto, unfolding(crate::specs::References::type_of))]
 pub fn type_of(dwarf: &Dwarf, e: usize) -> Option<usize>
     requires { e < length dwarf.now.tree.entries }
-    ensures found { result ≡ the_type_of dwarf.now.tree e }
+    ensures found { result ≡ spec.type_of dwarf.now.tree e }
     ensures inside { IfSome result (λ f. f < length dwarf.now.tree.entries) }
 {
     let name = if is_signed(dwarf, e) {
@@ -29,7 +29,7 @@ pub fn type_of(dwarf: &Dwarf, e: usize) -> Option<usize>
 #[tactic(auto, unfolding(crate::specs::References::body_of))]
 pub fn body_of(dwarf: &Dwarf, e: usize) -> usize
     requires { e < length dwarf.now.tree.entries }
-    ensures found { result ≡ the_body_of dwarf.now.tree e }
+    ensures found { result ≡ spec.body_of dwarf.now.tree e }
     ensures inside { result < length dwarf.now.tree.entries }
 {
     if dwarf.tag(e) == DW_TAG_subprogram {
@@ -43,7 +43,7 @@ pub fn body_of(dwarf: &Dwarf, e: usize) -> usize
 #[tactic(auto, unfolding(crate::specs::References::parts_of, crate::specs::References::tagged_children))]
 pub(crate) fn parts_of(alloc: Global, dwarf: &Dwarf, e: usize) -> Result<Vec<usize>, NoMemory>
     requires { e < length dwarf.now.tree.entries }
-    ensures parts { IfOk result (λ list. list.items ≡ the_parts_of dwarf.now.tree e) }
+    ensures parts { IfOk result (λ list. list.items ≡ spec.parts_of dwarf.now.tree e) }
     ensures inside { IfOk result (λ list. All (λ c. c < length dwarf.now.tree.entries) list.items) }
 {
     match role_of(dwarf, e) {
@@ -53,14 +53,14 @@ pub(crate) fn parts_of(alloc: Global, dwarf: &Dwarf, e: usize) -> Result<Vec<usi
     }
 }
 
-/// Those of an entry's parts that are its members, of which a declaration has none.
+/// The members among an entry's parts; a declaration has none.
 #[tactic(auto, unfolding(crate::specs::References::members_of))]
 pub fn members_among<'p>(dwarf: &Dwarf, e: usize, role: Role, parts: &'p [u32]) -> &'p [u32]
     requires inside { e < length dwarf.now.tree.entries }
-    requires role { role ≡ the_role_of dwarf.now.tree e }
-    requires parts { parts.now ≡ the_parts_of dwarf.now.tree e }
+    requires role { role ≡ spec.role_of dwarf.now.tree e }
+    requires parts { parts.now ≡ spec.parts_of dwarf.now.tree e }
     requires parts_inside { All (λ c. c < length dwarf.now.tree.entries) parts.now }
-    ensures members { result.now ≡ the_members_of dwarf.now.tree e }
+    ensures members { result.now ≡ spec.members_of dwarf.now.tree e }
     ensures inside { All (λ c. c < length dwarf.now.tree.entries) result.now }
 {
     match role {
@@ -69,7 +69,7 @@ pub fn members_among<'p>(dwarf: &Dwarf, e: usize, role: Role, parts: &'p [u32]) 
     }
 }
 
-/// Those of the types to which an entry leads that it holds by value.
+/// The types that an entry holds by value, among the types to which it leads.
 #[tactic(auto, unfolding(crate::specs::References::steps_of))]
 pub(crate) fn steps_among<'l>(
     dwarf: &Dwarf,
@@ -77,16 +77,16 @@ pub(crate) fn steps_among<'l>(
     role: Role,
     types: &'l [Option<u32>],
 ) -> &'l [Option<u32>]
-    requires role { role ≡ the_role_of dwarf.now.tree e }
-    requires types { types.now ≡ the_types_of dwarf.now.tree e }
-    ensures { result.now ≡ the_steps_of dwarf.now.tree e }
+    requires role { role ≡ spec.role_of dwarf.now.tree e }
+    requires types { types.now ≡ spec.types_of dwarf.now.tree e }
+    ensures { result.now ≡ spec.steps_of dwarf.now.tree e }
 {
     if holds_none(role) { &[] } else { types }
 }
 
 /// Whether an entry of a role has a type itself.
 pub(crate) fn has_type(role: Role) -> bool
-    ensures { result ≡ the_role_has_a_type role }
+    ensures { result ≡ spec.has_type role }
 {
     matches!(
         role,
@@ -96,7 +96,7 @@ pub(crate) fn has_type(role: Role) -> bool
 
 /// Whether an entry of a role holds none of its types by value.
 pub(crate) fn holds_none(role: Role) -> bool
-    ensures { result ≡ the_role_holds_none role }
+    ensures { result ≡ spec.holds_none role }
 {
     matches!(role, Role::Pointer | Role::Part)
 }

@@ -1,6 +1,6 @@
 // What entries are among types.
 ghost use Rattle.std.specs.Prelude.{◌≡◌, ◌<◌, length};
-ghost use Rattle.type_reach.specs.References.{may_be_signed as the_type_may_be_signed, is_signature as the_value_is_a_signature, is_signed as the_entry_is_signed, tag_role as the_tag_role, role_of as the_role_of};
+ghost use Rattle.type_reach.specs.References as spec;
 
 use abi_base::dwarf::{
     DW_AT_signature, DW_TAG_array_type, DW_TAG_atomic_type, DW_TAG_base_type, DW_TAG_const_type,
@@ -36,7 +36,7 @@ pub enum Role {
 
 #[tactic(auto, unfolding(crate::specs::References::may_be_signed))]
 fn may_be_signed(tag: u64) -> bool
-    ensures { result ≡ the_type_may_be_signed tag }
+    ensures { result ≡ spec.may_be_signed tag }
 {
     matches!(
         tag,
@@ -44,11 +44,11 @@ fn may_be_signed(tag: u64) -> bool
     )
 }
 
-// What an entry of a tag is, which does not say by a signature that its type stands in a type unit.
+// The role of an entry by its tag, where no signature says that its type stands in a type unit.
 #[inline]
 #[tactic(auto, unfolding(crate::specs::References::tag_role, crate::specs::References::is_passed_tag, crate::specs::References::is_aggregate_tag, crate::specs::References::is_function_tag, crate::specs::References::is_part_tag))]
 fn tag_role(tag: u64) -> Role
-    ensures { result ≡ the_tag_role tag }
+    ensures { result ≡ spec.tag_role tag }
 {
     match tag {
         DW_TAG_typedef
@@ -69,7 +69,7 @@ fn tag_role(tag: u64) -> Role
 }
 
 fn is_signature(value: Option<Value>) -> bool
-    ensures { result ≡ the_value_is_a_signature value }
+    ensures { result ≡ spec.is_signature value }
 {
     match value {
         Some(Value::Signature(_)) => true,
@@ -81,7 +81,7 @@ fn is_signature(value: Option<Value>) -> bool
 #[tactic(auto, unfolding(crate::specs::References::is_signed))]
 pub fn is_signed(dwarf: &Dwarf, e: usize) -> bool
     requires { e < length dwarf.now.tree.entries }
-    ensures { result ≡ the_entry_is_signed dwarf.now.tree e }
+    ensures { result ≡ spec.is_signed dwarf.now.tree e }
 {
     if may_be_signed(dwarf.tag(e)) {
         is_signature(dwarf.attr(e, DW_AT_signature))
@@ -94,7 +94,7 @@ pub fn is_signed(dwarf: &Dwarf, e: usize) -> bool
 #[tactic(auto, unfolding(crate::specs::References::role_of))]
 pub fn role_of(dwarf: &Dwarf, e: usize) -> Role
     requires { e < length dwarf.now.tree.entries }
-    ensures { result ≡ the_role_of dwarf.now.tree e }
+    ensures { result ≡ spec.role_of dwarf.now.tree e }
 {
     if is_signed(dwarf, e) {
         Role::Wrapper

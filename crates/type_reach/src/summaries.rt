@@ -1,7 +1,8 @@
-// What is kept of the facts of all types once they were judged.
+// The facts that stay in memory once all types were judged.
 ghost use Rattle.std.specs.Prelude.{◌≡◌, Contains, Some, slice_get, IfOk, IfSome};
 ghost use Rattle.type_reach.specs.Facts.{AreAllFacts, facts_of};
-ghost use Rattle.type_reach.specs.Summaries.{summary_of as the_summary_of, AreSummaries};
+ghost use Rattle.type_reach.specs.Summaries.{AreSummaries};
+ghost use Rattle.type_reach.specs.Summaries as spec;
 
 use crate::facts::{Facts, VOID};
 use crate::reached_entries::ReachedEntries;
@@ -9,7 +10,7 @@ use abi_base::NoMemory;
 use dwarf_entries::Dwarf;
 use std::alloc::Global;
 
-/// What views are made of, of the facts of a type. It takes less than half of their room.
+/// The facts of a type that its view is made of. They take less than half of the memory of all its facts.
 #[derive(Clone, Copy, Debug, PartialEq, Eq)]
 pub struct Summary {
     /// The most steps by value that lead on from it.
@@ -22,13 +23,13 @@ pub struct Summary {
     pub count: u64,
     /// The explicit alignment in bytes; 0 where there is none.
     pub align: u64,
-    /// The entry that it comes to, none for void.
+    /// The entry of its core, none for void.
     pub core: Option<usize>,
 }
 
-// What is kept of the facts of a type.
+// The summary of a type, from its facts.
 fn summary_of(facts: &Facts) -> Summary
-    ensures { result ≡ the_summary_of facts.now }
+    ensures { result ≡ spec.summary_of facts.now }
 {
     Summary {
         rank: facts.rank,
@@ -40,7 +41,7 @@ fn summary_of(facts: &Facts) -> Summary
     }
 }
 
-/// What is kept of the facts of all that was found, by number.
+/// The summaries of all entries that were found, by number.
 pub fn summaries_of(
     alloc: Global,
     dwarf: &Dwarf,
@@ -57,7 +58,7 @@ pub fn summaries_of(
     Ok(summaries)
 }
 
-/// What is kept of an entry that was found, by its number.
+/// The summary of an entry that was found, by its number.
 pub fn summary_by_number(
     dwarf: &Dwarf,
     found: &ReachedEntries,
@@ -67,12 +68,12 @@ pub fn summary_by_number(
 ) -> Summary
     requires summaries { AreSummaries dwarf.now found.now summaries.now }
     requires at { slice_get found.now number ≡ Some e }
-    ensures { result ≡ the_summary_of (facts_of dwarf.now (Some e)) }
+    ensures { result ≡ spec.summary_of (facts_of dwarf.now (Some e)) }
 {
     summaries[number]
 }
 
-/// What is kept of a type that was found.
+/// The summary of a type that was found.
 pub fn summary_at(
     dwarf: &Dwarf,
     found: &ReachedEntries,
@@ -81,7 +82,7 @@ pub fn summary_at(
 ) -> Summary
     requires summaries { AreSummaries dwarf.now found.now summaries.now }
     requires there { IfSome ty (λ e. Contains found.now e) }
-    ensures { result ≡ the_summary_of (facts_of dwarf.now ty) }
+    ensures { result ≡ spec.summary_of (facts_of dwarf.now ty) }
 {
     match ty {
         None => summary_of(&VOID),

@@ -1,6 +1,7 @@
 // What the entries that were found lead to, kept once.
 ghost use Rattle.std.specs.Prelude.{◌≡◌, ◌<◌, ◌++◌, ◌^◌, true, length, slice_get, slice_index_or, All, Some, IfOk, OnOk, IfSome};
-ghost use Rattle.type_reach.specs.References.{role_of as the_role_of, type_of as the_type_of, parts_of as the_parts_of, members_of as the_members_of, has_type as the_role_has_a_type, own_types, types_of as the_types_of};
+ghost use Rattle.type_reach.specs.References.{own_types};
+ghost use Rattle.type_reach.specs.References as spec;
 ghost use Rattle.type_reach.specs.ByValue.{IsClosed};
 ghost use Rattle.type_reach.specs.TypeReferences.{AreTypeReferences};
 
@@ -44,10 +45,10 @@ pub fn widened(ty: Option<u32>) -> Option<usize>
     }
 }
 
-// Puts the parts of an entry in the place of what a list held.
+// Makes a list hold the parts of an entry.
 fn fill_parts(alloc: Global, dwarf: &Dwarf, list: &mut Vec<u32>, e: usize) -> Result<(), NoMemory>
     requires { e < length dwarf.now.tree.entries }
-    ensures parts { OnOk result (list.new.items ≡ the_parts_of dwarf.now.tree e) }
+    ensures parts { OnOk result (list.new.items ≡ spec.parts_of dwarf.now.tree e) }
     ensures inside { OnOk result (All (λ c. c < length dwarf.now.tree.entries) list.new.items) }
 {
     dwarf.known();
@@ -59,7 +60,7 @@ fn fill_parts(alloc: Global, dwarf: &Dwarf, list: &mut Vec<u32>, e: usize) -> Re
     Ok(())
 }
 
-// Puts the type last that an entry has itself.
+// Appends the type that an entry has itself, if any.
 #[tactic(auto, unfolding(crate::specs::References::own_types))]
 fn push_own(dwarf: &Dwarf, types: &mut Vec<Option<u32>>, e: usize) -> Result<(), NoMemory>
     requires { e < length dwarf.now.tree.entries }
@@ -71,7 +72,7 @@ fn push_own(dwarf: &Dwarf, types: &mut Vec<Option<u32>>, e: usize) -> Result<(),
     Ok(())
 }
 
-// Puts the types to which an entry leads in the place of what a list held.
+// Makes a list hold the types to which an entry leads.
 #[tactic(auto, unfolding(crate::specs::References::types_of))]
 fn fill_types(
     dwarf: &Dwarf,
@@ -80,9 +81,9 @@ fn fill_types(
     parts: &[u32],
 ) -> Result<(), NoMemory>
     requires inside { e < length dwarf.now.tree.entries }
-    requires parts { parts.now ≡ the_parts_of dwarf.now.tree e }
+    requires parts { parts.now ≡ spec.parts_of dwarf.now.tree e }
     requires parts_inside { All (λ c. c < length dwarf.now.tree.entries) parts.now }
-    ensures { OnOk result (types.new.items ≡ the_types_of dwarf.now.tree e) }
+    ensures { OnOk result (types.new.items ≡ spec.types_of dwarf.now.tree e) }
 {
     types.clear();
     push_own(dwarf, types, e)?;
@@ -128,7 +129,7 @@ pub fn parts_at<'l>(
 ) -> &'l [u32]
     requires leads { AreTypeReferences dwarf.now.tree found.now leads.now }
     requires at { slice_get found.now number ≡ Some e }
-    ensures parts { result.now ≡ the_parts_of dwarf.now.tree e }
+    ensures parts { result.now ≡ spec.parts_of dwarf.now.tree e }
     ensures inside { All (λ c. c < length dwarf.now.tree.entries) result.now }
 {
     leads.parts.row(number)
@@ -144,22 +145,22 @@ pub fn types_at<'l>(
 ) -> &'l [Option<u32>]
     requires leads { AreTypeReferences dwarf.now.tree found.now leads.now }
     requires at { slice_get found.now number ≡ Some e }
-    ensures types { result.now ≡ the_types_of dwarf.now.tree e }
+    ensures types { result.now ≡ spec.types_of dwarf.now.tree e }
     ensures inside { All (λ ty. IfSome ty (λ f. f < length dwarf.now.tree.entries)) result.now }
 {
     leads.types.row(number)
 }
 
-/// The type that an entry has itself, of those to which it leads.
+/// The type that an entry has itself, from the types to which it leads.
 pub fn own_type(dwarf: &Dwarf, e: usize, types: &[Option<u32>]) -> Option<usize>
-    requires types { types.now ≡ the_types_of dwarf.now.tree e }
-    requires own { the_role_has_a_type (the_role_of dwarf.now.tree e) ≡ true }
-    ensures { result ≡ the_type_of dwarf.now.tree e }
+    requires types { types.now ≡ spec.types_of dwarf.now.tree e }
+    requires own { spec.has_type (spec.role_of dwarf.now.tree e) ≡ true }
+    ensures { result ≡ spec.type_of dwarf.now.tree e }
 {
     widened(types[0])
 }
 
-/// The type of a part, of those to which its entry leads.
+/// The type of a part, from the types to which its entry leads.
 pub fn part_type(
     dwarf: &Dwarf,
     e: usize,
@@ -167,16 +168,16 @@ pub fn part_type(
     types: &[Option<u32>],
     k: usize,
 ) -> Option<usize>
-    requires parts { parts.now ≡ the_parts_of dwarf.now.tree e }
-    requires types { types.now ≡ the_types_of dwarf.now.tree e }
+    requires parts { parts.now ≡ spec.parts_of dwarf.now.tree e }
+    requires types { types.now ≡ spec.types_of dwarf.now.tree e }
     requires inside { k < length parts.now }
-    ensures { result ≡ the_type_of dwarf.now.tree (slice_index_or parts.now k 0) }
+    ensures { result ≡ spec.type_of dwarf.now.tree (slice_index_or parts.now k 0) }
 {
     let own = types.len() - parts.len();
     widened(types[own + k])
 }
 
-/// The type of a member, of those to which its entry leads: a structure or a union has no type itself.
+/// The type of a member, from the types to which its entry leads: a structure or a union has no type itself.
 pub fn member_type(
     dwarf: &Dwarf,
     e: usize,
@@ -184,10 +185,10 @@ pub fn member_type(
     types: &[Option<u32>],
     k: usize,
 ) -> Option<usize>
-    requires members { members.now ≡ the_members_of dwarf.now.tree e }
-    requires types { types.now ≡ the_types_of dwarf.now.tree e }
+    requires members { members.now ≡ spec.members_of dwarf.now.tree e }
+    requires types { types.now ≡ spec.types_of dwarf.now.tree e }
     requires inside { k < length members.now }
-    ensures { result ≡ the_type_of dwarf.now.tree (slice_index_or members.now k 0) }
+    ensures { result ≡ spec.type_of dwarf.now.tree (slice_index_or members.now k 0) }
 {
     widened(types[k])
 }

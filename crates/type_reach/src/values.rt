@@ -1,6 +1,6 @@
 // What attributes say as numbers.
 ghost use Rattle.std.specs.Prelude.{◌≡◌, ◌<◌, length};
-ghost use Rattle.type_reach.specs.Values.{natural_of as the_natural_of, wrapped_of as the_wrapped_of, counted_to as the_counted_to, added_by as the_added_by, place_of as the_place_of, is_there as the_value_is_there, number_at as the_number_at};
+ghost use Rattle.type_reach.specs.Values as spec;
 
 use abi_base::dwarf::DW_OP_plus_uconst;
 use abi_base::uleb;
@@ -9,7 +9,7 @@ use dwarf_forms::Value;
 
 /// A constant that is not negative (DWARF 5, section 7.5.5 "Classes and Forms", class constant); none where there is no such value.
 pub fn natural_of(value: Option<Value>) -> Option<u64>
-    ensures { result ≡ the_natural_of value }
+    ensures { result ≡ spec.natural_of value }
 {
     match value {
         Some(value) => value.number(),
@@ -19,7 +19,7 @@ pub fn natural_of(value: Option<Value>) -> Option<u64>
 
 /// A constant, with a sign or without, modulo 2^64; none where there is no such value.
 pub fn wrapped_of(value: Option<Value>) -> Option<u64>
-    ensures { result ≡ the_wrapped_of value }
+    ensures { result ≡ spec.wrapped_of value }
 {
     match value {
         Some(value) => value.word(),
@@ -29,7 +29,7 @@ pub fn wrapped_of(value: Option<Value>) -> Option<u64>
 
 /// How many numbers there are from 0 up to a constant and with it, modulo 2^64; none where there is no such value.
 pub fn counted_to(value: Option<Value>) -> Option<u64>
-    ensures { result ≡ the_counted_to value }
+    ensures { result ≡ spec.counted_to value }
 {
     match value {
         Some(value) => value.count_up_to(),
@@ -39,7 +39,7 @@ pub fn counted_to(value: Option<Value>) -> Option<u64>
 
 // What an expression adds, which is one operation alone.
 fn added_by(bytes: &[u8]) -> Option<u64>
-    ensures { result ≡ the_added_by bytes.now }
+    ensures { result ≡ spec.added_by bytes.now }
 {
     match bytes.first() {
         Some(operation) if *operation == DW_OP_plus_uconst => {}
@@ -59,7 +59,7 @@ fn added_by(bytes: &[u8]) -> Option<u64>
 
 /// A place in bytes: a constant, or an expression that is one operation and adds one; none where there is no such value.
 pub fn place_of(dwarf: &Dwarf, value: Option<Value>) -> Option<u64>
-    ensures { result ≡ the_place_of dwarf.now.sections.info value }
+    ensures { result ≡ spec.place_of dwarf.now.sections.info value }
 {
     match value {
         Some(value) => match dwarf.block(&value) {
@@ -74,7 +74,7 @@ pub fn place_of(dwarf: &Dwarf, value: Option<Value>) -> Option<u64>
 #[tactic(auto, unfolding(crate::specs::Values::is_there))]
 pub fn is_there(dwarf: &Dwarf, e: usize, name: u64) -> bool
     requires { e < length dwarf.now.tree.entries }
-    ensures { result ≡ the_value_is_there dwarf.now.tree e name }
+    ensures { result ≡ spec.is_there dwarf.now.tree e name }
 {
     dwarf.attr(e, name).is_some()
 }
@@ -83,7 +83,7 @@ pub fn is_there(dwarf: &Dwarf, e: usize, name: u64) -> bool
 #[tactic(auto, unfolding(crate::specs::Values::number_at))]
 pub fn number_at(dwarf: &Dwarf, e: usize, name: u64) -> u64
     requires { e < length dwarf.now.tree.entries }
-    ensures { result ≡ the_number_at dwarf.now.tree e name }
+    ensures { result ≡ spec.number_at dwarf.now.tree e name }
 {
     natural_of(dwarf.attr(e, name)).unwrap_or(0)
 }

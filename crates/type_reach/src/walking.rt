@@ -1,6 +1,7 @@
 // The walk over all that is reached.
 ghost use Rattle.std.specs.Prelude.{◌≡◌, ◌<◌, length, map, All, Some, IfOk, OnOk};
-ghost use Rattle.type_reach.specs.References.{own_types, types_of as the_types_of};
+ghost use Rattle.type_reach.specs.References.{own_types};
+ghost use Rattle.type_reach.specs.References as spec;
 ghost use Rattle.type_reach.specs.Reached.{with_types, IsWalk};
 ghost use Rattle.type_reach.specs.ReachedList.{reached_of};
 ghost use Rattle.type_reach.specs.ByValue.{IsClosed};
@@ -32,7 +33,7 @@ fn add_own(dwarf: &Dwarf, met: &mut VisitedEntries, e: usize) -> Result<(), NoMe
 fn expand(alloc: Global, dwarf: &Dwarf, met: &mut VisitedEntries, e: usize) -> Result<(), NoMemory>
     requires inside { e < length dwarf.now.tree.entries }
     requires room { met.old.room ≡ length dwarf.now.tree.entries }
-    ensures entries { OnOk result (met.new.entries ≡ with_types met.old.entries (the_types_of dwarf.now.tree e)) }
+    ensures entries { OnOk result (met.new.entries ≡ with_types met.old.entries (spec.types_of dwarf.now.tree e)) }
     ensures room { OnOk result (met.new.room ≡ met.old.room) }
 {
     add_own(dwarf, met, e)?;

@@ -1,19 +1,18 @@
 -- The members of one part after the other.
-use Rattle.std.proofs.Common.{◌≡◌, ◌+◌, ◌-◌, ◌∙◌, ℕ, None, Some, List, map, get_or, refl, sym, ap, subst, arith, ◌++◌}
+use Rattle.std.proofs.Common.{◌≡◌, ◌∙◌, ℕ, None, Some, List, map, get_or, refl, sym, ap, subst, arith, ◌++◌}
 use Rattle.std.specs.Prelude.{Contains, ◌+ℤ◌}
 use Rattle.std.specs.Option.{option_copied}
 use Rattle.std.proofs.lemmas.List.{append-nil}
-use Rattle.abi_base.specs.Limits.{depth_limit}
 use Rattle.dwarf_entries.specs.Chains.{name_of}
 use Rattle.type_reach.specs.declared.summaries.Summary.{Summary}
-use Rattle.type_reach.specs.Placement.{IsNear, bit_of}
+use Rattle.type_reach.specs.Placement.{bit_of}
 use Rattle.type_reach.specs.Facts.{facts_of}
 use Rattle.type_reach.specs.Summaries.{summary_of}
 use Rattle.type_reach.specs.Flat.{Flat, moved, declared_bit, flat_of}
 use Rattle.type_reach.specs.PeeledCores.{IsFound}
 use Rattle.type_graph.specs.Placed.{replacing, plain_members}
 use Rattle.type_graph.proofs.ListLemmas.{at-place}
-use Rattle.type_graph.proofs.FlattenLemmas.{member_found, member_shallow, nested-is, gives-nested, gives-nothing, IsPut-more, IsPut-end}
+use Rattle.type_graph.proofs.FlattenLemmas.{member_found, member_lower, member_shallow, nested-is, gives-nested, gives-nothing, IsPut-more, IsPut-end}
 use Rattle.type_graph.proofs.flatten.+push_flat.Goals.{in-Some-replacing+in_ok-push_flat-in-Some-replacing, in-None}
 use Rattle.type_graph.proofs.flatten.+push_flat.Goals as goal
 
@@ -31,15 +30,14 @@ summary_at-of_type-requires-clause-there t c =
     let has = subst (λ xs. Contains xs m) c.members_among-members.ensures.members (at-place items c.members.k c.members-test.true) in
     subst (IsFound c.args.types.now.found.now) (sym c.member_type-to.ensures) (member_found d (c.laws_of_types.ensures d) c.args.types.now.found.now c.requires.closed c.requires.summaries.shallow c.args.c m c.requires.there has)
 
-pub overflow_sub-budget : goal.overflow_sub-budget
-overflow_sub-budget t c =
+pub later-start-requires-clause-depth : goal.later-start-requires-clause-depth
+later-start-requires-clause-depth t c =
     let d = c.args.types.now.dwarf.now in
     let items = c.members_among-members.result.now in
     let m : ℕ = get_or items c.members.k 0 in
     let has = subst (λ xs. Contains xs m) c.members_among-members.ensures.members (at-place items c.members.k c.members-test.true) in
-    let of_type = c.summary_at-of_type.ensures ∙ ap (λ r. summary_of (facts_of d r)) c.member_type-to.ensures in
-    let is = nested-is d (c.laws_of_types.ensures d) c.args.types.now.found.now c.requires.closed c.requires.summaries.shallow c.args.c m c.in-Some-replacing.inner c.requires.there has (sym (c.replacing.ensures ∙ ap replacing of_type) ∙ c.in-Some-replacing.is) in
-    omega (arith, is.low, c.requires.low)
+    let falls = member_lower d (c.laws_of_types.ensures d) c.args.types.now.found.now c.requires.closed c.requires.summaries.shallow c.args.c m c.requires.there has in
+    omega (arith, falls, c.requires.low)
 
 pub push_flat-requires : goal.push_flat-requires
 push_flat-requires t c =
@@ -49,8 +47,8 @@ push_flat-requires t c =
     let has = subst (λ xs. Contains xs m) c.members_among-members.ensures.members (at-place items c.members.k c.members-test.true) in
     let of_type = c.summary_at-of_type.ensures ∙ ap (λ r. summary_of (facts_of d r)) c.member_type-to.ensures in
     let is = nested-is d (c.laws_of_types.ensures d) c.args.types.now.found.now c.requires.closed c.requires.summaries.shallow c.args.c m c.in-Some-replacing.inner c.requires.there has (sym (c.replacing.ensures ∙ ap replacing of_type) ∙ c.in-Some-replacing.is) in
-    let deeper : depth_limit - c.args.budget + 1 ≡ depth_limit - (c.args.budget - 1) = omega (arith, is.low, c.requires.low, c.requires.budget) in
-    (omega (arith, c.decreases, is.low, c.requires.low), (c.requires.closed, (c.requires.leads, (c.requires.summaries, (is.there, (is.last, (omega (arith, is.low, c.requires.low), (omega (arith, c.requires.budget), subst (λ n. IsNear n c.start_of-start.result.bit) deeper c.start_of-start.ensures.near))))))))
+    let deeper = c.later-start.ensures.depth in
+    (omega (arith, c.decreases, deeper, is.low, c.requires.low), (c.requires.closed, (c.requires.leads, (c.requires.summaries, (is.there, (is.last, omega (arith, deeper, is.low, c.requires.low)))))))
 
 pub members-preserved : goal.members-preserved
 members-preserved t c =
@@ -62,7 +60,7 @@ members-preserved t c =
     let of_type = c.summary_at-of_type.ensures ∙ ap (λ r. summary_of (facts_of d r)) c.member_type-to.ensures in
     let shallow = member_shallow d laws c.args.types.now.found.now c.requires.closed c.requires.summaries.shallow c.args.c m c.requires.there has in
     let no_name : name_of d m ≡ None = sym c.name_of.ensures ∙ ap option_copied c.in_default.is in
-    let bit : c.start_of-start.result.bit ≡ c.args.base.bit +ℤ declared_bit d m = c.start_of-start.ensures.is ∙ ap (λ (x : Summary). c.args.base.bit +ℤ bit_of d m x.size) of_type in
+    let bit : c.later-start.result.bit ≡ c.args.base.bit +ℤ declared_bit d m = c.later-start.ensures.bit ∙ ap (λ (x : Summary). c.args.base.bit +ℤ bit_of d m x.size) of_type in
     let put : List Flat = plain_members c.members.out.items in
     let before : List Flat = plain_members c.args.out.now.items in
     elim c.match-replacing.branch [
