@@ -50,6 +50,17 @@ aligned-from_merging nodes i r s e eightbytes =
     let held : MergesLeaves (leaves_of nodes i 0 0) nothing_merged s = subst P e eightbytes in
     sym held.aligned
 
+pub aggregate-no_leaf : (k : Kind) → is_aggregate k ≡ true → is_leaf k ≡ false
+aggregate-no_leaf kind.Structure e = refl
+aggregate-no_leaf kind.Union e = refl
+aggregate-no_leaf kind.Array e = refl
+aggregate-no_leaf kind.Void e = cc
+aggregate-no_leaf kind.Scalar e = cc
+aggregate-no_leaf kind.Pointer e = cc
+aggregate-no_leaf kind.Enumeration e = cc
+aggregate-no_leaf kind.Vector e = cc
+aggregate-no_leaf kind.Function e = cc
+
 pub classes-leaf : (nodes : List PlainNode) (i : ℕ) → is_leaf (view_at nodes i).kind ≡ true → classes_of nodes i ≡ row (view_at nodes i).kind (view_at nodes i).group (view_at nodes i).size
 unfolding classes_of
 classes-leaf nodes i leaf = rw leaf refl

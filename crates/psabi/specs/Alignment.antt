@@ -11,7 +11,7 @@ use Rattle.abi_types.specs.ByValue.{by_value}
 use Rattle.psabi.specs.Psabi.{char_size, short_size, int_size, long_size, int128_size, complex_float16_size, complex_float_size, complex_double_size, complex_long_double_size, m64_size, m128_size, m256_size, m512_size, eightbyte_size}
 use Rattle.abi_types.specs.Forms.{is_aggregate}
 
--- an object of a size that no type of the psABI has
+-- an object whose size no type of the psABI has
 abbrev pub other_align : ℕ → ℕ
 other_align size = if nat_lt eightbyte_size size then eightbyte_size else 1
 
@@ -28,7 +28,7 @@ abbrev pub align_of_group : Group → ℕ → ℕ
 align_of_group group.Complex size = complex_align size
 align_of_group other size = scalar_align size
 
--- the alignment that an object of a kind that is no aggregate has of itself
+-- the natural alignment of an object that is no aggregate
 abbrev pub natural_align : Kind → Group → ℕ → ℕ
 natural_align kind.Scalar group size = align_of_group group size
 natural_align kind.Enumeration group size = scalar_align size

@@ -25,7 +25,7 @@ is_stacked ComplexX87 = true
 is_stacked Memory = true
 is_stacked other = false
 
--- an argument goes to the stack where a class asks for it, or the registers that are left do not suffice for all of it
+-- an argument goes to the stack if one of its classes needs it, or if the registers that are left do not suffice for all of it
 unfoldable pub goes_to_stack : ArgumentRegisters → List Class → Bool
 goes_to_stack taken cs = list_any is_stacked cs || nat_lt general_registers (taken.general + general_count cs) || nat_lt vector_registers (taken.vector + vector_count cs)
 

@@ -1,4 +1,4 @@
--- What follows the merging of an object's leaves (psABI, section 3.2.3 "Parameter Passing", "post merger cleanup"). It is done
+-- The cleanup after an object's leaves are merged (psABI, section 3.2.3 "Parameter Passing", "post merger cleanup"). It is done
 -- once, on the whole aggregate.
 use Rattle.std.specs.Prelude.{ℕ, ◌+◌, ◌-◌, ◌/◌, ◌==◌, ◌&&◌, ◌||◌, not, nat_lt, Bool, if◌then◌else◌, List, map}
 use Rattle.std.specs.List.{list_any, list_all, range_with_len}

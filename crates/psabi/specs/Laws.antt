@@ -76,7 +76,7 @@ RegistersAreCounted = (nodes : List PlainNode) (f k : ℕ) (a : Argument) (slots
 abbrev pub RoundedIsFirst : Type 0
 RoundedIsFirst = (from align : ℕ) → IsFirstFrom from (step_of align) (rounded from (step_of align))
 
--- where no argument up to this one asks for more than eightbytes do, its offset is the sum of the sizes of the places before it
+-- if no argument up to this one has an alignment of 16 or more, its offset is the sum of the sizes of the places before it
 abbrev pub StackPlacesAddUp : Type 0
 StackPlacesAddUp = (nodes : List PlainNode) (f k offset size : ℕ) → (view_at nodes f).kind ≡ kind.Function → ((j : ℕ) (a : Argument) → j ≤ k → slice_get (arguments_of nodes f) j ≡ Some a → a.align < stack_alignment) → IsPlaceOf (call_of nodes f) k (place.Stack offset size) → offset ≡ bytes_before (take k (call_of nodes f).params)
 

@@ -5,10 +5,10 @@ pub mod Class
 pub mod Classes
 pub mod Cleanup
 pub mod Counted
+pub mod Found
 pub mod InnerObject
 pub mod Laws
 pub mod Merging
-pub mod Passing
 pub mod Past
 pub mod Psabi
 pub mod Registers

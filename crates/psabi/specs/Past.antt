@@ -1,4 +1,4 @@
--- Objects whose members end past them, as packed or broken debugging information may give them.
+-- Objects whose members end past them, as broken debugging information may describe them.
 use Rattle.std.specs.Prelude.{ℕ, ◌==◌, ◌||◌, ◌&&◌, ◌+◌, ◌*◌, nat_lt, Bool, false, if◌then◌else◌, List, Option, Some, None}
 use Rattle.std.specs.List.{list_any}
 use Rattle.abi_types.specs.Types.{PlainPart, Member, Element, PlainView, PlainNode}
@@ -18,7 +18,7 @@ abbrev pub own_past : List PlainNode → PlainView → PlainPart → Bool
 own_past nodes v (Member name bit width to) = nat_lt (byte_bits * v.size) (bit + extent nodes width to)
 own_past nodes v other = false
 
--- what is asked in its turn: the type of a member, or of elements where there are some
+-- the type to check next for a part: that of a member, or of the elements of an array that has some
 abbrev pub led_to : PlainView → PlainPart → Option ℕ
 led_to v (Member name bit width to) = Some to
 led_to v (Element to) = if v.count == 0 then None else Some to

@@ -83,7 +83,7 @@ eightbyte_bits = 64
 abbrev pub eightbyte_size : ℕ
 eightbyte_size = 8
 
--- how many eightbytes an object has at most that is not in memory for its size, and how many bytes
+-- the most eightbytes that an object in registers can have, and the most bytes
 abbrev pub eightbyte_limit : ℕ
 eightbyte_limit = 8
 
@@ -94,7 +94,7 @@ object_limit = 64
 abbrev pub object_bits : ℕ
 object_bits = 512
 
--- how many bytes an aggregate has at most that is in registers and no vector: two eightbytes
+-- the most bytes that an aggregate in registers can have if it is no vector: two eightbytes
 abbrev pub pair_limit : ℕ
 pair_limit = 16
 

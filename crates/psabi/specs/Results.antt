@@ -21,7 +21,7 @@ use Rattle.psabi.specs.Registers.{general_count, vector_count, has_no_place}
 abbrev pub result_register : ℕ → ℕ
 result_register general = if general == 0 then rax else rdx
 
--- the slot of eightbyte k, where so many earlier ones are in general and in vector registers
+-- the slot of eightbyte k, after so many earlier ones in general and in vector registers
 abbrev pub result_slot_of : Class → ℕ → ℕ → ℕ → Slot
 result_slot_of Integer general vector k = slot.General (result_register general)
 result_slot_of Sse general vector k = slot.Vector vector
@@ -50,7 +50,7 @@ result_of_node nodes i = result_place (view_at nodes i).size (classes_of nodes i
 abbrev pub outcome_of : List PlainNode → PlainView → Place
 outcome_of nodes v = named_or place.Nothing (result_of_node nodes) (to_of (part_at v 0))
 
--- what the result takes of what arguments are passed in: the address of a hidden one takes the first general register
+-- the argument registers that the result takes: the address of a hidden result takes the first general register
 abbrev pub registers_of_result : Place → ArgumentRegisters
 registers_of_result place.Hidden = record { general = 1; vector = 0; stack = 0 }
 registers_of_result other = record { general = 0; vector = 0; stack = 0 }

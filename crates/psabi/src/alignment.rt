@@ -1,8 +1,11 @@
 // Sizes and alignments of objects (psABI, section 3.1.2 "Data Representation").
 ghost use Rattle.std.specs.Prelude.{◌≡◌, ◌<◌, length};
 ghost use Rattle.abi_types.specs.Graphs.{view_at};
-ghost use Rattle.psabi.specs.Alignment.{align_of, natural_align as the_natural_align, other_align as the_other_align, scalar_align as the_scalar_align, complex_align as the_complex_align, vector_align as the_vector_align};
+ghost use Rattle.psabi.specs.Found.{IsRight};
+ghost use Rattle.psabi.specs.Alignment.{align_of};
+ghost use Rattle.psabi.specs.Alignment as spec;
 
+use crate::found::{Found, found_at, keep_align};
 use crate::kinds::is_aggregate;
 use crate::sizes::{
     CHAR, COMPLEX_DOUBLE, COMPLEX_FLOAT, COMPLEX_FLOAT16, COMPLEX_LONG_DOUBLE, EIGHTBYTE, INT,
@@ -10,15 +13,15 @@ use crate::sizes::{
 };
 use abi_types::{Graph, Group, Index, Kind};
 
-// The alignment of an object of a size that no type of the psABI has.
+// The alignment of an object whose size no type of the psABI has.
 fn other_align(size: u64) -> u64
-    ensures { result ≡ the_other_align size }
+    ensures { result ≡ spec.other_align size }
 {
     if size > EIGHTBYTE { EIGHTBYTE } else { 1 }
 }
 
 fn scalar_align(size: u64) -> u64
-    ensures { result ≡ the_scalar_align size }
+    ensures { result ≡ spec.scalar_align size }
 {
     match size {
         CHAR | SHORT | INT | LONG | INT128 => size,
@@ -27,7 +30,7 @@ fn scalar_align(size: u64) -> u64
 }
 
 fn complex_align(size: u64) -> u64
-    ensures { result ≡ the_complex_align size }
+    ensures { result ≡ spec.complex_align size }
 {
     match size {
         COMPLEX_FLOAT16 | COMPLEX_FLOAT | COMPLEX_DOUBLE | COMPLEX_LONG_DOUBLE => size / 2,
@@ -36,7 +39,7 @@ fn complex_align(size: u64) -> u64
 }
 
 fn vector_align(size: u64) -> u64
-    ensures { result ≡ the_vector_align size }
+    ensures { result ≡ spec.vector_align size }
 {
     match size {
         M64 | M128 | M256 | M512 => size,
@@ -44,9 +47,9 @@ fn vector_align(size: u64) -> u64
     }
 }
 
-/// The alignment in bytes that an object which is no aggregate has of itself.
+/// The natural alignment, in bytes, of an object that is no aggregate.
 pub fn natural_align(kind: Kind, group: Group, size: u64) -> u64
-    ensures { result ≡ the_natural_align kind group size }
+    ensures { result ≡ spec.natural_align kind group size }
 {
     match kind {
         Kind::Scalar => match group {
@@ -68,23 +71,36 @@ pub fn size<Ix: Index>(graph: &Graph<Ix>, ix: Ix) -> u64
     view.size
 }
 
-/// The alignment of the node's object in bytes: its natural one, or of an aggregate the greatest one of what stands inside; an
-/// explicit alignment raises it. It takes no memory, and calls itself at most 513 deep, since no rank is above 512.
-pub fn align<Ix: Index>(graph: &Graph<Ix>, ix: Ix) -> u64
-    requires { Ix.number_of ix < length graph.now }
-    ensures { result ≡ align_of graph.now (Ix.number_of ix) }
+/// The same as `align`, but each node is computed once: it looks up what `found` already has, and adds what it computes.
+pub fn align_with<Ix: Index>(graph: &Graph<Ix>, ix: Ix, found: &mut [Found]) -> u64
+    requires inside { Ix.number_of ix < length graph.now }
+    requires right { IsRight graph.now found.now }
+    ensures align { result ≡ align_of graph.now (Ix.number_of ix) }
+    ensures right { IsRight graph.now found.new }
 {
     graph.known();
     let view = graph.view(ix);
     if !is_aggregate(view.kind) {
         return natural_align(view.kind, view.group, view.size).max(view.align);
     }
+    if let Some(align) = found_at(ix, found).align {
+        return align;
+    }
     let mut greatest = 1;
     for k in 0..view.parts_len() {
         if let Some(to) = view.part(k).inner() {
-            let inner = align(graph, to);
+            let inner = align_with(graph, to, found);
             greatest = inner.max(greatest);
         }
     }
-    greatest.max(view.align)
+    keep_align(graph, ix, greatest.max(view.align), found)
+}
+
+/// The alignment of the node's object in bytes: its natural one, or for an aggregate the greatest of what stands inside it. An
+/// explicit alignment raises it. It takes no memory, and calls itself at most 513 deep, since no rank is above 512.
+pub fn align<Ix: Index>(graph: &Graph<Ix>, ix: Ix) -> u64
+    requires { Ix.number_of ix < length graph.now }
+    ensures { result ≡ align_of graph.now (Ix.number_of ix) }
+{
+    align_with(graph, ix, &mut [])
 }

@@ -1,8 +1,9 @@
-// What arguments take of the registers and of the stack (psABI, section 3.2.3 "Parameter Passing", "Passing").
+// The registers and the stack space that arguments take (psABI, section 3.2.3 "Parameter Passing", "Passing").
 ghost use Rattle.std.specs.Prelude.{◌≡◌, ◌<◌, ◌≤◌, ◌+◌, ◌^◌};
 ghost use Rattle.std.specs.List.{list_any};
 ghost use Rattle.abi_types.specs.Limits.{size_limit, align_limit, align_room, room_limit};
-ghost use Rattle.psabi.specs.Arguments.{is_stacked, goes_to_stack as it_goes_to_stack, stack_offset as the_stack_offset, stack_size as the_stack_size, argument_slot as the_argument_slot, argument_slots as the_argument_slots, place_in as the_place_in, taken_with as the_taken_with};
+ghost use Rattle.psabi.specs.Arguments.{is_stacked};
+ghost use Rattle.psabi.specs.Arguments as spec;
 ghost use Rattle.psabi.specs.Psabi.{eightbyte_limit, general_registers, vector_registers};
 
 use crate::class::Class;
@@ -19,7 +20,7 @@ const VECTOR_REGISTERS: u64 = 8;
 // The alignment of the area of arguments on the stack.
 const STACK_ALIGNMENT: u64 = 16;
 
-/// What earlier arguments take.
+/// What earlier arguments have taken.
 #[derive(Clone, Copy)]
 pub struct ArgumentRegisters {
     /// How many of the general registers for arguments.
@@ -46,7 +47,7 @@ fn has_memory_class(classes: &[Class]) -> bool
 fn goes_to_stack(taken: ArgumentRegisters, classes: &[Class; 8]) -> bool
     requires general { taken.general ≤ general_registers }
     requires vector { taken.vector ≤ vector_registers }
-    ensures { result ≡ it_goes_to_stack taken classes.now }
+    ensures { result ≡ spec.goes_to_stack taken classes.now }
 {
     if has_memory_class(classes) {
         return true;
@@ -64,7 +65,7 @@ fn goes_to_stack(taken: ArgumentRegisters, classes: &[Class; 8]) -> bool
 fn stack_offset(end: u64, align: u64) -> u64
     requires end { end ≤ room_limit }
     requires align { align ≤ align_limit }
-    ensures { result ≡ the_stack_offset end align }
+    ensures { result ≡ spec.stack_offset end align }
 {
     let step = if align < STACK_ALIGNMENT {
         EIGHTBYTE
@@ -78,7 +79,7 @@ fn stack_offset(end: u64, align: u64) -> u64
 #[tactic(auto, unfolding(crate::specs::Arguments::stack_size))]
 fn stack_size(size: u64) -> u64
     requires { size ≤ size_limit }
-    ensures { result ≡ the_stack_size size }
+    ensures { result ≡ spec.stack_size size }
 {
     (size + (EIGHTBYTE - 1)) / EIGHTBYTE * EIGHTBYTE
 }
@@ -88,7 +89,7 @@ fn argument_slot(taken: ArgumentRegisters, classes: &[Class; 8], k: usize) -> Sl
     requires general { taken.general ≤ general_registers }
     requires vector { taken.vector ≤ vector_registers }
     requires k { k < eightbyte_limit }
-    ensures { result ≡ the_argument_slot taken classes.now k }
+    ensures { result ≡ spec.argument_slot taken classes.now k }
 {
     let before = &classes[..k];
     match classes[k] {
@@ -103,7 +104,7 @@ fn argument_slot(taken: ArgumentRegisters, classes: &[Class; 8], k: usize) -> Sl
 fn argument_slots(taken: ArgumentRegisters, classes: &[Class; 8]) -> [Slot; 8]
     requires general { taken.general ≤ general_registers }
     requires vector { taken.vector ≤ vector_registers }
-    ensures { result ≡ the_argument_slots taken classes.now }
+    ensures { result ≡ spec.argument_slots taken classes.now }
 {
     let mut slots = [Slot::Unused; 8];
     for k in 0..EIGHTBYTES {
@@ -113,15 +114,16 @@ fn argument_slots(taken: ArgumentRegisters, classes: &[Class; 8]) -> [Slot; 8]
 }
 
 impl ArgumentRegisters {
-    /// The place of an argument of this size and alignment in bytes and of these classes, which is taken from then on.
+    /// The place of an argument with this size and alignment in bytes and these classes. It counts as taken for later
+    /// arguments.
     pub fn place(&mut self, bytes: u64, align: u64, classes: &[Class; 8]) -> Place
         requires general { self.now.general ≤ general_registers }
         requires vector { self.now.vector ≤ vector_registers }
         requires stack { self.now.stack ≤ room_limit }
         requires size { bytes ≤ size_limit }
         requires align { align ≤ align_limit }
-        ensures place { result ≡ the_place_in self.old bytes align classes.now }
-        ensures taken { self.new ≡ the_taken_with self.old bytes align classes.now }
+        ensures place { result ≡ spec.place_in self.old bytes align classes.now }
+        ensures taken { self.new ≡ spec.taken_with self.old bytes align classes.now }
         ensures general { self.new.general ≤ general_registers }
         ensures vector { self.new.vector ≤ vector_registers }
         ensures stack { self.new.stack ≤ self.old.stack + (bytes + align_room) }

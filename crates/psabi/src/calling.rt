@@ -1,26 +1,26 @@
 // Where calls put their results and arguments.
 ghost use Rattle.std.specs.Prelude.{◌≡◌, ◌<◌, length, IfOk};
 ghost use Rattle.psabi.specs.Calls.{call_of, calls_of};
-ghost use Rattle.psabi.specs.Passing.{IsRight};
+ghost use Rattle.psabi.specs.Found.{IsRight};
 
 use crate::argument::place_argument;
+use crate::found::{Found, room_for};
 use crate::kinds::is_function;
 use crate::outcome::{outcome, registers_of_result};
-use crate::passing::KnownPassing;
 use abi_base::{List, NoMemory};
 use abi_types::{Call, CallShape, Graph, Index};
 use std::alloc::Global;
 
-// Where a call of the node's function puts its result and its arguments, with what is known of types.
+// Where a call of the node's function puts its result and its arguments, by what is known of types so far.
 fn shape_with<Ix: Index>(
     alloc: Global,
     graph: &Graph<Ix>,
     ix: Ix,
-    known: &mut KnownPassing,
+    found: &mut [Found],
 ) -> Result<Call, NoMemory>
     requires inside { Ix.number_of ix < length graph.now }
-    requires right { IsRight graph.now known.now }
-    ensures right { IsRight graph.now known.new }
+    requires right { IsRight graph.now found.now }
+    ensures right { IsRight graph.now found.new }
     ensures shape { IfOk result (λ shape. shape ≡ call_of graph.now (Ix.number_of ix)) }
 {
     graph.known();
@@ -29,37 +29,38 @@ fn shape_with<Ix: Index>(
         return Ok(Call::none());
     }
     let mut params = List::new(alloc);
-    let outcome = outcome(graph, ix, known);
+    let outcome = outcome(graph, ix, found);
     let mut taken = registers_of_result(&outcome);
     for k in 0..view.parts_len() {
         if let Some(to) = view.part(k).param() {
-            let place = place_argument(graph, to, known, &mut taken);
+            let place = place_argument(graph, to, found, &mut taken);
             params.push(place)?;
         }
     }
     Call::of(alloc, CallShape { outcome, params })
 }
 
-/// Where a call of the node's function puts its result and its arguments: nowhere at a node that is no function. It fails
-/// where memory runs out, and nowhere else.
+/// Where a call of the node's function puts its result and its arguments: nowhere if the node is no function. It fails only if
+/// memory runs out.
 pub fn call_shape<Ix: Index>(alloc: Global, graph: &Graph<Ix>, ix: Ix) -> Result<Call, NoMemory>
     requires { Ix.number_of ix < length graph.now }
     ensures { IfOk result (λ shape. shape ≡ call_of graph.now (Ix.number_of ix)) }
 {
-    let mut known = KnownPassing::none(alloc);
-    shape_with(alloc, graph, ix, &mut known)
+    let mut found = room_for(alloc, graph.len())?;
+    shape_with(alloc, graph, ix, found.as_mut_slice())
 }
 
-/// The call shapes of all nodes, each at the number of its node. What a type asks for is found once for all calls. It fails
-/// where memory runs out, and nowhere else.
+/// The call shapes of all nodes, each at the number of its node. It computes the alignment and the classes of each type once for
+/// all calls. It fails only if memory runs out.
 pub fn call_shapes<Ix: Index>(alloc: Global, graph: &Graph<Ix>) -> Result<List<Call>, NoMemory>
     ensures shapes { IfOk result (λ shapes. shapes ≡ calls_of graph.now) }
     ensures many { IfOk result (λ shapes. length shapes ≡ length graph.now) }
 {
-    let mut known = KnownPassing::of_len(alloc, graph.len())?;
+    let mut room = room_for(alloc, graph.len())?;
+    let found = room.as_mut_slice();
     let mut shapes = List::new(alloc);
     for i in 0..graph.len() {
-        let shape = shape_with(alloc, graph, Ix::of(i), &mut known)?;
+        let shape = shape_with(alloc, graph, Ix::of(i), found)?;
         shapes.push(shape)?;
     }
     Ok(shapes)

@@ -1,12 +1,13 @@
 // The classes of eightbytes (psABI, section 3.2.3 "Parameter Passing", "Definitions" and "Classification").
 ghost use Rattle.std.specs.Prelude.{◌≡◌};
 ghost use Rattle.std.specs.List.{list_any};
-ghost use Rattle.psabi.specs.Class.{is_memory_class, merge as the_merge};
+ghost use Rattle.psabi.specs.Class.{is_memory_class};
+ghost use Rattle.psabi.specs.Class as spec;
 
 /// The class of an eightbyte of an object: how it travels as a part of an argument or of a result.
 #[derive(Clone, Copy, Debug, PartialEq, Eq)]
 pub enum Class {
-    /// Padding, or past the object: NO_CLASS.
+    /// Padding or past the end of the object: NO_CLASS.
     NoClass,
     /// In a general register: INTEGER.
     Integer,
@@ -26,7 +27,7 @@ pub enum Class {
 
 /// The class of an eightbyte that has parts of two classes.
 pub fn merge(one: Class, other: Class) -> Class
-    ensures { result ≡ the_merge one other }
+    ensures { result ≡ spec.merge one other }
 {
     match (one, other) {
         (Class::NoClass, _) => other,

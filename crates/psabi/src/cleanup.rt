@@ -1,17 +1,18 @@
-// What follows the merging of an object's leaves (psABI, section 3.2.3 "Parameter Passing", "post merger cleanup").
+// The cleanup after an object's leaves are merged (psABI, section 3.2.3 "Parameter Passing", "post merger cleanup").
 ghost use Rattle.std.specs.Prelude.{◌≡◌, ◌<◌, ◌≤◌, ◌-◌};
 ghost use Rattle.std.specs.List.{list_all, range_with_len};
-ghost use Rattle.psabi.specs.Cleanup.{is_lone_x87_up as the_eightbyte_is_lone, has_lone_x87_up as one_is_lone, is_upper_at as the_eightbyte_is_upper, is_vector as they_are_a_vector, eightbytes_of as the_eightbytes_of, becomes_memory_class as it_becomes_memory_class, grounded as the_grounded, cleaned_up as the_cleaned_up};
+ghost use Rattle.psabi.specs.Cleanup.{has_lone_x87_up as one_is_lone, is_vector as they_are_a_vector};
+ghost use Rattle.psabi.specs.Cleanup as spec;
 ghost use Rattle.psabi.specs.Psabi.{eightbyte_limit, object_limit};
 
 use crate::class::{Class, has_memory};
 use crate::rows::all_memory_class;
 use crate::sizes::{EIGHTBYTE, EIGHTBYTES, PAIR_LIMIT};
 
-// Whether the eightbyte is an X87UP without the X87 before it.
+// Whether the eightbyte is an X87UP without an X87 before it.
 fn is_lone_x87_up(classes: &[Class; 8], k: usize) -> bool
     requires { k < eightbyte_limit }
-    ensures { result ≡ the_eightbyte_is_lone classes.now k }
+    ensures { result ≡ spec.is_lone_x87_up classes.now k }
 {
     match classes[k] {
         Class::X87Up => {
@@ -41,7 +42,7 @@ fn has_lone_x87_up(classes: &[Class; 8]) -> bool
 
 fn is_upper(classes: &[Class; 8], k: usize) -> bool
     requires { k < eightbyte_limit }
-    ensures { result ≡ the_eightbyte_is_upper classes.now k }
+    ensures { result ≡ spec.is_upper_at classes.now k }
 {
     match classes[k] {
         Class::SseUp => true,
@@ -49,11 +50,11 @@ fn is_upper(classes: &[Class; 8], k: usize) -> bool
     }
 }
 
-// Whether the eightbytes after the first, of so many in all, are SSEUP.
+// Whether the first `count` eightbytes, without the very first, are SSEUP.
 fn rest_are_upper(classes: &[Class; 8], count: usize) -> bool
     requires some { 1 ≤ count }
     requires few { count ≤ eightbyte_limit }
-    ensures { result ≡ list_all (the_eightbyte_is_upper classes.now) (range_with_len 1 (count - 1)) }
+    ensures { result ≡ list_all (spec.is_upper_at classes.now) (range_with_len 1 (count - 1)) }
 {
     for k in 1..count {
         if !is_upper(classes, k) {
@@ -63,7 +64,7 @@ fn rest_are_upper(classes: &[Class; 8], count: usize) -> bool
     true
 }
 
-// Whether the first so many eightbytes are those of one vector.
+// Whether the first `count` eightbytes are those of one vector.
 #[tactic(auto, unfolding(crate::specs::Cleanup::is_vector))]
 fn is_vector(classes: &[Class; 8], count: usize) -> bool
     requires some { 1 ≤ count }
@@ -79,7 +80,7 @@ fn is_vector(classes: &[Class; 8], count: usize) -> bool
 // How many eightbytes an object of this size has.
 fn eightbytes_of(size: u64) -> usize
     requires { size ≤ object_limit }
-    ensures { result ≡ the_eightbytes_of size }
+    ensures { result ≡ spec.eightbytes_of size }
 {
     ((size + (EIGHTBYTE - 1)) / EIGHTBYTE) as usize
 }
@@ -87,7 +88,7 @@ fn eightbytes_of(size: u64) -> usize
 #[tactic(auto, unfolding(crate::specs::Cleanup::becomes_memory_class))]
 fn becomes_memory_class(classes: &[Class; 8], size: u64) -> bool
     requires { size ≤ object_limit }
-    ensures { result ≡ it_becomes_memory_class classes.now size }
+    ensures { result ≡ spec.becomes_memory_class classes.now size }
 {
     if has_memory(classes) {
         return true;
@@ -104,7 +105,7 @@ fn becomes_memory_class(classes: &[Class; 8], size: u64) -> bool
 // The class of an eightbyte, where an SSEUP that follows neither SSE nor SSEUP becomes SSE.
 fn grounded(classes: &[Class; 8], k: usize) -> Class
     requires { k < eightbyte_limit }
-    ensures { result ≡ the_grounded classes.now k }
+    ensures { result ≡ spec.grounded classes.now k }
 {
     match classes[k] {
         Class::SseUp => {
@@ -120,10 +121,10 @@ fn grounded(classes: &[Class; 8], k: usize) -> Class
     }
 }
 
-/// The classes of an aggregate of at most 64 bytes, from those that its leaves were merged to.
+/// The classes of an aggregate of at most 64 bytes, from the merged classes of its leaves.
 pub fn cleaned_up(classes: &[Class; 8], size: u64) -> [Class; 8]
     requires { size ≤ object_limit }
-    ensures { result ≡ the_cleaned_up classes.now size }
+    ensures { result ≡ spec.cleaned_up classes.now size }
 {
     if becomes_memory_class(classes, size) {
         return all_memory_class();

@@ -12,7 +12,7 @@ use abi_types::laws::{leaves_are_those_inside, parts_name_what_is_inside};
 use abi_types::{Graph, Index, Leaf};
 
 /// Merges the leaves of the node's object, which stands at `bit` and is a bit field of `width` bits, or none where that is 0.
-/// All of the object lies inside 64 bytes, and an array of size 0 is not walked, so at most 64 elements of an array are.
+/// All of the object lies inside 64 bytes, and an array of size 0 has no leaves, so it visits at most 64 elements of an array.
 /// It calls itself at most 513 deep, since no rank is above 512.
 pub fn add_leaves<Ix: Index>(
     graph: &Graph<Ix>,

@@ -2,7 +2,7 @@
 ghost use Rattle.std.specs.Prelude.{◌≡◌, ◌<◌, ◌≤◌, ◌+◌, ◌∷◌, []};
 ghost use Rattle.abi_types.specs.Limits.{size_limit};
 ghost use Rattle.psabi.specs.Psabi.{eightbyte_limit, object_bits};
-ghost use Rattle.psabi.specs.Touching.{bits_of as the_bits_of};
+ghost use Rattle.psabi.specs.Touching as spec;
 ghost use Rattle.psabi.specs.Merging.{MergesLeaves, merge_leaf, nothing_merged};
 
 use crate::class::{Class, merge};
@@ -21,7 +21,7 @@ pub struct Eightbytes {
 #[tactic(auto, unfolding(crate::specs::Merging::merge_leaf))]
 fn with_leaf(class: Class, leaf: &Leaf, k: usize) -> Class
     requires size { leaf.now.size ≤ size_limit }
-    requires room { leaf.now.bit + the_bits_of leaf.now ≤ object_bits }
+    requires room { leaf.now.bit + spec.bits_of leaf.now ≤ object_bits }
     requires k { k < eightbyte_limit }
     ensures { result ≡ merge_leaf k class leaf.now }
 {
@@ -45,7 +45,7 @@ impl Eightbytes {
     /// One more leaf.
     pub fn add(&mut self, leaf: Leaf)
         requires size { leaf.size ≤ size_limit }
-        requires room { leaf.bit + the_bits_of leaf ≤ object_bits }
+        requires room { leaf.bit + spec.bits_of leaf ≤ object_bits }
         ensures { MergesLeaves (leaf ∷ []) self.old self.new }
     {
         let before = *self;

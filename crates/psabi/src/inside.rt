@@ -2,7 +2,8 @@
 ghost use Rattle.std.specs.Prelude.{◌≡◌, ◌<◌, length};
 ghost use Rattle.std.specs.Option.{option_map};
 ghost use Rattle.abi_types.specs.Graphs.{view_at};
-ghost use Rattle.abi_types.specs.Inside.{count_inside as the_count_inside, inside_at};
+ghost use Rattle.abi_types.specs.Inside.{inside_at};
+ghost use Rattle.abi_types.specs.Inside as spec;
 ghost use Rattle.psabi.specs.InnerObject.{plain_inner};
 
 use crate::sizes::BYTE_BITS;
@@ -11,9 +12,9 @@ use abi_types::{Graph, Index, Kind, Part, View};
 /// What stands inside an aggregate.
 #[derive(Clone, Copy)]
 pub struct InnerObject<Ix> {
-    /// From which bit of the aggregate on it stands.
+    /// The bit of the aggregate at which it begins.
     pub bit: u64,
-    /// How many bits it has where it is a bit field, else 0.
+    /// Its width in bits if it is a bit field, else 0.
     pub width: u64,
     /// The node of its type.
     pub to: Ix,
@@ -21,7 +22,7 @@ pub struct InnerObject<Ix> {
 
 /// How many objects stand inside an aggregate.
 pub fn count_inside<Ix: Index>(view: &View<Ix>) -> u64
-    ensures { result ≡ the_count_inside view.now }
+    ensures { result ≡ spec.count_inside view.now }
 {
     match view.kind {
         Kind::Array => view.count,
@@ -29,10 +30,10 @@ pub fn count_inside<Ix: Index>(view: &View<Ix>) -> u64
     }
 }
 
-/// What stands inside an aggregate under a number, counted from 0.
+/// Number `n`, counted from 0, of what stands inside an aggregate.
 pub fn inside_of<Ix: Index>(graph: &Graph<Ix>, ix: Ix, n: u64) -> Option<InnerObject<Ix>>
     requires inside { Ix.number_of ix < length graph.now }
-    requires below { n < the_count_inside (view_at graph.now (Ix.number_of ix)) }
+    requires below { n < spec.count_inside (view_at graph.now (Ix.number_of ix)) }
     ensures { option_map (plain_inner Ix.number_of) result ≡ inside_at graph.now (view_at graph.now (Ix.number_of ix)) n }
 {
     graph.known();

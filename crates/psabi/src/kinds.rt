@@ -1,19 +1,19 @@
 // Kinds of objects.
 ghost use Rattle.std.specs.Prelude.{◌≡◌};
-ghost use Rattle.abi_types.specs.Forms.{is_aggregate as the_kind_is_aggregate, is_function as the_kind_is_function, is_leaf as the_kind_is_leaf};
+ghost use Rattle.abi_types.specs.Forms as spec;
 
 use abi_types::Kind;
 
 /// Whether objects of the kind are made of other objects.
 pub fn is_aggregate(kind: Kind) -> bool
-    ensures { result ≡ the_kind_is_aggregate kind }
+    ensures { result ≡ spec.is_aggregate kind }
 {
     matches!(kind, Kind::Structure | Kind::Union | Kind::Array)
 }
 
 /// Whether an object of the kind is a leaf of what it stands in.
 pub fn is_leaf(kind: Kind) -> bool
-    ensures { result ≡ the_kind_is_leaf kind }
+    ensures { result ≡ spec.is_leaf kind }
 {
     matches!(
         kind,
@@ -23,7 +23,7 @@ pub fn is_leaf(kind: Kind) -> bool
 
 /// Whether an object of the kind is a function.
 pub fn is_function(kind: Kind) -> bool
-    ensures { result ≡ the_kind_is_function kind }
+    ensures { result ≡ spec.is_function kind }
 {
     matches!(kind, Kind::Function)
 }

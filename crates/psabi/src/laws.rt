@@ -40,15 +40,15 @@ pub fn each_parameter_has_a_place()
     params_are_counted();
 }
 
-/// The places of a call are the one list in which each argument has the place that the arguments before it leave to it: nowhere
-/// without bytes or classes; where no class asks for the stack and the registers suffice, the integer and SSE registers after
-/// those that the address of a hidden result and the earlier arguments in registers took; else the stack, at the first offset of
-/// its alignment that no earlier argument on the stack reaches beyond.
+/// The places of a call are the one list in which each argument has the place that the arguments before it leave to it: none
+/// without bytes or classes; if no class needs the stack and the registers suffice, the integer and SSE registers after those
+/// that the address of a hidden result and the earlier arguments in registers took; else the stack, at the first offset of its
+/// alignment that no earlier argument on the stack reaches beyond.
 pub fn places_are_counted()
     ensures { PlacesAreCounted }
 {}
 
-/// An argument in registers is in as many integer and SSE registers as are counted for it.
+/// An argument in registers is in as many integer and SSE registers as its classes count.
 pub fn registers_are_counted()
     ensures { RegistersAreCounted }
 {}

@@ -1,13 +1,15 @@
 // Where results are (psABI, section 3.2.3 "Parameter Passing", "Returning of Values").
 ghost use Rattle.std.specs.Prelude.{◌≡◌, ◌<◌, length};
 ghost use Rattle.abi_types.specs.Graphs.{view_at};
-ghost use Rattle.psabi.specs.Passing.{IsRight};
+ghost use Rattle.psabi.specs.Found.{IsRight};
 ghost use Rattle.psabi.specs.Psabi.{eightbyte_limit};
-ghost use Rattle.psabi.specs.Results.{result_register as the_result_register, result_slot as the_result_slot, result_slots as the_result_slots, result_place as the_result_place, outcome_of, registers_of_result as what_the_result_takes};
+ghost use Rattle.psabi.specs.Results.{outcome_of, registers_of_result as what_the_result_takes};
+ghost use Rattle.psabi.specs.Results as spec;
 
 use crate::argument_registers::ArgumentRegisters;
 use crate::class::{Class, has_memory};
-use crate::passing::KnownPassing;
+use crate::classification::classes_with;
+use crate::found::Found;
 use crate::registers::{general_count, has_no_place, vector_count};
 use crate::sizes::EIGHTBYTES;
 use abi_types::{Graph, Index, Place, Slot};
@@ -23,9 +25,9 @@ const ST0: u8 = 0;
 // How many eightbytes a register of that stack holds.
 const X87_EIGHTBYTES: usize = 2;
 
-// The general register for the next eightbyte of a result, of which so many are in general registers.
+// The general register for the next eightbyte of a result, after `general` eightbytes in general registers.
 fn result_register(general: u64) -> u8
-    ensures { result ≡ the_result_register general }
+    ensures { result ≡ spec.result_register general }
 {
     if general == 0 { RAX } else { RDX }
 }
@@ -33,7 +35,7 @@ fn result_register(general: u64) -> u8
 // The slot of an eightbyte of a result in registers.
 fn result_slot(classes: &[Class; 8], k: usize) -> Slot
     requires { k < eightbyte_limit }
-    ensures { result ≡ the_result_slot classes.now k }
+    ensures { result ≡ spec.result_slot classes.now k }
 {
     let before = &classes[..k];
     match classes[k] {
@@ -48,7 +50,7 @@ fn result_slot(classes: &[Class; 8], k: usize) -> Slot
 
 // The slots of a result in registers.
 fn result_slots(classes: &[Class; 8]) -> [Slot; 8]
-    ensures { result ≡ the_result_slots classes.now }
+    ensures { result ≡ spec.result_slots classes.now }
 {
     let mut slots = [Slot::Unused; 8];
     for k in 0..EIGHTBYTES {
@@ -60,7 +62,7 @@ fn result_slots(classes: &[Class; 8]) -> [Slot; 8]
 // The place of a result of this size and these classes.
 #[tactic(auto, unfolding(crate::specs::Results::result_place))]
 fn result_place(size: u64, classes: &[Class; 8]) -> Place
-    ensures { result ≡ the_result_place size classes.now }
+    ensures { result ≡ spec.result_place size classes.now }
 {
     if has_no_place(size, classes) {
         return Place::Nothing;
@@ -74,10 +76,10 @@ fn result_place(size: u64, classes: &[Class; 8]) -> Place
 }
 
 /// The place of the result of a function.
-pub fn outcome<Ix: Index>(graph: &Graph<Ix>, ix: Ix, known: &mut KnownPassing) -> Place
+pub fn outcome<Ix: Index>(graph: &Graph<Ix>, ix: Ix, found: &mut [Found]) -> Place
     requires inside { Ix.number_of ix < length graph.now }
-    requires right { IsRight graph.now known.now }
-    ensures right { IsRight graph.now known.new }
+    requires right { IsRight graph.now found.now }
+    ensures right { IsRight graph.now found.new }
     ensures place { result ≡ outcome_of graph.now (view_at graph.now (Ix.number_of ix)) }
 {
     graph.known();
@@ -89,13 +91,13 @@ pub fn outcome<Ix: Index>(graph: &Graph<Ix>, ix: Ix, known: &mut KnownPassing) -
         None => Place::Nothing,
         Some(to) => {
             let result = graph.view(to);
-            let passing = known.passing(graph, to);
-            result_place(result.size, &passing.classes)
+            let classes = classes_with(graph, to, found);
+            result_place(result.size, &classes)
         }
     }
 }
 
-/// What a result takes of what arguments are passed in: the address of a hidden one takes the first general register.
+/// The argument registers that a result takes: the address of a hidden result takes the first general register.
 pub fn registers_of_result(outcome: &Place) -> ArgumentRegisters
     ensures { result ≡ what_the_result_takes outcome.now }
 {

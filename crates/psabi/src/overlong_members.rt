@@ -3,8 +3,10 @@ ghost use Rattle.std.specs.Prelude.{◌≡◌, ◌<◌, length};
 ghost use Rattle.std.specs.Option.{option_map};
 ghost use Rattle.abi_types.specs.Graphs.{view_at, part_at};
 ghost use Rattle.abi_types.specs.Parts.{plain_part};
-ghost use Rattle.psabi.specs.Past.{extent as the_extent, own_past as the_own_past, led_to as the_led_to, ends_past as the_object_ends_past};
+ghost use Rattle.psabi.specs.Found.{IsRight};
+ghost use Rattle.psabi.specs.Past as spec;
 
+use crate::found::{Found, found_at, keep_past};
 use crate::kinds::is_aggregate;
 use crate::sizes::BYTE_BITS;
 use abi_types::{Graph, Index, Part, View};
@@ -13,7 +15,7 @@ use abi_types::{Graph, Index, Part, View};
 /// 0.
 pub fn extent<Ix: Index>(graph: &Graph<Ix>, width: u64, to: Ix) -> u64
     requires inside { Ix.number_of to < length graph.now }
-    ensures { result ≡ the_extent graph.now width (Ix.number_of to) }
+    ensures { result ≡ spec.extent graph.now width (Ix.number_of to) }
 {
     graph.known();
     let view = graph.view(to);
@@ -28,7 +30,7 @@ pub fn extent<Ix: Index>(graph: &Graph<Ix>, width: u64, to: Ix) -> u64
 fn own_past<Ix: Index>(graph: &Graph<Ix>, ix: Ix, k: usize) -> bool
     requires inside { Ix.number_of ix < length graph.now }
     requires k { k < length (view_at graph.now (Ix.number_of ix)).parts }
-    ensures { result ≡ the_own_past graph.now (view_at graph.now (Ix.number_of ix)) (part_at (view_at graph.now (Ix.number_of ix)) k) }
+    ensures { result ≡ spec.own_past graph.now (view_at graph.now (Ix.number_of ix)) (part_at (view_at graph.now (Ix.number_of ix)) k) }
 {
     graph.known();
     let view = graph.view(ix);
@@ -41,9 +43,9 @@ fn own_past<Ix: Index>(graph: &Graph<Ix>, ix: Ix, k: usize) -> bool
     }
 }
 
-// What a part leads on to: the type of a member, or of elements where there are some.
+// The type to check next for a part: that of a member, or of the elements of an array that has some.
 fn led_to<Ix: Index>(view: &View<Ix>, part: &Part<Ix>) -> Option<Ix>
-    ensures { option_map Ix.number_of result ≡ the_led_to view.now (plain_part Ix.number_of part.now) }
+    ensures { option_map Ix.number_of result ≡ spec.led_to view.now (plain_part Ix.number_of part.now) }
 {
     match part {
         Part::Member { to, .. } => Some(*to),
@@ -52,26 +54,32 @@ fn led_to<Ix: Index>(view: &View<Ix>, part: &Part<Ix>) -> Option<Ix>
     }
 }
 
-/// Whether a member of the node's object, or of an aggregate inside it, ends past the aggregate whose member it is. It looks at
-/// types alone, and not at each element of an array. It calls itself at most 513 deep, since no rank is above 512.
-pub fn ends_past<Ix: Index>(graph: &Graph<Ix>, ix: Ix) -> bool
-    requires { Ix.number_of ix < length graph.now }
-    ensures { result ≡ the_object_ends_past graph.now (Ix.number_of ix) }
+/// Whether a member of the node's object, or of an aggregate inside it, ends past the aggregate whose member it is. It visits
+/// types and not array elements, each type once: it looks up what `found` already has, and adds what it computes. It calls
+/// itself at most 513 deep, since no rank is above 512.
+pub fn ends_past<Ix: Index>(graph: &Graph<Ix>, ix: Ix, found: &mut [Found]) -> bool
+    requires inside { Ix.number_of ix < length graph.now }
+    requires right { IsRight graph.now found.now }
+    ensures past { result ≡ spec.ends_past graph.now (Ix.number_of ix) }
+    ensures right { IsRight graph.now found.new }
 {
     graph.known();
     let view = graph.view(ix);
     if !is_aggregate(view.kind) {
         return false;
     }
+    if let Some(past) = found_at(ix, found).ends_past {
+        return past;
+    }
     for k in 0..view.parts_len() {
         if own_past(graph, ix, k) {
-            return true;
+            return keep_past(graph, ix, true, found);
         }
         if let Some(to) = led_to(view, view.part(k)) {
-            if ends_past(graph, to) {
-                return true;
+            if ends_past(graph, to, found) {
+                return keep_past(graph, ix, true, found);
             }
         }
     }
-    false
+    keep_past(graph, ix, false, found)
 }

@@ -2,14 +2,14 @@
 ghost use Rattle.std.specs.Prelude.{◌≡◌, ◌≤◌, length};
 ghost use Rattle.std.specs.List.{list_all};
 ghost use Rattle.psabi.specs.Class.{is_no_class};
-ghost use Rattle.psabi.specs.Registers.{general_count as the_general_count, vector_count as the_vector_count, has_no_place as it_has_no_place};
+ghost use Rattle.psabi.specs.Registers as spec;
 
 use crate::class::Class;
 
 /// How many general registers an object takes whose eightbytes have these classes.
 #[tactic(auto, unfolding(crate::specs::Registers::general_count))]
 pub fn general_count(classes: &[Class]) -> u64
-    ensures number { result ≡ the_general_count classes.now }
+    ensures number { result ≡ spec.general_count classes.now }
     ensures few { result ≤ length classes.now }
 {
     classes
@@ -21,7 +21,7 @@ pub fn general_count(classes: &[Class]) -> u64
 /// How many vector registers an object takes whose eightbytes have these classes.
 #[tactic(auto, unfolding(crate::specs::Registers::vector_count))]
 pub fn vector_count(classes: &[Class]) -> u64
-    ensures number { result ≡ the_vector_count classes.now }
+    ensures number { result ≡ spec.vector_count classes.now }
     ensures few { result ≤ length classes.now }
 {
     classes
@@ -39,7 +39,7 @@ fn have_no_class(classes: &[Class]) -> bool
 /// Whether nothing of an object of this size and these classes is in a register or on the stack.
 #[tactic(auto, unfolding(crate::specs::Registers::has_no_place))]
 pub fn has_no_place(size: u64, classes: &[Class; 8]) -> bool
-    ensures { result ≡ it_has_no_place size classes.now }
+    ensures { result ≡ spec.has_no_place size classes.now }
 {
     if size == 0 {
         return true;

@@ -2,7 +2,8 @@
 // "Classification"). The rows of `_Float16`, of decimal numbers and of complex numbers of 4 and of 32 bytes are this
 // project's own.
 ghost use Rattle.std.specs.Prelude.{◌≡◌};
-ghost use Rattle.psabi.specs.Rows.{row as the_row, integer_row as the_integer_row, float_row as the_float_row, quad_row as the_quad_row, complex_row as the_complex_row, decimal_row as the_decimal_row, vector_row as the_vector_row, all_memory_class, one as the_one, two as the_two, four as the_four, eight as the_eight};
+ghost use Rattle.psabi.specs.Rows.{all_memory_class};
+ghost use Rattle.psabi.specs.Rows as spec;
 
 use crate::class::Class;
 use crate::sizes::{
@@ -15,25 +16,25 @@ const NONE: Class = Class::NoClass;
 
 /// One eightbyte of this class.
 pub fn one(first: Class) -> [Class; 8]
-    ensures { result ≡ the_one first }
+    ensures { result ≡ spec.one first }
 {
     [first, NONE, NONE, NONE, NONE, NONE, NONE, NONE]
 }
 
 fn two(first: Class, second: Class) -> [Class; 8]
-    ensures { result ≡ the_two first second }
+    ensures { result ≡ spec.two first second }
 {
     [first, second, NONE, NONE, NONE, NONE, NONE, NONE]
 }
 
 fn four(first: Class, rest: Class) -> [Class; 8]
-    ensures { result ≡ the_four first rest }
+    ensures { result ≡ spec.four first rest }
 {
     [first, rest, rest, rest, NONE, NONE, NONE, NONE]
 }
 
 fn eight(first: Class, rest: Class) -> [Class; 8]
-    ensures { result ≡ the_eight first rest }
+    ensures { result ≡ spec.eight first rest }
 {
     [first, rest, rest, rest, rest, rest, rest, rest]
 }
@@ -46,7 +47,7 @@ pub fn all_memory_class() -> [Class; 8]
 }
 
 fn integer_row(size: u64) -> [Class; 8]
-    ensures { result ≡ the_integer_row size }
+    ensures { result ≡ spec.integer_row size }
 {
     if size == 0 {
         one(NONE)
@@ -60,7 +61,7 @@ fn integer_row(size: u64) -> [Class; 8]
 }
 
 fn float_row(size: u64) -> [Class; 8]
-    ensures { result ≡ the_float_row size }
+    ensures { result ≡ spec.float_row size }
 {
     match size {
         FLOAT16 | FLOAT | DOUBLE => one(Class::Sse),
@@ -70,7 +71,7 @@ fn float_row(size: u64) -> [Class; 8]
 }
 
 fn quad_row(size: u64) -> [Class; 8]
-    ensures { result ≡ the_quad_row size }
+    ensures { result ≡ spec.quad_row size }
 {
     match size {
         FLOAT128 => two(Class::Sse, Class::SseUp),
@@ -79,7 +80,7 @@ fn quad_row(size: u64) -> [Class; 8]
 }
 
 fn decimal_row(size: u64) -> [Class; 8]
-    ensures { result ≡ the_decimal_row size }
+    ensures { result ≡ spec.decimal_row size }
 {
     match size {
         DECIMAL32 | DECIMAL64 => one(Class::Sse),
@@ -89,7 +90,7 @@ fn decimal_row(size: u64) -> [Class; 8]
 }
 
 fn complex_row(size: u64) -> [Class; 8]
-    ensures { result ≡ the_complex_row size }
+    ensures { result ≡ spec.complex_row size }
 {
     match size {
         COMPLEX_FLOAT16 | COMPLEX_FLOAT => one(Class::Sse),
@@ -100,7 +101,7 @@ fn complex_row(size: u64) -> [Class; 8]
 }
 
 fn vector_row(size: u64) -> [Class; 8]
-    ensures { result ≡ the_vector_row size }
+    ensures { result ≡ spec.vector_row size }
 {
     match size {
         M64 => one(Class::Sse),
@@ -114,7 +115,7 @@ fn vector_row(size: u64) -> [Class; 8]
 /// The classes of the eightbytes of an object that is a leaf.
 #[tactic(auto, unfolding(crate::specs::Rows::row))]
 pub fn row(kind: Kind, group: Group, size: u64) -> [Class; 8]
-    ensures { result ≡ the_row kind group size }
+    ensures { result ≡ spec.row kind group size }
 {
     match kind {
         Kind::Scalar => match group {

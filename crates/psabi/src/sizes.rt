@@ -72,11 +72,11 @@ pub const EIGHTBYTE: u64 = 8;
 /// How many bits an eightbyte has.
 pub const EIGHTBYTE_BITS: u64 = 64;
 
-/// How many eightbytes an object has at most that may be in registers.
+/// The most eightbytes that an object in registers can have.
 pub const EIGHTBYTES: usize = 8;
 
-/// How many bytes an object has at most that may be in registers.
+/// The most bytes that an object in registers can have.
 pub const OBJECT_LIMIT: u64 = 64;
 
-/// How many bytes an aggregate has at most that may be in registers and is no vector: two eightbytes.
+/// The most bytes that an aggregate in registers can have if it is no vector: two eightbytes.
 pub const PAIR_LIMIT: u64 = 16;

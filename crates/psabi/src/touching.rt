@@ -2,7 +2,7 @@
 ghost use Rattle.std.specs.Prelude.{◌≡◌, ◌<◌, ◌≤◌, ◌+◌};
 ghost use Rattle.abi_types.specs.Limits.{size_limit};
 ghost use Rattle.psabi.specs.Psabi.{eightbyte_limit, object_bits};
-ghost use Rattle.psabi.specs.Touching.{bits_of as the_bits_of, touches as the_leaf_touches, class_in as the_class_in, is_aligned as the_leaf_is_aligned};
+ghost use Rattle.psabi.specs.Touching as spec;
 
 use crate::alignment::natural_align;
 use crate::class::Class;
@@ -13,7 +13,7 @@ use abi_types::Leaf;
 /// How many bits a leaf has.
 pub fn bits_of(leaf: &Leaf) -> u64
     requires { leaf.now.size ≤ size_limit }
-    ensures { result ≡ the_bits_of leaf.now }
+    ensures { result ≡ spec.bits_of leaf.now }
 {
     if leaf.width == 0 {
         BYTE_BITS * leaf.size
@@ -26,9 +26,9 @@ pub fn bits_of(leaf: &Leaf) -> u64
 #[tactic(auto, unfolding(crate::specs::Touching::touches))]
 pub fn touches(leaf: &Leaf, k: usize) -> bool
     requires size { leaf.now.size ≤ size_limit }
-    requires room { leaf.now.bit + the_bits_of leaf.now ≤ object_bits }
+    requires room { leaf.now.bit + spec.bits_of leaf.now ≤ object_bits }
     requires k { k < eightbyte_limit }
-    ensures { result ≡ the_leaf_touches leaf.now k }
+    ensures { result ≡ spec.touches leaf.now k }
 {
     let from = EIGHTBYTE_BITS * (k as u64);
     if leaf.bit >= from + EIGHTBYTE_BITS {
@@ -41,9 +41,9 @@ pub fn touches(leaf: &Leaf, k: usize) -> bool
 #[tactic(auto, unfolding(crate::specs::Touching::class_in, crate::specs::Touching::touches))]
 pub fn class_in(leaf: &Leaf, k: usize) -> Class
     requires size { leaf.now.size ≤ size_limit }
-    requires room { leaf.now.bit + the_bits_of leaf.now ≤ object_bits }
+    requires room { leaf.now.bit + spec.bits_of leaf.now ≤ object_bits }
     requires k { k < eightbyte_limit }
-    ensures { result ≡ the_class_in leaf.now k }
+    ensures { result ≡ spec.class_in leaf.now k }
 {
     if leaf.width != 0 {
         return Class::Integer;
@@ -55,11 +55,11 @@ pub fn class_in(leaf: &Leaf, k: usize) -> Class
     row[own as usize]
 }
 
-/// Whether the leaf is a bit field, or stands at a multiple of its natural alignment.
+/// Whether the leaf is a bit field or stands at a multiple of its natural alignment.
 #[tactic(auto, unfolding(crate::specs::Touching::is_aligned))]
 pub fn is_aligned(leaf: &Leaf) -> bool
     requires { leaf.now.size ≤ size_limit }
-    ensures { result ≡ the_leaf_is_aligned leaf.now }
+    ensures { result ≡ spec.is_aligned leaf.now }
 {
     if leaf.width != 0 {
         return true;

@@ -2,12 +2,12 @@
 use Rattle.std.proofs.Common.{◌≡◌, ◌∙◌, refl, length, arith}
 use Rattle.std.proofs.lemmas.List.FromFn.{map-range_with_len_more, length-map-range_with_len}
 use Rattle.psabi.specs.Calls.{call_of}
-use Rattle.psabi.proofs.PassingLemmas.{IsRight-none}
+use Rattle.psabi.proofs.FoundLemmas.{IsRight-none}
 use Rattle.psabi.proofs.calling.call_shapes.Goals as goal
 
 pub loop-i-init : goal.loop-i-init
 loop-i-init g c = record {
-  right = IsRight-none c.args.graph.now c.in_ok-known.known c.in_ok-known.ensures.none;
+  right = rw c.as_mut_slice-found.ensures.value (IsRight-none c.args.graph.now c.in_ok-room.room.items c.in_ok-room.ensures);
   shapes = c.new-shapes.ensures;
 }
 

@@ -42,7 +42,7 @@ loop-k-preserved g c =
           let e : param_of (part_at v c.loop-k.k) ≡ Some to = rw (← c.part.ensures) (sym w.in-Some.ensures) in
           let next : c.match-param.params ≡ c.loop-k.params ++ w.place_argument-place.result ∷ [] = w.params-is ∙ w.in_ok-push.ensures.ok in
           record {
-            right = rw w.known-is w.place_argument-place.ensures.right;
+            right = rw w.found-is w.place_argument-place.ensures.right;
             params = placed-params nodes start c.loop-k.taken v.parts c.loop-k.k to w.place_argument-place.result c.loop-k.params c.match-param.params lt e c.loop-k.invariant.params c.loop-k.invariant.taken w.place_argument-place.ensures.place next;
             taken = placed-taken nodes start c.loop-k.taken c.match-param.taken v.parts c.loop-k.k to lt e c.loop-k.invariant.taken (w.taken-is ∙ w.place_argument-place.ensures.taken);
             general = rw w.taken-is w.place_argument-place.ensures.general;
@@ -53,7 +53,7 @@ loop-k-preserved g c =
           let e : param_of (part_at v c.loop-k.k) ≡ None = rw (← c.part.ensures) (sym w.in_default.ensures) in
           let same = params-none v.parts c.loop-k.k lt e in
           record {
-            right = rw w.known-is c.loop-k.invariant.right;
+            right = rw w.found-is c.loop-k.invariant.right;
             params = rw (same, w.params-is) c.loop-k.invariant.params;
             taken = rw (same, w.taken-is) c.loop-k.invariant.taken;
             general = rw w.taken-is c.loop-k.invariant.general;

@@ -1,0 +1,103 @@
+// What is known of types so far, so that a type which many others hold is computed once.
+ghost use Rattle.std.specs.Prelude.{◌≡◌, ◌<◌, ℕ, length, slice_index_or, IfOk, IfSome};
+ghost use Rattle.psabi.specs.Alignment.{align_of};
+ghost use Rattle.psabi.specs.Classes.{classes_of};
+ghost use Rattle.psabi.specs.Found.{IsRight};
+ghost use Rattle.psabi.specs.Found as spec;
+ghost use Rattle.psabi.specs.Past.{ends_past};
+
+use crate::class::Class;
+use abi_base::NoMemory;
+use abi_types::{Graph, Index};
+use std::alloc::Global;
+
+/// What is known of a node's object so far.
+#[derive(Clone, Copy)]
+pub struct Found {
+    /// Its alignment in bytes.
+    pub align: Option<u64>,
+    /// Whether a member of it, or of an aggregate inside it, ends past the aggregate whose member it is.
+    pub ends_past: Option<bool>,
+    /// The classes of its eightbytes.
+    pub classes: Option<[Class; 8]>,
+}
+
+// Nothing is known yet.
+fn nothing_found() -> Found
+    ensures { result ≡ spec.nothing_found }
+{
+    Found {
+        align: None,
+        ends_past: None,
+        classes: None,
+    }
+}
+
+/// A table for so many nodes, each at its number, in which nothing is known yet.
+pub fn room_for(alloc: Global, len: usize) -> Result<Vec<Found>, NoMemory>
+    ensures { IfOk result (λ found. (i : ℕ) → slice_index_or found.items i spec.nothing_found ≡ spec.nothing_found) }
+{
+    let mut found = Vec::new(alloc);
+    for _k in 0..len {
+        found.push(nothing_found())?;
+    }
+    Ok(found)
+}
+
+/// What is known of a node: nothing, if the table has no entry for it.
+pub fn found_at<Ix: Index>(ix: Ix, found: &[Found]) -> Found
+    ensures { result ≡ slice_index_or found.now (Ix.number_of ix) spec.nothing_found }
+{
+    let number = ix.number();
+    if number < found.len() {
+        return found[number];
+    }
+    nothing_found()
+}
+
+/// Keeps the node's alignment, if the table has an entry for it, and returns it.
+pub fn keep_align<Ix: Index>(graph: &Graph<Ix>, ix: Ix, align: u64, found: &mut [Found]) -> u64
+    requires right { IsRight graph.now found.now }
+    requires align { align ≡ align_of graph.now (Ix.number_of ix) }
+    ensures right { IsRight graph.now found.new }
+    ensures align { result ≡ align_of graph.now (Ix.number_of ix) }
+{
+    let number = ix.number();
+    if number < found.len() {
+        found[number].align = Some(align);
+    }
+    align
+}
+
+/// Keeps whether a member ends past, if the table has an entry for the node, and returns it.
+pub fn keep_past<Ix: Index>(graph: &Graph<Ix>, ix: Ix, past: bool, found: &mut [Found]) -> bool
+    requires right { IsRight graph.now found.now }
+    requires past { past ≡ ends_past graph.now (Ix.number_of ix) }
+    ensures right { IsRight graph.now found.new }
+    ensures past { result ≡ ends_past graph.now (Ix.number_of ix) }
+{
+    let number = ix.number();
+    if number < found.len() {
+        found[number].ends_past = Some(past);
+    }
+    past
+}
+
+/// Keeps the classes of the node's object, if the table has an entry for it, and returns them.
+pub fn keep_classes<Ix: Index>(
+    graph: &Graph<Ix>,
+    ix: Ix,
+    classes: [Class; 8],
+    found: &mut [Found],
+) -> [Class; 8]
+    requires right { IsRight graph.now found.now }
+    requires classes { classes ≡ classes_of graph.now (Ix.number_of ix) }
+    ensures right { IsRight graph.now found.new }
+    ensures classes { result ≡ classes_of graph.now (Ix.number_of ix) }
+{
+    let number = ix.number();
+    if number < found.len() {
+        found[number].classes = Some(classes);
+    }
+    classes
+}
