@@ -1,14 +1,15 @@
 -- An accepted certificate is a proof.
-use Rattle.std.proofs.Common.{◌≡◌, ◌<◌, ◌&&◌, ◌==◌, ℕ, Bool, true, false, List, [], ◌∷◌, length, slice_get, Option, Some, None, refl, sym, ◌∙◌, ap, subst, inl, inr, arith}
+use Rattle.std.proofs.Common.{◌≡◌, ◌<◌, ◌&&◌, ℕ, Bool, true, false, List, [], ◌∷◌, length, slice_get, Option, Some, None, refl, sym, ◌∙◌, ap, subst, inl, inr, arith}
 use Rattle.std.specs.Prelude.{slice_index_or, ◌↔◌}
 use Rattle.std.specs.List.{range_with_len, AllByRecursion, Contains}
-use Rattle.std.proofs.lemmas.Bool.{cases_Bool, and_parts, and_from, eqb-true, lt-ltb}
+use Rattle.std.proofs.lemmas.Bool.{cases_Bool, and_parts, and_from, lt-ltb}
 use Rattle.std.proofs.lemmas.Option.{same_Some, none-some, slice_get_within}
 use Rattle.abi_types.specs.declared.kind.Way.TheVariants.{Direct}
 use Rattle.abi_types.specs.declared.kind.Way.{Way}
 use Rattle.abi_types.specs.Types.{PlainNode}
 use Rattle.abi_types.specs.Exports.{PlainExport}
 use Rattle.abi_types.specs.Graphs.{IsGraph, node_at, node_of}
+use Rattle.abi_types.proofs.lemmas.Nodes.{node_of-is}
 use Rattle.pair_rules.specs.Steps.{PlainRoot, Task, Triple}
 use Rattle.pair_rules.specs.Paths.{root_triple}
 use Rattle.pair_rules.specs.Closed.{IsClosed, HoldsRoots}
@@ -22,18 +23,9 @@ use Rattle.cert_check.specs.Relation.{relation_of}
 use Rattle.cert_check.specs.TypedPairs.{IsTypedPair, HasTypes}
 use Rattle.cert_check.specs.Accepted.{Place, heads, joined, Binding, Rules, AlikeOld, AlikeNew, Root, Rule, Partners, groups, places, binding_places, pair_places, IsAccepted, Case, line_of, rep, class_in, old_class, new_class, listed, is_line, KeepsAlike, KeepsBinding, KeepsRule, KeepsPartners, Keeps}
 use Rattle.cert_check.proofs.ListLemmas.{at_contains}
-use Rattle.cert_check.proofs.First.{grouped, join, each-at, each-from, twos-at, twos-from, find_range, filter_map-given}
+use Rattle.cert_check.proofs.First.{grouped, join, each-at, each-from, twos-at, twos-from, filter_map-given}
 use Rattle.cert_check.proofs.Numbered.{given_there, given_ascends}
 use Rattle.cert_check.proofs.Lines.{line_of-some, rep-some, rep-none, is_line-at}
-
--- ---- the node of an entry
-
--- what `node_of` gives is a node of that entry
-pub node_of-is : (nodes : List PlainNode) (entry i : ℕ) → node_of nodes entry ≡ Some i → (i < length nodes) × ((node_at nodes i).entry ≡ entry)
-unfolding node_of
-node_of-is nodes entry i e =
-    let found = find_range (λ j. (node_at nodes j).entry == entry) 0 (length nodes) i e in
-    (omega (arith, found.1), eqb-true (node_at nodes i).entry entry found.2)
 
 -- ---- classes
 

@@ -10,7 +10,7 @@ use Rattle.pair_rules.specs.ExportRules.{export_breaks}
 use Rattle.pair_rules.specs.Steps.{PlainRoot, Task}
 use Rattle.pair_rules.specs.Closed.{AreCompatible}
 
--- two libraries, and what is not compared of the old one
+-- two libraries, and the marks of the old one: which exports and types are left out
 pub record Sides : Type 0 where
   pub old : PlainLibrary
   pub new : PlainLibrary

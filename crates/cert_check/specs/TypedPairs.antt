@@ -1,4 +1,4 @@
--- Typed pairs: the types of the exports that are compared and of those that they bind to.
+-- Typed pairs: the type of a compared export, and the type of the new export that it binds to.
 use Rattle.std.specs.Prelude.{◌≡◌, ◌<◌, true, length, Some}
 use Rattle.abi_types.specs.Exports.{PlainExport}
 use Rattle.abi_types.specs.Graphs.{node_of}

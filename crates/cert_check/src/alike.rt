@@ -1,21 +1,22 @@
 // The alike lines.
 ghost use Rattle.std.specs.Prelude.{◌≡◌, ◌<◌, ◌↔◌, ◌+◌, IsTrue, is_none, length};
 ghost use Rattle.cert_text.specs.Certs.{Ascend, first_cmp};
-ghost use Rattle.cert_check.specs.Accepted.{Settles, AlikeOld, AlikeNew, KeepsAlike, each, line_of as the_line_of};
+ghost use Rattle.cert_check.specs.Accepted.{Settles, AlikeOld, AlikeNew, KeepsAlike, each};
+ghost use Rattle.cert_check.specs.Accepted as spec;
 ghost use Rattle.cert_check.specs.Finds.{FindsFirst};
 ghost use Rattle.cert_check.specs.CertifiedPair.{case_of};
 
-use crate::certified_pair::{CertifiedPair, alike_new_of, alike_old_of, find};
+use crate::certified_pair::{CertifiedPair, find};
 use crate::lookups::line_of;
 use crate::refused::{Refused, RefusedKind};
 use crate::same_looks::look_alike;
 use abi_types::{Index, Library};
-use cert_text::Cert;
+use cert_text::{Cert, alike_new_of, alike_old_of};
 
 // Whether an entry has no alike line.
 fn is_own(lines: &[(u64, u64)], entry: u64) -> bool
     requires { Ascend first_cmp lines.now }
-    ensures { result ≡ is_none (the_line_of lines.now entry) }
+    ensures { result ≡ is_none (spec.line_of lines.now entry) }
 {
     line_of(lines, entry).is_none()
 }

@@ -2,20 +2,21 @@
 ghost use Rattle.std.specs.Prelude.{◌≡◌, ◌==◌, ◌↔◌, IsTrue};
 ghost use Rattle.abi_types.specs.Plain.{plain_export};
 ghost use Rattle.cert_text.specs.Certs.{Ascend, first_cmp};
-ghost use Rattle.cert_check.specs.Accepted.{Settles, HasBinding, line_of as the_line_of, binding_places};
-ghost use Rattle.cert_check.specs.Bindings.{IsOwned, FindsUnbound, FindsUnowned, least as the_least};
+ghost use Rattle.cert_check.specs.Accepted.{Settles, HasBinding, binding_places};
+ghost use Rattle.cert_check.specs.Accepted as accepted;
+ghost use Rattle.cert_check.specs.Bindings.{IsOwned, FindsUnbound, FindsUnowned};
+ghost use Rattle.cert_check.specs.Bindings as bindings;
 ghost use Rattle.cert_check.specs.CertifiedPair.{case_of};
 
-use crate::certified_pair::{
-    CertifiedPair, binds_of, bound_to, export_at, export_count, is_compared,
-};
+use crate::certified_pair::{CertifiedPair, bound_to, export_at, export_count, is_compared};
 use crate::refused::{Refused, RefusedKind};
 use abi_types::Export;
+use cert_text::binds_of;
 
 /// What stands behind a symbol's number on the bind line that begins with it, by binary search.
 pub fn line_of(lines: &[(u32, u32)], symbol: u32) -> Option<u32>
     requires { Ascend first_cmp lines.now }
-    ensures { result ≡ the_line_of lines.now symbol }
+    ensures { result ≡ accepted.line_of lines.now symbol }
 {
     match lines.binary_search_by_key(&symbol, |line| line.0) {
         Ok(k) => Some(lines[k].1),
@@ -88,7 +89,7 @@ fn first_unowned(ground: &CertifiedPair) -> Option<u32>
 
 // The lesser of two numbers, where there are any.
 fn least(one: Option<u32>, other: Option<u32>) -> Option<u32>
-    ensures { result ≡ the_least one other }
+    ensures { result ≡ bindings.least one other }
 {
     match (one, other) {
         (Some(one), Some(other)) => { if one < other { Some(one) } else { Some(other) } }

@@ -1,10 +1,9 @@
-// What is checked, and what is read of it.
+// The pair of libraries that a certificate is checked against, and how the checks read it.
 ghost use Rattle.std.specs.Prelude.{◌≡◌, ◌<◌, not, length, false, slice_index_or, slice_get, Some, None, IfSome, MatchOption};
 ghost use Rattle.std.specs.Option.{option_map};
 ghost use Rattle.abi_types.specs.Graphs.{view_at, node_of};
 ghost use Rattle.abi_types.specs.Plain.{plain_export};
-ghost use Rattle.pair_rules.specs.Steps.{is_marked as the_node_is_marked};
-ghost use Rattle.cert_text.specs.Certs.{Ascend, first_cmp};
+ghost use Rattle.pair_rules.specs.Steps as spec;
 ghost use Rattle.cert_check.specs.Compatible.{task_of, bound};
 ghost use Rattle.cert_check.specs.Accepted.{symbol_of};
 ghost use Rattle.cert_check.specs.CertifiedPair.{case_of, NamesNodes};
@@ -24,7 +23,7 @@ pub struct CertifiedPair<'x, 'o, 'n> {
 
 /// Whether an old node is marked at a way.
 pub fn is_marked(ground: &CertifiedPair, node: OldIx, way: Way) -> bool
-    ensures { result ≡ the_node_is_marked (task_of (case_of ground.now).sides) node way }
+    ensures { result ≡ spec.is_marked (task_of (case_of ground.now).sides) node way }
 {
     let flags = match way {
         Way::Direct => ground.marks.direct.as_slice(),
@@ -53,33 +52,6 @@ pub fn view_of<'x, 'a, Ix: Index>(library: &'x Library<'a, Ix>, ix: Ix) -> &'x V
     let graph = library.graph();
     graph.known();
     graph.view(ix)
-}
-
-/// The bind lines of a certificate.
-pub fn binds_of(cert: &Cert) -> &[(u32, u32)]
-    ensures value { result.now ≡ cert.now.binds }
-    ensures ascend { Ascend first_cmp result.now }
-{
-    cert.known();
-    cert.binds.as_slice()
-}
-
-/// The alike lines of the old library.
-pub fn alike_old_of(cert: &Cert) -> &[(u64, u64)]
-    ensures value { result.now ≡ cert.now.alike_old }
-    ensures ascend { Ascend first_cmp result.now }
-{
-    cert.known();
-    cert.alike_old.as_slice()
-}
-
-/// The alike lines of the new library.
-pub fn alike_new_of(cert: &Cert) -> &[(u64, u64)]
-    ensures value { result.now ≡ cert.now.alike_new }
-    ensures ascend { Ascend first_cmp result.now }
-{
-    cert.known();
-    cert.alike_new.as_slice()
 }
 
 /// Whether the old export at a position is compared: no rule drops it.

@@ -1,10 +1,12 @@
 // The rules of exports, and the pair lines of their types.
 ghost use Rattle.std.specs.Prelude.{◌≡◌, ◌<◌, ◌↔◌, IsTrue, length};
 ghost use Rattle.abi_types.specs.Plain.{plain_export};
-ghost use Rattle.cert_check.specs.Compatible.{KeepsExport, is_typed as the_export_is_typed};
+ghost use Rattle.cert_check.specs.Compatible.{KeepsExport};
+ghost use Rattle.cert_check.specs.Compatible as compatible;
 ghost use Rattle.cert_check.specs.Accepted.{Settles, Rules, Root, KeepsRules, KeepsRoot, each};
 ghost use Rattle.cert_check.specs.Finds.{FindsFirst};
-ghost use Rattle.cert_check.specs.CertifiedPair.{case_of, has_root_line as it_has_a_root_line};
+ghost use Rattle.cert_check.specs.CertifiedPair.{case_of};
+ghost use Rattle.cert_check.specs.CertifiedPair as certified_pair_spec;
 
 use crate::certified_pair::{
     CertifiedPair, bound_to, export_at, export_count, is_compared, symbol_at,
@@ -63,14 +65,14 @@ pub fn check_rules(ground: &CertifiedPair) -> Result<(), Refused>
 
 // Whether an export has a type.
 fn is_typed(export: &Export) -> bool
-    ensures { result ≡ the_export_is_typed (plain_export export.now) }
+    ensures { result ≡ compatible.is_typed (plain_export export.now) }
 {
     export.entry != 0
 }
 
 // Whether the types of two exports have a pair line by their representatives, as reached by value.
 fn has_root_line(ground: &CertifiedPair, old: &Export, new: &Export) -> bool
-    ensures { result ≡ it_has_a_root_line (case_of ground.now) (plain_export old.now) (plain_export new.now) }
+    ensures { result ≡ certified_pair_spec.has_root_line (case_of ground.now) (plain_export old.now) (plain_export new.now) }
 {
     let cert = ground.cert;
     cert.known();

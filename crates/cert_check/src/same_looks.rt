@@ -6,11 +6,12 @@ ghost use Rattle.abi_types.specs.Graphs.{node_at};
 ghost use Rattle.abi_types.specs.Parts.{plain_part};
 ghost use Rattle.abi_types.specs.Plain.{plain_label};
 ghost use Rattle.abi_types.specs.ClassLooks.{look_of, part_seen};
-ghost use Rattle.pair_rules.specs.Same.{same_kind as the_kinds_are_same, same_group as the_groups_are_same, same_place as the_places_are_same};
+ghost use Rattle.pair_rules.specs.Same as same;
 ghost use Rattle.cert_text.specs.Certs.{Ascend, first_cmp};
 ghost use Rattle.cert_check.specs.Accepted.{class_in};
 ghost use Rattle.cert_check.specs.CertifiedPair.{NamesNodes};
-ghost use Rattle.cert_check.specs.Looks.{same_label_kind as the_label_kinds_are_same, same_label as the_labels_are_same, same_part as the_parts_are_same, same_heads as the_heads_are_same, NamesInside};
+ghost use Rattle.cert_check.specs.Looks.{NamesInside};
+ghost use Rattle.cert_check.specs.Looks as looks;
 
 use crate::lookups::rep;
 use abi_types::{Call, Graph, Group, Index, Kind, Label, LabelKind, Part, Place, View};
@@ -23,19 +24,19 @@ fn same_bytes(one: &[u8], other: &[u8]) -> bool
 }
 
 fn same_kind(one: Kind, other: Kind) -> bool
-    ensures { result ≡ the_kinds_are_same one other }
+    ensures { result ≡ same.same_kind one other }
 {
     one == other
 }
 
 fn same_group(one: Group, other: Group) -> bool
-    ensures { result ≡ the_groups_are_same one other }
+    ensures { result ≡ same.same_group one other }
 {
     one == other
 }
 
 fn same_place(one: Place, other: Place) -> bool
-    ensures { result ≡ the_places_are_same one other }
+    ensures { result ≡ same.same_place one other }
 {
     one == other
 }
@@ -47,7 +48,7 @@ fn same_truth(one: bool, other: bool) -> bool
 }
 
 fn same_label_kind(one: LabelKind, other: LabelKind) -> bool
-    ensures { result ≡ the_label_kinds_are_same one other }
+    ensures { result ≡ looks.same_label_kind one other }
 {
     match (one, other) {
         (LabelKind::Structure, LabelKind::Structure)
@@ -60,7 +61,7 @@ fn same_label_kind(one: LabelKind, other: LabelKind) -> bool
 }
 
 fn same_label(one: &Label, other: &Label) -> bool
-    ensures { result ≡ the_labels_are_same (plain_label one.now) (plain_label other.now) }
+    ensures { result ≡ looks.same_label (plain_label one.now) (plain_label other.now) }
 {
     same_label_kind(one.kind, other.kind) && same_bytes(one.name, other.name)
 }
@@ -108,7 +109,7 @@ fn same_part<Ix: Index>(
     requires one { NamesInside graph.now (plain_part Ix.number_of one.now) }
     requires other { NamesInside graph.now (plain_part Ix.number_of other.now) }
     requires ascend { Ascend first_cmp lines.now }
-    ensures { result ≡ the_parts_are_same (class_in graph.now lines.now) (plain_part Ix.number_of one.now) (plain_part Ix.number_of other.now) }
+    ensures { result ≡ looks.same_part (class_in graph.now lines.now) (plain_part Ix.number_of one.now) (plain_part Ix.number_of other.now) }
 {
     match (one, other) {
         (
@@ -178,7 +179,7 @@ fn same_parts<Ix: Index>(
 
 // Whether all of two views but their parts and calls is the same.
 fn same_heads<Ix: Index>(one: &View<Ix>, other: &View<Ix>) -> bool
-    ensures { result ≡ the_heads_are_same one.now other.now }
+    ensures { result ≡ looks.same_heads one.now other.now }
 {
     same_kind(one.kind, other.kind)
         && same_group(one.group, other.group)

@@ -28,7 +28,7 @@ use Rattle.cert_check.specs.Unmarked.{MarkNothing}
 use Rattle.cert_compose.specs.Chains.{PlainChain, IsChain, near, next, far, near_case, next_case, far_case}
 use Rattle.cert_compose.specs.Composed.{IsThrough, IsJoined, IsComposed}
 use Rattle.cert_compose.specs.Between.{NothingBetween, IsLink, BindsThrough, KeepsType}
-use Rattle.cert_compose.proofs.NodeLemmas.{node_of-is}
+use Rattle.abi_types.proofs.lemmas.Nodes.{node_of-is}
 use Rattle.cert_compose.proofs.LineLemmas.{LineLaws, contains_at, at_contains, says, rep-none, rep_own}
 
 -- what the laws below say

@@ -1,4 +1,3 @@
-mod NodeLemmas
 mod LineLemmas
 mod Accepting
 mod RunLemmas

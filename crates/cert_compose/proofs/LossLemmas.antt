@@ -16,7 +16,7 @@ use Rattle.cert_compose.specs.Between.{AreRelated, KeepsTypes}
 use Rattle.cert_compose.specs.Joins.{through}
 use Rattle.cert_compose.specs.Middles.{middle_at, IsMiddle}
 use Rattle.cert_compose.specs.Losses.{keeps_views, keeps_entries, keeps_new, line_keeps, loses, lost_by, lost_entries}
-use Rattle.cert_compose.proofs.NodeLemmas.{node_of-is, node_there}
+use Rattle.abi_types.proofs.lemmas.Nodes.{node_of-at, node_of-is}
 use Rattle.cert_compose.proofs.LineLemmas.{LineLaws, at_contains, rep-some, rep-none, rep_own}
 use Rattle.cert_compose.proofs.JoinLemmas.{in_flat, from_flat, if_in, in_if, only_in, from_through, to_through}
 use Rattle.cert_compose.proofs.TestLemmas.{all_nodes, type_from, from_type, views_same, all_in, one_fails}
@@ -32,11 +32,11 @@ pub record HasRep (nodes : List PlainNode) (lines : List (ℕ × ℕ)) (i : ℕ)
 pub has_rep : LineLaws → (nodes : List PlainNode) → IsGraph nodes → (lines : List (ℕ × ℕ)) → ((k : ℕ) → KeepsAlike nodes lines k) → (i : ℕ) → i < length nodes → HasRep nodes lines i
 has_rep laws nodes graph lines kept i inside = go (line_of lines (node_at nodes i).entry) refl where
   go : (o : Option ℕ) → line_of lines (node_at nodes i).entry ≡ o → HasRep nodes lines i
-  go None is = record { node = i; at = node_there nodes graph (class_in nodes lines i) i inside (rep-none lines (node_at nodes i).entry is); looks = refl }
+  go None is = record { node = i; at = node_of-at nodes (class_in nodes lines i) i graph inside (sym (rep-none lines (node_at nodes i).entry is)); looks = refl }
   go (Some r) is =
       let there = at_contains lines ((node_at nodes i).entry, r) (laws.found lines (node_at nodes i).entry r is) in
       let alike = kept there.0 ((node_at nodes i).entry, r) there.1 in
-      let same : alike.one ≡ i = same_Some alike.one i (sym alike.stands ∙ node_there nodes graph (node_at nodes i).entry i inside refl) in
+      let same : alike.one ≡ i = same_Some alike.one i (sym alike.stands ∙ node_of-at nodes (node_at nodes i).entry i graph inside refl) in
       record {
         node = alike.other;
         at = ap (node_of nodes) (rep-some lines (node_at nodes i).entry r is) ∙ alike.for_it;

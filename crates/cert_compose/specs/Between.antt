@@ -44,7 +44,7 @@ pub record AreRelated (ch : PlainChain) (e f g : ℕ) (way : Way) : Type 0 where
   pub one : relation_of (near_case ch) (record { old = e; new = f; way = way }) ≡ true
   pub other : relation_of (next_case ch) (record { old = f; new = g; way = way }) ≡ true
 
--- what is related to the node through the middle library is not hidden there, and keeps the rules of types
+-- the pairs that lead to the node through the middle library are not hidden there, and keep the rules of types
 pub record KeepsType (ch : PlainChain) (e f g : ℕ) : Type 0 where
   pub shown : hides (view_at ch.first.graph e) (view_at ch.middle.graph f) (view_at ch.last.graph g) ≡ false
   pub keeps : breaks (view_at ch.first.graph e) (view_at ch.last.graph g) ≡ []

@@ -18,7 +18,6 @@ use crate::judge::judge;
 use crate::laws::what_is_composed_is_accepted;
 use crate::lines::{dedup_lines, sort_lines};
 use crate::middles::middles;
-use crate::parts::{alike_new_of, alike_old_of, binds_of, pairs_of};
 use crate::refusal::ComposeRefusal;
 use abi_base::{List, NoMemory};
 use abi_types::Way;
@@ -26,7 +25,7 @@ use cert_check::laws::{
     lines_are_found_where_they_stand, lines_stand_in_the_order_of_their_numbers,
     what_is_accepted_keeps_all,
 };
-use cert_text::Cert;
+use cert_text::{Cert, alike_new_of, alike_old_of, binds_of, pairs_of};
 use std::alloc::Global;
 
 // The lines that the pair lines of two certificates join, in the order of a certificate.

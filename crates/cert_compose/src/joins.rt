@@ -3,7 +3,8 @@ ghost use Rattle.std.specs.Prelude.{◌≡◌, ◌≤◌, ◌++◌, ℕ, length,
 ghost use Rattle.std.proofs.Common.{ltb};
 ghost use Rattle.std.specs.List.Sorted.{IsPartitionPoint, IsNonDecreasingBy};
 ghost use Rattle.cert_text.specs.Certs.{Ascend, PairLine, first_cmp, pair_cmp};
-ghost use Rattle.cert_compose.specs.Joins.{followed, followed_by, through as the_way_through, joins, first_of, line_first, same_way};
+ghost use Rattle.cert_compose.specs.Joins.{followed, followed_by, joins, first_of, line_first, same_way};
+ghost use Rattle.cert_compose.specs.Joins as spec;
 
 use abi_base::{List, NoMemory};
 use abi_types::Way;
@@ -94,7 +95,7 @@ pub fn through(
     requires alike { Ascend first_cmp alike.now }
     requires seconds { Ascend pair_cmp seconds.now }
     requires middles { IsNonDecreasingBy first_of middles.now }
-    ensures { OnOk result (lines.new ≡ lines.old ++ the_way_through alike.now seconds.now middles.now line.0 line.1 line.2) }
+    ensures { OnOk result (lines.new ≡ lines.old ++ spec.through alike.now seconds.now middles.now line.0 line.1 line.2) }
 {
     let start = middles_from(middles, line.1);
     for k in start..middles.len() {

@@ -11,7 +11,6 @@ pub mod laws;
 mod lines;
 mod links;
 mod middles;
-mod parts;
 mod refusal;
 mod types;
 

@@ -3,7 +3,8 @@ ghost use Rattle.std.specs.Prelude.{◌≡◌, ◌<◌, ◌↔◌, ◌||◌, not
 ghost use Rattle.abi_types.specs.Plain.{plain_export};
 ghost use Rattle.elf_bind.specs.Binding.{bind_to};
 ghost use Rattle.cert_check.specs.Accepted.{symbol_of};
-ghost use Rattle.cert_check.specs.Compatible.{KeepsExport, is_typed as the_export_is_typed};
+ghost use Rattle.cert_check.specs.Compatible.{KeepsExport};
+ghost use Rattle.cert_check.specs.Compatible as spec;
 ghost use Rattle.cert_check.specs.Finds.{FindsFirst};
 ghost use Rattle.cert_compose.specs.Between.{BindsThrough, IsLink, KeepsBinding, KeepsRules, KeepsTyped};
 ghost use Rattle.cert_compose.specs.CertifiedChain.{chain_of};
@@ -126,14 +127,14 @@ fn keeps_rules(ground: &CertifiedChain, k: usize) -> bool
 
 // Whether an export has a type.
 fn is_typed(export: &Export) -> bool
-    ensures { result ≡ the_export_is_typed (plain_export export.now) }
+    ensures { result ≡ spec.is_typed (plain_export export.now) }
 {
     export.entry != 0
 }
 
 // Whether the export between two has a type, where these have types.
 fn keeps_type(export: &Export, between: &Export, partner: &Export) -> bool
-    ensures { result ≡ (not (the_export_is_typed (plain_export export.now)) || not (the_export_is_typed (plain_export partner.now)) || the_export_is_typed (plain_export between.now)) }
+    ensures { result ≡ (not (spec.is_typed (plain_export export.now)) || not (spec.is_typed (plain_export partner.now)) || spec.is_typed (plain_export between.now)) }
 {
     !is_typed(export) || !is_typed(partner) || is_typed(between)
 }

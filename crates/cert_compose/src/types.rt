@@ -6,17 +6,19 @@ ghost use Rattle.std.specs.List.Sorted.{IsNonDecreasingBy, IsPermutation, IsSort
 ghost use Rattle.std.specs.Ordering.{nat_cmp};
 ghost use Rattle.abi_types.specs.Graphs.{node_at, node_of, view_at};
 ghost use Rattle.cert_text.specs.Certs.{Ascend, PairLine, first_cmp, pair_cmp};
-ghost use Rattle.cert_check.specs.Accepted.{class_in, rep as the_rep};
+ghost use Rattle.cert_check.specs.Accepted.{class_in};
+ghost use Rattle.cert_check.specs.Accepted as accepted;
 ghost use Rattle.cert_compose.specs.CertifiedChain.{chain_of};
 ghost use Rattle.cert_compose.specs.Joins.{first_of, line_first};
-ghost use Rattle.cert_compose.specs.Losses.{FindsLeastEntry, no_breaks, keeps_views as the_views_keep, keeps_entries as the_entries_keep, keeps_new, line_keeps as the_line_keeps, lost_entries as the_lost_entries, FindsLeast, next_least as the_next_least};
+ghost use Rattle.cert_compose.specs.Losses.{FindsLeastEntry, no_breaks, keeps_new, FindsLeast};
+ghost use Rattle.cert_compose.specs.Losses as losses;
 
 use crate::certified_chain::CertifiedChain;
 use crate::joins::through;
-use crate::parts::{alike_new_of, alike_old_of, pairs_of};
 use abi_base::{List, NoMemory};
 use abi_types::{Graph, Index, Library, NewIx, OldIx, View, Way};
 use cert_check::{line_of, rep};
+use cert_text::{alike_new_of, alike_old_of, pairs_of};
 use pair_rules::holds;
 use std::alloc::Global;
 
@@ -46,7 +48,7 @@ fn keeps_rules(old: &View<OldIx>, new: &View<NewIx>) -> bool
 // Whether two types that are defined have none between them that is declared alone, and the first keeps all rules against the
 // second.
 fn keeps_views(first: &View<OldIx>, middle: &View<NewIx>, last: &View<NewIx>) -> bool
-    ensures { result ≡ the_views_keep first.now middle.now last.now }
+    ensures { result ≡ losses.keeps_views first.now middle.now last.now }
 {
     if middle.declared_only && !first.declared_only && !last.declared_only {
         return false;
@@ -56,7 +58,7 @@ fn keeps_views(first: &View<OldIx>, middle: &View<NewIx>, last: &View<NewIx>) ->
 
 // The same of the types of three entries, where there are any.
 fn keeps_entries(ground: &CertifiedChain, first: u64, middle: u64, last: u64) -> bool
-    ensures { result ≡ the_entries_keep (chain_of ground.now) first middle last }
+    ensures { result ≡ losses.keeps_entries (chain_of ground.now) first middle last }
 {
     let one = match find(ground.first, first) {
         None => return true,
@@ -96,7 +98,7 @@ fn line_keeps(
     line: (u64, u64, Way),
 ) -> Result<bool, NoMemory>
     requires { IsNonDecreasingBy first_of middles.now }
-    ensures { IfOk result (λ keeps. keeps ≡ the_line_keeps (chain_of ground.now) middles.now line) }
+    ensures { IfOk result (λ keeps. keeps ≡ losses.line_keeps (chain_of ground.now) middles.now line) }
 {
     match line_of(alike_old_of(ground.one), line.0) {
         Some(_) => return Ok(true),
@@ -117,7 +119,7 @@ fn lost_entries(
     lines: &[(u64, u64, Way)],
 ) -> Result<Vec<u64>, NoMemory>
     requires { IsNonDecreasingBy first_of middles.now }
-    ensures { IfOk result (λ lost. lost.items ≡ the_lost_entries (chain_of ground.now) middles.now lines.now) }
+    ensures { IfOk result (λ lost. lost.items ≡ losses.lost_entries (chain_of ground.now) middles.now lines.now) }
 {
     let mut lost = Vec::new(alloc);
     for line in lines {
@@ -158,14 +160,14 @@ fn entry_at<Ix: Index>(graph: &Graph<Ix>, number: usize) -> u64
 fn is_lost(alike: &[(u64, u64)], lost: &[u64], entry: u64) -> bool
     requires alike { Ascend first_cmp alike.now }
     requires lost { IsSorted nat_cmp lost.now }
-    ensures { IsTrue result ↔ Contains lost.now (the_rep alike.now entry) }
+    ensures { IsTrue result ↔ Contains lost.now (accepted.rep alike.now entry) }
 {
     is_among(lost, rep(alike, entry))
 }
 
 // The least entry so far, with one more that counts or does not.
 fn next_least(least: Option<u64>, entry: u64, counts: bool) -> Option<u64>
-    ensures { result ≡ the_next_least least entry counts }
+    ensures { result ≡ losses.next_least least entry counts }
 {
     if !counts {
         return least;

@@ -95,7 +95,7 @@ pub record PlainCert1 : Type 0 where
 abbrev pub as_direct : ℕ × ℕ → PairLine
 as_direct pair = record { 0 = pair.0; 1 = pair.1; 2 = Direct }
 
--- the certificate of the pairs reached by value, which has the same lines but for their ways
+-- the certificate of the pairs reached by value, which has the same lines apart from their ways
 abbrev pub with_ways : PlainCert1 → PlainCert
 with_ways c = record {
   old_digest = c.old_digest;

@@ -77,7 +77,7 @@ alike_new_of x = AlikeNew x.0 x.1
 abbrev pub pair_of : PairLine → Line
 pair_of x = Pair x.0 x.1 x.2
 
--- the lines behind the first four, but for the last one
+-- the lines between the first four and the last one
 unfoldable pub body : PlainCert → List Line
 body c = map bind_of c.binds ++ (map alike_old_of c.alike_old ++ (map alike_new_of c.alike_new ++ map pair_of c.pairs))
 

@@ -1,6 +1,7 @@
 // What a line behind the first four says.
 ghost use Rattle.std.specs.Prelude.{◌≡◌};
-ghost use Rattle.cert_text.specs.Forms.{bind_in, alike_old_in, alike_new_in, plain_pair_in, way_in, pair_fields, pair_in, end_in, form_of as the_form_of};
+ghost use Rattle.cert_text.specs.Forms.{bind_in, alike_old_in, alike_new_in, plain_pair_in, way_in, pair_fields, pair_in, end_in};
+ghost use Rattle.cert_text.specs.Forms as spec;
 
 use crate::line::{Line, Version};
 use crate::words::{behind, is_same, number_then, numbers_behind};
@@ -117,7 +118,7 @@ fn end(text: &[u8]) -> Option<Line>
 /// What a line behind the first four says, where it has a form.
 #[tactic(auto, unfolding(crate::specs::Forms::form_of))]
 pub fn form_of(version: Version, text: &[u8]) -> Option<Line>
-    ensures { result ≡ the_form_of version text.now }
+    ensures { result ≡ spec.form_of version text.now }
 {
     if let Some(line) = bind(text) {
         return Some(line);

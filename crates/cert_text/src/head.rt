@@ -2,7 +2,7 @@
 ghost use Rattle.std.specs.Prelude.{◌≡◌, ◌≤◌, ◌<◌, ◌+◌, ◌-◌, length, take, drop, position, Some, None, MatchOption, MatchResult};
 ghost use Rattle.cert_text.specs.Forms.{is_feed};
 ghost use Rattle.cert_text.specs.Faults.{answer_test, digest_test, fault_of};
-ghost use Rattle.cert_text.specs.Grammar.{answer as the_answer};
+ghost use Rattle.cert_text.specs.Grammar as spec;
 ghost use Rattle.cert_text.specs.Steps.{IsRest, StandsAt, Passes, Fails, HasDigest, HasHead, text_at};
 
 use crate::line::Version;
@@ -69,7 +69,7 @@ pub fn order_fault(number: u64) -> Fault
 
 // The text of the first line.
 fn answer(version: Version) -> &'static [u8]
-    ensures { result.now ≡ the_answer version }
+    ensures { result.now ≡ spec.answer version }
 {
     match version {
         Version::One => b"yes 1",
@@ -79,7 +79,7 @@ fn answer(version: Version) -> &'static [u8]
 
 // Where the second line begins, behind the answer.
 fn read_answer(version: Version, bytes: &[u8]) -> Result<usize, Fault>
-    ensures { MatchResult result (λ next. Passes version 1 (answer_test version) bytes.now 0 next (the_answer version)) (λ fault. Fails 1 (answer_test version) bytes.now 0 fault) }
+    ensures { MatchResult result (λ next. Passes version 1 (answer_test version) bytes.now 0 next (spec.answer version)) (λ fault. Fails 1 (answer_test version) bytes.now 0 fault) }
 {
     match line_end(bytes, 0) {
         None => Err(end_fault(1)),

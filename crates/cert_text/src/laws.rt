@@ -1,4 +1,4 @@
-//! What the grammar of certificates comes to. Each law is the contract of a function that does nothing.
+//! Laws of the grammar of certificates. Each law is the contract of a function that does nothing.
 ghost use Rattle.std.specs.Prelude.{◌≡◌, ◌↔◌, ℕ, List, None, Some};
 ghost use Rattle.cert_text.specs.declared.line.Version.{Version};
 ghost use Rattle.cert_text.specs.declared.line.Version.TheVariants.{Two};

@@ -1,6 +1,7 @@
 // The lines of a certificate behind its first four.
 ghost use Rattle.std.specs.Prelude.{◌≡◌, Some};
-ghost use Rattle.cert_text.specs.Faults.{rank as the_rank, is_above as it_is_above, may_follow as it_may_follow, is_end as it_is_end, before_then, way_before as the_way_is_before};
+ghost use Rattle.cert_text.specs.Faults.{before_then};
+ghost use Rattle.cert_text.specs.Faults as spec;
 
 use abi_types::Way;
 
@@ -30,7 +31,7 @@ pub enum Line {
 
 // The place of a line's kind.
 fn rank(line: Line) -> u8
-    ensures { result ≡ the_rank line }
+    ensures { result ≡ spec.rank line }
 {
     match line {
         Line::Bind { .. } => 0,
@@ -43,13 +44,13 @@ fn rank(line: Line) -> u8
 
 /// Whether a line is the last one.
 pub fn is_end(line: Line) -> bool
-    ensures { result ≡ it_is_end (Some line) }
+    ensures { result ≡ spec.is_end (Some line) }
 {
     matches!(line, Line::End)
 }
 
 fn way_before(one: Way, other: Way) -> bool
-    ensures { result ≡ the_way_is_before one other }
+    ensures { result ≡ spec.way_before one other }
 {
     match (one, other) {
         (Way::Direct, Way::Pointer) => true,
@@ -58,7 +59,7 @@ fn way_before(one: Way, other: Way) -> bool
 }
 
 fn pair_before(one: (u64, u64, Way), other: (u64, u64, Way)) -> bool
-    ensures { result ≡ before_then one.0 other.0 (before_then one.1 other.1 (the_way_is_before one.2 other.2)) }
+    ensures { result ≡ before_then one.0 other.0 (before_then one.1 other.1 (spec.way_before one.2 other.2)) }
 {
     if one.0 != other.0 {
         return one.0 < other.0;
@@ -71,7 +72,7 @@ fn pair_before(one: (u64, u64, Way), other: (u64, u64, Way)) -> bool
 
 // Whether the second of two lines of one kind is strictly above the first.
 fn is_above(before: Line, line: Line) -> bool
-    ensures { result ≡ it_is_above before line }
+    ensures { result ≡ spec.is_above before line }
 {
     match (before, line) {
         (Line::Bind { old: one, .. }, Line::Bind { old: other, .. }) => one < other,
@@ -96,7 +97,7 @@ fn is_above(before: Line, line: Line) -> bool
 /// Whether the second line may follow the first: it is of a later kind, or of the same kind and strictly above it.
 #[tactic(auto, unfolding(crate::specs::Faults::may_follow))]
 pub fn may_follow(before: Line, line: Line) -> bool
-    ensures { result ≡ it_may_follow before line }
+    ensures { result ≡ spec.may_follow before line }
 {
     if rank(before) != rank(line) {
         return rank(before) < rank(line);

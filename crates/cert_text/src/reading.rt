@@ -2,7 +2,8 @@
 ghost use Rattle.std.specs.Prelude.{◌≡◌, ◌≤◌, length, MatchResult, IfOk};
 ghost use Rattle.cert_text.specs.Certs.{line_count};
 ghost use Rattle.abi_base.specs.Outcome.{Judges};
-ghost use Rattle.cert_text.specs.Faults.{is_end as it_is_end, end_fault as the_end_fault, fault_of};
+ghost use Rattle.cert_text.specs.Faults.{fault_of};
+ghost use Rattle.cert_text.specs.Faults as spec;
 ghost use Rattle.cert_text.specs.Grammar.{IsSpelled, IsSpelledIn};
 ghost use Rattle.cert_text.specs.Steps.{Accepts, LineFails};
 
@@ -17,7 +18,7 @@ use std::alloc::Global;
 
 // Whether the line before is the last one.
 fn is_over(before: Option<Line>) -> bool
-    ensures { result ≡ it_is_end before }
+    ensures { result ≡ spec.is_end before }
 {
     match before {
         None => false,
@@ -55,7 +56,7 @@ fn read_line(
 
 // What is wrong where the lines end, with what stands behind them.
 fn fault_at_end(number: u64, before: Option<Line>, rest: &[u8]) -> Option<Fault>
-    ensures { result ≡ the_end_fault number before rest.now }
+    ensures { result ≡ spec.end_fault number before rest.now }
 {
     if is_over(before) && rest.is_empty() {
         None

@@ -3,13 +3,14 @@ ghost use Rattle.std.specs.Prelude.{◌≡◌, ◌≤◌, ◌<◌, length, take,
 ghost use Rattle.std.specs.Str.{bytes_eq};
 ghost use Rattle.std.specs.Option.{option_copied};
 ghost use Rattle.hex.specs.Hex.{encode_lower};
-ghost use Rattle.cert_text.specs.Forms.{is_plain as it_is_plain, number_in, space as the_space, number_then as the_number_then, numbers_in, behind as the_rest_behind, numbers_behind as the_numbers_behind, digest_in, digest_behind as the_digest_behind};
+ghost use Rattle.cert_text.specs.Forms.{number_in, numbers_in, digest_in};
+ghost use Rattle.cert_text.specs.Forms as spec;
 
 use hex::FromHex;
 
 // Whether a text has bytes, no sign, and no zero before other digits.
 fn is_plain(text: &[u8]) -> bool
-    ensures { result ≡ it_is_plain text.now }
+    ensures { result ≡ spec.is_plain text.now }
 {
     text.len() > 0 && text[0] != b'+' && (text[0] != b'0' || text.len() == 1)
 }
@@ -32,7 +33,7 @@ pub fn number(text: &[u8]) -> Option<u64>
 
 // The place of the first space.
 fn space(text: &[u8]) -> Option<usize>
-    ensures { result ≡ the_space text.now }
+    ensures { result ≡ spec.space text.now }
 {
     text.iter().position(|byte| *byte == b' ')
 }
@@ -56,7 +57,7 @@ pub fn from(text: &[u8], at: usize) -> &[u8]
 /// The number before the first space, and what stands behind that space.
 #[tactic(auto, unfolding(crate::specs::Forms::number_then))]
 pub fn number_then(text: &[u8]) -> Option<(u64, &[u8])>
-    ensures { MatchOption result (the_number_then text.now ≡ None) (λ found. the_number_then text.now ≡ Some (found.0, found.1.now)) }
+    ensures { MatchOption result (spec.number_then text.now ≡ None) (λ found. spec.number_then text.now ≡ Some (found.0, found.1.now)) }
 {
     match space(text) {
         None => None,
@@ -91,7 +92,7 @@ pub fn is_same(one: &[u8], other: &[u8]) -> bool
 /// What stands behind a word at the front.
 #[tactic(auto, unfolding(crate::specs::Forms::behind), using(crate::proofs::NumberLemmas::none_longer))]
 pub fn behind<'a>(text: &'a [u8], word: &[u8]) -> Option<&'a [u8]>
-    ensures { option_copied result ≡ the_rest_behind word.now text.now }
+    ensures { option_copied result ≡ spec.behind word.now text.now }
 {
     if text.len() < word.len() {
         return None;
@@ -105,7 +106,7 @@ pub fn behind<'a>(text: &'a [u8], word: &[u8]) -> Option<&'a [u8]>
 /// Two numbers behind a word.
 #[tactic(auto, unfolding(crate::specs::Forms::numbers_behind))]
 pub fn numbers_behind(text: &[u8], word: &[u8]) -> Option<(u64, u64)>
-    ensures { result ≡ the_numbers_behind word.now text.now }
+    ensures { result ≡ spec.numbers_behind word.now text.now }
 {
     match behind(text, word) {
         None => None,
@@ -141,7 +142,7 @@ fn digest(text: &[u8]) -> Option<[u8; 32]>
 /// The digest behind a word.
 #[tactic(auto, unfolding(crate::specs::Forms::digest_behind))]
 pub fn digest_behind(text: &[u8], word: &[u8]) -> Option<[u8; 32]>
-    ensures { result ≡ the_digest_behind word.now text.now }
+    ensures { result ≡ spec.digest_behind word.now text.now }
 {
     match behind(text, word) {
         None => None,

@@ -8,7 +8,7 @@ use Rattle.pair_compare.specs.declared.bound_pair.BoundPair.{BoundPair}
 abbrev pub sides_of : BoundPair → Sides
 sides_of g = sides g.old.now g.new.now g.marks.now
 
--- each old export binds to what is said
+-- each old export binds to the new export at its position in the list
 pub record IsBinding (g : BoundPair) : Type 0 where
   pub is : g.bound.now ≡ bind_each g.old.now.exports g.new.now.exports
 

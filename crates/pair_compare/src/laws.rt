@@ -1,4 +1,4 @@
-//! What a comparison of two libraries comes to. Each law is the contract of a function that does nothing but bring in the laws
+//! Laws of the comparison of two libraries. Each law is the contract of a function that does nothing but bring in the laws
 //! below it.
 ghost use Rattle.std.specs.Prelude.{◌≡◌, ◌↔◌, ℕ, [], List, Option, Some, None, map, slice_get};
 ghost use Rattle.abi_base.specs.Outcome.{first};

@@ -1,7 +1,8 @@
 // Where the comparison of the types of two libraries begins.
 ghost use Rattle.std.specs.Prelude.{◌≡◌, ◌<◌, length, false, Some, None, IfOk, MatchOption, slice_get, slice_index_or};
 ghost use Rattle.abi_types.specs.Plain.{plain_export};
-ghost use Rattle.cert_check.specs.Compatible.{is_typed as the_export_is_typed, root_to, typed_root, typed_roots};
+ghost use Rattle.cert_check.specs.Compatible.{root_to, typed_root, typed_roots};
+ghost use Rattle.cert_check.specs.Compatible as spec;
 ghost use Rattle.pair_compare.specs.BoundPair.{IsBinding, partner, sides_of};
 
 use crate::bound_pair::BoundPair;
@@ -60,7 +61,7 @@ fn partner_at<'x, 'n>(ground: &BoundPair<'x, '_, 'n>, k: usize) -> Option<&'x Ex
 
 // Whether an export has a type.
 fn is_typed(export: &Export) -> bool
-    ensures { result ≡ the_export_is_typed (plain_export export.now) }
+    ensures { result ≡ spec.is_typed (plain_export export.now) }
 {
     export.entry != 0
 }

@@ -21,7 +21,8 @@ use Rattle.cert_check.specs.ProvedConditions.{KeepsAll}
 use Rattle.pair_compare.specs.certificates.Lines.{IsReachedPair, bind_lines}
 use Rattle.pair_compare.specs.certificates.Certificates.{IsCertificateOf, AreLibraries, AreMarkedAlike}
 use Rattle.pair_compare.proofs.certificates_lemmas.ListLemmas.{contains_at, at_contains}
-use Rattle.pair_compare.proofs.certificates_lemmas.Leasts.{AlikeLaws, node_of-is, node_there, least_moved}
+use Rattle.pair_compare.proofs.certificates_lemmas.Leasts.{AlikeLaws, least_moved}
+use Rattle.abi_types.proofs.lemmas.Nodes.{node_of-at, node_of-is}
 use Rattle.pair_compare.proofs.certificates_lemmas.AlikeLemmas.{LineLaws, rep_least, lines_kept}
 use Rattle.pair_compare.proofs.certificates_lemmas.Leading.{RuleLaws, goes_alike}
 use Rattle.pair_compare.proofs.certificates_lemmas.BindLemmas.{GivenLaw}
@@ -79,7 +80,7 @@ module _ (alike : AlikeLaws) (look_ups : LineLaws) (given : GivenLaw) (rules : R
     z = record { old = p.old.node; new = p.new.node; way = line.2 }
 
     z_is : IsOf case line z
-    z_is = record { old = node_there s.old.graph libraries.old_graph line.0 p.old.node p.old.inside p.old.is; new = node_there s.new.graph libraries.new_graph line.1 p.new.node p.new.inside p.new.is; way = refl }
+    z_is = record { old = node_of-at s.old.graph line.0 p.old.node libraries.old_graph p.old.inside (sym p.old.is); new = node_of-at s.new.graph line.1 p.new.node libraries.new_graph p.new.inside (sym p.new.is); way = refl }
 
     z_marked : is_marked task x.old x.way ≡ is_marked task p.old.node line.2
     z_marked = ap (is_marked task x.old) (sym p.way) ∙ marks x.old p.old.node line.2 x_inside.old p.old.inside p.old.alike

@@ -10,7 +10,8 @@ use Rattle.cert_text.specs.Certs.{PairLine}
 use Rattle.cert_check.specs.Accepted.{line_of, rep, is_line, class_in, KeepsAlike}
 use Rattle.pair_compare.specs.certificates.Lines.{AreAlikeLines}
 use Rattle.pair_compare.proofs.certificates_lemmas.ListLemmas.{contains_at}
-use Rattle.pair_compare.proofs.certificates_lemmas.Leasts.{AlikeLaws, node_there, one_least, own_least}
+use Rattle.pair_compare.proofs.certificates_lemmas.Leasts.{AlikeLaws, one_least, own_least}
+use Rattle.abi_types.proofs.lemmas.Nodes.{node_of-at}
 
 -- what look-ups find among lines
 pub record LineLaws : Type 0 where
@@ -64,8 +65,8 @@ module _ (laws : AlikeLaws) (look_ups : LineLaws) (nodes : List PlainNode) (grap
       record {
         one = is.node;
         other = m.node;
-        stands = node_there nodes graph line.0 is.node is.inside is.entry;
-        for_it = node_there nodes graph line.1 m.node m.inside m.is;
+        stands = node_of-at nodes line.0 is.node graph is.inside (sym is.entry);
+        for_it = node_of-at nodes line.1 m.node graph m.inside (sym m.is);
         own = least_free line.1 is.node is.inside m;
         looks = laws.looks nodes class graph class_same is.node m.node m.alike;
       }

@@ -1,47 +1,11 @@
 -- The least entry of those alike to a node.
-use Rattle.std.proofs.Common.{◌≡◌, ◌<◌, ◌≤◌, ◌==◌, ◌+◌, ℕ, zero, suc, Bool, true, List, length, Some, refl, sym, ◌∙◌, ap, inl, inr, arith}
-use Rattle.std.specs.Prelude.{find}
-use Rattle.std.specs.List.{range_with_len}
-use Rattle.std.proofs.lemmas.Bool.{cases_Bool, cases_lt, cases_order, eqb-true, eq-eqb}
-use Rattle.std.proofs.lemmas.Option.{same_Some, none-some}
+use Rattle.std.proofs.Common.{◌≡◌, ◌<◌, ◌≤◌, ℕ, zero, suc, List, length, refl, inl, inr, arith}
+use Rattle.std.proofs.lemmas.Bool.{cases_lt}
 use Rattle.abi_types.specs.Types.{PlainNode}
-use Rattle.abi_types.specs.Graphs.{IsGraph, node_at, node_of}
+use Rattle.abi_types.specs.Graphs.{IsGraph, node_at}
 use Rattle.abi_types.specs.ClassLooks.{look_of}
 use Rattle.type_classes.specs.Alike.{AreAlike, KeepsAlike}
 use Rattle.type_classes.specs.Classes.{IsLeastEntry}
-
--- ---- the node of an entry
-
-find_range : (p : ℕ → Bool) (a n i : ℕ) → find p (range_with_len a n) ≡ Some i → (a ≤ i) × (i < a + n) × (p i ≡ true)
-find_range p a zero i e = absurd (none-some i e)
-find_range p a (suc n) i e =
-    elim (cases_Bool (p a)) [
-      | inl here ↦ let same : a ≡ i = same_Some a i (rw here at e) in (omega arith, omega arith, rw (← same) here)
-      | inr other ↦ let there = find_range p (a + 1) n i (rw other at e) in (omega (arith, there.0), omega (arith, there.1), there.2)
-    ]
-
-find_only : (p : ℕ → Bool) (a n i : ℕ) → a ≤ i → i < a + n → p i ≡ true → ((j : ℕ) → j < i → p j ≡ true → ⊥) → find p (range_with_len a n) ≡ Some i
-find_only p a zero i from below passes none = absurd (omega (arith, from, below))
-find_only p a (suc n) i from below passes none = elim (cases_order a i) [
-  | inl same ↦ let here : p a ≡ true = ap p same ∙ passes in rw here (ap Some same)
-  | inr (inl less) ↦ elim (cases_Bool (p a)) [
-    | inl here ↦ absurd (none a less here)
-    | inr other ↦ rw other (find_only p (a + 1) n i (omega (arith, less)) (omega (arith, below)) passes none)
-  ]
-  | inr (inr above) ↦ absurd (omega (arith, from, above))
-]
-
-pub node_of-is : (nodes : List PlainNode) (entry i : ℕ) → node_of nodes entry ≡ Some i → (i < length nodes) × ((node_at nodes i).entry ≡ entry)
-unfolding node_of
-node_of-is nodes entry i e =
-    let found = find_range (λ j. (node_at nodes j).entry == entry) 0 (length nodes) i e in
-    (omega (arith, found.1), eqb-true (node_at nodes i).entry entry found.2)
-
-pub node_there : (nodes : List PlainNode) → IsGraph nodes → (entry i : ℕ) → i < length nodes → entry ≡ (node_at nodes i).entry → node_of nodes entry ≡ Some i
-unfolding node_of
-node_there nodes graph entry i inside is =
-    find_only (λ j. (node_at nodes j).entry == entry) 0 (length nodes) i (omega arith) (omega (arith, inside)) (eq-eqb (node_at nodes i).entry entry (sym is))
-    (λ j less passes. let same = graph.apart j i (omega (arith, less, inside)) inside (eqb-true (node_at nodes j).entry entry passes ∙ is) in omega (arith, same, less))
 
 -- ---- alike nodes
 

@@ -1,14 +1,12 @@
 -- The typed pairs of two libraries, and where paths from them end.
-use Rattle.std.proofs.Common.{◌≡◌, ◌<◌, ◌&&◌, ℕ, Bool, false, cond, List, [], ◌∷◌, length, slice_get, Option, Some, None, refl, sym, ◌∙◌, ap, subst, inl, inr, arith}
-use Rattle.std.specs.Prelude.{◌↔◌, ◌==◌, All, find, option_and_then, slice_index_or, unwrap_or}
+use Rattle.std.proofs.Common.{◌≡◌, ◌&&◌, ℕ, false, length, slice_get, Option, Some, None, refl, sym, ◌∙◌, ap, inl, inr}
+use Rattle.std.specs.Prelude.{◌↔◌, option_and_then, slice_index_or, unwrap_or}
 use Rattle.std.specs.List.{range_with_len}
 use Rattle.std.proofs.lemmas.Bool.{cases_Bool}
-use Rattle.std.proofs.lemmas.List.Elements.{All-head, All-tail}
-use Rattle.std.proofs.lemmas.List.FromFn.{length-range_with_len, get_or-range_with_len}
 use Rattle.std.proofs.lemmas.Option.{same_Some, none-some}
 use Rattle.abi_types.specs.Exports.{PlainExport}
-use Rattle.abi_types.specs.Graphs.{node_at, node_of}
-use Rattle.abi_types.specs.Types.{PlainNode}
+use Rattle.abi_types.specs.Graphs.{node_of}
+use Rattle.abi_types.proofs.lemmas.Nodes.{node_of-is}
 use Rattle.pair_rules.specs.Paths.{Path, From, Then, PathLeadsTo, root_triple}
 use Rattle.pair_rules.specs.Stable.{IsInside}
 use Rattle.pair_rules.specs.Steps.{PlainRoot, Task, Triple, step, IsStep}
@@ -16,26 +14,6 @@ use Rattle.cert_check.specs.Compatible.{Sides, bound, is_typed, root_with, root_
 use Rattle.pair_compare.specs.reports.PathTexts.{type_of, next_from, end_of}
 use Rattle.pair_compare.proofs.reports_lemmas.ListLemmas.{contains_at}
 use Rattle.pair_compare.proofs.reports_lemmas.MapLemmas.{Contains-filter_map_source}
-
--- ---- entries
-
--- what holds of all items holds of the one that a search finds
-holds_of_found : {X : Type 0} (P : X → Type 0) (test : X → Bool) (xs : List X) (x : X) → All P xs → find test xs ≡ Some x → P x
-holds_of_found P test [] x all is = absurd (none-some x is)
-holds_of_found {X = X} P test (y ∷ ys) x all is =
-    elim (cases_Bool (test y)) [
-      | inl here ↦ subst (λ (z : X). P z) (same_Some y x (sym (ap (λ (b : Bool). cond b (Some y) (find test ys)) here) ∙ is)) (All-head P y ys all)
-      | inr there ↦ holds_of_found P test ys x (All-tail P y ys all) (sym (ap (λ (b : Bool). cond b (Some y) (find test ys)) there) ∙ is)
-    ]
-
-below_all : (n : ℕ) → All (λ (i : ℕ). i < n) (range_with_len 0 n)
-below_all n k d lt =
-    let inside : k < n = omega (arith, lt, length-range_with_len 0 n) in
-    omega (arith, get_or-range_with_len 0 n k d inside, inside)
-
-pub node_inside : (nodes : List PlainNode) (entry i : ℕ) → node_of nodes entry ≡ Some i → i < length nodes
-unfolding node_of
-node_inside nodes entry i is = holds_of_found (λ (j : ℕ). j < length nodes) (λ j. (node_at nodes j).entry == entry) (range_with_len 0 (length nodes)) i (below_all (length nodes)) is
 
 -- ---- typed pairs
 
@@ -82,7 +60,7 @@ typed_pair s j root at =
 pub roots_inside : (s : Sides) (j : ℕ) (root : PlainRoot) → slice_get (typed_roots s) j ≡ Some root → IsInside (task_of s) (root_triple root)
 roots_inside s j root at =
     let p = typed_pair s j root at in
-    record { old = node_inside s.old.graph p.exported.entry root.old p.old; new = node_inside s.new.graph p.entry root.new p.new }
+    record { old = (node_of-is s.old.graph p.exported.entry root.old p.old).0; new = (node_of-is s.new.graph p.entry root.new p.new).0 }
 
 -- ---- ends of paths
 

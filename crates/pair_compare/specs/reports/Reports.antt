@@ -56,13 +56,13 @@ IsFoundBefore f g = IsBefore f.path g.path ⊎ ((f.path ≡ g.path) × IsBrokenB
 pub record AreRight (t : Task) (findings : List Finding) : Type 0 where
   -- each tells of a true break, at the end of its path
   pub true_breaks : (f : Finding) → Contains findings f → IsTrueBreak t f
-  -- each break of each reachable triple whose old node is unmarked at its way is told
+  -- each break of each reachable triple whose old node is unmarked at its way has a row
   pub all_breaks : (x : Triple) (b : Broken) → IsReachable t x → is_marked t x.old x.way ≡ false → Contains (breaks_of t x) b → IsFound t findings x b
   -- the path of each is the first that leads to such a triple with alike nodes, by whichever way
   pub first_paths : (f : Finding) → Contains findings f → (other : Path) (x : Triple) → LeadsTo t other x f.old f.new → IsNotAfter f.path other
   -- they stand in order of paths, and then of rules and parts
   pub ascending : (m n : ℕ) (f g : Finding) → m < n → slice_get findings m ≡ Some f → slice_get findings n ≡ Some g → IsFoundBefore f g
-  -- of the breaks of one pair with one rule and one detail, the one at the least part is told
+  -- among the breaks of one pair with one rule and one detail, the one at the least part has the row
   pub least_parts : (f : Finding) → Contains findings f → (b : Broken) → Contains (breaks_of t (record { old = f.old; new = f.new; way = Direct })) b
       → b.rule ≡ f.broken.rule → detail_at t f.old f.new b ≡ detail_at t f.old f.new f.broken → f.broken.part ≤ b.part
   -- the entries of each are the least of alike ones

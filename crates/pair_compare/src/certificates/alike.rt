@@ -4,7 +4,8 @@ ghost use Rattle.std.specs.List.Sorted.{IsPermutation, IsSorted};
 ghost use Rattle.type_classes.specs.Classes.{AreCoarsest};
 ghost use Rattle.cert_text.specs.Certs.{IsBelow, first_cmp};
 ghost use Rattle.pair_compare.specs.certificates.Lines.{AreAlikeLines};
-ghost use Rattle.pair_compare.specs.certificates.LineLists.{alike_line as the_alike_line, alike_below};
+ghost use Rattle.pair_compare.specs.certificates.LineLists.{alike_below};
+ghost use Rattle.pair_compare.specs.certificates.LineLists as spec;
 
 use crate::certificates::lists::push_some;
 use abi_base::{List, NoMemory};
@@ -22,7 +23,7 @@ fn alike_line<Ix: Index>(
 ) -> Option<(u64, u64)>
     requires nodes { classes.now.nodes ≡ graph.now }
     requires inside { number < length graph.now }
-    ensures line { result ≡ the_alike_line classes.now number }
+    ensures line { result ≡ spec.alike_line classes.now number }
     ensures numbers { IfSome result (IsBelow (2 ^ 64)) }
 {
     let node = Ix::of(number);

@@ -3,7 +3,7 @@ ghost use Rattle.std.specs.Prelude.{◌≡◌, ◌<◌, false, length, option_an
 ghost use Rattle.abi_types.specs.Plain.{plain_export};
 ghost use Rattle.elf_bind.specs.Binding.{bind_to};
 ghost use Rattle.cert_check.specs.Compatible.{sides};
-ghost use Rattle.pair_compare.specs.certificates.Lines.{bind_line as the_bind_line, bind_lines as the_bind_lines};
+ghost use Rattle.pair_compare.specs.certificates.Lines as spec;
 
 use crate::certificates::lists::push_some;
 use abi_base::{List, NoMemory};
@@ -67,7 +67,7 @@ fn bind_line(
     k: usize,
 ) -> Option<(u32, u32)>
     requires { k < length old.now.exports }
-    ensures { result ≡ the_bind_line (sides old.now new.now marks.now) k }
+    ensures { result ≡ spec.bind_line (sides old.now new.now marks.now) k }
 {
     if is_dropped(marks, k) {
         return None;
@@ -86,7 +86,7 @@ pub fn bind_lines(
     new: &Library<NewIx>,
     marks: &Marks,
 ) -> Result<List<(u32, u32)>, NoMemory>
-    ensures { IfOk result (λ lines. lines ≡ the_bind_lines (sides old.now new.now marks.now)) }
+    ensures { IfOk result (λ lines. lines ≡ spec.bind_lines (sides old.now new.now marks.now)) }
 {
     lines_stand_in_the_order_of_their_numbers();
     let mut lines = List::new(alloc);

@@ -1,4 +1,4 @@
-// Lists of what is there.
+// Lists that gain an item, where there is one.
 ghost use Rattle.std.specs.Prelude.{◌≡◌, ◌++◌, option_to_list, OnOk};
 
 use abi_base::{List, NoMemory};

@@ -3,7 +3,8 @@ ghost use Rattle.std.specs.Prelude.{◌≡◌, ◌^◌, List as Sequence, map, A
 ghost use Rattle.std.specs.List.Sorted.{IsPermutation, IsSorted};
 ghost use Rattle.type_classes.specs.Classes.{PlainClasses};
 ghost use Rattle.pair_explorer.specs.declared.visits.Visit.{Visit};
-ghost use Rattle.cert_text.specs.Certs.{PairLine, IsPairBelow, is_pointer as the_way_is_pointer, pair_cmp};
+ghost use Rattle.cert_text.specs.Certs.{PairLine, IsPairBelow, pair_cmp};
+ghost use Rattle.cert_text.specs.Certs as spec;
 ghost use Rattle.cert_check.specs.Compatible.{Sides, task_of};
 ghost use Rattle.pair_compare.specs.certificates.Lines.{ArePairLines};
 ghost use Rattle.pair_compare.specs.certificates.LineLists.{AreInside, pair_line};
@@ -18,7 +19,7 @@ use std::alloc::Global;
 use type_classes::laws::classes_stand_by_their_least_entries;
 
 fn is_pointer(way: Way) -> bool
-    ensures { result ≡ the_way_is_pointer way }
+    ensures { result ≡ spec.is_pointer way }
 {
     match way {
         Way::Direct => false,

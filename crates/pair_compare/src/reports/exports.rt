@@ -3,9 +3,11 @@ ghost use Rattle.std.specs.Prelude.{◌≡◌, ◌<◌, ◌++◌, length, OnOk};
 ghost use Rattle.std.specs.List.{list_any};
 ghost use Rattle.std.specs.Option.{option_copied};
 ghost use Rattle.abi_types.specs.Plain.{plain_export};
-ghost use Rattle.elf_bind.specs.Binding.{bind_to, is_named as the_export_is_named};
+ghost use Rattle.elf_bind.specs.Binding.{bind_to};
+ghost use Rattle.elf_bind.specs.Binding as binding;
 ghost use Rattle.pair_compare.specs.BoundPair.{IsBinding, sides_of};
-ghost use Rattle.pair_compare.specs.reports.ExportRows.{changed_rows, export_row as the_export_row, export_rows as the_export_rows, gone_rows, row_if, rows_at, rows_for, rows_upto, soname_rows};
+ghost use Rattle.pair_compare.specs.reports.ExportRows.{changed_rows, gone_rows, row_if, rows_at, rows_for, rows_upto, soname_rows};
+ghost use Rattle.pair_compare.specs.reports.ExportRows as export_rows_spec;
 
 use crate::bound_pair::BoundPair;
 use crate::reports::lookups::{export_at, is_compared, partner};
@@ -64,7 +66,7 @@ fn push_if(
     old: &Export,
     new: &Export,
 ) -> Result<(), NoMemory>
-    ensures { OnOk result (rows.new ≡ rows.old ++ row_if is_broken (the_export_row rule (plain_export old.now) (plain_export new.now))) }
+    ensures { OnOk result (rows.new ≡ rows.old ++ row_if is_broken (export_rows_spec.export_row rule (plain_export old.now) (plain_export new.now))) }
 {
     if !is_broken {
         return Ok(());
@@ -91,7 +93,7 @@ fn push_changed(
 
 // Whether some export of a library has a name.
 fn is_named(library: &Library<NewIx>, name: &[u8]) -> bool
-    ensures { result ≡ list_any (the_export_is_named name.now) library.now.exports }
+    ensures { result ≡ list_any (binding.is_named name.now) library.now.exports }
 {
     !library.exports_named(name).is_empty()
 }
@@ -143,7 +145,7 @@ pub fn push_export_rows(
     ground: &BoundPair,
 ) -> Result<(), NoMemory>
     requires { IsBinding ground.now }
-    ensures { OnOk result (rows.new ≡ rows.old ++ the_export_rows (sides_of ground.now)) }
+    ensures { OnOk result (rows.new ≡ rows.old ++ export_rows_spec.export_rows (sides_of ground.now)) }
 {
     push_soname_rows(alloc, rows, ground.old.soname(), ground.new.soname())?;
     let count = ground.old.exports().len();

@@ -29,7 +29,7 @@ use pair_rules::laws::{
 use report::laws::texts_see_no_nodes;
 use type_classes::laws::{alike_is_an_equivalence, alike_nodes_break_the_same_rules};
 
-/// The breaks of an exploration over the classes of alike nodes, of those that tell the same at the same types the first alone,
+/// The breaks of an exploration over the classes of alike nodes, less those that repeat an earlier one about the same types,
 /// are right findings: true, all of them, by the first paths, in order.
 pub fn told_breaks_are_right()
     ensures { (s : Scope) (visits : List Visit) (broken : List (ℕ × Broken)) → IsCoarse s → IsExploration s visits broken →
@@ -86,7 +86,7 @@ pub fn rows_can_be_read()
     breaks_are_where_their_rules_say();
 }
 
-/// Two libraries and marks have one right report: what is printed is fixed by what is read.
+/// Two libraries and marks have one right report: their bytes fix the printed text.
 pub fn a_right_report_is_one()
     ensures { (s : Sides) (first other : List Row) → IsGraph s.old.graph → IsGraph s.new.graph → IsRightReport s first → IsRightReport s other → first ≡ other }
 {

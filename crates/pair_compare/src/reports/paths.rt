@@ -4,8 +4,9 @@ ghost use Rattle.abi_types.specs.Graphs.{part_at, to_of};
 ghost use Rattle.abi_types.specs.Plain.{plain_export};
 ghost use Rattle.abi_types.specs.Shown.{label};
 ghost use Rattle.report.specs.Steps.{step_text};
-ghost use Rattle.pair_explorer.specs.Routes.{path_of as the_path_of};
-ghost use Rattle.pair_compare.specs.reports.PathTexts.{between, label_at as the_label_at, steps_text as the_steps_text, type_of as the_type_of, IsWalk};
+ghost use Rattle.pair_explorer.specs.Routes as routes;
+ghost use Rattle.pair_compare.specs.reports.PathTexts.{between, IsWalk};
+ghost use Rattle.pair_compare.specs.reports.PathTexts as path_texts;
 
 use crate::reports::lookups::export_at;
 use abi_base::NoMemory;
@@ -25,7 +26,7 @@ fn label_of(alloc: Global, export: &Export) -> Result<String, NoMemory>
 
 /// The label of the old export at a position.
 pub fn label_at(alloc: Global, library: &Library<OldIx>, export: u32) -> Result<String, NoMemory>
-    ensures { IfOk result (λ text. string_bytes text ≡ the_label_at library.now export) }
+    ensures { IfOk result (λ text. string_bytes text ≡ path_texts.label_at library.now export) }
 {
     match export_at(library, export as usize) {
         None => Ok(String::new(alloc)),
@@ -35,7 +36,7 @@ pub fn label_at(alloc: Global, library: &Library<OldIx>, export: u32) -> Result<
 
 // The type of the old export at a position; void where there is none.
 fn type_of(library: &Library<OldIx>, export: u32) -> OldIx
-    ensures { result ≡ the_type_of library.now export }
+    ensures { result ≡ path_texts.type_of library.now export }
 {
     match export_at(library, export as usize) {
         None => OldIx::of(0),
@@ -88,8 +89,8 @@ pub fn steps_text(
     library: &Library<OldIx>,
     route: &Route,
 ) -> Result<String, NoMemory>
-    requires { IsWalk library.now (the_path_of route.now.export route.now.parts) }
-    ensures { IfOk result (λ text. string_bytes text ≡ the_steps_text library.now (the_path_of route.now.export route.now.parts)) }
+    requires { IsWalk library.now (routes.path_of route.now.export route.now.parts) }
+    ensures { IfOk result (λ text. string_bytes text ≡ path_texts.steps_text library.now (routes.path_of route.now.export route.now.parts)) }
 {
     let graph = library.graph();
     let parts = route.parts.as_slice();

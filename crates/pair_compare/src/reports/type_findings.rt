@@ -1,7 +1,8 @@
 // The breaks of an exploration that have a row, and these rows.
 ghost use Rattle.std.specs.Prelude.{◌≡◌, ◌<◌, ◌++◌, length, map, slice_get, Some, IfOk, OnOk};
 ghost use Rattle.abi_types.specs.Graphs.{view_at};
-ghost use Rattle.report.specs.Details.{type_detail as the_type_detail, IsInside};
+ghost use Rattle.report.specs.Details.{IsInside};
+ghost use Rattle.report.specs.Details as spec;
 ghost use Rattle.cert_check.specs.Compatible.{task_of};
 ghost use Rattle.pair_compare.specs.BoundPair.{sides_of};
 ghost use Rattle.pair_compare.specs.reports.Keys.{plain_key, key_of};
@@ -30,7 +31,7 @@ fn detail_of(
     new: &View<NewIx>,
 ) -> Result<Vec<u8>, NoMemory>
     requires { IsInside old.now broken.now }
-    ensures { IfOk result (λ text. text.items ≡ the_type_detail broken.now.rule old.now new.now broken.now.part) }
+    ensures { IfOk result (λ text. text.items ≡ spec.type_detail broken.now.rule old.now new.now broken.now.part) }
 {
     let row = type_row(
         alloc,
