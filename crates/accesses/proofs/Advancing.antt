@@ -24,7 +24,7 @@ use Rattle.accesses.proofs.Forming.{single-first, single-too, param-function, fe
 
 -- ---- what is not broken
 
--- the rules that are asked of two definitions
+-- the rules that compare two definitions
 abbrev pub definition_rules : List Rule
 definition_rules = TypeSize ∷ ScalarGroup ∷ TypeAlignment ∷ MemberPresence ∷ MemberOffset ∷ BitFieldWidth ∷ EnumeratorPresence ∷ EnumeratorValue ∷ ElementCount ∷ ParameterCount ∷ VariadicArguments ∷ PassingPlace ∷ []
 

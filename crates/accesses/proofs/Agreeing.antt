@@ -37,7 +37,7 @@ rules_asked-kinds v w e = rw e refl
 rules_asked-declared : (v w : PlainView) → same_kind v.kind w.kind ≡ true → is_declaration v w ≡ true → rules_asked v w ≡ DeclarationTag ∷ []
 rules_asked-declared v w e d = rw (e, d) refl
 
--- the one rule that is asked is not broken
+-- the one rule that is checked is not broken
 alone : Laws → (v w : PlainView) (rule : Rule) → rules_asked v w ≡ rule ∷ [] → speaks_of_parts rule ≡ false → breaks v w ≡ [] → breaks_whole rule v w ≡ false
 alone laws v w rule asked speaks none =
     false_from_ne_true (breaks_whole rule v w)

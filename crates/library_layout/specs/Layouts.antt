@@ -9,8 +9,8 @@ use Rattle.library_layout.specs.declared.layouts.Layout.TheVariants.{Lines, NoTa
 use Rattle.library_layout.specs.declared.libraries.NoLayout.{NoLayout}
 use Rattle.library_layout.specs.declared.libraries.NoLayout.TheVariants as unlaid
 
--- The text is that of the layout of a structure that the exports of the library reach: of those that are defined and have the tag,
--- the one of the earliest entry.
+-- The text is the layout of the structure with the tag that the exports of the library reach; where several are defined, of the
+-- one with the earliest entry.
 abbrev pub IsLayoutText : List ℕ → List ℕ → List ℕ → Type 0
 IsLayoutText library tag text = IsLayoutIn (library_of library).graph tag text
 

@@ -11,7 +11,7 @@ use Rattle.type_print.specs.Texts.{layout_text}
 use Rattle.library_layout.specs.declared.layouts.Layout.{Layout}
 use Rattle.library_layout.specs.declared.layouts.Layout.TheVariants.{Lines, NoTag}
 
--- the text is that of the layout of the structure that has the tag: of those that are defined, the one of the earliest entry
+-- the text is that of the layout of the defined structure with the tag that has the earliest entry
 pub record IsLayoutIn (nodes : List PlainNode) (tag text : List ℕ) : Type 0 where
   pub number : ℕ
   pub tagged : IsFirstTagged nodes tag number
@@ -19,7 +19,7 @@ pub record IsLayoutIn (nodes : List PlainNode) (tag text : List ℕ) : Type 0 wh
   pub laid : AreRowsAt nodes number rows
   pub is : text ≡ layout_text (view_at nodes number) rows
 
--- what is said of the tag
+-- the answer for the tag
 abbrev pub IsLaidIn : List PlainNode → List ℕ → Layout → Type 0
 IsLaidIn nodes tag (Lines text) = IsLayoutIn nodes tag text.items
 IsLaidIn nodes tag NoTag = IsUntagged nodes tag

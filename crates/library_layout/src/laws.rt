@@ -1,4 +1,4 @@
-//! What a layout comes to. Each law is the contract of a function whose body only names the laws below it.
+//! Laws of layouts. Each law is the contract of a function whose body only names the laws below it.
 ghost use Rattle.std.specs.Prelude.{◌≡◌, ◌≤◌, ℕ, List, None, length};
 ghost use Rattle.abi_base.specs.Limits.{input_limit};
 ghost use Rattle.library_read.specs.Faults.{library_fault};

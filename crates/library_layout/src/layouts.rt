@@ -1,7 +1,9 @@
 // The layout of a structure of a graph.
 ghost use Rattle.std.specs.Prelude.{◌≡◌, ◌<◌, ◌↔◌, length, IfOk, IsTrue};
-ghost use Rattle.type_print.specs.Structures.{is_structure as the_kind_is_structure, IsFirstTagged};
-ghost use Rattle.library_layout.specs.Structures.{is_declaration as the_view_is_declaration, IsDeclaredIn, IsLaidIn, IsLayoutIn};
+ghost use Rattle.type_print.specs.Structures.{IsFirstTagged};
+ghost use Rattle.type_print.specs.Structures as structures_spec;
+ghost use Rattle.library_layout.specs.Structures.{IsDeclaredIn, IsLaidIn, IsLayoutIn};
+ghost use Rattle.library_layout.specs.Structures as structures;
 
 use abi_base::NoMemory;
 use abi_types::{Graph, Index, Kind, View};
@@ -51,7 +53,7 @@ pub(crate) fn laid_in<Ix: Index>(
 
 /// Whether a kind is that of structures.
 pub(crate) fn is_structure(kind: Kind) -> bool
-    ensures { result ≡ the_kind_is_structure kind }
+    ensures { result ≡ structures_spec.is_structure kind }
 {
     match kind {
         Kind::Structure => true,
@@ -61,7 +63,7 @@ pub(crate) fn is_structure(kind: Kind) -> bool
 
 // Whether the type is a structure that is declared only, and has the tag.
 fn is_declaration<Ix: Index>(view: &View<Ix>, tag: &[u8]) -> bool
-    ensures { result ≡ the_view_is_declaration view.now tag.now }
+    ensures { result ≡ structures.is_declaration view.now tag.now }
 {
     is_structure(view.kind) && view.declared_only && view.tag == tag
 }

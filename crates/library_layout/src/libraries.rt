@@ -47,10 +47,10 @@ fn read(alloc: Global, bytes: &[u8]) -> Result<Library<'_, OldIx>, NoLayout>
     }
 }
 
-/// The layout of the structure with a tag, of those that the exports of a library reach: its members, and where none overlap and
-/// none ends outside the holes between them and the padding behind them, else the overlaps and the members that end outside. Of
-/// structures with this tag it is the one of the earliest entry that defines one. It fails where the library is unreadable or
-/// memory runs out.
+/// The layout of the structure with a tag that the exports of a library reach: its members, and, where none overlap and none ends
+/// outside, the holes between them and the padding behind them; else the overlaps and the members that end outside. Where
+/// several structures have the tag, the layout is that of the one that the earliest entry defines. It fails where the library is
+/// unreadable or memory runs out.
 pub fn layout_of(alloc: Global, library: &[u8], tag: &str) -> Result<Layout, NoLayout>
     requires short { length library.now ≤ input_limit }
     ensures readable { OnOk result (library_fault library.now ≡ None) }

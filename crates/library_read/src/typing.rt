@@ -3,10 +3,10 @@ ghost use Rattle.std.specs.Prelude.{◌≡◌, ◌<◌, length, map, All, IfOk, 
 ghost use Rattle.abi_base.specs.Outcome.{Judges};
 ghost use Rattle.abi_types.specs.Plain.{plain_export, plain_exports};
 ghost use Rattle.dwarf_entries.specs.Pass.{dwarf_fault};
-ghost use Rattle.type_reach.specs.Views.{offset_of as the_offset_of};
+ghost use Rattle.type_reach.specs.Views as views;
 ghost use Rattle.type_graph.specs.Nodes.{nodes_of};
 ghost use Rattle.library_read.specs.Debug.{debug_of, sections_in};
-ghost use Rattle.library_read.specs.Exports.{declared_by as the_name_declared_by, entry_for as the_entry_for, has_address as the_export_has_address, roots_among as the_roots_among, typed as the_export_typed};
+ghost use Rattle.library_read.specs.Exports as exports_spec;
 ghost use Rattle.library_read.specs.Faults.{debug_fault};
 
 use abi_base::{List, NoMemory, Refusal};
@@ -28,7 +28,7 @@ pub(crate) struct Typed<'a, Ix: Index> {
 
 // Whether the value of an export's symbol is its own address.
 fn has_address(export: &Export) -> bool
-    ensures { result ≡ the_export_has_address (plain_export export.now) }
+    ensures { result ≡ exports_spec.has_address (plain_export export.now) }
 {
     match export.kind {
         SymbolKind::Tls | SymbolKind::Ifunc => false,
@@ -39,7 +39,7 @@ fn has_address(export: &Export) -> bool
 // The position of the entry that says what an export is, where there is one.
 #[tactic(auto, unfolding(crate::specs::Exports::entry_for))]
 fn entry_for(dwarf: &Dwarf, export: &Export) -> Option<usize>
-    ensures entry { result ≡ the_entry_for dwarf.now (plain_export export.now) }
+    ensures entry { result ≡ exports_spec.entry_for dwarf.now (plain_export export.now) }
     ensures inside { IfSome result (λ e. e < length dwarf.now.tree.entries) }
 {
     if has_address(export) {
@@ -52,7 +52,7 @@ fn entry_for(dwarf: &Dwarf, export: &Export) -> Option<usize>
 // The name under which an export is declared, by its entry, or else that of its symbol.
 fn declared_by<'a>(dwarf: &Dwarf<'a>, symbol: &'a [u8], entry: Option<usize>) -> &'a [u8]
     requires { IfSome entry (λ e. e < length dwarf.now.tree.entries) }
-    ensures { result.now ≡ the_name_declared_by dwarf.now symbol.now entry }
+    ensures { result.now ≡ exports_spec.declared_by dwarf.now symbol.now entry }
 {
     match entry {
         Some(e) => match dwarf.name_of(e) {
@@ -66,7 +66,7 @@ fn declared_by<'a>(dwarf: &Dwarf<'a>, symbol: &'a [u8], entry: Option<usize>) ->
 // The offset of an entry, and 0 where there is none.
 fn offset_of(dwarf: &Dwarf, entry: Option<usize>) -> u64
     requires { IfSome entry (λ e. e < length dwarf.now.tree.entries) }
-    ensures { result ≡ the_offset_of dwarf.now.tree entry }
+    ensures { result ≡ views.offset_of dwarf.now.tree entry }
 {
     match entry {
         Some(e) => dwarf.offset(e),
@@ -77,7 +77,7 @@ fn offset_of(dwarf: &Dwarf, entry: Option<usize>) -> u64
 // The export, with what its entry says.
 #[tactic(auto, unfolding(crate::specs::Exports::typed))]
 fn with_type<'a>(dwarf: &Dwarf<'a>, export: &Export<'a>) -> Export<'a>
-    ensures { plain_export result ≡ the_export_typed dwarf.now (plain_export export.now) }
+    ensures { plain_export result ≡ exports_spec.typed dwarf.now (plain_export export.now) }
 {
     let entry = entry_for(dwarf, export);
     Export {
@@ -89,7 +89,7 @@ fn with_type<'a>(dwarf: &Dwarf<'a>, export: &Export<'a>) -> Export<'a>
 
 // The exports, each with what its entry says.
 fn typed_exports<'a>(dwarf: &Dwarf<'a>, mut exports: Vec<Export<'a>>) -> List<Export<'a>>
-    ensures { plain_exports result ≡ map (the_export_typed dwarf.now) (plain_exports exports.entry.items) }
+    ensures { plain_exports result ≡ map (exports_spec.typed dwarf.now) (plain_exports exports.entry.items) }
 {
     'exports: for k in 0..exports.len() {
         let export = with_type(dwarf, &exports[k]);
@@ -101,7 +101,7 @@ fn typed_exports<'a>(dwarf: &Dwarf<'a>, mut exports: Vec<Export<'a>>) -> List<Ex
 // The positions of the entries of exports, in the order of the exports.
 #[tactic(auto, unfolding(crate::specs::Exports::roots_among))]
 fn roots_among(alloc: Global, dwarf: &Dwarf, exports: &[Export]) -> Result<Vec<usize>, NoMemory>
-    ensures roots { IfOk result (λ roots. roots.items ≡ the_roots_among dwarf.now (plain_exports exports.now)) }
+    ensures roots { IfOk result (λ roots. roots.items ≡ exports_spec.roots_among dwarf.now (plain_exports exports.now)) }
     ensures inside { IfOk result (λ roots. All (λ root. root < length dwarf.now.tree.entries) roots.items) }
 {
     let mut roots = Vec::new(alloc);
@@ -131,8 +131,8 @@ pub(crate) fn with_types<'a, Ix: Index>(
     exports: Vec<Export<'a>>,
 ) -> Result<Typed<'a, Ix>, Refusal>
     ensures judged { Judges result (debug_fault file.now (plain_exports exports.entry.items)) }
-    ensures exports { IfOk result (λ typed. plain_exports typed.exports ≡ map (the_export_typed (debug_of file.now)) (plain_exports exports.entry.items)) }
-    ensures graph { IfOk result (λ typed. typed.graph ≡ nodes_of (debug_of file.now) (the_roots_among (debug_of file.now) (plain_exports exports.entry.items))) }
+    ensures exports { IfOk result (λ typed. plain_exports typed.exports ≡ map (exports_spec.typed (debug_of file.now)) (plain_exports exports.entry.items)) }
+    ensures graph { IfOk result (λ typed. typed.graph ≡ nodes_of (debug_of file.now) (exports_spec.roots_among (debug_of file.now) (plain_exports exports.entry.items))) }
 {
     let dwarf = match debug_information(alloc, file) {
         Ok(dwarf) => dwarf,

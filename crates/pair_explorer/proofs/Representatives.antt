@@ -37,7 +37,7 @@ all_stable c sound a b e =
       ]
     ]
 
--- nodes of one class look the same, but for which nodes of one class their parts name
+-- nodes of one class look the same, apart from which nodes of one class their parts name
 seen_same : (c : PlainClasses) (nodes : List PlainNode) (a b : ℕ) → AreSound c → c.nodes ≡ nodes → rep_of c a ≡ rep_of c b → view_seen (rep_of c) (view_at nodes a) ≡ view_seen (rep_of c) (view_at nodes b)
 seen_same c nodes a b sound same e =
     let looks : view_seen (rep_of c) (view_at c.nodes a) ≡ view_seen (rep_of c) (view_at c.nodes b) = ap (λ (l : Look). l.view) (all_stable c sound a b e) in

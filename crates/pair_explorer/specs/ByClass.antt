@@ -29,7 +29,7 @@ pub record IsToldBy (s : Scope) (visits : List Visit) (n : ℕ) (broken : Broken
   pub at : slice_get visits n ≡ Some visit
   pub is : rep s triple ≡ seen visit
 
--- the break of a triple of nodes is told at the visit of its representatives
+-- the break of a triple of nodes is reported at the visit of its representatives
 pub record IsTold (s : Scope) (visits : List Visit) (breaks : List (ℕ × Broken)) (x : Triple) (broken : Broken) : Type 0 where
   pub number : ℕ
   pub visit : Visit

@@ -93,7 +93,7 @@ impl Visits {
         self.parents.len()
     }
 
-    /// The visit of a number, `None` where there are no more than that many.
+    /// The visit of a number, `None` where there are not so many.
     pub fn get(&self, number: usize) -> Option<Visit>
         ensures { result ≡ slice_get self.now number }
     {

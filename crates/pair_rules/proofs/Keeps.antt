@@ -42,7 +42,7 @@ among_part_rules t EnumeratorValue all e = AllPass-from_list_all t part_rules al
 among_part_rules t PassingPlace all e = AllPass-from_list_all t part_rules all 5 PassingPlace (omega arith)
 among_part_rules t r all e = absurd cc
 
--- the rules that are asked of two definitions
+-- the rules that compare two definitions
 abbrev definition_rules : List Rule
 definition_rules = TypeSize ∷ ScalarGroup ∷ TypeAlignment ∷ MemberPresence ∷ MemberOffset ∷ BitFieldWidth ∷ EnumeratorPresence ∷ EnumeratorValue ∷ ElementCount ∷ ParameterCount ∷ VariadicArguments ∷ PassingPlace ∷ []
 
@@ -148,7 +148,7 @@ rules_asked-declared v w e d = rw (e, d) refl
 rules_asked-defined : (v w : PlainView) → same_kind v.kind w.kind ≡ true → is_declaration v w ≡ false → rules_asked v w ≡ definition_rules
 rules_asked-defined v w e d = rw (e, d) refl
 
--- types of which parts are not compared: what is asked is asked of them as a whole
+-- types whose parts are not compared: all rules compare them as a whole
 pub none_uncompared : (v w : PlainView) → are_compared v w ≡ false → keeps_whole v w ≡ true → breaks v w ≡ []
 unfolding breaks keeps_whole kept
 none_uncompared v w e whole =

@@ -1,4 +1,4 @@
--- The list of what two types break holds exactly the rules that are asked, each where it is broken.
+-- The list of what two types break holds exactly the rules that compare them, each where it is broken.
 use Rattle.std.proofs.Common.{◌≡◌, ◌<◌, ◌⊎◌, ℕ, Bool, true, List, [], ◌∷◌, map, length, refl, sym, ◌∙◌, ap, subst, arith, inl, inr}
 use Rattle.std.specs.List.{filter, flat_map, range_with_len, Contains}
 use Rattle.std.proofs.lemmas.Bool.{cases_Bool}

@@ -10,7 +10,7 @@ use Rattle.pair_rules.specs.TypeRules.{rules_asked, breaks_whole, breaks_part}
 abbrev pub part_rules : List Rule
 part_rules = MemberPresence ∷ MemberOffset ∷ BitFieldWidth ∷ EnumeratorPresence ∷ EnumeratorValue ∷ PassingPlace ∷ []
 
--- whether two types break no rule that is asked of them as a whole
+-- whether two types break no rule that compares them as a whole
 unfoldable pub keeps_whole : PlainView → PlainView → Bool
 keeps_whole v w = list_all (λ rule. not (breaks_whole rule v w)) (rules_asked v w)
 

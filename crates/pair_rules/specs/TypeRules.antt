@@ -145,7 +145,7 @@ speaks_of_parts EnumeratorValue = true
 speaks_of_parts PassingPlace = true
 speaks_of_parts other = false
 
--- The rules that are asked, in order: of two kinds L1 alone, of a declaration and a type of its kind their tags alone, and of
+-- The rules that are checked, in order: of two kinds L1 alone, of a declaration and a type of its kind their tags alone, and of
 -- two definitions of one kind all others.
 abbrev pub rules_asked : PlainView → PlainView → List Rule
 rules_asked v w =

@@ -38,7 +38,7 @@ pub fn the_same_are_equal()
     ensures places { (a b : Place) → (same_place a b ≡ true) ↔ (a ≡ b) }
 {}
 
-/// The list of what two types break holds a rule at a position exactly where the rule is asked of them and they break it there.
+/// The list of what two types break holds a rule at a position exactly where the rule compares them and they break it there.
 /// A rule that speaks of parts is broken at parts that are there.
 pub fn breaks_are_where_their_rules_say()
     ensures { (v w : PlainView) (b : Broken) → Contains (breaks v w) b ↔ (Contains (rules_asked v w) b.rule × IsBroken v w b) }

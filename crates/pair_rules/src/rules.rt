@@ -21,13 +21,13 @@ pub struct Broken {
     pub part: usize,
 }
 
-// The rule that is asked of two kinds.
+// The rule on two kinds.
 static KIND_RULES: [Rule; 1] = [Rule::KindOfType];
 
-// The rule that is asked where one type is only declared.
+// The rule that holds where one type is only declared.
 static TAG_RULES: [Rule; 1] = [Rule::DeclarationTag];
 
-// The rules that are asked of two definitions of one kind.
+// The rules that compare two definitions of one kind.
 static DEFINITION_RULES: [Rule; 12] = [
     Rule::TypeSize,
     Rule::ScalarGroup,
@@ -53,7 +53,7 @@ static PART_RULES: [Rule; 6] = [
     Rule::PassingPlace,
 ];
 
-// The rules that are asked of two types, in order.
+// The rules that compare two types, in order.
 fn rules_asked(old: &View<OldIx>, new: &View<NewIx>) -> &'static [Rule]
     ensures { result.now ≡ the_rules_asked old.now new.now }
 {
@@ -308,7 +308,7 @@ pub(crate) fn breaks_by(
     Ok(list)
 }
 
-// Whether two types break no rule that is asked of them as a whole.
+// Whether two types break no rule that compares them as a whole.
 #[tactic(auto, unfolding(crate::specs::Keeping::keeps_whole))]
 fn keeps_whole(old: &View<OldIx>, new: &View<NewIx>) -> bool
     ensures { result ≡ the_whole_keeps old.now new.now }

@@ -7,8 +7,8 @@ use Rattle.report.specs.declared.style.More.{More}
 use Rattle.report.specs.declared.style.More.TheVariants.{Go, Enough}
 use Rattle.report.specs.Render.{render}
 
--- What a listener is asked for, and what it makes: its style, and the text that it makes of rows that it heard, where that is told.
--- It stands still while the listener is told rows.
+-- The voice of a listener: its style, and the text that it makes of the rows that it heard, where that is known.
+-- It does not change while the listener hears rows.
 pub record Voice : Type 0 where
   pub style : Style
   pub makes : List Row → Option (List ℕ)
@@ -22,7 +22,7 @@ abbrev pub InStyle : Style → List Row → List ℕ → Type 0
 InStyle Own rows text = Unit {0}
 InStyle style rows text = text ≡ render style rows
 
--- the text of a listener that heard these rows: in its style, and the one that it makes, where that is told
+-- the text of a listener that heard these rows: in its style, and the one that it makes, where that is known
 pub record IsText (voice : Voice) (rows : List Row) (text : List ℕ) : Type 0 where
   pub styled : InStyle voice.style rows text
   pub made : IfSome (voice.makes rows) (λ t. text ≡ t)

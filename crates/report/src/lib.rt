@@ -1,5 +1,5 @@
 //! Reports of breaks: rows, the texts of their parts, and listeners that make a text of rows in a style. A row is made of a
-//! break and the two exports or types that it stands between; listeners are told rows one after another, and close with a
+//! break and the two exports or types that it stands between; listeners hear rows one after another, and close with a
 //! text.
 #![tactic(auto)]
 

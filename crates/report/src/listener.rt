@@ -1,4 +1,4 @@
-// Listeners, which are told rows and make a text of them.
+// Listeners, which hear rows and make a text of them.
 ghost use Rattle.std.specs.Prelude.{◌≡◌, [], ◌∷◌, ◌++◌, List, ℕ, length, take, map, All, IfOk, OnOk, OnErr};
 ghost use Rattle.std.specs.List.{concat};
 ghost use Rattle.report.specs.Listening.{heard_of, IsEnough, Reports, IsText, Voice};
@@ -8,12 +8,12 @@ use crate::row::Row;
 use crate::style::{More, Style};
 use abi_base::NoMemory;
 
-/// What is told the rows of a report, one after another, and closes with a text.
+/// What hears the rows of a report, one after another, and closes with a text.
 pub trait Listener: Drop {
     /// The rows that it has heard.
     ghost heard: { Self → List Row };
 
-    /// The style of its text, and which text it makes of rows, where that is told.
+    /// The style of its text, and which text it makes of rows, where that is known.
     ghost voice: { Self → Voice };
 
     /// The style of its text.
@@ -28,7 +28,7 @@ pub trait Listener: Drop {
         ensures enough { IfOk result (IsEnough (voice self.old).style (length (heard self.new))) }
         ensures err { OnErr result (heard self.new ≡ heard self.old) };
 
-    /// The text of what it has heard: in its style, and the one that it is told to make.
+    /// The text of what it has heard: in its style, and the one that its voice gives.
     fn close(&self) -> Result<Vec<u8>, NoMemory>
         ensures { IfOk result (λ text. IsText (voice self.now) (heard self.now) text.items) };
 }

@@ -15,7 +15,7 @@ pub enum Style {
     Own,
 }
 
-/// Whether a listener is told more rows.
+/// Whether a listener hears more rows.
 #[derive(Clone, Copy, Debug, PartialEq, Eq)]
 pub enum More {
     /// It hears the next row.

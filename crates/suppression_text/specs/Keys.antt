@@ -59,7 +59,7 @@ is_type_word word = bytes_eq word (codes "struct") || (bytes_eq word (codes "uni
 unfoldable pub is_way_word : List ℕ → Bool
 is_way_word word = bytes_eq word (codes "direct") || bytes_eq word (codes "pointer")
 
--- The property may have the value. Of most properties any text is one; whether a text is a pattern is asked apart.
+-- The property may have the value. Of most properties any text is one; whether a text is a pattern is another question.
 abbrev pub takes_value : Key → List ℕ → Bool
 takes_value TypeKind value = is_type_word value
 takes_value AccessedThrough value = is_way_word value

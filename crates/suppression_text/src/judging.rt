@@ -63,7 +63,7 @@ fn has_brace(value: &[u8]) -> bool
     value.iter().any(|byte| *byte == b'{')
 }
 
-// What is wrong with a property of a section, but for whether a pattern is one.
+// What is wrong with a property of a section, apart from a faulty pattern.
 #[tactic(auto, unfolding(crate::specs::Faults::checked_fault))]
 fn fault_before_pattern(number: u64, section: &Section, key: Key, value: &[u8]) -> Option<Fault>
     ensures { result ≡ checked_fault number section.now key value.now }

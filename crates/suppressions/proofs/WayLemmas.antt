@@ -20,7 +20,7 @@ neither true b e = cc
 neither false b e = (refl, e)
 
 module _ (soname : Option (List ℕ)) (l : PlainLabel) where
-  -- the same bytes are asked but for the way
+  -- the same bytes, apart from the way
   same_asked : (key : Key) → same_key AccessedThrough key ≡ false → asked (label_subject soname Direct l) key ≡ asked (label_subject soname Pointer l) key
   same_asked Label other = refl
   same_asked Name other = refl

@@ -66,7 +66,7 @@ function i = function_code ∷ ended (function_name i) ++ reference int_place ++
 
 -- ---- units
 
--- the functions of unit u: 100 u to 100 u + 99, as far as they are below n
+-- the functions of unit u: 100 u to 100 u + 99, those below n
 abbrev pub functions_of : ℕ → ℕ → List ℕ
 functions_of n u = range_with_len (100 * u) (min 100 (n - 100 * u))
 
@@ -83,7 +83,7 @@ unit_of body = number_bytes 4 (8 + length body) ++ number_bytes 2 5 ++ dw_ut_com
 abbrev pub unit : ℕ → ℕ → ℕ → List ℕ
 unit n k u = unit_of (entries n k u)
 
--- how many units hold n functions, 100 each but for the last one
+-- how many units hold n functions, 100 each except the last one
 abbrev pub unit_count : ℕ → ℕ
 unit_count n = (n + 99) / 100
 

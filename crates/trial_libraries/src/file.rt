@@ -12,7 +12,7 @@ use crate::constants::{
 };
 use std::alloc::{AllocError, Global};
 
-// What the section table says of a section, but for where it stands and how long it is.
+// What a section header says of a section, apart from its offset and size.
 struct Section {
     name_place: u32,
     kind: u32,

@@ -11,7 +11,7 @@ use crate::symbols::{address_of, put_name};
 use abi_base::dwarf::{DW_ATE_signed, DW_LANG_C99, DW_UT_compile};
 use std::alloc::{AllocError, Global};
 
-// How many functions a unit has, but for the last one.
+// How many functions each unit but the last one has.
 const UNIT_FUNCTIONS: u32 = 100;
 
 // Each function whose number is a multiple of this has a second parameter.

@@ -67,7 +67,7 @@ view_of_look f m n same = ap (λ (l : Look). l.view) same
 labels_of_look : (f : ℕ → ℕ) (m n : PlainNode) → look_of f m ≡ look_of f n → m.labels ≡ n.labels
 labels_of_look f m n same = ap (λ (l : Look). l.labels) same
 
--- what the parts of two views at one position name, where the views are equal but for numbers of nodes
+-- what the parts of two views at one position name, where the views are equal apart from numbers of nodes
 named_same : (f : ℕ → ℕ) (v w : PlainView) (k : ℕ) → view_seen f v ≡ view_seen f w → option_map f (to_of (part_at v k)) ≡ option_map f (to_of (part_at w k))
 named_same f v w k same = sym (named-seen f v k) ∙ ap (λ (u : PlainView). to_of (part_at u k)) same ∙ named-seen f w k
 

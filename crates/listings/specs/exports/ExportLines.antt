@@ -27,7 +27,7 @@ places_text (place ∷ places) = place_text place ++ flat_map place_behind place
 abbrev pub call_text : CallShape → List ℕ
 call_text call = concat (codes " params " ∷ places_text call.params ∷ codes " result " ∷ place_text call.outcome ∷ [])
 
--- what is said of a type: the places of a function, and the kind of any other
+-- the words on a type: the places of a function, and the kind of any other
 unfoldable pub type_text : PlainView → List ℕ
 type_text v = if is_function v.kind then call_text v.call else codes " is " ++ kind_of_type v.kind
 
@@ -35,7 +35,7 @@ abbrev pub node_text : List PlainNode → Option ℕ → List ℕ
 node_text nodes None = codes " untyped"
 node_text nodes (Some i) = type_text (view_at nodes i)
 
--- what is said of the type of an entry, of which 0 is none
+-- the words on the type of an entry, where 0 stands for none
 unfoldable pub entry_text : List PlainNode → ℕ → List ℕ
 entry_text nodes entry = if entry == 0 then codes " untyped" else node_text nodes (node_of nodes entry)
 

@@ -51,7 +51,7 @@ fn push_call(text: &mut String, call: &Call) -> Result<(), AllocError>
     push_place(text, &call.outcome())
 }
 
-// Appends what is said of a type.
+// Appends the words on a type.
 #[tactic(auto, unfolding(crate::specs::exports::ExportLines::type_text))]
 fn push_type<Ix: Index>(text: &mut String, view: &View<Ix>) -> Result<(), AllocError>
     ensures { OnOk result (string_bytes text.new ≡ string_bytes text.old ++ type_text view.now) }
@@ -64,7 +64,7 @@ fn push_type<Ix: Index>(text: &mut String, view: &View<Ix>) -> Result<(), AllocE
     }
 }
 
-// Appends what is said of the type of an entry.
+// Appends the words on the type of an entry.
 #[tactic(auto, unfolding(crate::specs::exports::ExportLines::entry_text))]
 fn push_entry<Ix: Index>(text: &mut String, graph: &Graph<Ix>, entry: u64) -> Result<(), AllocError>
     ensures { OnOk result (string_bytes text.new ≡ string_bytes text.old ++ entry_text graph.now entry) }

@@ -83,7 +83,7 @@ module _ {B : Type 0} (heard : B → List Row) (voice : B → Voice) (wanted : R
       let past : length all ≤ so_far.done = omega (arith, none, ap length so_far.left, length-drop so_far.done all) in
       so_far.are ∙ ap (λ (l : List B). filter picks l) (take_all so_far.done all past)
 
--- the voices of those that are kept
+-- the voices of the kept listeners
 filtered : {B : Type 0} (voice : B → Voice) (wanted : ReportStyle) (b : B) (test : Bool) (kept : List B) (voices : List Voice) → map voice kept ≡ voices
     → map voice (cond test (b ∷ kept) kept) ≡ cond test (voice b ∷ voices) voices
 filtered voice wanted b true kept voices is = ap (λ (l : List Voice). voice b ∷ l) is

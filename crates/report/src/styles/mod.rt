@@ -1,4 +1,4 @@
-//! How a report is asked for, and the listeners that are told it. What it promises stands in `specs/Wanted.antt`.
+//! Which report the caller wants, and the listeners that hear it. `specs/styles/Wanted.antt` defines what is promised.
 
 mod report_option;
 

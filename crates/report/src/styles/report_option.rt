@@ -1,4 +1,4 @@
-// Which listeners are told.
+// Which listeners hear the report.
 ghost use Rattle.std.specs.Prelude.{◌≡◌, [], List, map, filter, All, IfOk};
 ghost use Rattle.report.specs.styles.Wanted.{is_wanted as the_style_is_wanted, wanted_voices};
 
@@ -6,7 +6,7 @@ use crate::{Listener, Style};
 use abi_base::NoMemory;
 use std::alloc::Global;
 
-/// How a report is asked for.
+/// Which report the caller wants.
 #[derive(Clone, Copy, Debug, PartialEq, Eq)]
 pub enum ReportStyle {
     /// A line for each row.
@@ -21,7 +21,7 @@ pub enum ReportStyle {
     Own,
 }
 
-// Whether a listener of the style is asked for.
+// Whether the caller wants a listener of the style.
 fn is_wanted(wanted: ReportStyle, style: Style) -> bool
     ensures { result ≡ the_style_is_wanted wanted style }
 {
@@ -42,7 +42,7 @@ fn style(listener: &Box<dyn Listener>) -> Style
     listener.style()
 }
 
-/// The listeners of the style that is asked for, in their order. The others are dropped. It fails only when memory runs out.
+/// The listeners of the wanted style, in their order. The others are dropped. It fails only when memory runs out.
 pub fn wanted_listeners(
     alloc: Global,
     listeners: Vec<Box<dyn Listener>>,

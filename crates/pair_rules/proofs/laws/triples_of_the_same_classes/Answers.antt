@@ -1,4 +1,4 @@
--- Nodes of one class look the same, but for which nodes of one class their parts name.
+-- Nodes of one class look the same, apart from which nodes of one class their parts name.
 use Rattle.pair_rules.proofs.Classes.{marked_same, breaks_same, step_same}
 use Rattle.pair_rules.proofs.laws.triples_of_the_same_classes.Goals as goal
 

@@ -1,4 +1,4 @@
--- A rule that speaks of parts is asked where parts are compared.
+-- A rule on parts is checked where parts are compared.
 use Rattle.std.proofs.Common.{sym, ◌∙◌, ap, ◌≡◌, ◌<◌, length, get_or, List, Bool}
 use Rattle.abi_types.specs.declared.rule.Rule.{Rule}
 use Rattle.abi_types.specs.declared.rule.Rule.TheVariants.{LibrarySoname}

@@ -1,4 +1,4 @@
--- A rule that speaks of parts is asked where parts are compared.
+-- A rule on parts is checked where parts are compared.
 use Rattle.std.proofs.Common.{sym, ◌∙◌}
 use Rattle.pair_rules.proofs.Compared.{matches-compared}
 use Rattle.pair_rules.proofs.rules.push_broken.Goals as goal
