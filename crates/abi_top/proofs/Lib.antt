@@ -1,4 +1,5 @@
 mod Agreeing
+mod Alike
 mod Clauses
 mod ParsedArguments
 mod Printed

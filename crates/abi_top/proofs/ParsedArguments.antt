@@ -1,8 +1,7 @@
 -- The answers of a call whose words ask for something are the replies of its command.
-use Rattle.std.proofs.Common.{◌≡◌, ◌≢◌, ◌⊎◌, ℕ, List, [], ◌∷◌, Option, Some, None, refl, sym, ◌∙◌, ap, subst, inl, inr, IfSome}
-use Rattle.abi_base.specs.declared.remark.Remark.{Remark}
+use Rattle.std.proofs.Common.{◌≡◌, ℕ, List, subst}
 use Rattle.abi_top.specs.Answer.{Answers, Asks, Call, row_of}
-use Rattle.cli_args.specs.ParsedArguments.{PlainRequest, PlainArguments, request, usage, help, arguments_by}
+use Rattle.cli_args.specs.ParsedArguments.{PlainRequest, request, usage, help, arguments_by}
 use Rattle.abi_base.specs.declared.fault.Fault.{Fault}
 use Rattle.commands.specs.Commands.{asks_of, places_of}
 use Rattle.commands.specs.Faults.{FaultOfAll}

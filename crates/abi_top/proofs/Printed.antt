@@ -1,16 +1,14 @@
 -- What `check` prints on yes is accepted by `verify`.
-use Rattle.std.proofs.Common.{◌≡◌, ◌≤◌, ℕ, List, [], ◌∷◌, length, Option, Some, None, refl, sym, ◌∙◌, ap, subst}
-use Rattle.abi_base.specs.Limits.{input_limit}
+use Rattle.std.proofs.Common.{◌≡◌, ℕ, List, [], ◌∷◌, Option, None, sym, ◌∙◌}
 use Rattle.abi_base.specs.declared.remark.Remark.{Remark}
-use Rattle.abi_top.specs.Answer.{Answers, Call, row_of}
+use Rattle.abi_top.specs.Answer.{row_of}
 use Rattle.abi_top.specs.OneAnswer.{AcceptsWhatCheckPrints}
-use Rattle.abi_top.specs.Rows.{check_inputs, verify_inputs}
-use Rattle.abi_top.specs.Says.{CheckSays, VerifySays, verify_says}
+use Rattle.abi_top.specs.Says.{VerifySays, verify_says}
 use Rattle.abi_top.specs.Text.{accepted_text}
 use Rattle.abi_top.proofs.ParsedArguments.{reply_of}
 use Rattle.cert_check.specs.declared.refused.Refused.{Refused as Refusal}
-use Rattle.cli_args.specs.ParsedArguments.{PlainRequest, check, verify, request, arguments_by}
-use Rattle.commands.specs.Commands.{asks_of, places_of}
+use Rattle.cli_args.specs.ParsedArguments.{PlainRequest, check, verify}
+use Rattle.commands.specs.Commands.{asks_of}
 use Rattle.commands.specs.Faults.{AreReadable, AreShort}
 use Rattle.commands.specs.Served.{IsVerdict}
 use Rattle.commands.specs.declared.outcome.Outcome.{Outcome}

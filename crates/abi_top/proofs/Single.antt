@@ -1,15 +1,16 @@
 -- Over inputs that tell their bytes there is one answer, since each command says one thing of them.
-use Rattle.std.proofs.Common.{◌≡◌, ◌⊎◌, ◌≤◌, ℕ, List, [], ◌∷◌, length, All, Option, Some, None, refl, sym, ◌∙◌, ap, inl, inr}
+use Rattle.std.proofs.Common.{◌≡◌, ◌≤◌, ℕ, List, [], ◌∷◌, length, All, Option, None, refl, sym, ◌∙◌, ap, inl, inr}
 use Rattle.abi_base.specs.Limits.{input_limit}
 use Rattle.abi_base.specs.declared.remark.Remark.{Remark}
 use Rattle.abi_top.specs.Answer.{Answers, Call, row_of}
-use Rattle.abi_top.specs.OneAnswer.{AreTextsDecided, IsNoReadFault, OneAnswer}
+use Rattle.abi_top.specs.OneAnswer.{AreTextsDecided, OneAnswer}
 use Rattle.abi_top.specs.Rows.{command_of}
 use Rattle.abi_top.specs.Says.{CheckSays, ComposeSays, IsComposedAs, IsListed, LayoutSays, MigrateSays, VerifySays}
-use Rattle.abi_top.specs.Text.{no_tag_text, refused_first_text, refused_second_text, refused_text, usage_text}
+use Rattle.abi_top.specs.Text.{refused_first_text, refused_second_text, refused_text, usage_text}
+use Rattle.abi_top.proofs.Alike.{HasOneReport, one_said}
 use Rattle.abi_top.proofs.ParsedArguments.{asks_help, asks_usage, reply_of}
 use Rattle.cert_check.specs.declared.refused.Refused.{Refused as Refusal}
-use Rattle.cli_args.specs.ParsedArguments.{PlainRequest, check, verify, entries, exports, trial, migrate, compose, layout, request, usage, help, arguments_by}
+use Rattle.cli_args.specs.ParsedArguments.{PlainRequest, app, check, verify, entries, exports, trial, migrate, compose, layout, request, usage, help, arguments_by}
 use Rattle.commands.specs.OneReply.{SaysOne}
 use Rattle.commands.specs.declared.outcome.Outcome.{Outcome}
 use Rattle.commands.specs.declared.outcome.Outcome.TheVariants.{Judged, Unreadable, ReadFault, Help, Usage, NoMemory, WriteFault}
@@ -46,6 +47,7 @@ pub record HaveOneText : Type 0 where
   pub composition : (files : PlainFiles) (one other : Composed) → IsComposition files one → IsComposition files other → SameComposed one other
   pub layout_text : (library tag text other : List ℕ) → length library ≤ input_limit → library_fault library ≡ None → IsLayoutText library tag text → IsLayoutText library tag other → text ≡ other
   pub layout_apart : (library tag text : List ℕ) → IsLayoutText library tag text → HasNoTag library tag → ⊥
+  pub application : HasOneReport
   pub tried : (voices : List Voice) (count : ℕ) (text other : List ℕ) → count ≤ most_functions → IsTrialText (wanted_voices Text voices) count text → IsTrialText (wanted_voices Text voices) count other → text ≡ other
   pub counted : (words : List (List ℕ)) (count : ℕ) → arguments_by words ≡ request (trial count) → (1 ≤ count) × (count ≤ most_functions)
 
@@ -192,6 +194,14 @@ module _ (have : HaveOneText) where
   says_one voices (layout name tag) decided counted (a ∷ b ∷ more) short readable v w u x text other one two = absurd one
   says_one voices (trial count) decided counted all short readable v w u x text other one two =
       (one.done ∙ sym two.done, one.none ∙ sym two.none, have.tried voices count text other counted one.lines two.lines)
+  says_one voices (app rules_name report app_name old_name new_name) decided counted [] short readable v w u x text other one two = absurd one
+  says_one voices (app rules_name report app_name old_name new_name) decided counted (a ∷ []) short readable v w u x text other one two = absurd one
+  says_one voices (app rules_name report app_name old_name new_name) decided counted (a ∷ b ∷ []) short readable v w u x text other one two = absurd one
+  says_one voices (app rules_name report app_name old_name new_name) decided counted (a ∷ b ∷ c ∷ []) short readable v w u x text other one two = absurd one
+  says_one voices (app rules_name report app_name old_name new_name) decided counted (program ∷ old ∷ new ∷ rules ∷ []) short readable v w u x text other one two =
+      let both = one_said have.application (wanted_voices report voices) program old new rules decided short.1.0 short.1.1.0 readable.1.0 readable.1.1.0 v w text other one.0 two.0 in
+      (both.0, one.1 ∙ sym two.1, both.1)
+  says_one voices (app rules_name report app_name old_name new_name) decided counted (a ∷ b ∷ c ∷ d ∷ e ∷ more) short readable v w u x text other one two = absurd one
 
   counted_right : (words : List (List ℕ)) (asked : PlainRequest) → arguments_by words ≡ request asked → IsCounted asked
   counted_right words (check rules report old new) is = tt
@@ -201,6 +211,7 @@ module _ (have : HaveOneText) where
   counted_right words (migrate rules old new certificate) is = tt
   counted_right words (compose first middle last certificate1 certificate2) is = tt
   counted_right words (layout library tag) is = tt
+  counted_right words (app rules report program old new) is = tt
   counted_right words (trial count) is = (have.counted words count is).1
 
 -- ---- the answer is one

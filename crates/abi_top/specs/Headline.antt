@@ -1,7 +1,7 @@
 -- The words of the clauses of `run`: the request of its words, and the readable bytes that its inputs gave.
 use Rattle.std.specs.Prelude.{◌≡◌, ◌⊎◌, ℕ, List, [], ◌∷◌, Option}
 use Rattle.abi_top.specs.Answer.{Call, row_of}
-use Rattle.cli_args.specs.ParsedArguments.{PlainRequest, check, verify, entries, exports, trial, migrate, compose, layout, request, arguments_by}
+use Rattle.cli_args.specs.ParsedArguments.{PlainRequest, check, verify, entries, exports, trial, migrate, compose, layout, app, request, arguments_by}
 use Rattle.commands.specs.Commands.{asks_of, places_of}
 use Rattle.commands.specs.Faults.{AreReadable}
 use Rattle.commands.specs.Reading.{Gives}
@@ -26,6 +26,12 @@ abbrev pub OnCheck : Call → (ReportStyle → List ℕ → List ℕ → List �
 OnCheck call P =
     (rules_name : Option (List ℕ)) × (report : ReportStyle) × (old_name new_name old new rules : List ℕ)
     × Reads call (check rules_name report old_name new_name) (old ∷ new ∷ rules ∷ []) × P report old new rules
+
+-- the words are `app`, and P holds of the style and of the readable application, old library, new library and rule file
+abbrev pub OnApp : Call → (ReportStyle → List ℕ → List ℕ → List ℕ → List ℕ → Type 0) → Type 0
+OnApp call P =
+    (rules_name : Option (List ℕ)) × (report : ReportStyle) × (app_name old_name new_name program old new rules : List ℕ)
+    × Reads call (app rules_name report app_name old_name new_name) (program ∷ old ∷ new ∷ rules ∷ []) × P report program old new rules
 
 -- the words are `verify`, and P holds of the readable libraries, rule file and certificate
 abbrev pub OnVerify : Call → (List ℕ → List ℕ → List ℕ → List ℕ → Type 0) → Type 0

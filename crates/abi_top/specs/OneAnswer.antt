@@ -4,13 +4,15 @@ use Rattle.abi_base.specs.Limits.{input_limit}
 use Rattle.abi_base.specs.declared.remark.Remark.{Remark}
 use Rattle.abi_top.specs.Answer.{Call, Answers, row_of}
 use Rattle.abi_top.specs.Text.{accepted_text}
-use Rattle.cli_args.specs.ParsedArguments.{PlainRequest, check, verify, request, usage, help, arguments_by}
+use Rattle.cli_args.specs.ParsedArguments.{PlainRequest, app, check, verify, request, usage, help, arguments_by}
 use Rattle.commands.specs.Commands.{places_of}
 use Rattle.commands.specs.OneReply.{TellsEach}
 use Rattle.commands.specs.declared.input.Input.{Input}
 use Rattle.commands.specs.declared.outcome.Outcome.{Outcome}
 use Rattle.commands.specs.declared.outcome.Outcome.TheVariants.{Judged, ReadFault}
+use Rattle.commands.specs.declared.verdict.Verdict.{Verdict}
 use Rattle.commands.specs.declared.verdict.Verdict.TheVariants.{Yes}
+use Rattle.library_check.specs.Applications.{ImportTheSame}
 use Rattle.library_check.specs.Voices.{TellsItsText}
 use Rattle.report.specs.Listening.{Voice}
 use Rattle.report.specs.styles.Wanted.{wanted_voices}
@@ -23,6 +25,7 @@ IsNoReadFault outcome = (which : Input) → outcome ≡ ReadFault which → ⊥
 -- the rows decide the texts of the listeners that are asked for
 abbrev pub AreTextsDecided : List Voice → PlainRequest → Type 0
 AreTextsDecided voices (check rules report old new) = All TellsItsText (wanted_voices report voices)
+AreTextsDecided voices (app rules report program old new) = All TellsItsText (wanted_voices report voices)
 AreTextsDecided voices other = Unit {0}
 
 -- the words ask for something whose inputs tell their bytes, and for listeners whose texts the rows decide
@@ -51,3 +54,16 @@ AcceptsWhatCheckPrints =
     → TellsEach other.reading.told (places_of (row_of other (verify rules_name old_name new_name certificate_name)).inputs) (old ∷ new ∷ rules ∷ text ∷ [])
     → (outcome : Outcome) (answer : List ℕ) → IsNoReadFault outcome → Answers other outcome answer
     → (u : Option Remark) × (outcome ≡ Judged Yes u) × (answer ≡ accepted_text)
+
+-- Two calls of `app` with listeners of the same voices and in the same style, whose texts the rows decide, and with inputs that tell the
+-- same bytes but for applications that import the same: where each answers with a verdict, the verdicts and the texts are equal.
+abbrev pub AnswersAlike : Type 0
+AnswersAlike =
+    (call other : Call) (rules_name other_rules_name : Option (List ℕ)) (report : ReportStyle) (app_name old_name new_name other_app_name other_old_name other_new_name program another old new rules : List ℕ)
+    → other.voices ≡ call.voices → All TellsItsText (wanted_voices report call.voices) → ImportTheSame program another
+    → arguments_by call.words ≡ request (app rules_name report app_name old_name new_name)
+    → TellsEach call.reading.told (places_of (row_of call (app rules_name report app_name old_name new_name)).inputs) (program ∷ old ∷ new ∷ rules ∷ [])
+    → arguments_by other.words ≡ request (app other_rules_name report other_app_name other_old_name other_new_name)
+    → TellsEach other.reading.told (places_of (row_of other (app other_rules_name report other_app_name other_old_name other_new_name)).inputs) (another ∷ old ∷ new ∷ rules ∷ [])
+    → (v w : Verdict) (untyped other_untyped : Option Remark) (text answer : List ℕ) → Answers call (Judged v untyped) text → Answers other (Judged w other_untyped) answer
+    → (v ≡ w) × (untyped ≡ other_untyped) × (text ≡ answer)

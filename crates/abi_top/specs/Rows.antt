@@ -2,12 +2,13 @@
 use Rattle.std.specs.Prelude.{ℕ, List, [], ◌∷◌, Option}
 use Rattle.trial_libraries.specs.Libraries.{library as made_library}
 use Rattle.trial_libraries.specs.declared.making.Side.TheVariants as side
-use Rattle.abi_top.specs.Says.{check_says, compose_says, entries_says, exports_says, layout_says, migrate_says, trial_says, verify_says}
+use Rattle.abi_top.specs.Says.{app_says, check_says, compose_says, entries_says, exports_says, layout_says, migrate_says, trial_says, verify_says}
 use Rattle.report.specs.Listening.{Voice}
-use Rattle.cli_args.specs.ParsedArguments.{PlainRequest, check, verify, entries, exports, trial, migrate, compose, layout}
+use Rattle.cli_args.specs.ParsedArguments.{PlainRequest, check, verify, entries, exports, trial, migrate, compose, layout, app}
 use Rattle.commands.specs.Commands.{Command, PlainSource, Wanted, named, named_or_empty, own}
 use Rattle.commands.specs.declared.input.Input.{Input}
-use Rattle.commands.specs.declared.input.Input.TheVariants.{Old, New, Rules, Certificate, Library, First, Middle, Last, Certificate1, Certificate2}
+use Rattle.commands.specs.declared.input.Input.TheVariants.{Old, New, Rules, Certificate, Library, First, Middle, Last, Certificate1, Certificate2, App}
+use Rattle.app_check.specs.Imports.{app_fault}
 use Rattle.listings.specs.entries.EntryLines.{listing_fault}
 use Rattle.library_read.specs.Faults.{library_fault}
 use Rattle.library_check.specs.Migrations.{old_certificate_fault}
@@ -54,6 +55,11 @@ exports_inputs library = library_at Library (named library) ∷ []
 abbrev pub layout_inputs : List ℕ → List Wanted
 layout_inputs library = library_at Library (named library) ∷ []
 
+-- the application must have no fault that keeps its imports from being read
+abbrev pub app_inputs : (rules : Option (List ℕ)) (program old new : List ℕ) → List Wanted
+app_inputs rules program old new =
+    record { which = App; source = named program; fault_in = app_fault } ∷ library_at Old (named old) ∷ library_at New (named new) ∷ rules_at rules ∷ []
+
 -- the two libraries that a trial makes
 abbrev pub trial_inputs : ℕ → List Wanted
 trial_inputs count = library_at Old (own (made_library count side.Old)) ∷ library_at New (own (made_library count side.New)) ∷ []
@@ -68,3 +74,4 @@ command_of voices (trial count) = record { inputs = trial_inputs count; says = t
 command_of voices (migrate rules old new certificate) = record { inputs = migrate_inputs rules old new certificate; says = migrate_says }
 command_of voices (compose first middle last certificate1 certificate2) = record { inputs = compose_inputs first middle last certificate1 certificate2; says = compose_says }
 command_of voices (layout library tag) = record { inputs = layout_inputs library; says = layout_says tag }
+command_of voices (app rules report program old new) = record { inputs = app_inputs rules program old new; says = app_says (wanted_voices report voices) }

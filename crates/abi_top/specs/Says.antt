@@ -9,6 +9,7 @@ use Rattle.commands.specs.declared.verdict.Verdict.TheVariants.{Yes, No, Refused
 use Rattle.listings.specs.entries.EntryLines.{listing_of}
 use Rattle.listings.specs.exports.ExportLines.{exports_text}
 use Rattle.library_read.specs.Libraries.{library_of}
+use Rattle.library_check.specs.Applications.{IsAppReportText, IsCompatibleFor, uses_for}
 use Rattle.library_check.specs.Checks.{Compatible, IsCertificateText, IsReportText}
 use Rattle.library_check.specs.Compositions.{PlainFiles, IsComposition}
 use Rattle.library_check.specs.Migrations.{IsMigratedText, IsRefusedMigration}
@@ -121,3 +122,15 @@ LayoutSays library tag No text = ⊥
 abbrev pub layout_says : List ℕ → List (List ℕ) → Verdict → Option Remark → List ℕ → Type 0
 layout_says tag (library ∷ []) v untyped text = LayoutSays library tag v text × (untyped ≡ None)
 layout_says tag all v untyped text = ⊥
+
+-- ---- app: yes with the exports that the application uses, or no with the report on these that listeners of these voices make
+
+abbrev pub AppSays : List Voice → List ℕ → List ℕ → List ℕ → List ℕ → Verdict → List ℕ → Type 0
+AppSays voices app old new rules Yes text = IsCompatibleFor app old new rules × (text ≡ uses_for app old new rules)
+AppSays voices app old new rules No text = (IsCompatibleFor app old new rules → ⊥) × IsAppReportText voices app old new rules text
+AppSays voices app old new rules Refused text = ⊥
+AppSays voices app old new rules Done text = ⊥
+
+abbrev pub app_says : List Voice → List (List ℕ) → Verdict → Option Remark → List ℕ → Type 0
+app_says voices (app ∷ old ∷ new ∷ rules ∷ []) v untyped text = AppSays voices app old new rules v text × (untyped ≡ Some (remark_on old new))
+app_says voices all v untyped text = ⊥

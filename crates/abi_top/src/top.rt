@@ -5,7 +5,7 @@ ghost use Rattle.abi_base.specs.Causes.{AppendsFront, Rose, SameCounts, Unfailin
 ghost use Rattle.abi_base.specs.declared.fault.Fault.{Fault as AnyFault};
 ghost use Rattle.abi_base.specs.declared.remark.Remark.{Remark as AnyRemark};
 ghost use Rattle.abi_top.specs.Answer.{Answers, Asks, AsksForTold, Call, HasRoom, call_of, row_of};
-ghost use Rattle.abi_top.specs.Headline.{OnCheck, OnCompose, OnLayout, OnMigrate, OnVerify, OnListing, OnTrial};
+ghost use Rattle.abi_top.specs.Headline.{OnApp, OnCheck, OnCompose, OnLayout, OnMigrate, OnVerify, OnListing, OnTrial};
 ghost use Rattle.abi_top.specs.Rows.{command_of};
 ghost use Rattle.abi_top.specs.Says.{ComposesNone};
 ghost use Rattle.abi_top.specs.Text.{accepted_text, no_tag_text, refused_text, usage_text};
@@ -22,6 +22,7 @@ ghost use Rattle.commands.specs.Served.{AreServed, AreUnfailed, IsVerdict};
 ghost use Rattle.commands.specs.Texts.{read_fault_text, unreadable_text};
 ghost use Rattle.commands.specs.declared.input.Input.{Input as AnyInput};
 ghost use Rattle.commands.specs.declared.outcome.Outcome.{Outcome as AnyOutcome};
+ghost use Rattle.library_check.specs.Applications.{AgreedFor, IsAppReportText, IsCompatibleFor, uses_for};
 ghost use Rattle.library_check.specs.Checks.{Agreed, Compatible, IsCertificateText, IsReportText};
 ghost use Rattle.library_check.specs.Compositions.{IsComposedText};
 ghost use Rattle.library_check.specs.Migrations.{IsMigratedText, IsRefusedMigration};
@@ -34,6 +35,7 @@ ghost use Rattle.report.specs.declared.styles.report_option.ReportStyle.{ReportS
 ghost use Rattle.report.specs.styles.Wanted.{wanted_voices};
 ghost use Rattle.trial_libraries.specs.Limits.{most_functions};
 
+use crate::app::App;
 use crate::check::Check;
 use crate::compose::Compose;
 use crate::entries::Entries;
@@ -85,31 +87,38 @@ pub fn run<'a, I: Inputs, S: Sink>(
     // answer to `check` is the certificate, which a checker accepts; the answer to `verify` says that the certificate is accepted.
     // Either certificate tells a relation between types that proves the yes: it is closed under the rules of types, and holds the
     // types of all exports that are compared. The answer to `compose` is the certificate that two accepted ones compose: it is
-    // accepted for the first and the last library, of which the last may replace the first.
+    // accepted for the first and the last library, of which the last may replace the first. The answer to `app` names the exports of
+    // the old library that the application uses and that the rule file does not drop: the new library may replace the old one in
+    // these, where all others are taken as dropped.
     ensures yes { let call : Call = call_of I.told I.faults I.given I.started (map voice listeners.items) words.entry.now inputs.old inputs.new in
         (untyped : Option AnyRemark) → result.outcome ≡ Outcome.Judged Verdict.Yes untyped
         → OnCheck call (λ report old new rules. Compatible old new rules × (untyped ≡ Some (remark_on old new)) × (text : List ℕ) × IsCertificateText old new rules text × IsRelationText old new rules text × Appends (S.held sink.old) (S.held sink.new) text)
         ⊎ (OnVerify call (λ old new rules certificate. IsAcceptedText old new rules certificate × Compatible old new rules × IsRelationText old new rules certificate × Appends (S.held sink.old) (S.held sink.new) accepted_text)
-        ⊎ OnCompose call (λ files. Compatible files.first files.last [] × (text : List ℕ) × IsComposedText files text × Appends (S.held sink.old) (S.held sink.new) text)) }
+        ⊎ (OnCompose call (λ files. Compatible files.first files.last [] × (text : List ℕ) × IsComposedText files text × Appends (S.held sink.old) (S.held sink.new) text)
+        ⊎ OnApp call (λ report program old new rules. IsCompatibleFor program old new rules × (untyped ≡ Some (remark_on old new)) × Appends (S.held sink.old) (S.held sink.new) (uses_for program old new rules)))) }
 
-    // No: all inputs are readable, the new library may not replace the old one, and what the listeners of the style in the words
-    // make of all breaks was printed, in their order: each heard all breaks, up to the first at which it has enough, each break of
-    // types with the first path to it from an export.
+    // No: all inputs are readable, the new library may not replace the old one, or may not for the application, and what the listeners
+    // of the style in the words make of all breaks was printed, in their order: each heard all breaks, up to the first at which it has
+    // enough, each break of types with the first path to it from an export. Those of `app` are breaks of exports that the application
+    // uses, and of their types.
     ensures no { let call : Call = call_of I.told I.faults I.given I.started (map voice listeners.items) words.entry.now inputs.old inputs.new in
         (untyped : Option AnyRemark) → result.outcome ≡ Outcome.Judged Verdict.No untyped
-        → OnCheck call (λ report old new rules. (Compatible old new rules → ⊥) × (untyped ≡ Some (remark_on old new)) × (text : List ℕ) × IsReportText (wanted_voices report call.voices) old new rules text × Appends (S.held sink.old) (S.held sink.new) text) }
+        → OnCheck call (λ report old new rules. (Compatible old new rules → ⊥) × (untyped ≡ Some (remark_on old new)) × (text : List ℕ) × IsReportText (wanted_voices report call.voices) old new rules text × Appends (S.held sink.old) (S.held sink.new) text)
+        ⊎ OnApp call (λ report program old new rules. (IsCompatibleFor program old new rules → ⊥) × (untyped ≡ Some (remark_on old new)) × (text : List ℕ) × IsAppReportText (wanted_voices report call.voices) program old new rules text × Appends (S.held sink.old) (S.held sink.new) text) }
 
     // Yes, as a program sees it that was compiled against the old library: the sonames are equal, each export that is compared binds
     // to one that keeps the rules of exports, and whatever the program may reach from the type of such an export, by results,
     // parameters, pointers, elements and members, it finds in the new library at the same bit of the same object, in agreement. And
-    // on no this is not so. With `complete`, `check` says yes exactly where the libraries agree on all such accesses.
+    // on no this is not so. With `complete`, `check` says yes exactly where the libraries agree on all such accesses, and `app` where
+    // they agree on all from the exports that the application uses.
     ensures yes_agreed { let call : Call = call_of I.told I.faults I.given I.started (map voice listeners.items) words.entry.now inputs.old inputs.new in
         (untyped : Option AnyRemark) → result.outcome ≡ Outcome.Judged Verdict.Yes untyped
         → OnCheck call (λ report old new rules. Agreed old new rules)
-        ⊎ (OnVerify call (λ old new rules certificate. Agreed old new rules) ⊎ OnCompose call (λ files. Agreed files.first files.last [])) }
+        ⊎ (OnVerify call (λ old new rules certificate. Agreed old new rules)
+        ⊎ (OnCompose call (λ files. Agreed files.first files.last []) ⊎ OnApp call (λ report program old new rules. AgreedFor program old new rules))) }
     ensures no_agreed { let call : Call = call_of I.told I.faults I.given I.started (map voice listeners.items) words.entry.now inputs.old inputs.new in
         (untyped : Option AnyRemark) → result.outcome ≡ Outcome.Judged Verdict.No untyped
-        → OnCheck call (λ report old new rules. Agreed old new rules → ⊥) }
+        → OnCheck call (λ report old new rules. Agreed old new rules → ⊥) ⊎ OnApp call (λ report program old new rules. AgreedFor program old new rules → ⊥) }
 
     // A library may replace itself, whatever a rule file leaves out: where both names tell the same bytes, the answer is not no.
     ensures itself { (rules : Option (List ℕ)) (report : AnyStyle) (old_name new_name bytes : List ℕ) (untyped : Option AnyRemark) → arguments_by (texts words.entry.now) ≡ requested (check rules report old_name new_name)
@@ -345,6 +354,23 @@ fn answer_of<'a, I: Inputs>(
         }
         Request::Layout { library, tag } => {
             let command = Layout { library, tag };
+            let places = command.places(alloc)?;
+            answer_with(alloc, &places, command, inputs, listeners)
+        }
+        Request::App {
+            rules,
+            report,
+            app,
+            old,
+            new,
+        } => {
+            let command = App {
+                rules,
+                report,
+                program: app,
+                old,
+                new,
+            };
             let places = command.places(alloc)?;
             answer_with(alloc, &places, command, inputs, listeners)
         }

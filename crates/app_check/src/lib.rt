@@ -2,11 +2,13 @@
 #![tactic(auto)]
 
 mod import;
+mod linking;
 mod narrowing;
 mod reading;
 mod using;
 
 pub use import::Import;
+pub use linking::{Links, links_between};
 pub use narrowing::narrow;
 pub use reading::read_app;
 pub use using::used;

@@ -1,6 +1,7 @@
 // The marks of one application.
 ghost use Rattle.std.specs.Prelude.{◌≡◌, ◌||◌, not, length, IfOk};
-ghost use Rattle.app_check.specs.Used.{narrowed as the_narrowed, narrowed_marks};
+ghost use Rattle.app_check.specs.Used.{narrowed_marks};
+ghost use Rattle.app_check.specs.Used as spec;
 
 use abi_base::{List, NoMemory};
 use abi_types::Marks;
@@ -16,7 +17,7 @@ fn is_left_out(dropped: bool, used: bool) -> bool
 // Each export is dropped that was, or that is not used.
 fn narrowed(alloc: Global, dropped: &[bool], used: &[bool]) -> Result<List<bool>, NoMemory>
     requires { length dropped.now ≡ length used.now }
-    ensures { IfOk result (λ exports. exports ≡ the_narrowed dropped.now used.now) }
+    ensures { IfOk result (λ exports. exports ≡ spec.narrowed dropped.now used.now) }
 {
     let mut exports = List::new(alloc);
     for place in 0..dropped.len() {

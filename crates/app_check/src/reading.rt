@@ -9,7 +9,8 @@ ghost use Rattle.elf.specs.versions.Versions.{version_fault};
 ghost use Rattle.elf_needs.specs.Indexes.{indexes_of};
 ghost use Rattle.elf_needs.specs.Needs.{needs_fault};
 ghost use Rattle.elf_needs.specs.Plain.{plain_need, needed};
-ghost use Rattle.app_check.specs.Imports.{is_linked as the_symbol_is_linked, index_in, need_by, import_of as the_import_of, imports_with, import_fault_of, import_fault_with, imports_fault, imports_of, app_fault};
+ghost use Rattle.app_check.specs.Imports.{index_in, need_by, imports_with, import_fault_of, import_fault_with, imports_fault, imports_of, app_fault};
+ghost use Rattle.app_check.specs.Imports as spec;
 ghost use Rattle.app_check.specs.Plain.{plain_import, plain_imports};
 
 use crate::import::Import;
@@ -23,7 +24,7 @@ use std::alloc::Global;
 
 // Whether other files may give a symbol, by its own record.
 fn is_linked(symbol: &Symbol) -> bool
-    ensures { result ≡ the_symbol_is_linked (plain_symbol symbol.now) }
+    ensures { result ≡ spec.is_linked (plain_symbol symbol.now) }
 {
     symbol.number != 0
         && matches!(symbol.binding, STB_GLOBAL | STB_WEAK | STB_GNU_UNIQUE)
@@ -52,7 +53,7 @@ fn need_with<'a>(needs: &Needs<'a>, index: u16) -> Option<Need<'a>>
 
 // The import that a symbol is, where it is one.
 fn import_of<'a>(needs: &Needs<'a>, indexes: &Indexes, symbol: &Symbol<'a>) -> Option<Import<'a>>
-    ensures { option_map plain_import result ≡ the_import_of (needed needs.now) indexes.now (plain_symbol symbol.now) }
+    ensures { option_map plain_import result ≡ spec.import_of (needed needs.now) indexes.now (plain_symbol symbol.now) }
 {
     let need = need_with(needs, index_of(indexes, symbol.number));
     if is_linked(symbol) && (symbol.section == SHN_UNDEF || need.is_some()) {

@@ -5,7 +5,8 @@ ghost use Rattle.std.specs.List.{range_with_len, list_any};
 ghost use Rattle.std.specs.Option.{option_copied};
 ghost use Rattle.abi_types.specs.Plain.{plain_export, plain_exports};
 ghost use Rattle.app_check.specs.Plain.{plain_import, plain_imports};
-ghost use Rattle.app_check.specs.Used.{wanted_by as what_it_wants, may_come_from as it_may_come_from, is_at, used_exports};
+ghost use Rattle.app_check.specs.Used.{wanted_by as what_it_wants, is_at, used_exports};
+ghost use Rattle.app_check.specs.Used as spec;
 
 use crate::import::Import;
 use abi_base::NoMemory;
@@ -14,8 +15,8 @@ use elf_bind::{bind_all, same_name};
 use std::alloc::Global;
 use std::collections::HashSet;
 
-// What an import asks for. Binding reads its name and its version.
-fn wanted_by<'a>(import: &Import<'a>) -> Export<'a>
+/// What an import asks for. Binding reads its name and its version.
+pub(crate) fn wanted_by<'a>(import: &Import<'a>) -> Export<'a>
     ensures { plain_export result ≡ what_it_wants (plain_import import.now) }
 {
     Export {
@@ -36,9 +37,9 @@ fn wanted_by<'a>(import: &Import<'a>) -> Export<'a>
     }
 }
 
-// Whether the file of a soname may give an import.
-fn may_come_from(import: &Import, soname: Option<&[u8]>) -> bool
-    ensures { result ≡ it_may_come_from (option_copied soname.entry) (plain_import import.now) }
+/// Whether the file of a soname may give an import.
+pub(crate) fn may_come_from(import: &Import, soname: Option<&[u8]>) -> bool
+    ensures { result ≡ spec.may_come_from (option_copied soname.entry) (plain_import import.now) }
 {
     match import.need {
         Some(need) => same_name(Some(need.file), soname),
@@ -52,7 +53,7 @@ fn wanted_of<'a>(
     imports: &[Import<'a>],
     soname: Option<&[u8]>,
 ) -> Result<Vec<Export<'a>>, NoMemory>
-    ensures { IfOk result (λ wanted. plain_exports wanted.items ≡ map what_it_wants (filter (it_may_come_from (option_copied soname.entry)) (plain_imports imports.now))) }
+    ensures { IfOk result (λ wanted. plain_exports wanted.items ≡ map what_it_wants (filter (spec.may_come_from (option_copied soname.entry)) (plain_imports imports.now))) }
 {
     let mut wanted = Vec::new(alloc);
     for import in imports {

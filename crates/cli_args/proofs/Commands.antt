@@ -17,7 +17,7 @@ use Rattle.report.specs.declared.styles.report_option.ReportStyle.TheVariants as
 use Rattle.cli_args.specs.Trials.{most_count}
 use Rattle.cli_args.specs.Words.{IsNoOption}
 use Rattle.cli_args.specs.Line.{PlainLine, line_app, line_in, option_words, words_of}
-use Rattle.cli_args.specs.ParsedArguments.{arguments_by, check, command_named, compose, entries, exports, layout, migrate, request, request_on, request_or_usage, trial, verify}
+use Rattle.cli_args.specs.ParsedArguments.{app, arguments_by, check, command_named, compose, entries, exports, layout, migrate, request, request_on, request_or_usage, trial, verify}
 use Rattle.cli_args.proofs.Counting.{decimal_counts}
 use Rattle.cli_args.proofs.Lines.{line_with}
 use Rattle.cli_args.proofs.Judging.{taken_asks}
@@ -199,6 +199,11 @@ compose_asks first middle last certificate1 certificate2 a b c d e =
 pub layout_asks : (library tag : Text) → IsNoOption library → IsNoOption tag → arguments_by (codes "layout" ∷ library ∷ tag ∷ []) ≡ request (layout library tag)
 unfolding command_named
 layout_asks library tag l t = plain_words_ask (codes "layout") (library ∷ tag ∷ []) (letter 108 (λ e. absurd (omega (arith, e)))) (l, (t, tt)) (omega arith)
+
+pub app_asks : (program old new : Text) → IsNoOption program → IsNoOption old → IsNoOption new → arguments_by (codes "app" ∷ program ∷ old ∷ new ∷ []) ≡ request (app None style.Text program old new)
+unfolding command_named
+app_asks program old new p o n =
+    plain_words_ask (codes "app") (program ∷ old ∷ new ∷ []) (letter 97 (λ e. absurd (omega (arith, e)))) (p, (o, (n, tt))) (omega arith)
 
 pub entries_asks : (library : Text) → IsNoOption library → arguments_by (codes "entries" ∷ library ∷ []) ≡ request (entries library)
 unfolding command_named

@@ -6,9 +6,9 @@ use Rattle.std.proofs.lemmas.Bool.{leb-true}
 use Rattle.report.specs.declared.styles.report_option.ReportStyle.{ReportStyle}
 use Rattle.cli_args.specs.Line.{PlainLine}
 use Rattle.cli_args.specs.Trials.{is_decimal, is_trial_count, most_count, trial_count_of}
-use Rattle.cli_args.specs.ParsedArguments.{PlainRequest, PlainArguments, check, entries, exports, trial, request, check_of, verify_of, migrate_of, compose_of, layout_of, lone_word, style_of, command_named, request_of, request_on, request_or_usage, arguments_by}
+use Rattle.cli_args.specs.ParsedArguments.{PlainRequest, PlainArguments, app, app_of, check, entries, exports, trial, request, check_of, verify_of, migrate_of, compose_of, layout_of, lone_word, style_of, command_named, request_of, request_on, request_or_usage, arguments_by}
 use Rattle.cli_args.specs.declared.judge.CommandName.{CommandName}
-use Rattle.cli_args.specs.declared.judge.CommandName.TheVariants.{Check, Verify, Entries, Exports, Trial, Migrate, Compose, Layout}
+use Rattle.cli_args.specs.declared.judge.CommandName.TheVariants.{Check, Verify, Entries, Exports, Trial, Migrate, Compose, Layout, App}
 use Rattle.cli_args.proofs.Judging.{judged_all}
 
 -- the number of a trial is one that may be asked for
@@ -87,6 +87,17 @@ right_layout (a ∷ b ∷ []) None (Some style) = tt
 right_layout (a ∷ b ∷ []) (Some file) report = tt
 right_layout (a ∷ b ∷ c ∷ rest) rules report = tt
 
+right_app_style : (rules : Option (List ℕ)) (program old new : List ℕ) (style : Option ReportStyle) → AsksRight (request_or_usage (option_map (λ s. app rules s program old new) style))
+right_app_style rules program old new None = tt
+right_app_style rules program old new (Some style) = tt
+
+right_app : (files : List (List ℕ)) (rules report : Option (List ℕ)) → AsksRight (request_or_usage (app_of files rules report))
+right_app [] rules report = tt
+right_app (a ∷ []) rules report = tt
+right_app (a ∷ b ∷ []) rules report = tt
+right_app (a ∷ b ∷ c ∷ []) rules report = right_app_style rules a b c (style_of report)
+right_app (a ∷ b ∷ c ∷ d ∷ rest) rules report = tt
+
 right_entries : (word : Option (List ℕ)) → AsksRight (request_or_usage (option_map entries word))
 right_entries None = tt
 right_entries (Some word) = tt
@@ -106,6 +117,7 @@ right_request (Some Trial) files rules report = right_trial (lone_word files rul
 right_request (Some Migrate) files rules report = right_migrate files rules report
 right_request (Some Compose) files rules report = right_compose files rules report
 right_request (Some Layout) files rules report = right_layout files rules report
+right_request (Some App) files rules report = right_app files rules report
 
 right_line : (line : PlainLine) → AsksRight (request_or_usage (request_on line))
 right_line line = right_request (option_and_then command_named line.command) line.files line.rules line.report

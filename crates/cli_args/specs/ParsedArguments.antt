@@ -8,7 +8,7 @@ use Rattle.report.specs.declared.styles.report_option.ReportStyle.TheVariants.{T
 use Rattle.cli_args.specs.Line.{PlainLine, line_app, line_in}
 use Rattle.cli_args.specs.Trials.{trial_count_of}
 use Rattle.cli_args.specs.declared.judge.CommandName.{CommandName}
-use Rattle.cli_args.specs.declared.judge.CommandName.TheVariants.{Check, Verify, Entries, Exports, Trial, Migrate, Compose, Layout}
+use Rattle.cli_args.specs.declared.judge.CommandName.TheVariants.{Check, Verify, Entries, Exports, Trial, Migrate, Compose, Layout, App}
 
 -- a request, with the names of its inputs, the style of its report, how many functions its trial makes and the tag of its structure
 pub data PlainRequest : Type 0 where
@@ -20,6 +20,7 @@ pub data PlainRequest : Type 0 where
   migrate : (rules : Option (List ℕ)) (old new certificate : List ℕ) → PlainRequest
   compose : (first middle last certificate1 certificate2 : List ℕ) → PlainRequest
   layout : (library tag : List ℕ) → PlainRequest
+  app : (rules : Option (List ℕ)) (report : ReportStyle) (program old new : List ℕ) → PlainRequest
 
 -- what words ask for: a request, the help, or nothing that is right, which the usage answers
 pub data PlainArguments : Type 0 where
@@ -36,7 +37,8 @@ command_named word = if bytes_eq word (codes "check") then Some Check
     else (if bytes_eq word (codes "trial") then Some Trial
     else (if bytes_eq word (codes "migrate") then Some Migrate
     else (if bytes_eq word (codes "compose") then Some Compose
-    else (if bytes_eq word (codes "layout") then Some Layout else None)))))))
+    else (if bytes_eq word (codes "layout") then Some Layout
+    else (if bytes_eq word (codes "app") then Some App else None))))))))
 
 -- the style of that name
 unfoldable pub report_style_named : List ℕ → Option ReportStyle
@@ -76,6 +78,11 @@ abbrev pub layout_of : (words : List (List ℕ)) (rules report : Option (List �
 layout_of (library ∷ tag ∷ []) None None = Some (layout library tag)
 layout_of words rules report = None
 
+-- `app` with these files and options: APP OLD NEW, and both options
+abbrev pub app_of : (files : List (List ℕ)) (rules report : Option (List ℕ)) → Option PlainRequest
+app_of (program ∷ old ∷ new ∷ []) rules report = option_map (λ style. app rules style program old new) (style_of report)
+app_of files rules report = None
+
 -- the one word of a command that has no option
 abbrev pub lone_word : (files : List (List ℕ)) (rules report : Option (List ℕ)) → Option (List ℕ)
 lone_word (word ∷ []) None None = Some word
@@ -91,6 +98,7 @@ request_of Trial files rules report = option_map trial (option_and_then trial_co
 request_of Migrate files rules report = migrate_of files rules report
 request_of Compose files rules report = compose_of files rules report
 request_of Layout files rules report = layout_of files rules report
+request_of App files rules report = app_of files rules report
 
 -- the request of a line that `clap` takes
 abbrev pub request_on : PlainLine → Option PlainRequest

@@ -1,9 +1,9 @@
 -- What the code finds, without where its words lie.
 use Rattle.std.specs.Prelude.{ℕ, List, Option, option_map}
 use Rattle.std.specs.Borrow.{Bor}
-use Rattle.cli_args.specs.ParsedArguments.{PlainRequest, PlainArguments, check, verify, entries, exports, trial, migrate, compose, layout, request, help, usage}
+use Rattle.cli_args.specs.ParsedArguments.{PlainRequest, PlainArguments, check, verify, entries, exports, trial, migrate, compose, layout, app, request, help, usage}
 use Rattle.cli_args.specs.declared.parsed_arguments.Request.{Request}
-use Rattle.cli_args.specs.declared.parsed_arguments.Request.TheVariants.{Check, Verify, Entries, Exports, Trial, Migrate, Compose, Layout}
+use Rattle.cli_args.specs.declared.parsed_arguments.Request.TheVariants.{Check, Verify, Entries, Exports, Trial, Migrate, Compose, Layout, App}
 use Rattle.cli_args.specs.declared.parsed_arguments.ParsedArguments.{ParsedArguments}
 use Rattle.cli_args.specs.declared.parsed_arguments.ParsedArguments.TheVariants as asked
 
@@ -19,6 +19,7 @@ plain_request (Trial count) = trial count
 plain_request (Migrate rules old new certificate) = migrate (plain_word rules) old.now new.now certificate.now
 plain_request (Compose first middle last certificate1 certificate2) = compose first.now middle.now last.now certificate1.now certificate2.now
 plain_request (Layout library tag) = layout library.now tag.now
+plain_request (App rules report program old new) = app (plain_word rules) report program.now old.now new.now
 
 abbrev pub plain_asked : ParsedArguments → PlainArguments
 plain_asked (asked.Request found) = request (plain_request found)

@@ -6,8 +6,10 @@ ghost use Rattle.clap.specs.Words.{rows_of, found_of};
 ghost use Rattle.cli_args.specs.Words.{texts};
 ghost use Rattle.cli_args.specs.Line.{line_in};
 ghost use Rattle.cli_args.specs.PlainLines.{plain_line};
-ghost use Rattle.cli_args.specs.Trials.{is_decimal as the_word_is_decimal, trial_count_of};
-ghost use Rattle.cli_args.specs.ParsedArguments.{command_named as the_command_named, report_style_named as the_style_named, style_of as the_style_of, check_of, verify_of, migrate_of, compose_of, layout_of, lone_word, request_of, request_on, request_or_usage};
+ghost use Rattle.cli_args.specs.Trials.{trial_count_of};
+ghost use Rattle.cli_args.specs.Trials as trials;
+ghost use Rattle.cli_args.specs.ParsedArguments.{check_of, verify_of, migrate_of, compose_of, layout_of, app_of, lone_word, request_of, request_on, request_or_usage};
+ghost use Rattle.cli_args.specs.ParsedArguments as parsed_arguments_spec;
 ghost use Rattle.cli_args.specs.Requests.{plain_word, plain_request, plain_asked};
 
 use crate::line::{Line, line_of};
@@ -31,6 +33,7 @@ pub(crate) enum CommandName {
     Migrate,
     Compose,
     Layout,
+    App,
 }
 
 /// What the line that `clap` took asks for.
@@ -78,6 +81,7 @@ fn requested<'a>(
         CommandName::Migrate => migrate(files, rules, report),
         CommandName::Compose => compose(files, rules, report),
         CommandName::Layout => layout(files, rules, report),
+        CommandName::App => app(files, rules, report),
     }
 }
 
@@ -160,6 +164,26 @@ fn compose<'a>(
     }
 }
 
+// `app` with these files and options.
+fn app<'a>(
+    files: &[&'a str],
+    rules: Option<&'a str>,
+    report: Option<&'a str>,
+) -> Option<Request<'a>>
+    ensures { option_map plain_request result ≡ app_of (texts files.now) (plain_word rules.entry) (plain_word report.entry) }
+{
+    let [app, old, new] = files else {
+        return None;
+    };
+    Some(Request::App {
+        rules,
+        report: style_of(report)?,
+        app,
+        old,
+        new,
+    })
+}
+
 // `layout` with these words and options.
 fn layout<'a>(
     words: &[&'a str],
@@ -187,7 +211,7 @@ fn lone<'a>(files: &[&'a str], rules: Option<&'a str>, report: Option<&'a str>) 
 // The command of that name.
 #[tactic(auto, unfolding(crate::specs::ParsedArguments::command_named))]
 fn command_named(word: &str) -> Option<CommandName>
-    ensures { result ≡ the_command_named word.now }
+    ensures { result ≡ parsed_arguments_spec.command_named word.now }
 {
     if word == "check" {
         Some(CommandName::Check)
@@ -205,6 +229,8 @@ fn command_named(word: &str) -> Option<CommandName>
         Some(CommandName::Compose)
     } else if word == "layout" {
         Some(CommandName::Layout)
+    } else if word == "app" {
+        Some(CommandName::App)
     } else {
         None
     }
@@ -213,7 +239,7 @@ fn command_named(word: &str) -> Option<CommandName>
 // The style of that name.
 #[tactic(auto, unfolding(crate::specs::ParsedArguments::report_style_named))]
 fn report_style_named(word: &str) -> Option<ReportStyle>
-    ensures { result ≡ the_style_named word.now }
+    ensures { result ≡ parsed_arguments_spec.report_style_named word.now }
 {
     if word == "text" {
         Some(ReportStyle::Text)
@@ -232,7 +258,7 @@ fn report_style_named(word: &str) -> Option<ReportStyle>
 
 // The style that the words name, `text` where they name none.
 fn style_of(report: Option<&str>) -> Option<ReportStyle>
-    ensures { result ≡ the_style_of (plain_word report.entry) }
+    ensures { result ≡ parsed_arguments_spec.style_of (plain_word report.entry) }
 {
     match report {
         Some(word) => report_style_named(word),
@@ -249,7 +275,7 @@ fn has_only_digits(word: &str) -> bool
 
 // Whether the word is a number in decimal without leading zeros.
 fn is_decimal(word: &str) -> bool
-    ensures { result ≡ the_word_is_decimal word.now }
+    ensures { result ≡ trials.is_decimal word.now }
 {
     has_only_digits(word) && word.as_bytes().first() != Some(&b'0')
 }

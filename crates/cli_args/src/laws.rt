@@ -7,7 +7,7 @@ ghost use Rattle.report.specs.declared.styles.report_option.ReportStyle.TheVaria
 ghost use Rattle.cli_args.specs.Words.{AsksForHelp, LooksForHelp, IsNoOption};
 ghost use Rattle.cli_args.specs.Line.{line_app, words_of};
 ghost use Rattle.cli_args.specs.Trials.{most_count, trial_count_of};
-ghost use Rattle.cli_args.specs.ParsedArguments.{arguments_by, request_on, request_or_usage, request, help, check, verify, entries, exports, trial, migrate, compose, layout};
+ghost use Rattle.cli_args.specs.ParsedArguments.{arguments_by, request_on, request_or_usage, request, help, check, verify, entries, exports, trial, migrate, compose, layout, app};
 
 /// `clap` has at most one answer to words.
 pub fn one_answer()
@@ -83,6 +83,13 @@ pub fn compose_takes_five_files()
 /// `layout`, the name of a file and a tag ask for the layout of the structure with this tag.
 pub fn layout_takes_a_file_and_a_tag()
     ensures { (library tag : List ℕ) → IsNoOption library → IsNoOption tag → arguments_by (codes "layout" ∷ library ∷ tag ∷ []) ≡ request (layout library tag) }
+{}
+
+/// `app` and the names of three files ask what the third one is to the first, which uses the second, with no rules and a report in
+/// lines of text.
+pub fn app_takes_three_files()
+    ensures { (program old new : List ℕ) → IsNoOption program → IsNoOption old → IsNoOption new
+        → arguments_by (codes "app" ∷ program ∷ old ∷ new ∷ []) ≡ request (app None Text program old new) }
 {}
 
 /// A word that is read as the number of a trial is that number in decimal, without leading zeros or a sign.

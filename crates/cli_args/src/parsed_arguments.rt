@@ -59,6 +59,14 @@ pub enum Request<'a> {
         library: &'a str,
         tag: &'a str,
     },
+    /// Whether the new library may replace the old one for this application, with a report in this style if not.
+    App {
+        rules: Option<&'a str>,
+        report: ReportStyle,
+        app: &'a str,
+        old: &'a str,
+        new: &'a str,
+    },
 }
 
 /// What the words ask for.

@@ -8,6 +8,8 @@ ghost use Rattle.abi_base.specs.Outcome.{Judges, first, fault_if};
 ghost use Rattle.elf_needs.specs.Needs.{has_bad_entry, need_fault, bad_need_at, entries_of_need, entries_of, need_among};
 ghost use Rattle.elf_needs.specs.Plain.{IsNeed, plain_need, need_under};
 
+use crate::constants::{VERNAUX_SIZE, VERNEED_SIZE};
+use crate::effort::{Effort, effort_for};
 use crate::kept::Need;
 use crate::records::{Record, entry_in, need_in};
 use abi_base::{Fault, FaultKind, NoMemory, Refusal};
@@ -29,9 +31,11 @@ fn keep_first<'a>(
     by_index: &mut HashMap<u16, Need<'a>>,
     index: u16,
     need: Need<'a>,
+    effort: &mut Effort,
 ) -> Result<(), NoMemory>
     ensures { OnOk result ((q : ℕ) → need_under by_index.new q ≡ option_or (need_under by_index.old q) (if nat_eq index q then Some (plain_need need.entry) else None)) }
 {
+    effort.spend(VERNAUX_SIZE, need.version)?;
     if !by_index.contains_key(&index) {
         by_index.insert(index, need)?;
     }
@@ -39,11 +43,12 @@ fn keep_first<'a>(
 }
 
 // Keeps the auxiliary entries of a need. The fault is that of a bad one, at the need's number.
-fn keep_entries<'a>(
+fn keep_each<'a>(
     by_index: &mut HashMap<u16, Need<'a>>,
     table: &[u8],
     strings: &'a [u8],
     need: &Record<'a>,
+    effort: &mut Effort,
 ) -> Result<(), Refusal>
     requires of_need { IsNeed need.now table.now strings.now }
     requires small { length table.now ≤ input_limit }
@@ -55,7 +60,7 @@ fn keep_entries<'a>(
         match entry_in(table, strings, need, entry, at) {
             None => return Err(bad_need(need.number)),
             Some(auxiliary) => {
-                keep_first(by_index, auxiliary.index, auxiliary.need)?;
+                keep_first(by_index, auxiliary.index, auxiliary.need, effort)?;
                 at = auxiliary.next;
             }
         }
@@ -63,8 +68,25 @@ fn keep_entries<'a>(
     Ok(())
 }
 
-/// The needs of a table by their indexes, or the fault of the first bad one. The table may say any count: each need but the
-/// last begins after the one before it, so the table's end comes soon enough.
+// The same, where there is effort left for the need itself.
+fn keep_entries<'a>(
+    by_index: &mut HashMap<u16, Need<'a>>,
+    table: &[u8],
+    strings: &'a [u8],
+    need: &Record<'a>,
+    effort: &mut Effort,
+) -> Result<(), Refusal>
+    requires of_need { IsNeed need.now table.now strings.now }
+    requires small { length table.now ≤ input_limit }
+    ensures judged { Judges result (fault_if (has_bad_entry table.now strings.now need.now.number) kind.VersionNeed need.now.number) }
+    ensures kept { OnOk result ((q : ℕ) → need_under by_index.new q ≡ option_or (need_under by_index.old q) (need_among (entries_of_need table.now strings.now need.now.number) q)) }
+{
+    effort.spend(VERNEED_SIZE, need.file)?;
+    keep_each(by_index, table, strings, need, effort)
+}
+
+/// The needs of a table by their indexes, or the fault of the first bad one. The table may say any count, and lists of entries may
+/// share their bytes: where more is read again and again than there is effort for, memory counts as run out.
 pub fn needs_in<'a>(
     alloc: Global,
     table: &[u8],
@@ -76,12 +98,13 @@ pub fn needs_in<'a>(
     ensures read { IfOk result (λ by_index. (q : ℕ) → need_under by_index q ≡ need_among (entries_of table.now strings.now count) q) }
 {
     let mut by_index = HashMap::new(alloc);
+    let mut effort = effort_for(table, strings);
     let mut at = 0;
     for number in 0..count {
         match need_in(table, strings, count, number, at) {
             None => return Err(bad_need(number)),
             Some(need) => {
-                keep_entries(&mut by_index, table, strings, &need)?;
+                keep_entries(&mut by_index, table, strings, &need, &mut effort)?;
                 at = need.next;
             }
         }

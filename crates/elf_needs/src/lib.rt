@@ -3,6 +3,7 @@
 #![tactic(auto)]
 
 pub mod constants;
+mod effort;
 mod entries;
 mod kept;
 pub mod laws;

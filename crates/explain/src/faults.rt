@@ -12,7 +12,8 @@ pub(crate) fn numbered_sentence(kind: FaultKind) -> &'static str {
         FaultKind::SymbolTable => "is damaged, or its name does not end inside the table of names",
         FaultKind::VersionIndex => "has a version that is not defined",
         FaultKind::DuplicateExport => "has the name and the version of an earlier export",
-        FaultKind::ImportVersion => "needs a version that is not named",
+        FaultKind::ImportVersion =>
+            "is imported with a version that the file does not name among those that it needs",
         FaultKind::DynamicTable =>
             "is damaged, or the soname does not end inside the table of names",
         _ => "is damaged",

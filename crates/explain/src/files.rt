@@ -43,7 +43,9 @@ fn other_file(bytes: &[u8]) -> &'static str {
 fn other_object(bytes: &[u8]) -> &'static str {
     match u16_at(bytes, E_TYPE) {
         Some(ET_REL) => "it is an object file (.o), not a shared object",
-        Some(ET_EXEC) => "it is an executable, not a shared object",
+        Some(ET_EXEC) => {
+            "it is an executable at a fixed address (compiled with -no-pie), not a shared object or a position-independent executable"
+        }
         Some(ET_CORE) => "it is a core dump, not a shared object",
         _ => "it is not a shared object",
     }
@@ -93,7 +95,6 @@ pub(crate) fn file_sentence(kind: FaultKind, at: u64, bytes: &[u8]) -> &'static 
         FaultKind::NoDynamicSymbols => "it has no table of dynamic symbols (.dynsym)",
         FaultKind::VersionTable =>
             "its table of symbol versions has not one entry for each dynamic symbol",
-        FaultKind::VersionNeed => "its table of needed versions is damaged",
         _ => "it is longer than 256 MiB",
     }
 }

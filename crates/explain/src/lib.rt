@@ -3,6 +3,7 @@
 //! promises of its answer stands in its exit number and on standard output; nothing here changes either.
 #![tactic(auto)]
 
+mod applications;
 mod constants;
 mod failures;
 mod faults;
@@ -15,6 +16,7 @@ mod sections;
 mod sentence;
 mod tags;
 
+pub use applications::{lacking_sentence, links_sentence};
 pub use failures::failure_sentence;
 pub use notes::{name_of, notes_on};
 pub use remarks::untyped_sentence;

@@ -14,6 +14,8 @@ pub(crate) enum Place {
     DynamicEntry,
     /// Definitions of versions.
     Definition,
+    /// Needs of versions.
+    Need,
     /// Bytes of `.debug_info`.
     Info,
     /// Bytes of `.debug_abbrev`.
@@ -35,7 +37,6 @@ pub(crate) fn place_of(kind: FaultKind) -> Place {
         | FaultKind::SectionTable
         | FaultKind::NoDynamicSymbols
         | FaultKind::VersionTable
-        | FaultKind::VersionNeed
         | FaultKind::TooLong => Place::File,
         FaultKind::SectionRange | FaultKind::SectionName | FaultKind::Compressed => Place::Section,
         FaultKind::SymbolTable
@@ -44,6 +45,7 @@ pub(crate) fn place_of(kind: FaultKind) -> Place {
         | FaultKind::ImportVersion => Place::Symbol,
         FaultKind::DynamicTable => Place::DynamicEntry,
         FaultKind::VersionDefinition => Place::Definition,
+        FaultKind::VersionNeed => Place::Need,
         FaultKind::Abbrev => Place::Abbreviations,
         FaultKind::BadText
         | FaultKind::RuleLine

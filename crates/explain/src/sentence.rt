@@ -67,6 +67,7 @@ fn push_why(text: &mut String, fault: Fault, bytes: &[u8]) -> Result<(), AllocEr
         Place::Symbol => push_symbol(text, kind, at),
         Place::DynamicEntry => push_dynamic(text, kind, at),
         Place::Definition => write!(text, "version definition {at} {}", numbered_sentence(kind)),
+        Place::Need => write!(text, "version need {at} {}", numbered_sentence(kind)),
         Place::Info => write!(
             text,
             "offset {at:#x} of .debug_info: {}",

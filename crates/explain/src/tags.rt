@@ -7,14 +7,18 @@ use crate::lines::said;
 use abi_base::NoMemory;
 use std::alloc::{AllocError, Global};
 
-// Appends the tags that are text, with commas between.
-fn push_tags(text: &mut String, tags: &[&[u8]]) -> Result<(), AllocError> {
-    let mut mark = "; tags near it: ";
-    for tag in tags {
-        if let Ok(tag) = str::from_utf8(tag) {
-            text.push_str(mark)?;
-            text.push_str(tag)?;
-            mark = ", ";
+/// Appends the names that are text, with a mark before the first one and commas between.
+pub(crate) fn push_names(
+    text: &mut String,
+    first: &str,
+    names: &[&[u8]],
+) -> Result<(), AllocError> {
+    let mut is_first = true;
+    for name in names {
+        if let Ok(name) = str::from_utf8(name) {
+            text.push_str(if is_first { first } else { ", " })?;
+            text.push_str(name)?;
+            is_first = false;
         }
     }
     Ok(())
@@ -32,7 +36,7 @@ fn words_of(
     if is_declared {
         words.push_str(" that is defined; one is declared")?;
     }
-    push_tags(&mut words, near)?;
+    push_names(&mut words, "; tags near it: ", near)?;
     Ok(words)
 }
 

@@ -1,3 +1,5 @@
+mod AppAnswers
+mod AppLemmas
 mod Itself
 mod Marked
 mod RelationLemmas

@@ -14,6 +14,7 @@ use Rattle.pair_compare.specs.declared.comparing.Comparison.TheVariants.{Compati
 use Rattle.pair_compare.specs.Judged.{IsRight}
 use Rattle.library_read.specs.Libraries.{graph_of, library_of}
 use Rattle.library_check.specs.Checks.{IsCertificateText, IsReportText, sides_of}
+use Rattle.library_check.specs.Judgements.{IsRefusal}
 use Rattle.library_check.specs.Voices.{TellsItsText}
 use Rattle.report.specs.declared.row.Row.{Row}
 use Rattle.report.specs.declared.style.Style.{Style}
@@ -49,7 +50,7 @@ same_texts (voice ∷ voices) tell rows (t ∷ ts) (u ∷ us) one two =
     cc
 
 -- what is told of two libraries is fixed by them
-abbrev HaveOneAnswer : Type 0
+abbrev pub HaveOneAnswer : Type 0
 HaveOneAnswer = (s : Sides) (one other : Comparison) → IsGraph s.old.graph → IsGraph s.new.graph → IsRight s one → IsRight s other → one ≡ other
 
 same_cert : (a b : PlainCert) → Compatible a ≡ Compatible b → a ≡ b
@@ -57,6 +58,14 @@ same_cert a b is = cc
 
 same_rows : (a b : List Row) → Broken a ≡ Broken b → a ≡ b
 same_rows a b is = cc
+
+-- the text of a no is fixed by what is compared
+pub one_refusal : HaveOneAnswer → (s : Sides) → IsGraph s.old.graph → IsGraph s.new.graph → (voices : List Voice) → All TellsItsText voices → (text other : List ℕ) → IsRefusal voices s text → IsRefusal voices s other → text ≡ other
+one_refusal have s old_graph new_graph voices tell text other one two =
+    let same = same_rows one.rows two.rows (have s (Broken one.rows) (Broken two.rows) old_graph new_graph one.refuted two.refuted) in
+    let heard = subst (λ (r : List Row). Reports voices r one.report.texts) same one.report.heard in
+    let texts = same_texts voices tell two.rows one.report.texts two.report.texts heard two.report.heard in
+    one.report.is ∙ ap (λ (t : List (List ℕ)). concat (codes "no" ∷ newline ∷ concat t ∷ [])) texts ∙ sym two.report.is
 
 module _ (old new rules : List ℕ) (have : HaveOneAnswer) (old_graph : IsGraph (graph_of old)) (new_graph : IsGraph (graph_of new)) where
   pub one_certificate : (text other : List ℕ) → IsCertificateText old new rules text → IsCertificateText old new rules other → text ≡ other
@@ -67,8 +76,4 @@ module _ (old new rules : List ℕ) (have : HaveOneAnswer) (old_graph : IsGraph 
 
   pub one_report : (voices : List Voice) → All TellsItsText voices → (text other : List ℕ) → IsReportText voices old new rules text → IsReportText voices old new rules other → text ≡ other
   unfolding library_of
-  one_report voices tell text other one two =
-      let same = same_rows one.rows two.rows (have (sides_of old new rules) (Broken one.rows) (Broken two.rows) old_graph new_graph one.refuted two.refuted) in
-      let heard = subst (λ (r : List Row). Reports voices r one.report.texts) same one.report.heard in
-      let texts = same_texts voices tell two.rows one.report.texts two.report.texts heard two.report.heard in
-      one.report.is ∙ ap (λ (t : List (List ℕ)). concat (codes "no" ∷ newline ∷ concat t ∷ [])) texts ∙ sym two.report.is
+  one_report = one_refusal have (sides_of old new rules) old_graph new_graph

@@ -1,5 +1,6 @@
 pub mod Judgements
 pub mod Checks
+pub mod Applications
 pub mod Remarks
 pub mod Voices
 pub mod Verifications

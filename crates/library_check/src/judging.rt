@@ -39,8 +39,8 @@ pub(crate) fn marks_by(
     marks(alloc, rules, old)
 }
 
-// The line `no`, and the texts of the listeners.
-fn report(
+/// The line `no`, and the texts of the listeners.
+pub(crate) fn report(
     alloc: Global,
     listeners: Vec<Box<dyn Listener>>,
     rows: &[Row],
@@ -54,8 +54,8 @@ fn report(
     Ok(text)
 }
 
-// What the comparison of two libraries tells, with a counter of its own.
-fn compared<L: Ledger>(
+/// What the comparison of two libraries tells, with a counter of its own.
+pub(crate) fn compared<L: Ledger>(
     alloc: Global,
     blank: Blank,
     old: &Library<OldIx>,

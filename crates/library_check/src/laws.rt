@@ -1,4 +1,4 @@
-//! What `check`, `verify`, `migrate` and `compose` come to. Each law is the contract of a function whose body only names the laws below it.
+//! What `check`, `app`, `verify`, `migrate` and `compose` come to. Each law is the contract of a function whose body only names the laws below it.
 ghost use Rattle.std.specs.Prelude.{◌≡◌, ◌≢◌, ◌≤◌, ◌↔◌, ℕ, List, [], None, length, All};
 ghost use Rattle.abi_base.specs.Limits.{input_limit};
 ghost use Rattle.abi_types.specs.Libraries.{PlainLibrary};
@@ -22,6 +22,8 @@ ghost use Rattle.library_check.specs.declared.verifying.Unverified.{Unverified};
 ghost use Rattle.library_check.specs.declared.verifying.Unverified.TheVariants.{NoMemory};
 ghost use Rattle.library_check.specs.declared.verifying.Verified.{Verified};
 ghost use Rattle.library_check.specs.declared.verifying.Verified.TheVariants.{Accepted};
+ghost use Rattle.library_check.specs.declared.applying.AppJudged.{AppJudged};
+ghost use Rattle.library_check.specs.Applications.{AgreedFor, ImportTheSame, IsAppJudged, IsAppReportText, IsCompatibleFor, IsYes, SameApp, sides_for};
 ghost use Rattle.library_check.specs.Checks.{Agreed, AreReadable, Compatible, IsCertificateText, IsReportText, sides_of};
 ghost use Rattle.library_check.specs.Compositions.{IsComposedText, IsComposition, PlainFiles, SameComposed};
 ghost use Rattle.library_check.specs.Migrations.{IsMigrated, IsMigratedText, IsRefusedMigration, SameMigrated};
@@ -33,7 +35,7 @@ ghost use Rattle.report.specs.declared.styles.report_option.ReportStyle.TheVaria
 ghost use Rattle.report.specs.styles.Wanted.{wanted_voices};
 
 use cert_check::laws::{
-    a_migrated_certificate_is_accepted, one_place_fails_first,
+    a_migrated_certificate_is_accepted, one_place_fails_first, roots_are_typed_pairs,
     the_relation_of_an_accepted_certificate_is_closed,
 };
 use cert_compose::laws::{one_thing_is_lost_first, what_is_composed_is_one};
@@ -180,18 +182,52 @@ pub fn what_is_composed_is_accepted()
     what_is_spelled_has_no_fault();
 }
 
-/// A new library may replace an old one exactly where a program compiled against the old one finds the same in the new one. Then each
+/// A new library may replace an old one exactly where a program compiled against the old one finds the same in the new one; and it may
+/// for one application exactly where the application finds the same. Then, where it may for all, each
 /// leaf of what an open access lands on stays where it is, if it lies under no place that is marked at its way and under none that is
 /// declared only in the new library.
 pub fn compatible_is_that_accesses_agree()
     ensures exact { (old new rules : List ℕ) → length old ≤ input_limit → length new ≤ input_limit → library_fault old ≡ None → library_fault new ≡ None
         → Compatible old new rules ↔ Agreed old new rules }
+    ensures app { (app old new rules : List ℕ) → length old ≤ input_limit → length new ≤ input_limit → library_fault old ≡ None → library_fault new ≡ None
+        → IsCompatibleFor app old new rules ↔ AgreedFor app old new rules }
     ensures leaves { (old new rules : List ℕ) → length old ≤ input_limit → length new ≤ input_limit → library_fault old ≡ None → library_fault new ≡ None
         → Compatible old new rules → LeavesStay (task_of (sides_of old new rules)) }
 {
     cert_check::laws::compatible_is_that_accesses_agree();
     nodes_stand_for_what_exports_reach();
     readable_files_are_libraries();
+}
+
+/// Of one application, two libraries and a rule file `app` says one thing, in one text, where the rows decide the texts of the
+/// listeners.
+pub fn an_application_has_one_answer()
+    ensures report { (voices : List Voice) (app old new rules text other : List ℕ) → All TellsItsText voices → length old ≤ input_limit → length new ≤ input_limit → library_fault old ≡ None → library_fault new ≡ None
+        → IsAppReportText voices app old new rules text → IsAppReportText voices app old new rules other → text ≡ other }
+    ensures answer { (voices : List Voice) (app old new rules : List ℕ) (one other : AppJudged) → All TellsItsText voices → length old ≤ input_limit → length new ≤ input_limit → library_fault old ≡ None → library_fault new ≡ None
+        → IsAppJudged voices app old new rules one → IsAppJudged voices app old new rules other → SameApp one other }
+{
+    two_libraries_have_one_right_answer();
+    nodes_stand_for_what_exports_reach();
+}
+
+/// Two applications whose imports ask for the same, by name, version and file, use the same exports of any library: what is compared
+/// for both is the same, and so are the answer and its text.
+pub fn applications_that_import_the_same_are_judged_alike()
+    ensures sides { (app other old new rules : List ℕ) → ImportTheSame app other → sides_for app old new rules ≡ sides_for other old new rules }
+    ensures answer { (voices : List Voice) (app other old new rules : List ℕ) (said told : AppJudged) → All TellsItsText voices → length old ≤ input_limit → length new ≤ input_limit → library_fault old ≡ None → library_fault new ≡ None
+        → ImportTheSame app other → IsAppJudged voices app old new rules said → IsAppJudged voices other old new rules told → SameApp said told }
+{
+    two_libraries_have_one_right_answer();
+    nodes_stand_for_what_exports_reach();
+}
+
+/// A new library that may replace an old one may for each application, since no more is compared: `app` says yes.
+pub fn what_may_replace_may_for_each_application()
+    ensures compatible { (app old new rules : List ℕ) → Compatible old new rules → IsCompatibleFor app old new rules }
+    ensures yes { (voices : List Voice) (app old new rules : List ℕ) (said : AppJudged) → Compatible old new rules → IsAppJudged voices app old new rules said → IsYes said }
+{
+    roots_are_typed_pairs();
 }
 
 /// An empty rule file is readable, and leaves nothing out.

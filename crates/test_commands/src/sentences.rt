@@ -87,7 +87,7 @@ fn files_that_are_no_libraries_are_named(rt: HostRuntime) -> Result<(), Fail> {
             FaultKind::NotShared,
             16,
             program,
-            "lib.so: it is an executable, not a shared object (fault 6 NotShared at 16)",
+            "lib.so: it is an executable at a fixed address (compiled with -no-pie), not a shared object or a position-independent executable (fault 6 NotShared at 16)",
         ),
         (
             FaultKind::NotShared,

@@ -128,7 +128,7 @@ const fn migrate<'a>(rules: Option<&'a str>) -> ParsedArguments<'a> {
 }
 
 #[test]
-fn migrate_compose_and_layout_have_their_words(rt: HostRuntime) -> Result<(), Fail> {
+fn later_commands_have_their_words(rt: HostRuntime) -> Result<(), Fail> {
     let compose = ParsedArguments::Request(Request::Compose {
         first: "A",
         middle: "B",
@@ -140,7 +140,19 @@ fn migrate_compose_and_layout_have_their_words(rt: HostRuntime) -> Result<(), Fa
         library: "A",
         tag: "s",
     });
-    let rows: [(&[&str], ParsedArguments<'_>); 9] = [
+    let app = ParsedArguments::Request(Request::App {
+        rules: Some("F"),
+        report: ReportStyle::Counts,
+        app: "A",
+        old: "B",
+        new: "C",
+    });
+    let rows: [(&[&str], ParsedArguments<'_>); 11] = [
+        (
+            &["app", "--rules", "F", "A", "--report", "counts", "B", "C"],
+            app,
+        ),
+        (&["app", "A", "B"], ParsedArguments::Usage),
         (&["migrate", "A", "B", "C"], migrate(None)),
         (
             &["--rules", "F", "migrate", "A", "B", "C"],

@@ -3,6 +3,8 @@
 #![tactic(auto)]
 
 #[cfg(test)]
+mod applications;
+#[cfg(test)]
 mod certificates;
 #[cfg(test)]
 mod joined;

@@ -12,6 +12,7 @@ returns c = one_answer (record {
   composition = c.a_composition_has_one_answer.ensures.answer;
   layout_text = c.a_layout_has_one_answer.ensures.text;
   layout_apart = c.a_layout_has_one_answer.ensures.tag;
+  application = c.an_application_has_one_answer.ensures.report;
   tried = c.a_trial_has_one_text.ensures;
   counted = c.a_trial_is_of_a_count.ensures;
 })

@@ -1,4 +1,4 @@
-use Rattle.std.proofs.Common.{◌≡◌, ◌≤◌, List, ℕ, length, map, subst, sym}
+use Rattle.std.proofs.Common.{◌≤◌, List, ℕ, length, map, subst, sym}
 use Rattle.std.specs.Io.KnownBytes.{Appends}
 use Rattle.abi_base.specs.Causes.{AppendsFront}
 use Rattle.abi_top.specs.Answer.{Call, Answers}
@@ -29,13 +29,13 @@ pub returns-in-Ok-write_all-clause-yes_agreed : goal.returns-in-Ok-write_all-cla
 returns-in-Ok-write_all-clause-yes_agreed g c = λ untyped is.
     let call : Call = record { words = texts c.args.words.now; voices = map (λ b. (goal.Listener-dyn g (b.vtable, b.value)).voice b.value) c.args.listeners.items; reading = reading_of g.I.Inputs.told g.I.Inputs.faults g.I.Inputs.given g.I.Inputs.started c.args.inputs.now c.answer_to.new.inputs } in
     let answers = subst (λ o. Answers call o c.in-Ok.answer.text.items) is c.in-Ok.ensures.answers in
-    yes_agreed c.compatible_is_that_accesses_agree.ensures.exact call untyped c.in-Ok.answer.text.items answers
+    yes_agreed c.compatible_is_that_accesses_agree.ensures.exact c.compatible_is_that_accesses_agree.ensures.app call untyped c.in-Ok.answer.text.items answers
 
 pub returns-in-Ok-write_all-clause-no_agreed : goal.returns-in-Ok-write_all-clause-no_agreed
 returns-in-Ok-write_all-clause-no_agreed g c = λ untyped is.
     let call : Call = record { words = texts c.args.words.now; voices = map (λ b. (goal.Listener-dyn g (b.vtable, b.value)).voice b.value) c.args.listeners.items; reading = reading_of g.I.Inputs.told g.I.Inputs.faults g.I.Inputs.given g.I.Inputs.started c.args.inputs.now c.answer_to.new.inputs } in
     let answers = subst (λ o. Answers call o c.in-Ok.answer.text.items) is c.in-Ok.ensures.answers in
-    no_agreed c.compatible_is_that_accesses_agree.ensures.exact call untyped c.in-Ok.answer.text.items answers
+    no_agreed c.compatible_is_that_accesses_agree.ensures.exact c.compatible_is_that_accesses_agree.ensures.app call untyped c.in-Ok.answer.text.items answers
 
 pub returns-in-Ok-write_all-clause-refused : goal.returns-in-Ok-write_all-clause-refused
 returns-in-Ok-write_all-clause-refused g c = λ untyped is.

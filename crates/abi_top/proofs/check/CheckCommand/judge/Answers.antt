@@ -1,4 +1,4 @@
-use Rattle.std.proofs.Common.{◌≡◌, List, ℕ, sym, subst, OnOk, IfErr}
+use Rattle.std.proofs.Common.{List, ℕ, sym, subst, OnOk, IfErr}
 use Rattle.abi_top.specs.Rows.{check_inputs}
 use Rattle.cli_args.specs.Requests.{plain_word}
 use Rattle.commands.specs.Commands.{asks_of}

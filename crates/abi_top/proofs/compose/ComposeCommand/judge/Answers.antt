@@ -1,4 +1,4 @@
-use Rattle.std.proofs.Common.{◌≡◌, List, ℕ, sym, subst, OnOk, IfErr}
+use Rattle.std.proofs.Common.{List, ℕ, sym, subst, OnOk, IfErr}
 use Rattle.abi_top.specs.Rows.{compose_inputs}
 use Rattle.commands.specs.Commands.{asks_of}
 use Rattle.commands.specs.Faults.{AreReadable, StopsAt}

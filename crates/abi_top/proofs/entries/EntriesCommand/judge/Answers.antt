@@ -1,4 +1,4 @@
-use Rattle.std.proofs.Common.{◌≡◌, List, ℕ, [], ◌∷◌, sym, subst}
+use Rattle.std.proofs.Common.{List, ℕ, [], ◌∷◌, sym, subst}
 use Rattle.listings.specs.entries.EntryLines.{listing_fault}
 use Rattle.commands.specs.Faults.{StopsAt}
 use Rattle.commands.specs.declared.input.Input.TheVariants.{Library}

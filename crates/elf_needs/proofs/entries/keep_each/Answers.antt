@@ -1,6 +1,6 @@
 use Rattle.std.proofs.Common.{sym}
 use Rattle.elf_needs.proofs.KeptEntries.{kept_more, refuses_entry}
-use Rattle.elf_needs.proofs.entries.keep_entries.Goals as goal
+use Rattle.elf_needs.proofs.entries.keep_each.Goals as goal
 
 pub returns-in-None-clause-judged : goal.returns-in-None-clause-judged
 returns-in-None-clause-judged c =

@@ -1,5 +1,5 @@
 use Rattle.elf_needs.proofs.KeptEntries.{KeptBefore}
-use Rattle.elf_needs.proofs.entries.keep_entries.Given as goal
+use Rattle.elf_needs.proofs.entries.keep_each.Given as goal
 
 abbrev pub invariant-loop-entry : goal.invariant-loop-entry
 invariant-loop-entry l = KeptBefore l.table l.strings l.need.number l.entry l.at l.initial.by_index l.by_index

@@ -1,0 +1,123 @@
+// `app`: whether the new library may replace the old one for one application.
+ghost use Rattle.std.specs.Prelude.{◌≡◌, ◌≤◌, ℕ, List, [], ◌∷◌, Some, length, map, All, OnOk, IfOk, IfErr};
+ghost use Rattle.abi_base.specs.Limits.{input_limit};
+ghost use Rattle.abi_top.specs.Rows.{app_inputs};
+ghost use Rattle.abi_top.specs.Says.{AppSays, app_says};
+ghost use Rattle.report.specs.Listening.{Voice};
+ghost use Rattle.cli_args.specs.Requests.{plain_word};
+ghost use Rattle.commands.specs.Commands.{asks_of, places_of, plain_place};
+ghost use Rattle.commands.specs.Faults.{AreReadable, StopsAt};
+ghost use Rattle.library_check.specs.Applications.{IsAppJudged, IsNotJudged};
+ghost use Rattle.report.specs.styles.Wanted.{wanted_voices};
+
+use abi_base::NoMemory;
+use commands::{Command, Input, Judgement, Place, Stop, Verdict, four};
+use library_check::{AppFiles, AppJudged, AppResult, NotJudged};
+use report::Listener;
+use report::styles::{ReportStyle, wanted_listeners};
+use std::alloc::Global;
+
+/// `app` of an application and two libraries, with a rule file or none. The listeners of its style hear all breaks where it ends with
+/// no.
+#[derive(Clone, Copy)]
+pub struct App<'a> {
+    pub rules: Option<&'a str>,
+    pub report: ReportStyle,
+    pub program: &'a str,
+    pub old: &'a str,
+    pub new: &'a str,
+}
+
+impl<'a> App<'a> {
+    /// Where its inputs stand. It fails only when memory runs out.
+    pub fn places(&self, alloc: Global) -> Result<Vec<Place<'a>>, NoMemory>
+        ensures { IfOk result (λ places. map plain_place places.items ≡ places_of (app_inputs (plain_word self.now.rules) self.now.program.now self.now.old.now self.now.new.now)) }
+    {
+        let rules = Place::named_or_empty(alloc, Input::Rules, self.rules);
+        Ok(vec![in alloc;
+            Place::named(Input::App, self.program),
+            Place::named(Input::Old, self.old),
+            Place::named(Input::New, self.new),
+            rules,
+        ]?)
+    }
+}
+
+impl Command for App<'_> {
+    ghost inputs = { λ c. app_inputs (plain_word c.rules) c.program.now c.old.now c.new.now };
+
+    ghost says = { λ c voices. app_says (wanted_voices c.report voices) };
+
+    fn judge(
+        self,
+        alloc: Global,
+        all: &[Vec<u8>],
+        listeners: Vec<Box<dyn Listener>>,
+    ) -> Result<Judgement, Stop> {
+        let (app, old, new, rules) = four(all);
+        let files = AppFiles {
+            app,
+            old,
+            new,
+            rules,
+        };
+        judge_app(alloc, &files, self.report, listeners)
+    }
+}
+
+// The judgement that says the same.
+fn judgement_of(said: AppResult) -> Judgement
+    ensures says { (voices : List Voice) (app old new rules : List ℕ) → IsAppJudged voices app old new rules said.judged → AppSays voices app old new rules result.verdict result.text.items }
+    ensures untyped { result.untyped ≡ Some said.remark }
+{
+    let AppResult { judged, remark } = said;
+    match judged {
+        AppJudged::Yes(text) => Judgement {
+            verdict: Verdict::Yes,
+            untyped: Some(remark),
+            text,
+        },
+        AppJudged::No(text) => Judgement {
+            verdict: Verdict::No,
+            untyped: Some(remark),
+            text,
+        },
+    }
+}
+
+// The judgement of `app` on the bytes of an application, of an old library, of a new one and of a rule file, whose faults come in
+// this order.
+fn judge_app(
+    alloc: Global,
+    files: &AppFiles,
+    report: ReportStyle,
+    listeners: Vec<Box<dyn Listener>>,
+) -> Result<Judgement, Stop>
+    requires app_short { length files.now.app.now ≤ input_limit }
+    requires old_short { length files.now.old.now ≤ input_limit }
+    requires new_short { length files.now.new.now ≤ input_limit }
+    requires unheard { All (λ listener. heard listener ≡ []) listeners.items }
+    ensures readable { (rules_name : _) (app_name old_name new_name : List ℕ) → OnOk result (AreReadable (asks_of (app_inputs rules_name app_name old_name new_name)) (files.now.app.now ∷ files.now.old.now ∷ files.now.new.now ∷ files.now.rules.now ∷ [])) }
+    ensures said { IfOk result (λ j. app_says (wanted_voices report (map voice listeners.items)) (files.now.app.now ∷ files.now.old.now ∷ files.now.new.now ∷ files.now.rules.now ∷ []) j.verdict j.untyped j.text.items) }
+    ensures stops { (rules_name : _) (app_name old_name new_name : List ℕ) → IfErr result (StopsAt (asks_of (app_inputs rules_name app_name old_name new_name)) (files.now.app.now ∷ files.now.old.now ∷ files.now.new.now ∷ files.now.rules.now ∷ [])) }
+{
+    let told = wanted_listeners(alloc, listeners, report)?;
+    match library_check::app(alloc, files, told) {
+        Ok(said) => Ok(judgement_of(said)),
+        Err(not_judged) => Err(stop_of(not_judged)),
+    }
+}
+
+// Why nothing is said, by the input that cannot be read.
+const fn stop_of(not_judged: NotJudged) -> Stop
+    ensures { (rules_name : _) (app_name old_name new_name app old new rules : List ℕ) → IsNotJudged app old new rules not_judged
+        → StopsAt (asks_of (app_inputs rules_name app_name old_name new_name)) (app ∷ old ∷ new ∷ rules ∷ []) result }
+{
+    match not_judged {
+        NotJudged::App(fault) => Stop::Unreadable(Input::App, fault),
+        NotJudged::Old(fault) => Stop::Unreadable(Input::Old, fault),
+        NotJudged::New(fault) => Stop::Unreadable(Input::New, fault),
+        NotJudged::Rules(fault) => Stop::Unreadable(Input::Rules, fault),
+        NotJudged::NoMemory => Stop::NoMemory,
+    }
+}

@@ -1,0 +1,50 @@
+// How an application and a library belong together.
+ghost use Rattle.std.specs.Prelude.{◌≡◌, ℕ, List, IfOk, IsTrue, string_bytes};
+ghost use Rattle.explain.specs.Lines.{is_one_line};
+ghost use Rattle.explain.specs.Sentences.{said_of};
+
+use crate::lines::said;
+use crate::tags::push_names;
+use abi_base::NoMemory;
+use std::alloc::{AllocError, Global};
+
+/// The sentence on an application at a path, of whose imports so many bind to a library. It is one line, whatever the characters of
+/// the paths are.
+pub fn links_sentence(
+    alloc: Global,
+    path: &str,
+    library: &str,
+    bound: usize,
+) -> Result<String, NoMemory>
+    ensures says { IfOk result (λ text. (words : List ℕ) × (string_bytes text ≡ said_of path.now words)) }
+    ensures line { IfOk result (λ text. IsTrue (is_one_line (string_bytes text))) }
+{
+    let words = if bound == 1 {
+        format!(in alloc; "1 of its imports binds to {library}")?
+    } else {
+        format!(in alloc; "{bound} of its imports bind to {library}")?
+    };
+    Ok(said(alloc, path, words.as_str())?)
+}
+
+// What a library lacks, with commas between names that are text.
+fn lacking_words(alloc: Global, library: &str, names: &[&[u8]]) -> Result<String, AllocError> {
+    let mut words = format!(in alloc; "it does not run with {library} either, which lacks")?;
+    push_names(&mut words, " ", names)?;
+    Ok(words)
+}
+
+/// The sentence on an application at a path that needs exports of these names of a library, which lacks them. It is one line, whatever
+/// the characters of the paths and of the names are.
+pub fn lacking_sentence(
+    alloc: Global,
+    path: &str,
+    library: &str,
+    names: &[&[u8]],
+) -> Result<String, NoMemory>
+    ensures says { IfOk result (λ text. (words : List ℕ) × (string_bytes text ≡ said_of path.now words)) }
+    ensures line { IfOk result (λ text. IsTrue (is_one_line (string_bytes text))) }
+{
+    let words = lacking_words(alloc, library, names)?;
+    Ok(said(alloc, path, words.as_str())?)
+}

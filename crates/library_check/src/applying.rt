@@ -1,0 +1,208 @@
+// Whether a new library may replace an old one for one application, by their bytes and those of a rule file.
+ghost use Rattle.std.specs.Prelude.{◌≡◌, ◌≤◌, ◌++◌, ℕ, List, [], None, length, map, All, OnOk, IfOk, IfErr, string_bytes, if◌then◌else◌};
+ghost use Rattle.abi_base.specs.Limits.{input_limit};
+ghost use Rattle.abi_types.specs.Plain.{plain_export, plain_exports};
+ghost use Rattle.app_check.specs.Imports.{app_fault, imports_of};
+ghost use Rattle.app_check.specs.Plain.{plain_imports};
+ghost use Rattle.app_check.specs.Used.{narrowed_marks};
+ghost use Rattle.cert_check.specs.Compatible.{sides};
+ghost use Rattle.pair_compare.specs.Marking.{AreMarksOf};
+ghost use Rattle.suppressions.specs.Marks.{marks_of};
+ghost use Rattle.library_check.specs.Applications.{AreReadableFor, IsAppJudged, IsNotJudged, IsSaidOfUsed, sides_used, use_line, use_lines, used_by, uses_text};
+ghost use Rattle.library_check.specs.Checks.{IsUnchecked};
+ghost use Rattle.library_check.specs.Remarks.{remark_on};
+
+use crate::checking::{Inputs, Unchecked, read_inputs};
+use crate::judging::{compared, marks_by, report};
+use crate::remarks::remark;
+use abi_base::{Fault, NoMemory, Refusal, Remark};
+use abi_types::{Export, Library, Marks, OldIx, push_label};
+use app_check::{Import, narrow, read_app, used};
+use pair_compare::Comparison;
+use report::Listener;
+use std::alloc::{AllocError, Global};
+use std::marker::Brand;
+use std::sync::ledger::Blank;
+use suppression_text::Rules;
+
+/// An application, an old library and a new one, and a rule file, by their bytes.
+#[derive(Clone, Copy)]
+pub struct AppFiles<'x> {
+    /// The application.
+    pub app: &'x [u8],
+    /// The library that it uses.
+    pub old: &'x [u8],
+    /// The library that may replace that one.
+    pub new: &'x [u8],
+    /// The rule file.
+    pub rules: &'x [u8],
+}
+
+/// What `app` says of readable inputs, with the text that shows it.
+#[derive(Drop)]
+pub enum AppJudged {
+    /// The new library may replace the old one for the application. The text names the exports that it uses.
+    Yes(Vec<u8>),
+    /// It may not. The text is the report on the exports that it uses.
+    No(Vec<u8>),
+}
+
+/// Why `app` says nothing.
+#[derive(Clone, Copy, Debug)]
+pub enum NotJudged {
+    /// The first fault of the application.
+    App(Fault),
+    /// The first fault of the old library, where the application has none.
+    Old(Fault),
+    /// The first fault of the new library, where the inputs before it have none.
+    New(Fault),
+    /// The first fault of the rule file, where no other input has one.
+    Rules(Fault),
+    /// Memory ran out.
+    NoMemory,
+}
+
+/// What `app` says, and what people want to know beside it.
+#[derive(Drop)]
+pub struct AppResult {
+    /// What it says.
+    pub judged: AppJudged,
+    /// How many exports of each library have no type in its debug information.
+    pub remark: Remark,
+}
+
+// The imports of the application.
+fn read_imports(alloc: Global, bytes: &[u8]) -> Result<Vec<Import<'_>>, NotJudged>
+    requires { length bytes.now ≤ input_limit }
+    ensures readable { OnOk result (app_fault bytes.now ≡ None) }
+    ensures imports { IfOk result (λ imports. plain_imports imports.items ≡ imports_of bytes.now) }
+    ensures unread { IfErr result (λ u. (old new rules : List ℕ) → IsNotJudged bytes.now old new rules u) }
+{
+    match read_app(alloc, bytes) {
+        Ok(imports) => Ok(imports),
+        Err(Refusal::Fault(fault)) => Err(NotJudged::App(fault)),
+        Err(Refusal::NoMemory) => Err(NotJudged::NoMemory),
+    }
+}
+
+// What `app` says where the application is readable and one of the inputs that it has in common with `check` is not read.
+fn of_inputs(unread: Unchecked) -> NotJudged
+    ensures { (app old new rules : List ℕ) → app_fault app ≡ None → IsUnchecked old new rules unread → IsNotJudged app old new rules result }
+{
+    match unread {
+        Unchecked::Old(fault) => NotJudged::Old(fault),
+        Unchecked::New(fault) => NotJudged::New(fault),
+        Unchecked::Rules(fault) => NotJudged::Rules(fault),
+        Unchecked::NoMemory => NotJudged::NoMemory,
+    }
+}
+
+// What is not compared of the old library: what a rule file leaves out, and each export to which no import binds.
+fn marks_for(
+    alloc: Global,
+    imports: &[Import],
+    rules: &Rules,
+    old: &Library<OldIx>,
+) -> Result<Marks, NoMemory>
+    ensures marks { IfOk result (λ marks. marks ≡ narrowed_marks (marks_of rules.now old.now) (used_by (plain_imports imports.now) old.now)) }
+    ensures even { IfOk result (λ marks. AreMarksOf old.now marks) }
+{
+    let marks = marks_by(alloc, rules, old)?;
+    let used = used(alloc, imports, old.soname(), old.exports())?;
+    let narrowed = narrow(alloc, &marks, &used)?;
+    Ok(narrowed)
+}
+
+// Appends the line of an export that is used, and nothing for one that is dropped.
+fn push_use(
+    alloc: Global,
+    text: &mut String,
+    export: &Export,
+    dropped: bool,
+) -> Result<(), AllocError>
+    ensures { OnOk result (string_bytes text.new ≡ string_bytes text.old ++ (if dropped then [] else use_line (plain_export export.now))) }
+{
+    if dropped {
+        return Ok(());
+    }
+    text.push_str("use ")?;
+    push_label(alloc, text, export)?;
+    text.push_str("\n")
+}
+
+// Appends the lines of the exports that are not dropped.
+fn push_uses(
+    alloc: Global,
+    text: &mut String,
+    exports: &[Export],
+    dropped: &[bool],
+) -> Result<(), AllocError>
+    requires { length dropped.now ≡ length exports.now }
+    ensures { OnOk result (string_bytes text.new ≡ string_bytes text.old ++ use_lines (plain_exports exports.now) dropped.now) }
+{
+    for place in 0..exports.len() {
+        push_use(alloc, text, &exports[place], dropped[place])?;
+    }
+    Ok(())
+}
+
+// The text of a yes: a line for each old export that is compared.
+fn uses(alloc: Global, old: &Library<OldIx>, marks: &Marks) -> Result<Vec<u8>, NoMemory>
+    requires { AreMarksOf old.now marks.now }
+    ensures { IfOk result (λ text. (new : _) → text.items ≡ uses_text (sides old.now new marks.now)) }
+{
+    let mut text = String::from_str(alloc, "yes app\n")?;
+    push_uses(alloc, &mut text, old.exports(), marks.exports.as_slice())?;
+    Ok(text.into_bytes())
+}
+
+// What `app` says of imports, two libraries and a rule file that were read.
+fn judge_used(
+    alloc: Global,
+    imports: &[Import],
+    inputs: &Inputs,
+    listeners: Vec<Box<dyn Listener>>,
+) -> Result<AppJudged, NoMemory>
+    requires { All (λ listener. heard listener ≡ []) listeners.items }
+    ensures { IfOk result (IsSaidOfUsed (map voice listeners.items) (sides_used (plain_imports imports.now) inputs.now.pair.old inputs.now.pair.new inputs.now.rules)) }
+{
+    let old = &inputs.pair.old;
+    let new = &inputs.pair.new;
+    let marks = marks_for(alloc, imports, &inputs.rules, old)?;
+    match compared::<Brand>(alloc, Blank::new(1), old, new, &marks)? {
+        Comparison::Compatible(_) => Ok(AppJudged::Yes(uses(alloc, old, &marks)?)),
+        Comparison::Broken(rows) => Ok(AppJudged::No(report(alloc, listeners, rows.as_slice())?)),
+    }
+}
+
+/// Whether a new library may replace an old one for one application, in all that a rule file does not leave out, by their bytes: yes
+/// with the exports that the application uses, or no with the texts that listeners make of every break of these. A fault is that of
+/// the first input that has one, in the order app, old, new, rules.
+pub fn app(
+    alloc: Global,
+    files: &AppFiles,
+    listeners: Vec<Box<dyn Listener>>,
+) -> Result<AppResult, NotJudged>
+    requires app_short { length files.now.app.now ≤ input_limit }
+    requires old_short { length files.now.old.now ≤ input_limit }
+    requires new_short { length files.now.new.now ≤ input_limit }
+    requires unheard { All (λ listener. heard listener ≡ []) listeners.items }
+    ensures readable { OnOk result (AreReadableFor files.now.app.now files.now.old.now files.now.new.now files.now.rules.now) }
+    ensures judged { IfOk result (λ said. IsAppJudged (map voice listeners.items) files.now.app.now files.now.old.now files.now.new.now files.now.rules.now said.judged) }
+    ensures remark { IfOk result (λ said. said.remark ≡ remark_on files.now.old.now files.now.new.now) }
+    ensures not_judged { IfErr result (IsNotJudged files.now.app.now files.now.old.now files.now.new.now files.now.rules.now) }
+{
+    let imports = match read_imports(alloc, files.app) {
+        Ok(imports) => imports,
+        Err(unread) => return Err(unread),
+    };
+    let inputs = match read_inputs(alloc, files.old, files.new, files.rules) {
+        Ok(inputs) => inputs,
+        Err(unread) => return Err(of_inputs(unread)),
+    };
+    let remark = remark(&inputs.pair.old, &inputs.pair.new);
+    match judge_used(alloc, &imports, &inputs, listeners) {
+        Ok(judged) => Ok(AppResult { judged, remark }),
+        Err(NoMemory) => Err(NotJudged::NoMemory),
+    }
+}
