@@ -1,0 +1,239 @@
+// The document.
+ghost use Rattle.std.specs.Prelude.{◌≡◌, drop, IfOk};
+ghost use Rattle.abi_json.specs.Documents.{breaks_of as the_breaks, IsDocument};
+
+use crate::files::bytes_of;
+use crate::libraries::input_value;
+use crate::places::places_value;
+use abi_base::{Fault, NoMemory, Remark, SizedExports};
+use commands::{File, Input, Outcome, Verdict};
+use explain::{name_of, notes_on};
+use json_report::with_member;
+use serde_json::{Map, Value, json, put};
+use std::alloc::{AllocError, Global};
+use std::rt::Files;
+use std::str;
+
+// The version of the format. It changes where a member is left out or means something else.
+const FORMAT: u64 = 1;
+
+// The line with which a report begins.
+const NO: &[u8] = b"no\n";
+
+// The answer in words.
+fn answer_word(outcome: Outcome) -> &'static str {
+    match outcome {
+        Outcome::Judged(Verdict::Yes, _) => "yes",
+        Outcome::Judged(Verdict::No, _) => "no",
+        Outcome::Judged(Verdict::Refused, _) => "refused",
+        Outcome::Judged(Verdict::Done, _) => "done",
+        Outcome::Unreadable(_, _) => "unreadable",
+        Outcome::ReadFault(_) => "read fault",
+        Outcome::Help => "help",
+        Outcome::Usage => "usage",
+        Outcome::NoMemory => "no memory",
+        Outcome::WriteFault => "write fault",
+    }
+}
+
+// The object of a fault.
+fn fault_value(alloc: Global, which: Input, fault: Fault) -> Result<Value, AllocError> {
+    json!(in alloc; {
+        "input": which.word(),
+        "number": fault.kind.number(),
+        "name": fault.kind.name(),
+        "at": fault.at
+    })
+}
+
+// The fault of an outcome, or null.
+fn fault_of(alloc: Global, outcome: Outcome) -> Result<Value, AllocError> {
+    match outcome {
+        Outcome::Unreadable(which, fault) => fault_value(alloc, which, fault),
+        _ => Ok(Value::Null),
+    }
+}
+
+fn sized_value(alloc: Global, exports: SizedExports) -> Result<Value, AllocError> {
+    json!(in alloc; {"all": exports.all as u64, "untyped": exports.untyped as u64})
+}
+
+// How many exports of both libraries have no type, or null.
+fn untyped_of(alloc: Global, outcome: Outcome) -> Result<Value, AllocError> {
+    match outcome {
+        Outcome::Judged(_, Some(Remark { old, new })) => {
+            let old = sized_value(alloc, old)?;
+            let new = sized_value(alloc, new)?;
+            json!(in alloc; {"old": old, "new": new})
+        }
+        _ => Ok(Value::Null),
+    }
+}
+
+// The sentences beside the answer.
+fn notes_value<R: Files + AllocGlobal>(
+    rt: &R,
+    outcome: Outcome,
+    files: &[File<'_>],
+) -> Result<Value, NoMemory> {
+    let alloc = rt.alloc();
+    let mut bytes = Vec::new(alloc);
+    if let Outcome::Unreadable(which, _) = outcome {
+        if let Some(path) = name_of(files, which) {
+            bytes = bytes_of(rt, path).unwrap_or(bytes);
+        }
+    }
+    let notes = notes_on(alloc, outcome, files, &bytes, "reading failed")?;
+    let mut list = Vec::new(alloc);
+    for note in &notes {
+        list.push(Value::try_from_str(alloc, note.as_str())?)?;
+    }
+    Ok(Value::Array(list))
+}
+
+// The inputs, in their order.
+fn inputs_value<R: Files + AllocGlobal>(rt: &R, files: &[File<'_>]) -> Result<Value, NoMemory> {
+    let mut list = Vec::new(rt.alloc());
+    for file in files {
+        list.push(input_value(rt, *file)?)?;
+    }
+    Ok(Value::Array(list))
+}
+
+// The breaks of the text that the listener made.
+fn breaks_in(alloc: Global, text: &[u8]) -> Vec<Value> {
+    match Value::from_slice(alloc, text) {
+        Ok(Value::Array(breaks)) => breaks,
+        _ => Vec::new(alloc),
+    }
+}
+
+// Whether the text is the array of the breaks.
+fn is_report(outcome: Outcome) -> bool {
+    match outcome {
+        Outcome::Judged(Verdict::No, _) => true,
+        _ => false,
+    }
+}
+
+// What stands behind the line `no`.
+fn behind_answer(text: &[u8]) -> &[u8]
+    ensures { result.now ≡ drop 3 text.now }
+{
+    if text.len() < NO.len() {
+        &[]
+    } else {
+        &text[NO.len()..]
+    }
+}
+
+// The array of the breaks.
+fn breaks_of<'t>(outcome: Outcome, text: &'t [u8]) -> &'t [u8]
+    ensures { result.now ≡ the_breaks outcome text.now }
+{
+    match outcome {
+        Outcome::Judged(Verdict::No, _) => behind_answer(text),
+        _ => b"[]",
+    }
+}
+
+// The places of the types of breaks in both libraries.
+fn all_places<R: Files + AllocGlobal>(
+    rt: &R,
+    outcome: Outcome,
+    files: &[File<'_>],
+    text: &[u8],
+) -> Result<Value, NoMemory> {
+    let alloc = rt.alloc();
+    if !is_report(outcome) {
+        return Ok(Value::Null);
+    }
+    let breaks = breaks_in(alloc, breaks_of(outcome, text));
+    let old = places_value(rt, name_of(files, Input::Old), &breaks, "old_entry")?;
+    let new = places_value(rt, name_of(files, Input::New), &breaks, "new_entry")?;
+    Ok(json!(in alloc; {"old": old, "new": new})?)
+}
+
+// The text that `abi` prints, or null where it stands for the breaks.
+fn text_of(alloc: Global, outcome: Outcome, text: &[u8]) -> Result<Value, AllocError> {
+    if is_report(outcome) {
+        return Ok(Value::Null);
+    }
+    match str::from_utf8(text) {
+        Ok(text) => Value::try_from_str(alloc, text),
+        Err(_) => Ok(Value::Null),
+    }
+}
+
+// All members but the breaks.
+fn head_of<R: Files + AllocGlobal>(
+    rt: &R,
+    words: &[&str],
+    outcome: Outcome,
+    files: &[File<'_>],
+    text: &[u8],
+) -> Result<Value, NoMemory> {
+    let alloc = rt.alloc();
+    let mut head = Map::new(alloc);
+    let command = words.first().copied().unwrap_or("");
+    put(&mut head, alloc, "format", Value::from(FORMAT))?;
+    put(
+        &mut head,
+        alloc,
+        "command",
+        Value::try_from_str(alloc, command)?,
+    )?;
+    put(
+        &mut head,
+        alloc,
+        "answer",
+        Value::try_from_str(alloc, answer_word(outcome))?,
+    )?;
+    put(
+        &mut head,
+        alloc,
+        "status",
+        Value::from(u64::from(outcome.number())),
+    )?;
+    put(&mut head, alloc, "inputs", inputs_value(rt, files)?)?;
+    put(&mut head, alloc, "fault", fault_of(alloc, outcome)?)?;
+    put(&mut head, alloc, "untyped", untyped_of(alloc, outcome)?)?;
+    put(&mut head, alloc, "notes", notes_value(rt, outcome, files)?)?;
+    put(
+        &mut head,
+        alloc,
+        "places",
+        all_places(rt, outcome, files, text)?,
+    )?;
+    put(&mut head, alloc, "text", text_of(alloc, outcome, text)?)?;
+    Ok(Value::Object(head))
+}
+
+// The text of an object without its last brace.
+fn opened(object: &str) -> &[u8] {
+    let bytes = object.as_bytes();
+    if bytes.is_empty() {
+        bytes
+    } else {
+        &bytes[..bytes.len() - 1]
+    }
+}
+
+/// The document of a run: its head, and last the breaks as the listener made them.
+pub(crate) fn document_of<R: Files + AllocGlobal>(
+    rt: &R,
+    words: &[&str],
+    outcome: Outcome,
+    files: &[File<'_>],
+    text: &[u8],
+) -> Result<Vec<u8>, NoMemory>
+    ensures { IfOk result (λ document. IsDocument outcome text.now document.items) }
+{
+    let head = head_of(rt, words, outcome, files, text)?.to_string(rt.alloc())?;
+    with_member(
+        rt.alloc(),
+        opened(head.as_str()),
+        "breaks",
+        breaks_of(outcome, text),
+    )
+}

@@ -1,0 +1,69 @@
+//! The program `abi-json`: what `abi` does, with one JSON document on standard output in place of its text, and the same exit
+//! numbers.
+#![tactic(auto)]
+
+mod document;
+mod files;
+mod libraries;
+mod places;
+mod words;
+
+use crate::document::document_of;
+use crate::words::words_of;
+use abi_base::{FileInputs, NoMemory, StdSink, write_all};
+use abi_top::run;
+use commands::Outcome;
+use json_report::{JsonListener, TextSink};
+use report::{Listener, add_listener};
+use std::io::ErrorKind;
+use std::process::ExitCode;
+use std::rt::{Env, Files};
+use std::{env, io};
+
+fn main(rt: HostRuntime) -> ExitCode {
+    ExitCode::from(outcome_of_process(&rt).number())
+}
+
+// Arguments that are no text are taken as no words, which are wrong ones.
+fn outcome_of_process<R: Files + Print + Env + AllocGlobal>(rt: &R) -> Outcome {
+    let arguments = match arguments_of(rt) {
+        Ok(arguments) => arguments,
+        Err(error) => {
+            if error.kind() == ErrorKind::OutOfMemory {
+                return Outcome::NoMemory;
+            }
+            Vec::new(rt.alloc())
+        }
+    };
+    outcome_of(rt, &arguments).unwrap_or(Outcome::NoMemory)
+}
+
+// The arguments after the program's name.
+fn arguments_of<R: Env + AllocGlobal>(rt: &R) -> io::Result<Vec<String>> {
+    let mut arguments = Vec::new(rt.alloc());
+    for argument in env::args(rt)?.skip(1) {
+        arguments.push(argument)?;
+    }
+    Ok(arguments)
+}
+
+// Runs the words with a listener that makes JSON of the breaks, and prints the document. How the run ended stands, unless the
+// document cannot be made or printed.
+fn outcome_of<R: Files + Print + AllocGlobal>(
+    rt: &R,
+    arguments: &[String],
+) -> Result<Outcome, NoMemory> {
+    let alloc = rt.alloc();
+    let words = words_of(alloc, arguments)?;
+    let mut inputs = FileInputs::new(rt);
+    let mut answer = TextSink::new(alloc);
+    let mut listeners: Vec<Box<dyn Listener>> = Vec::new(alloc);
+    add_listener(&mut listeners, Box::new(alloc, JsonListener::new(alloc))?)?;
+    let ended = run(alloc, &words, &mut inputs, &mut answer, listeners);
+    let document = document_of(rt, &words, ended.outcome, &ended.files, answer.held())?;
+    let mut sink = StdSink::new(rt);
+    match write_all(&mut sink, &document) {
+        Ok(()) => Ok(ended.outcome),
+        Err(_) => Ok(Outcome::WriteFault),
+    }
+}

@@ -1,0 +1,47 @@
+// What entries say of where they are declared.
+ghost use Rattle.std.specs.Prelude.{◌≡◌, ◌<◌, length, IfSome};
+ghost use Rattle.entry_places.specs.Coordinates.{coordinates_of as the_coordinates};
+
+use crate::values::{if_given, number_of};
+use dwarf_tree::Tree;
+
+// The attributes of declarations (DWARF 5, section 7.5.4 "Attribute Encodings").
+
+const DW_AT_decl_file: u64 = 0x3a;
+
+const DW_AT_decl_line: u64 = 0x3b;
+
+// The number of a file in the line program of a unit, and a line in that file.
+#[derive(Clone, Copy)]
+pub(crate) struct Coordinates {
+    pub(crate) file: u64,
+    pub(crate) line: u64,
+    // the number of the unit
+    pub(crate) unit: usize,
+}
+
+// What the entry that begins at an offset says.
+#[tactic(auto, unfolding(crate::specs::Coordinates::coordinates_of))]
+pub(crate) fn coordinates_of(tree: &Tree<'_>, offset: u64) -> Option<Coordinates>
+    ensures said { result ≡ the_coordinates tree.now offset }
+    ensures inside { IfSome result (λ c. c.unit < length tree.now.units) }
+{
+    tree.known();
+    let Some(e) = tree.find(offset) else {
+        return None;
+    };
+    let Some(file) = number_of(tree.own(e, DW_AT_decl_file)) else {
+        return None;
+    };
+    let Some(number) = number_of(tree.own(e, DW_AT_decl_line)) else {
+        return None;
+    };
+    let Some(line) = if_given(number) else {
+        return None;
+    };
+    Some(Coordinates {
+        file,
+        line,
+        unit: tree.unit(e),
+    })
+}

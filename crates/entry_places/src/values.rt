@@ -1,0 +1,33 @@
+// What values of attributes say.
+ghost use Rattle.std.specs.Prelude.{◌≡◌};
+ghost use Rattle.entry_places.specs.Coordinates.{if_given as the_given_one, number_of as the_number, section_offset_of};
+
+use dwarf_forms::Value;
+
+// A constant that is not negative.
+pub(crate) fn number_of(value: Option<Value>) -> Option<u64>
+    ensures { result ≡ the_number value }
+{
+    match value {
+        Some(Value::Unsigned(number)) => Some(number),
+        Some(Value::Signed(number)) if number >= 0 => Some(number as u64),
+        _ => None,
+    }
+}
+
+// The place in another section that a value is.
+pub(crate) fn section_offset(value: Option<Value>) -> Option<u64>
+    ensures { result ≡ section_offset_of value }
+{
+    match value {
+        Some(Value::SectionOffset(place)) => Some(place),
+        _ => None,
+    }
+}
+
+// A line, which 0 does not give.
+pub(crate) fn if_given(line: u64) -> Option<u64>
+    ensures { result ≡ the_given_one line }
+{
+    if line == 0 { None } else { Some(line) }
+}

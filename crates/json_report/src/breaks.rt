@@ -1,0 +1,187 @@
+// The array of the breaks.
+ghost use Rattle.std.specs.Prelude.{◌≡◌, ◌+◌, ◌<◌, ◌++◌, drop, length, flat_map, codes, IfOk, OnOk};
+ghost use Rattle.json_report.specs.Breaks.{breaks_text as the_breaks_text, detail_text, entries_text, entry_member, entry_text, goes_on as the_path_goes_on, path_text, place_text, row_text, rows_text, rule_text, steps_behind};
+ghost use Rattle.report.specs.declared.row.Row.{Row as AnyRow};
+
+use crate::names::rule_name;
+use crate::strings::{push, push_escaped, push_string};
+use abi_base::NoMemory;
+use report::Row;
+use std::alloc::Global;
+
+// How many bytes stand between two steps of a path.
+const BETWEEN: &[u8] = b" / ";
+
+// Appends the offset of an entry, or that there is none.
+#[tactic(auto, unfolding(crate::specs::Breaks::entry_text))]
+fn push_entry(alloc: Global, text: &mut Vec<u8>, offset: u64) -> Result<(), NoMemory>
+    ensures { OnOk result (text.new.items ≡ text.old.items ++ entry_text offset) }
+{
+    if offset == 0 {
+        return push(text, b"null");
+    }
+    let digits = format!(in alloc; "{offset}")?;
+    push(text, digits.as_bytes())
+}
+
+// Whether another step of a path follows here.
+fn goes_on(bytes: &[u8]) -> bool
+    ensures { result ≡ the_path_goes_on bytes.now }
+{
+    bytes.len() >= 3 && &bytes[..3] == BETWEEN
+}
+
+// Appends what a byte of a path adds to its steps, and answers how many bytes behind it are to be passed over. So many were to be
+// passed over at this one.
+#[tactic(auto, using(crate::proofs::StepLemmas::step_passed, crate::proofs::StepLemmas::step_ends, crate::proofs::StepLemmas::step_goes_on))]
+fn push_byte_of_step(
+    text: &mut Vec<u8>,
+    path: &[u8],
+    i: usize,
+    passed: usize,
+) -> Result<usize, NoMemory>
+    requires { i < length path.now }
+    ensures { IfOk result (λ next. text.new.items ++ steps_behind next (drop (i + 1) path.now) ≡ text.old.items ++ steps_behind passed (drop i path.now)) }
+{
+    if passed > 0 {
+        return Ok(passed - 1);
+    }
+    if goes_on(&path[i..]) {
+        push(text, b"\",\"")?;
+        return Ok(2);
+    }
+    push_escaped(text, path[i])?;
+    Ok(0)
+}
+
+// Appends the steps of a path as strings with commas between them.
+#[tactic(auto, using(crate::proofs::StepLemmas::steps_end))]
+fn push_steps(text: &mut Vec<u8>, path: &[u8]) -> Result<(), NoMemory>
+    ensures { OnOk result (text.new.items ≡ text.old.items ++ steps_behind 0 path.now) }
+{
+    let mut passed: usize = 0;
+    for i in 0..path.len() {
+        passed = push_byte_of_step(text, path, i, passed)?;
+    }
+    Ok(())
+}
+
+// Appends the array of the steps of a path.
+#[tactic(auto, unfolding(crate::specs::Breaks::path_text))]
+fn push_path(text: &mut Vec<u8>, path: &[u8]) -> Result<(), NoMemory>
+    ensures { OnOk result (text.new.items ≡ text.old.items ++ path_text path.now) }
+{
+    if path.is_empty() {
+        return push(text, b"[]");
+    }
+    push(text, b"[\"")?;
+    push_steps(text, path)?;
+    push(text, b"\"]")
+}
+
+// Appends what is broken.
+#[tactic(auto, unfolding(crate::specs::Breaks::rule_text))]
+fn push_rule(text: &mut Vec<u8>, row: &Row) -> Result<(), NoMemory>
+    ensures { OnOk result (text.new.items ≡ text.old.items ++ rule_text row.now) }
+{
+    push(text, b"{\"rule\":\"")?;
+    push(text, row.rule.word().as_bytes())?;
+    push(text, b"\",\"name\":\"")?;
+    push(text, rule_name(row.rule).as_bytes())?;
+    push(text, b"\"")
+}
+
+// Appends where it is broken.
+#[tactic(auto, unfolding(crate::specs::Breaks::place_text))]
+fn push_place(text: &mut Vec<u8>, row: &Row) -> Result<(), NoMemory>
+    ensures { OnOk result (text.new.items ≡ text.old.items ++ place_text row.now) }
+{
+    push(text, b",\"export\":")?;
+    push_string(text, row.export.as_slice())?;
+    push(text, b",\"steps\":")?;
+    push_path(text, row.path.as_slice())?;
+    push(text, b",\"path\":")?;
+    push_string(text, row.path.as_slice())
+}
+
+// Appends what was there and what is there now.
+#[tactic(auto, unfolding(crate::specs::Breaks::detail_text))]
+fn push_detail(text: &mut Vec<u8>, row: &Row) -> Result<(), NoMemory>
+    ensures { OnOk result (text.new.items ≡ text.old.items ++ detail_text row.now) }
+{
+    push(text, b",\"detail\":")?;
+    push_string(text, row.detail.as_slice())
+}
+
+// Appends a member that is an entry.
+#[tactic(auto, unfolding(crate::specs::Breaks::entry_member))]
+fn push_entry_member(
+    alloc: Global,
+    text: &mut Vec<u8>,
+    name: &str,
+    offset: u64,
+) -> Result<(), NoMemory>
+    ensures { OnOk result (text.new.items ≡ text.old.items ++ entry_member name.now offset) }
+{
+    push(text, b",\"")?;
+    push(text, name.as_bytes())?;
+    push(text, b"\":")?;
+    push_entry(alloc, text, offset)
+}
+
+// Appends the entries of both types.
+#[tactic(auto, unfolding(crate::specs::Breaks::entries_text))]
+fn push_entries(alloc: Global, text: &mut Vec<u8>, row: &Row) -> Result<(), NoMemory>
+    ensures { OnOk result (text.new.items ≡ text.old.items ++ entries_text row.now) }
+{
+    push_entry_member(alloc, text, "old_entry", row.old_entry)?;
+    push_entry_member(alloc, text, "new_entry", row.new_entry)?;
+    push(text, b"}")
+}
+
+// Appends the object of a row.
+#[tactic(auto, unfolding(crate::specs::Breaks::row_text))]
+fn push_row(alloc: Global, text: &mut Vec<u8>, row: &Row) -> Result<(), NoMemory>
+    ensures { OnOk result (text.new.items ≡ text.old.items ++ row_text row.now) }
+{
+    push_rule(text, row)?;
+    push_place(text, row)?;
+    push_detail(text, row)?;
+    push_entries(alloc, text, row)
+}
+
+// Appends the objects of further rows.
+fn push_others(alloc: Global, text: &mut Vec<u8>, rows: &[Row]) -> Result<(), NoMemory>
+    ensures { OnOk result (text.new.items ≡ text.old.items ++ flat_map (λ (r : AnyRow). codes "," ++ row_text r) rows.now) }
+{
+    for row in rows {
+        push(text, b",")?;
+        push_row(alloc, text, row)?;
+    }
+    Ok(())
+}
+
+// Appends the objects of rows.
+fn push_rows(alloc: Global, text: &mut Vec<u8>, rows: &[Row]) -> Result<(), NoMemory>
+    ensures { OnOk result (text.new.items ≡ text.old.items ++ rows_text rows.now) }
+{
+    match rows {
+        [] => Ok(()),
+        [first, others @ ..] => {
+            push_row(alloc, text, first)?;
+            push_others(alloc, text, others)
+        }
+    }
+}
+
+// The array of the breaks, an object for each row.
+#[tactic(auto, unfolding(crate::specs::Breaks::breaks_text))]
+pub(crate) fn breaks_text(alloc: Global, rows: &[Row]) -> Result<Vec<u8>, NoMemory>
+    ensures { IfOk result (λ text. text.items ≡ the_breaks_text rows.now) }
+{
+    let mut text = Vec::new(alloc);
+    push(&mut text, b"[")?;
+    push_rows(alloc, &mut text, rows)?;
+    push(&mut text, b"]")?;
+    Ok(text)
+}

@@ -1,0 +1,14 @@
+//! The breaks of a report as JSON (RFC 8259, "The JavaScript Object Notation Data Interchange Format"), and documents that have them.
+#![tactic(auto)]
+
+mod breaks;
+mod document;
+mod kept;
+mod listener;
+mod names;
+mod strings;
+
+pub use document::with_member;
+pub use kept::TextSink;
+pub use listener::JsonListener;
+pub use names::rule_name;
