@@ -1,13 +1,13 @@
 // Certificates that were changed, each with the answer.
-use abi_base::{List, NoMemory, Refusal};
-use abi_types::{Export, Graph, Index, Library, Marks, NewIx, OldIx, SymbolKind};
+use abi_base::{Fault, List, NoMemory, Refusal};
+use abi_types::{Export, Graph, Index, Library, Marks, NewIx, Node, OldIx, SymbolKind};
 use cert_check::check_cert;
-use cert_text::read_cert;
+use cert_text::{Cert, read_cert};
 use std::alloc::Global;
 use std::fmt::Write;
 use std::process::Abort;
 use std::test::Fail;
-use test_graphs::{function, is_graph, is_library, scalar, void};
+use test_graphs::{function, graph, is_library, scalar, void};
 
 // Both libraries have the function `f` at symbol 1, of the type 22, which takes nothing and gives the `int` 15; 30 is another
 // `int`. Each line: what was done | what is not so in the second library, the rules or the digests | the lines of the
@@ -48,9 +48,27 @@ a dropped export with its line|dropped|bind 1 1;end|refused 72 Bindings 1
 a dropped export|dropped|end|accepted
 ";
 
+fn cut(row: &str) -> (&str, &str) {
+    row.split_once('|').unwrap_or((row, ""))
+}
+
 // Whether the words have this one.
 fn has(words: &str, word: &str) -> bool {
     words.split_whitespace().any(|other| other == word)
+}
+
+// The type of a number, where an `int` has so many bytes.
+fn node_of<'a, Ix: Index>(
+    alloc: Global,
+    number: u32,
+    bytes: u64,
+) -> Result<Node<'a, Ix>, NoMemory> {
+    match number {
+        0 => void(alloc),
+        1 => scalar(alloc, 15, bytes),
+        2 => function(alloc, 22, 1, 1, [].as_slice()),
+        _ => scalar(alloc, 30, bytes),
+    }
 }
 
 fn graph_of<'a, Ix: Index>(
@@ -59,17 +77,13 @@ fn graph_of<'a, Ix: Index>(
     bytes: u64,
 ) -> Result<Graph<'a, Ix>, NoMemory> {
     let mut nodes = List::new(alloc);
-    let void = void::<Ix>(alloc)?;
-    nodes.push(void)?;
-    let int = scalar(alloc, 15, bytes)?;
-    nodes.push(int)?;
-    let function = function(alloc, 22, 1, 1, [].as_slice())?;
-    nodes.push(function)?;
-    let other = scalar(alloc, 30, bytes)?;
-    nodes.push(other)?;
-    let is_made = is_graph(alloc, nodes.as_slice())?;
-    assert!(rt; is_made);
-    Graph::of_nodes(alloc, nodes)
+    for number in 0..4 {
+        nodes.push(node_of(alloc, number, bytes)?)?;
+    }
+    match graph(alloc, nodes)? {
+        Some(graph) => Ok(graph),
+        None => panic!(rt; "no graph"),
+    }
 }
 
 fn export_of<'a>(name: &'a [u8], kind: SymbolKind) -> Export<'a> {
@@ -171,6 +185,29 @@ fn text_of(alloc: Global, changes: &str, lines: &str) -> Result<String, NoMemory
     Ok(text)
 }
 
+// What a check of a certificate says.
+fn judged(
+    alloc: Global,
+    old: &Library<OldIx>,
+    new: &Library<NewIx>,
+    marks: &Marks,
+    cert: &Cert,
+) -> Result<String, NoMemory> {
+    let Err(refused) = check_cert(old, new, marks, cert) else {
+        return Ok(String::from_str(alloc, "accepted")?);
+    };
+    let number = refused.kind.number();
+    let name = refused.kind.name();
+    let at = refused.at;
+    Ok(format!(in alloc; "refused {number} {name} {at}")?)
+}
+
+fn unreadable(alloc: Global, fault: Fault) -> Result<String, NoMemory> {
+    let number = fault.kind.number();
+    let at = fault.at;
+    Ok(format!(in alloc; "unreadable {number} {at}")?)
+}
+
 // The answer to a text.
 fn answer(
     alloc: Global,
@@ -179,48 +216,70 @@ fn answer(
     marks: &Marks,
     text: &str,
 ) -> Result<String, NoMemory> {
-    let cert = match read_cert(alloc, text.as_bytes()) {
-        Ok(cert) => cert,
-        Err(Refusal::NoMemory) => return Err(NoMemory),
-        Err(Refusal::Fault(fault)) => {
-            let number = fault.kind.number();
-            let at = fault.at;
-            return Ok(format!(in alloc; "unreadable {number} {at}")?);
-        }
-    };
-    match check_cert(old, new, marks, &cert) {
-        Ok(()) => Ok(String::from_str(alloc, "accepted")?),
-        Err(refused) => {
-            let number = refused.kind.number();
-            let name = refused.kind.name();
-            let at = refused.at;
-            Ok(format!(in alloc; "refused {number} {name} {at}")?)
-        }
+    match read_cert(alloc, text.as_bytes()) {
+        Ok(cert) => judged(alloc, old, new, marks, &cert),
+        Err(Refusal::Fault(fault)) => unreadable(alloc, fault),
+        Err(Refusal::NoMemory) => Err(NoMemory),
     }
 }
 
-fn check(rt: &impl Abort, alloc: Global, row: &str) -> Result<(), NoMemory> {
-    let mut cells = row.split('|');
-    let what = cells.next().unwrap_or("");
-    let changes = cells.next().unwrap_or("");
-    let lines = cells.next().unwrap_or("");
-    let wanted = cells.next().unwrap_or("");
-    let old = old_library(rt, alloc)?;
-    let new = new_library(rt, alloc, changes)?;
+// The answer to a text about these libraries, of which this was changed.
+fn told_beside(
+    alloc: Global,
+    old: &Library<OldIx>,
+    new: &Library<NewIx>,
+    changes: &str,
+    text: &str,
+) -> Result<String, NoMemory> {
     let marks = marks_of(alloc, changes)?;
+    answer(alloc, old, new, &marks, text)
+}
+
+// The same, where the new library is still to be made.
+fn told_of(
+    rt: &impl Abort,
+    alloc: Global,
+    old: &Library<OldIx>,
+    changes: &str,
+    text: &str,
+) -> Result<String, NoMemory> {
+    let new = new_library(rt, alloc, changes)?;
+    told_beside(alloc, old, &new, changes, text)
+}
+
+// The same, by the lines of the certificate behind the first four.
+fn told(
+    rt: &impl Abort,
+    alloc: Global,
+    old: &Library<OldIx>,
+    changes: &str,
+    lines: &str,
+) -> Result<String, NoMemory> {
     let text = text_of(alloc, changes, lines)?;
-    let told = answer(alloc, &old, &new, &marks, text.as_str())?;
+    told_of(rt, alloc, old, changes, text.as_str())
+}
+
+fn check(rt: &impl Abort, alloc: Global, old: &Library<OldIx>, row: &str) -> Result<(), NoMemory> {
+    let (what, row) = cut(row);
+    let (changes, row) = cut(row);
+    let (lines, wanted) = cut(row);
+    let told = told(rt, alloc, old, changes, lines)?;
     assert_eq!(rt; told.as_str(), wanted, "{what}");
     Ok(())
 }
 
-#[test]
-fn changed_certificates_are_refused(rt: HostRuntime) -> Result<(), Fail> {
+fn check_all(rt: &impl Abort, alloc: Global, old: &Library<OldIx>) -> Result<u32, NoMemory> {
     let mut count = 0u32;
     for row in ROWS.lines() {
-        check(&rt, rt.alloc(), row)?;
+        check(rt, alloc, old, row)?;
         count = count.saturating_add(1);
     }
-    assert_eq!(rt; count, 33);
+    Ok(count)
+}
+
+#[test]
+fn changed_certificates_are_refused(rt: HostRuntime) -> Result<(), Fail> {
+    let old = old_library(&rt, rt.alloc())?;
+    assert_eq!(rt; check_all(&rt, rt.alloc(), &old)?, 33);
     Ok(())
 }

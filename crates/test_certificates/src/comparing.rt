@@ -1,14 +1,17 @@
 // What no clause says: that calls find memory. And two comparisons by hand.
 ghost use Rattle.std.specs.Prelude.{◌≡◌, ◌<◌};
 
+use crate::texts::binds_and_pairs;
 use abi_base::{List, NoMemory};
 use abi_types::{
-    Call, CallShape, Export, Graph, Index, Library, NewIx, Node, OldIx, Place, Rule, SymbolKind,
+    Call, CallShape, Export, Graph, Index, Library, NewIx, Node, OldIx, Place, SymbolKind,
 };
+use cert_text::Cert;
 use pair_compare::laws::no_marks_are_even;
 use pair_compare::{Comparison, compare, unmarked};
 use pair_rules::Steps;
 use std::alloc::Global;
+use std::fmt::Write;
 use std::marker::Brand;
 use std::process::Abort;
 use std::sync::ledger::{Blank, Ledger};
@@ -26,16 +29,29 @@ const FUNCTION: u64 = 40;
 
 const INTEGER_SIZE: u64 = 4;
 
+// A structure of so many bytes, which holds an integer.
+fn holder<'a, Ix: Index>(alloc: Global, size: u64) -> Result<Node<'a, Ix>, NoMemory> {
+    let mut members = Vec::new(alloc);
+    members.push(member(b"n", 0, 1))?;
+    structure(alloc, STRUCTURE, 1, size, members)
+}
+
+fn node_of<'a, Ix: Index>(alloc: Global, number: u32, size: u64) -> Result<Node<'a, Ix>, NoMemory> {
+    match number {
+        0 => void(alloc),
+        1 => scalar(alloc, INTEGER, INTEGER_SIZE),
+        2 => holder(alloc, size),
+        3 => pointer(alloc, POINTER, 2),
+        _ => function(alloc, FUNCTION, 1, 0, [3].as_slice()),
+    }
+}
+
 // The types of a function without a result that takes a pointer to a structure of so many bytes, which holds an integer.
 fn nodes<'a, Ix: Index>(alloc: Global, size: u64) -> Result<List<Node<'a, Ix>>, NoMemory> {
     let mut nodes = List::new(alloc);
-    nodes.push(void::<Ix>(alloc)?)?;
-    nodes.push(scalar(alloc, INTEGER, INTEGER_SIZE)?)?;
-    let mut members = Vec::new(alloc);
-    members.push(member::<Ix>(b"n", 0, 1))?;
-    nodes.push(structure(alloc, STRUCTURE, 1, size, members)?)?;
-    nodes.push(pointer(alloc, POINTER, 2)?)?;
-    nodes.push(function(alloc, FUNCTION, 1, 0, [3].as_slice())?)?;
+    for number in 0..5 {
+        nodes.push(node_of(alloc, number, size)?)?;
+    }
     Ok(nodes)
 }
 
@@ -103,55 +119,90 @@ const DIGEST_OF_ABC: [u8; 32] = [
     0xb0, 0x03, 0x61, 0xa3, 0x96, 0x17, 0x7a, 0x9c, 0xb4, 0x10, 0xff, 0x61, 0xf2, 0x00, 0x15, 0xad,
 ];
 
-// What a comparison tells of the library whose structure has 4 bytes, and of one whose structure has so many.
+// What a comparison tells of two libraries.
 fn compared_by<L: Ledger>(
-    rt: &impl Abort,
     alloc: Global,
     blank: Blank,
-    size: u64,
+    old: &Library<OldIx>,
+    new: &Library<NewIx>,
 ) -> Result<Comparison, NoMemory>
     requires name { blank.name ≡ L.name }
     requires parts { blank.parts ≡ L.parts }
     requires some { 0 < blank.parts }
 {
     no_marks_are_even();
-    let old = library::<OldIx>(rt, alloc, 1, INTEGER_SIZE)?;
-    let new = library::<NewIx>(rt, alloc, 2, size)?;
-    let marks = unmarked(alloc, &old)?;
+    let marks = unmarked(alloc, old)?;
     let mut steps = Steps::<L>::new(blank);
-    compare(alloc, &old, &new, &marks, &mut steps)
+    compare(alloc, old, new, &marks, &mut steps)
 }
 
-// The same, with a counter of its own.
+// The same of a library and of one whose structure has so many bytes, with a counter of its own.
+fn compared_with(
+    rt: &impl Abort,
+    alloc: Global,
+    old: &Library<OldIx>,
+    size: u64,
+) -> Result<Comparison, NoMemory> {
+    let new = library::<NewIx>(rt, alloc, 2, size)?;
+    compared_by::<Brand>(alloc, Blank::new(1), old, &new)
+}
+
+// The same of the library whose structure has 4 bytes, and of one whose structure has so many.
 fn compared(rt: &impl Abort, alloc: Global, size: u64) -> Result<Comparison, NoMemory> {
-    compared_by::<Brand>(rt, alloc, Blank::new(1), size)
+    let old = library::<OldIx>(rt, alloc, 1, INTEGER_SIZE)?;
+    compared_with(rt, alloc, &old, size)
+}
+
+fn names_the_files(cert: &Cert) -> bool {
+    cert.old_digest == DIGEST_OF_ABC && cert.new_digest == DIGEST_OF_ABC
+}
+
+// The symbols that are bound and how many pairs there are, where the two are compatible.
+fn certified(rt: &impl Abort, alloc: Global, comparison: &Comparison) -> Result<String, NoMemory> {
+    match comparison {
+        Comparison::Broken(_) => panic!(rt; "broken"),
+        Comparison::Compatible(cert) => {
+            assert!(rt; names_the_files(cert));
+            binds_and_pairs(alloc, cert)
+        }
+    }
+}
+
+fn expect_certified(rt: &impl Abort, alloc: Global, wanted: &str) -> Result<(), NoMemory> {
+    let comparison = compared(rt, alloc, INTEGER_SIZE)?;
+    let told = certified(rt, alloc, &comparison)?;
+    assert_eq!(rt; told.as_str(), wanted);
+    Ok(())
 }
 
 #[test]
 fn the_same_types_are_compatible(rt: HostRuntime) -> Result<(), Fail> {
-    match compared(&rt, rt.alloc(), INTEGER_SIZE)? {
-        Comparison::Broken(rows) => panic!(rt; "{}", rows.as_slice().len()),
-        Comparison::Compatible(cert) => {
-            assert_eq!(rt; cert.old_digest, DIGEST_OF_ABC);
-            assert_eq!(rt; cert.new_digest, DIGEST_OF_ABC);
-            assert_eq!(rt; cert.binds.as_slice(), [(1, 2)].as_slice());
-            assert_eq!(rt; cert.pairs.as_slice().len(), 5);
+    expect_certified(&rt, rt.alloc(), "1 2, 5")?;
+    Ok(())
+}
+
+// The rule and the old entry of each row, where there are rows.
+fn rules_and_entries(alloc: Global, comparison: &Comparison) -> Result<String, NoMemory> {
+    let mut text = String::new(alloc);
+    if let Comparison::Broken(rows) = comparison {
+        for row in rows.as_slice() {
+            let rule = row.rule.word();
+            let entry = row.old_entry;
+            write!(text, "{rule} {entry}, ")?;
         }
     }
+    Ok(text)
+}
+
+fn expect_broken(rt: &impl Abort, alloc: Global, size: u64, wanted: &str) -> Result<(), NoMemory> {
+    let comparison = compared(rt, alloc, size)?;
+    let told = rules_and_entries(alloc, &comparison)?;
+    assert_eq!(rt; told.as_str(), wanted);
     Ok(())
 }
 
 #[test]
 fn a_longer_structure_is_not(rt: HostRuntime) -> Result<(), Fail> {
-    match compared(&rt, rt.alloc(), 8)? {
-        Comparison::Compatible(_) => panic!(rt; "compatible"),
-        Comparison::Broken(rows) => {
-            let rows = rows.as_slice();
-            assert_eq!(rt; rows.len(), 1);
-            let rule = rows[0].rule;
-            assert_eq!(rt; rule.word(), Rule::TypeSize.word());
-            assert_eq!(rt; rows[0].old_entry, STRUCTURE);
-        }
-    }
+    expect_broken(&rt, rt.alloc(), 8, "L2 20, ")?;
     Ok(())
 }

@@ -1,6 +1,8 @@
-use abi_base::Refusal;
-use cert_text::{migrate, read_cert, read_cert_1, write_cert};
+// Texts of certificates: their faults, and what is written and migrated.
+use abi_base::{NoMemory, Refusal};
+use cert_text::{Cert, Cert1, migrate, read_cert, read_cert_1, write_cert};
 use std::alloc::Global;
+use std::fmt::Write;
 use std::process::Abort;
 use std::test::Fail;
 
@@ -17,255 +19,202 @@ new 2222222222222222222222222222222222222222222222222222222222222222
 rules e3b0c44298fc1c149afbf4c8996fb92427ae41e4649b934ca495991b7852b855
 ";
 
-// The lines of a library with an export that takes nothing and gives back an `int`, which may replace itself.
-const LINES: &str = "bind 1 1\npair 15 15 direct\npair 22 22 direct\nend\n";
+// A library with an export that takes nothing and gives back an `int`, which may replace itself; in version 1; and in version 2, by
+// the lines that say what those of version 1 say. A slash ends a line.
+const LINES: &str = "bind 1 1/pair 15 15 direct/pair 22 22 direct/end/";
 
-// The lines of version 2 that say what those of version 1 say.
-const BOTH_WAYS: &str = "bind 1 1
-pair 15 15 direct
-pair 15 15 pointer
-pair 22 22 direct
-pair 22 22 pointer
-end
+const FIRST_LINES: &str = "bind 1 1/pair 15 15/pair 22 22/end/";
+
+const BOTH_WAYS: &str =
+    "bind 1 1/pair 15 15 direct/pair 15 15 pointer/pair 22 22 direct/pair 22 22 pointer/end/";
+
+// Each line: lines behind the first four, each with a slash at its end | the number and the line of the fault, or zeros where there is
+// none.
+const ROWS: &str = "\
+bind 1 1/pair 15 15 direct/pair 22 22 direct/end/|0 0
+end/|0 0
+bind 1 1/alike old 22 15/alike new 22 15/pair 15 15 pointer/end/|0 0
+bind 1 1/pair 22 22 direct/pair 15 15 direct/end/|61 7
+bind 1 1/pair 015 15 direct/pair 22 22 direct/end/|60 6
+bind 1 1/pair 15 15 direct/pair 22 22 direct/|62 8
+bind 1 1/pair 15 15 direct/pair 22 22 direct/end|62 8
+bind 4294967296 1/pair 15 15 direct/end/|60 5
+bind 1 1/bind 1 1/pair 15 15 direct/pair 22 22 direct/end/|61 6
+bind 1 1/pair 15 15 direct/pair 15 15 direct/pair 22 22 direct/end/|61 7
+bind 1 1/pair 15 15 direct/pair 22 22 direct/pair 22 22 direct/end/|61 8
+bind 1 1/pair 15 15 direct/pair 22 22 direct/end/end/|62 9
+bind 1 1/pair 15 15 direct/pair 15 15 pointer/end/|0 0
+bind 1 1/pair 15 15 pointer/pair 15 15 direct/end/|61 7
+bind 1 1/pair 15 15/end/|60 6
+bind 1 1/pair 15 15 both/end/|60 6
+pair 15 15 direct/bind 1 1/end/|61 6
+yes 2/end/|60 5
+bind 1  1/end/|60 5
+bind 1 +1/end/|60 5
+bind 1 1\r/end/|60 5
+pair 18446744073709551615 0 direct/end/|0 0
+pair 18446744073709551616 0 direct/end/|60 5
+|62 5
 ";
 
-// Lines behind the first four, and the number and the line of the fault of the text, or 0 where it has none.
-struct Row<'a> {
-    lines: &'a str,
-    kind: u64,
-    at: u64,
+// The same of texts whose first four lines are changed.
+const HEADS: &str = "\
+|62 1
+yes 2|62 1
+yes 1/|60 1
+yes 2/yes 2/|60 2
+yes 2/old 11/|60 2
+yes 2/old 111111111111111111111111111111111111111111111111111111111111111A/|60 2
+";
+
+// The text of these first lines, and of lines with a slash at the end of each.
+fn text_of(alloc: Global, head: &str, lines: &str) -> Result<String, NoMemory> {
+    let mut text = String::from_str(alloc, head)?;
+    for c in lines.chars() {
+        text.push(if c == '/' { '\n' } else { c })?;
+    }
+    Ok(text)
 }
 
-const ROWS: [Row; 24] = [
-    Row {
-        lines: LINES,
-        kind: 0,
-        at: 0,
-    },
-    Row {
-        lines: "end\n",
-        kind: 0,
-        at: 0,
-    },
-    Row {
-        lines: "bind 1 1\nalike old 22 15\nalike new 22 15\npair 15 15 pointer\nend\n",
-        kind: 0,
-        at: 0,
-    },
-    Row {
-        lines: "bind 1 1\npair 22 22 direct\npair 15 15 direct\nend\n",
-        kind: 61,
-        at: 7,
-    },
-    Row {
-        lines: "bind 1 1\npair 015 15 direct\npair 22 22 direct\nend\n",
-        kind: 60,
-        at: 6,
-    },
-    Row {
-        lines: "bind 1 1\npair 15 15 direct\npair 22 22 direct\n",
-        kind: 62,
-        at: 8,
-    },
-    Row {
-        lines: "bind 1 1\npair 15 15 direct\npair 22 22 direct\nend",
-        kind: 62,
-        at: 8,
-    },
-    Row {
-        lines: "bind 4294967296 1\npair 15 15 direct\nend\n",
-        kind: 60,
-        at: 5,
-    },
-    Row {
-        lines: "bind 1 1\nbind 1 1\npair 15 15 direct\npair 22 22 direct\nend\n",
-        kind: 61,
-        at: 6,
-    },
-    Row {
-        lines: "bind 1 1\npair 15 15 direct\npair 15 15 direct\npair 22 22 direct\nend\n",
-        kind: 61,
-        at: 7,
-    },
-    Row {
-        lines: "bind 1 1\npair 15 15 direct\npair 22 22 direct\npair 22 22 direct\nend\n",
-        kind: 61,
-        at: 8,
-    },
-    Row {
-        lines: "bind 1 1\npair 15 15 direct\npair 22 22 direct\nend\nend\n",
-        kind: 62,
-        at: 9,
-    },
-    Row {
-        lines: "bind 1 1\npair 15 15 direct\npair 15 15 pointer\nend\n",
-        kind: 0,
-        at: 0,
-    },
-    Row {
-        lines: "bind 1 1\npair 15 15 pointer\npair 15 15 direct\nend\n",
-        kind: 61,
-        at: 7,
-    },
-    Row {
-        lines: "bind 1 1\npair 15 15\nend\n",
-        kind: 60,
-        at: 6,
-    },
-    Row {
-        lines: "bind 1 1\npair 15 15 both\nend\n",
-        kind: 60,
-        at: 6,
-    },
-    Row {
-        lines: "pair 15 15 direct\nbind 1 1\nend\n",
-        kind: 61,
-        at: 6,
-    },
-    Row {
-        lines: "yes 2\nend\n",
-        kind: 60,
-        at: 5,
-    },
-    Row {
-        lines: "bind 1  1\nend\n",
-        kind: 60,
-        at: 5,
-    },
-    Row {
-        lines: "bind 1 +1\nend\n",
-        kind: 60,
-        at: 5,
-    },
-    Row {
-        lines: "bind 1 1\r\nend\n",
-        kind: 60,
-        at: 5,
-    },
-    Row {
-        lines: "pair 18446744073709551615 0 direct\nend\n",
-        kind: 0,
-        at: 0,
-    },
-    Row {
-        lines: "pair 18446744073709551616 0 direct\nend\n",
-        kind: 60,
-        at: 5,
-    },
-    Row {
-        lines: "",
-        kind: 62,
-        at: 5,
-    },
-];
-
-// The number and the line of the fault of a text of version 2, or 0 where it has none.
-fn fault_of(rt: &impl Abort, alloc: Global, text: &str) -> (u64, u64) {
-    match read_cert(alloc, text.as_bytes()) {
+// The number and the line of the fault of a text of version 2, or zeros where it has none.
+fn fault_of(alloc: Global, text: &str) -> Result<String, NoMemory> {
+    let (number, at) = match read_cert(alloc, text.as_bytes()) {
         Ok(_) => (0, 0),
         Err(Refusal::Fault(fault)) => (fault.kind.number(), fault.at),
-        Err(Refusal::NoMemory) => {
-            assert!(rt; false, "no memory");
-            (0, 0)
-        }
+        Err(Refusal::NoMemory) => return Err(NoMemory),
+    };
+    Ok(format!(in alloc; "{number} {at}")?)
+}
+
+fn check(rt: &impl Abort, alloc: Global, head: &str, row: &str) -> Result<(), NoMemory> {
+    let (lines, wanted) = row.split_once('|').unwrap_or((row, ""));
+    let text = text_of(alloc, head, lines)?;
+    let told = fault_of(alloc, text.as_str())?;
+    assert_eq!(rt; told.as_str(), wanted, "{row}");
+    Ok(())
+}
+
+fn check_all(rt: &impl Abort, alloc: Global, head: &str, rows: &str) -> Result<u32, NoMemory> {
+    let mut count = 0u32;
+    for row in rows.lines() {
+        check(rt, alloc, head, row)?;
+        count = count.saturating_add(1);
     }
+    Ok(count)
 }
 
 #[test]
 fn the_least_line_decides(rt: HostRuntime) -> Result<(), Fail> {
-    for row in &ROWS {
-        let lines = row.lines;
-        let text = format!(in rt.alloc(); "{HEAD}{lines}")?;
-        assert_eq!(rt;
-            fault_of(&rt, rt.alloc(), text.as_str()),
-            (row.kind, row.at),
-            "{lines}"
-        );
-    }
+    assert_eq!(rt; check_all(&rt, rt.alloc(), HEAD, ROWS)?, 24);
     Ok(())
 }
 
-// A text whose first four lines are changed, and the number and the line of its fault.
-const HEADS: [Row; 6] = [
-    Row {
-        lines: "",
-        kind: 62,
-        at: 1,
-    },
-    Row {
-        lines: "yes 2",
-        kind: 62,
-        at: 1,
-    },
-    Row {
-        lines: "yes 1\n",
-        kind: 60,
-        at: 1,
-    },
-    Row {
-        lines: "yes 2\nyes 2\n",
-        kind: 60,
-        at: 2,
-    },
-    Row {
-        lines: "yes 2\nold 11\n",
-        kind: 60,
-        at: 2,
-    },
-    Row {
-        lines: "yes 2\nold 111111111111111111111111111111111111111111111111111111111111111A\n",
-        kind: 60,
-        at: 2,
-    },
-];
-
 #[test]
-fn the_first_lines_have_their_places(rt: HostRuntime) {
-    for row in &HEADS {
-        let lines = row.lines;
-        assert_eq!(rt;
-            fault_of(&rt, rt.alloc(), lines),
-            (row.kind, row.at),
-            "{lines}"
-        );
+fn the_first_lines_have_their_places(rt: HostRuntime) -> Result<(), Fail> {
+    assert_eq!(rt; check_all(&rt, rt.alloc(), "", HEADS)?, 6);
+    Ok(())
+}
+
+fn read(rt: &impl Abort, alloc: Global, text: &str) -> Cert {
+    match read_cert(alloc, text.as_bytes()) {
+        Ok(cert) => cert,
+        Err(_) => panic!(rt; "a right text is refused"),
     }
 }
 
-#[test]
-fn what_is_written_is_read_back(rt: HostRuntime) -> Result<(), Fail> {
-    let text = format!(in rt.alloc(); "{HEAD}{LINES}")?;
-    let cert = match read_cert(rt.alloc(), text.as_bytes()) {
+fn read_first(rt: &impl Abort, alloc: Global, text: &str) -> Cert1 {
+    match read_cert_1(alloc, text.as_bytes()) {
         Ok(cert) => cert,
-        Err(_) => return Err(Fail::from("a right text is refused")),
-    };
-    assert_eq!(rt; cert.binds.as_slice(), [(1, 1)].as_slice());
-    assert_eq!(rt; cert.pairs.as_slice().len(), 2);
-    let bytes = match write_cert(rt.alloc(), &cert) {
-        Ok(bytes) => bytes,
-        Err(_) => return Err(Fail::from("no memory")),
-    };
+        Err(_) => panic!(rt; "a right text is refused"),
+    }
+}
+
+// What is written of a certificate is this text.
+fn expect_written(rt: &impl Abort, alloc: Global, cert: &Cert, text: &str) -> Result<(), NoMemory> {
+    let bytes = write_cert(alloc, cert)?;
     assert!(rt; bytes.as_slice() == text.as_bytes());
     Ok(())
 }
 
+/// The symbols that are bound, and how many pairs there are.
+pub(crate) fn binds_and_pairs(alloc: Global, cert: &Cert) -> Result<String, NoMemory> {
+    let mut text = String::new(alloc);
+    for bind in cert.binds.as_slice() {
+        let (old, new) = *bind;
+        write!(text, "{old} {new}, ")?;
+    }
+    let pairs = cert.pairs.as_slice().len();
+    write!(text, "{pairs}")?;
+    Ok(text)
+}
+
+fn cert_of(rt: &impl Abort, alloc: Global) -> Result<Cert, NoMemory> {
+    let text = text_of(alloc, HEAD, LINES)?;
+    Ok(read(rt, alloc, text.as_str()))
+}
+
+// What is written of a certificate is the text of these lines.
+fn expect_lines(rt: &impl Abort, alloc: Global, cert: &Cert, lines: &str) -> Result<(), NoMemory> {
+    let text = text_of(alloc, HEAD, lines)?;
+    expect_written(rt, alloc, cert, text.as_str())
+}
+
+fn expect_parts(rt: &impl Abort, alloc: Global, cert: &Cert) -> Result<(), NoMemory> {
+    let told = binds_and_pairs(alloc, cert)?;
+    assert_eq!(rt; told.as_str(), "1 1, 2");
+    Ok(())
+}
+
+#[test]
+fn what_is_written_is_read_back(rt: HostRuntime) -> Result<(), Fail> {
+    let cert = cert_of(&rt, rt.alloc())?;
+    expect_parts(&rt, rt.alloc(), &cert)?;
+    expect_lines(&rt, rt.alloc(), &cert, LINES)?;
+    Ok(())
+}
+
+#[test]
+fn version_1_is_not_version_2(rt: HostRuntime) -> Result<(), Fail> {
+    let row = "bind 1 1/pair 15 15/pair 22 22/end/|60 1";
+    check(&rt, rt.alloc(), FIRST_HEAD, row)?;
+    Ok(())
+}
+
+fn first_cert(rt: &impl Abort, alloc: Global) -> Result<Cert1, NoMemory> {
+    let text = text_of(alloc, FIRST_HEAD, FIRST_LINES)?;
+    Ok(read_first(rt, alloc, text.as_str()))
+}
+
+fn first_pairs(alloc: Global, cert: &Cert1) -> Result<String, NoMemory> {
+    let mut text = String::new(alloc);
+    for pair in cert.pairs.as_slice() {
+        let (old, new) = *pair;
+        write!(text, "{old} {new}, ")?;
+    }
+    Ok(text)
+}
+
+fn expect_first_pairs(rt: &impl Abort, alloc: Global, wanted: &str) -> Result<(), NoMemory> {
+    let cert = first_cert(rt, alloc)?;
+    let told = first_pairs(alloc, &cert)?;
+    assert_eq!(rt; told.as_str(), wanted);
+    Ok(())
+}
+
+#[test]
+fn version_1_is_read(rt: HostRuntime) -> Result<(), Fail> {
+    expect_first_pairs(&rt, rt.alloc(), "15 15, 22 22, ")?;
+    Ok(())
+}
+
+fn migrated(rt: &impl Abort, alloc: Global) -> Result<Cert, NoMemory> {
+    let first = first_cert(rt, alloc)?;
+    migrate(alloc, &first)
+}
+
 #[test]
 fn version_1_is_migrated(rt: HostRuntime) -> Result<(), Fail> {
-    let text = format!(in rt.alloc(); "{FIRST_HEAD}bind 1 1\npair 15 15\npair 22 22\nend\n")?;
-    assert_eq!(rt; fault_of(&rt, rt.alloc(), text.as_str()), (60, 1));
-    let first = match read_cert_1(rt.alloc(), text.as_bytes()) {
-        Ok(cert) => cert,
-        Err(_) => return Err(Fail::from("a right text is refused")),
-    };
-    assert_eq!(rt; first.pairs.as_slice(), [(15, 15), (22, 22)].as_slice());
-    let cert = match migrate(rt.alloc(), &first) {
-        Ok(cert) => cert,
-        Err(_) => return Err(Fail::from("no memory")),
-    };
-    let bytes = match write_cert(rt.alloc(), &cert) {
-        Ok(bytes) => bytes,
-        Err(_) => return Err(Fail::from("no memory")),
-    };
-    let wanted = format!(in rt.alloc(); "{HEAD}{BOTH_WAYS}")?;
-    assert!(rt; bytes.as_slice() == wanted.as_bytes());
+    let cert = migrated(&rt, rt.alloc())?;
+    expect_lines(&rt, rt.alloc(), &cert, BOTH_WAYS)?;
     Ok(())
 }

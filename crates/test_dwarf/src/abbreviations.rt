@@ -15,7 +15,7 @@ const SCATTERED: &[u8] = &[
     0xff, 0xff, 0xff, 0xff, 0xff, 0xff, 0xff, 0xff, 0x01, 0x2e, 0x00, 0x00, 0x00, 0x00,
 ];
 
-// A pair of attribute 0x3a, DW_AT_decl_file, and form 0x21, DW_FORM_implicit_const, whose value, -2, stands behind its form.
+// A pair of attribute 0x3a, DW_AT_decl_file, and form 0x21, DW_FORM_implicit_const, whose value, -2, follows its form.
 const IMPLICIT: &[u8] = &[0x01, 0x34, 0x00, 0x3a, 0x21, 0x7e, 0x00, 0x00, 0x00];
 
 #[test]
@@ -66,9 +66,9 @@ fn faults_are_at_their_abbreviation(rt: HostRuntime) -> Result<(), Fail> {
     for (place, byte, at, fault) in [
         // A byte for children that is neither 0 nor 1.
         (2, 0x02, 0, 0),
-        // A code that stood before.
+        // A code that an earlier abbreviation has.
         (18, 0x02, 0, 18),
-        // One 0 of a pair alone.
+        // Only one 0 of a pair.
         (13, 0x00, 7, 7),
         // No end.
         (29, 0x80, 0, 29),

@@ -58,15 +58,15 @@ const CIRCLE: &[u8] =
 const STRUCTURE: &[u8] =
     b"\x15\x00\x00\x00\x05\x00\x01\x08\x00\x00\x00\x00\x01\x0c\x00\x07\x11\x22\x33\x44\x55\x66\x77\x88\x00";
 
-// A function at 15 whose name lies outside.
+// A function at 15 whose name is outside its section.
 const NAMELESS: &[u8] =
     b"\x11\x00\x00\x00\x05\x00\x01\x08\x00\x00\x00\x00\x01\x0c\x00\x08\x00\x00\x00\x00\x00";
 
-// A function at 15 whose ranges lie outside.
+// A function at 15 whose ranges are outside their section.
 const RANGELESS: &[u8] =
     b"\x11\x00\x00\x00\x05\x00\x01\x08\x00\x00\x00\x00\x01\x0c\x00\x09\x00\x00\x00\x00\x00";
 
-// The bytes, or none where they are more than an input may have.
+// The bytes, or none where they are longer than the limit of an input.
 fn within_limit(bytes: &[u8]) -> &[u8]
     ensures { length result.now ≤ input_limit }
 {
@@ -242,7 +242,7 @@ fn entries_stand_for_addresses_and_signatures(rt: HostRuntime) -> Result<(), Fai
     Ok(())
 }
 
-// A function takes its name from the one that it stands for, and no address.
+// A function inherits the name of its origin, and not the address.
 #[test]
 fn a_name_is_taken_along_the_chain_and_an_address_is_not(rt: HostRuntime) -> Result<(), Fail> {
     match tree(rt.alloc(), sections(CHAIN_ABBREVS, CHAIN)) {
@@ -259,7 +259,7 @@ fn a_name_is_taken_along_the_chain_and_an_address_is_not(rt: HostRuntime) -> Res
     Ok(())
 }
 
-// The functions below the root stand at 15, 18, 21, 37, 46 and 57, and the lexical block between them.
+// The functions below the root are at 15, 18, 21, 37, 46 and 57, and the lexical block between them.
 #[test]
 fn children_of_a_tag_are_listed(rt: HostRuntime) -> Result<(), Fail> {
     match tree(rt.alloc(), sections(CHAIN_ABBREVS, CHAIN)) {

@@ -1,4 +1,5 @@
 use abi_base::{Fault, FaultKind};
+use dwarf_forms::abbreviations::Spec;
 use dwarf_forms::*;
 use std::test::*;
 
@@ -9,7 +10,7 @@ fn fault(kind: FaultKind) -> Result<(Value, usize), Fault> {
     Err(Fault { kind, at: ENTRY })
 }
 
-// A form, the start of its unit, the bytes up to the end of the unit, and what the form spells at the first of them.
+// A form, the start of its unit, the bytes up to the end of the unit, and the value that the form encodes at the first of them.
 #[derive(Drop)]
 struct Row<'a> {
     form: u64,
@@ -76,15 +77,16 @@ fn each_form_spells_its_value(rt: HostRuntime) {
         spelled(0x28, 0, &[1, 2, 3, 4], Ok((Value::StrIndex(0x4030201), 4))),
     ];
     for row in &rows {
-        let found = value(
-            row.form,
-            0,
-            row.unit_start,
-            row.bytes.len() as u64,
-            ENTRY,
-            row.bytes,
-            0,
-        );
+        let unit = UnitSpan {
+            start: row.unit_start,
+            end: row.bytes.len() as u64,
+        };
+        let spec = Spec {
+            attribute: 0,
+            form: row.form,
+            implicit: 0,
+        };
+        let found = value(row.bytes, unit, ENTRY, spec, 0);
         assert_eq!(rt; found, row.want, "form {}", row.form);
     }
 }

@@ -1,4 +1,4 @@
-//! What no clause of the readers of DWARF says: worked values from outside, and each call once. All of it is tests.
+//! Tests of what no clause of the readers of DWARF says: worked values from outside, and each call once.
 #![tactic(auto)]
 
 #[cfg(test)]

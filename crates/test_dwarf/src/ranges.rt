@@ -7,7 +7,7 @@ use dwarf_text::Bases;
 use dwarf_text::ranges::*;
 use std::test::*;
 
-// Where the debug entry begins that has the lists.
+// Where the debugging information entry with the lists begins.
 const ENTRY: u64 = 50;
 
 const LOW: u64 = 0x2000;
@@ -49,7 +49,7 @@ fn fault(kind: FaultKind) -> Result<Option<u64>, Fault> {
     Err(Fault { kind, at: ENTRY })
 }
 
-// Where a list stands, what its section holds, and where its first range begins.
+// The place of a list, the bytes of its section, and where its first range begins.
 #[derive(Drop)]
 struct Row<'a> {
     list: ListAt,

@@ -21,7 +21,7 @@ const INFO: &[u8] = b"\x20\x00\x00\x00\x05\x00\x01\x08\x00\x00\x00\x00\x01\x0c\
 \x1b\x00\x00\x00\x05\x00\x02\x08\x00\x00\x00\x00\x11\x22\x33\x44\x55\x66\x77\x88\x19\x00\x00\x00\
 \x05\x04\x01c\x00\x01\x00";
 
-// How many entries, each with as many attributes, a made file has. Kept values would take this number squared.
+// The number of entries of a made file, each with as many attributes. Stored values would take this number squared.
 const MANY: usize = 400;
 
 // Sections of these bytes.

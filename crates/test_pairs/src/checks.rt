@@ -1,13 +1,13 @@
 // The rules on pairs of small types, by their words.
 ghost use Rattle.std.specs.Prelude.{◌≡◌, ◌<◌, ◌+◌, OnOk};
 
+use crate::words::{cut, expect, number, push_number, push_space};
 use abi_base::{List, NoMemory};
 use abi_types::{
     Call, CallShape, Group, Index, Kind, NewIx, OldIx, Part, Parts, Place, Slot, View, Way,
 };
 use pair_rules::{Broken, Comparison, Steps, after, breaks, holds, next_of, partner, partner_at};
 use std::alloc::Global;
-use std::fmt::Write;
 use std::marker::Brand;
 use std::process::Abort;
 use std::sync::ledger::{Blank, Ledger};
@@ -56,10 +56,6 @@ a place without a parameter|function result param:rdi|function result place:rsi|
 rules in order, then parts|structure size:12 member:x@0 member:y@32 member:z@64|structure size:16 member:z@32+8 member:x@64|L2.0 L6.1 L7.0 L7.2 L8.2|0-1 2-0
 ";
 
-fn number(text: &str) -> u64 {
-    text.parse().unwrap_or(0)
-}
-
 fn register(number: u8) -> Place {
     let mut eightbytes = [Slot::Unused; 8];
     eightbytes[0] = Slot::General(number);
@@ -100,8 +96,8 @@ fn kind(word: &str) -> Option<Kind> {
 }
 
 fn member<'a, Ix: Index>(text: &'a str) -> Part<'a, Ix> {
-    let (name, place) = text.split_once('@').unwrap_or((text, ""));
-    let (bit, width) = place.split_once('+').unwrap_or((place, ""));
+    let (name, place) = cut(text, '@');
+    let (bit, width) = cut(place, '+');
     Part::Member {
         name: name.as_bytes(),
         bit: number(bit),
@@ -111,7 +107,7 @@ fn member<'a, Ix: Index>(text: &'a str) -> Part<'a, Ix> {
 }
 
 fn enumerator<'a, Ix: Index>(text: &'a str) -> Part<'a, Ix> {
-    let (name, value) = text.split_once('=').unwrap_or((text, ""));
+    let (name, value) = cut(text, '=');
     Part::Enumerator {
         name: name.as_bytes(),
         value: number(value),
@@ -170,7 +166,7 @@ fn sketch_of(cell: &str) -> Sketch<'_> {
         variadic: false,
     };
     for word in cell.split_whitespace() {
-        let (key, text) = word.split_once(':').unwrap_or((word, ""));
+        let (key, text) = cut(word, ':');
         if let Some(kind) = kind(key) {
             sketch.kind = kind;
         }
@@ -182,7 +178,7 @@ fn sketch_of(cell: &str) -> Sketch<'_> {
 fn parts<'a, Ix: Index>(alloc: Global, cell: &'a str) -> Result<Parts<'a, Ix>, NoMemory> {
     let mut parts = Vec::new(alloc);
     for word in cell.split_whitespace() {
-        let (key, text) = word.split_once(':').unwrap_or((word, ""));
+        let (key, text) = cut(word, ':');
         if let Some(part) = part(key, text) {
             parts.push(part)?;
         }
@@ -194,7 +190,7 @@ fn call(alloc: Global, cell: &str) -> Result<Call, NoMemory> {
     let mut outcome = Place::Nothing;
     let mut params = List::new(alloc);
     for word in cell.split_whitespace() {
-        let (key, text) = word.split_once(':').unwrap_or((word, ""));
+        let (key, text) = cut(word, ':');
         if let Some(place) = place(text) {
             if key == "result" {
                 outcome = place;
@@ -208,6 +204,8 @@ fn call(alloc: Global, cell: &str) -> Result<Call, NoMemory> {
 
 fn view<'a, Ix: Index>(alloc: Global, cell: &'a str) -> Result<View<'a, Ix>, NoMemory> {
     let sketch = sketch_of(cell);
+    let parts = parts(alloc, cell)?;
+    let call = call(alloc, cell)?;
     Ok(View {
         kind: sketch.kind,
         declared_only: sketch.declared_only,
@@ -217,8 +215,8 @@ fn view<'a, Ix: Index>(alloc: Global, cell: &'a str) -> Result<View<'a, Ix>, NoM
         align: sketch.align,
         count: sketch.count,
         variadic: sketch.variadic,
-        parts: parts(alloc, cell)?,
-        call: call(alloc, cell)?,
+        parts,
+        call,
     })
 }
 
@@ -235,6 +233,21 @@ fn broken_twice<L: Ledger>(
     breaks(alloc, old, new, steps)
 }
 
+fn push_broken(text: &mut String, broken: &Broken) -> Result<(), NoMemory> {
+    push_space(text)?;
+    text.push_str(broken.rule.word())?;
+    text.push('.')?;
+    push_number(text, broken.part)
+}
+
+fn text_of(alloc: Global, rules: &[Broken]) -> Result<String, NoMemory> {
+    let mut text = String::new(alloc);
+    for broken in rules {
+        push_broken(&mut text, broken)?;
+    }
+    Ok(text)
+}
+
 // The broken rules as a text.
 fn broken_by<L: Ledger>(
     alloc: Global,
@@ -247,21 +260,15 @@ fn broken_by<L: Ledger>(
     requires some { 0 < blank.parts }
 {
     let mut steps = Steps::<L>::new(blank);
-    let mut text = String::new(alloc);
-    for broken in broken_twice(alloc, old, new, &mut steps)?.as_slice() {
-        let space = if text.is_empty() { "" } else { " " };
-        let rule = broken.rule.word();
-        let part = broken.part;
-        write!(text, "{space}{rule}.{part}")?;
-    }
-    Ok(text)
+    let broken = broken_twice(alloc, old, new, &mut steps)?;
+    text_of(alloc, broken.as_slice())
 }
 
 fn push_pair(text: &mut String, pair: (usize, usize)) -> Result<(), NoMemory> {
-    let space = if text.is_empty() { "" } else { " " };
-    let (old, new) = pair;
-    write!(text, "{space}{old}-{new}")?;
-    Ok(())
+    push_space(text)?;
+    push_number(text, pair.0)?;
+    text.push('-')?;
+    push_number(text, pair.1)
 }
 
 // All partners as a text, by their numbers.
@@ -294,12 +301,6 @@ fn partners_by_position(
     Ok(text)
 }
 
-fn push_position(text: &mut String, position: &str) -> Result<(), NoMemory> {
-    let space = if text.is_empty() { "" } else { " " };
-    write!(text, "{space}{position}")?;
-    Ok(())
-}
-
 // The old positions that lead on.
 fn leading<L: Ledger>(
     alloc: Global,
@@ -317,8 +318,8 @@ fn leading<L: Ledger>(
     let mut text = String::new(alloc);
     for i in 0..old.parts_len() {
         if next_of(old, new, matches, Way::Direct, i).is_some() {
-            let position = format!(in alloc; "{i}")?;
-            push_position(&mut text, position.as_str())?;
+            push_space(&mut text)?;
+            push_number(&mut text, i)?;
         }
     }
     Ok(text)
@@ -328,9 +329,8 @@ fn leading<L: Ledger>(
 fn old_positions(alloc: Global, partners: &str) -> Result<String, NoMemory> {
     let mut text = String::new(alloc);
     for pair in partners.split(' ') {
-        if let Some((old, _)) = pair.split_once('-') {
-            push_position(&mut text, old)?;
-        }
+        push_space(&mut text)?;
+        text.push_str(cut(pair, '-').0)?;
     }
     Ok(text)
 }
@@ -346,18 +346,17 @@ struct Row<'a> {
 }
 
 fn row_of(line: &str) -> Row<'_> {
-    let mut cells = line.split('|');
+    let (what, line) = cut(line, '|');
+    let (old, line) = cut(line, '|');
+    let (new, line) = cut(line, '|');
+    let (broken, partners) = cut(line, '|');
     Row {
-        what: cells.next().unwrap_or(""),
-        old: cells.next().unwrap_or(""),
-        new: cells.next().unwrap_or(""),
-        broken: cells.next().unwrap_or(""),
-        partners: cells.next().unwrap_or(""),
+        what,
+        old,
+        new,
+        broken,
+        partners,
     }
-}
-
-fn expect(rt: &impl Abort, what: &str, told: &str, wanted: &str) {
-    assert_eq!(rt; told, wanted, "{what}");
 }
 
 fn check_rules(
@@ -375,6 +374,19 @@ fn check_rules(
     Ok(())
 }
 
+fn check_leading(
+    rt: &impl Abort,
+    alloc: Global,
+    row: &Row,
+    old: &View<OldIx>,
+    new: &View<NewIx>,
+) -> Result<(), NoMemory> {
+    let told = leading::<Brand>(alloc, Blank::new(1), old, new)?;
+    let wanted = old_positions(alloc, row.partners)?;
+    expect(rt, row.what, told.as_str(), wanted.as_str());
+    Ok(())
+}
+
 fn check_partners(
     rt: &impl Abort,
     alloc: Global,
@@ -386,18 +398,36 @@ fn check_partners(
     expect(rt, row.what, told.as_str(), row.partners);
     let told = partners_by_position(alloc, old, new)?;
     expect(rt, row.what, told.as_str(), row.partners);
-    let told = leading::<Brand>(alloc, Blank::new(1), old, new)?;
-    let wanted = old_positions(alloc, row.partners)?;
-    expect(rt, row.what, told.as_str(), wanted.as_str());
     Ok(())
+}
+
+fn check_views(
+    rt: &impl Abort,
+    alloc: Global,
+    row: &Row,
+    old: &View<OldIx>,
+    new: &View<NewIx>,
+) -> Result<(), NoMemory> {
+    check_rules(rt, alloc, row, old, new)?;
+    check_partners(rt, alloc, row, old, new)?;
+    check_leading(rt, alloc, row, old, new)
+}
+
+// The same, where the new type is still to be made.
+fn check_beside(
+    rt: &impl Abort,
+    alloc: Global,
+    row: &Row,
+    old: &View<OldIx>,
+) -> Result<(), NoMemory> {
+    let new = view::<NewIx>(alloc, row.new)?;
+    check_views(rt, alloc, row, old, &new)
 }
 
 fn check(rt: &impl Abort, alloc: Global, line: &str) -> Result<(), NoMemory> {
     let row = row_of(line);
     let old = view::<OldIx>(alloc, row.old)?;
-    let new = view::<NewIx>(alloc, row.new)?;
-    check_rules(rt, alloc, &row, &old, &new)?;
-    check_partners(rt, alloc, &row, &old, &new)
+    check_beside(rt, alloc, &row, &old)
 }
 
 // Checks each row, and counts them.
@@ -416,20 +446,37 @@ fn types_break_these_rules(rt: HostRuntime) -> Result<(), Fail> {
     Ok(())
 }
 
-#[test]
-fn parts_lead_by_these_ways(rt: HostRuntime) -> Result<(), Fail> {
-    let rows = [
-        ("target", Way::Pointer, Way::Pointer),
-        ("result", Way::Direct, Way::Direct),
-        ("param", Way::Direct, Way::Direct),
-        ("element", Way::Direct, Way::Pointer),
-        ("member", Way::Direct, Way::Pointer),
-    ];
-    for (word, from_value, from_pointer) in rows {
-        if let Some(item) = part::<OldIx>(word, "") {
-            assert_eq!(rt; after(Way::Direct, &item), from_value, "{word}");
-            assert_eq!(rt; after(Way::Pointer, &item), from_pointer, "{word}");
+// Each line: a part | the way behind it from a value | and from behind a pointer.
+const WAYS: &str = "\
+target|pointer|pointer
+result|direct|direct
+param|direct|direct
+element|direct|pointer
+member|direct|pointer
+";
+
+fn word_of(way: Way) -> &'static str {
+    match way {
+        Way::Direct => "direct",
+        Way::Pointer => "pointer",
+    }
+}
+
+fn check_ways(rt: &impl Abort, line: &str) {
+    let (word, line) = cut(line, '|');
+    let (from_value, from_pointer) = cut(line, '|');
+    match part::<OldIx>(word, "") {
+        None => panic!(rt; "{word}"),
+        Some(item) => {
+            expect(rt, word, word_of(after(Way::Direct, &item)), from_value);
+            expect(rt, word, word_of(after(Way::Pointer, &item)), from_pointer);
         }
     }
-    Ok(())
+}
+
+#[test]
+fn parts_lead_by_these_ways(rt: HostRuntime) {
+    for line in WAYS.lines() {
+        check_ways(&rt, line);
+    }
 }

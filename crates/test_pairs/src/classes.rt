@@ -1,252 +1,250 @@
 // Classes of small graphs, by hand.
+ghost use Rattle.std.specs.Prelude.{◌≡◌};
 ghost use Rattle.type_classes.specs.Classes.{AreCoarsest};
 
+use crate::words::{cut, expect, number, push_number, push_space};
 use abi_base::{List, NoMemory};
-use abi_types::{
-    Call, Graph, Group, Index, Kind, Label, LabelKind, NewIx, Node, OldIx, Part, Parts, View,
-};
+use abi_types::{Graph, Index, Kind, Label, LabelKind, NewIx, Node, OldIx, Part};
 use std::alloc::Global;
 use std::process::Abort;
 use std::test::Fail;
-use test_graphs::is_graph;
+use test_graphs::{graph, member, view};
 use type_classes::{Classes, alike, alike_beside, plain};
 
-// A node whose view has these fields, and nothing in the others.
-fn node_of<'a, Ix: Index>(
+// Each line: what the graph is | its types | the number of the type that stands for each of them.
+// A type is its entry, a word and numbers of types: a pointer to a type, or a structure of the tag `a`, which is linked, so that its
+// members `n` and `v` are of two types, or defined or declared without members. An `int` may have the name of a typedef of it.
+const ROWS: &str = "\
+rings of any length|0 void;5 int;20 linked 5 1;25 pointer 2;40 linked 3 1;45 pointer 4;60 linked 9 1;65 pointer 6;80 linked 11 1;85 pointer 8;100 linked 7 1;105 pointer 10|0 1 2 3 2 3 2 3 2 3 2 3
+a ring whose last structure has no int|0 void;5 int;20 linked 5 1;25 pointer 2;40 linked 3 1;45 pointer 4;60 linked 9 1;65 pointer 6;80 linked 11 1;85 pointer 8;100 linked 7 0;105 pointer 10|0 1 2 3 2 3 6 7 8 9 10 11
+three units, the last of which has a typedef|0 void;5 int;20 linked 3 1;25 pointer 2;41 int;50 linked 6 4;55 pointer 5;71 int number;80 linked 9 7;85 pointer 8|0 1 2 3 1 2 3 7 8 9
+declared and defined structures of one tag|0 void;5 int;20 declared;30 defined;10 declared|0 1 4 3 4
+";
+
+// Each line: the types of an old graph | those of a new one | the number of the type that stands for each new one.
+const PAIRS: &str = "\
+0 void;5 int;20 linked 5 1;25 pointer 2;40 linked 3 1;45 pointer 4|0 void;5 int;20 linked 5 1;25 pointer 2;40 linked 3 1;45 pointer 4|0 1 2 3 2 3
+0 void;5 int;20 linked 5 1;25 pointer 2;40 linked 3 1;45 pointer 4|0 void;5 int;20 linked 5 1;25 pointer 2;40 linked 3 0;45 pointer 4|0 1 2 3 4 5
+";
+
+fn kind(word: &str) -> Kind {
+    match word {
+        "void" => Kind::Void,
+        "int" => Kind::Scalar,
+        "pointer" => Kind::Pointer,
+        _ => Kind::Structure,
+    }
+}
+
+fn size(word: &str) -> u64 {
+    match word {
+        "int" => 4,
+        "pointer" => 8,
+        "linked" | "defined" => 16,
+        _ => 0,
+    }
+}
+
+// A structure holds others by value.
+fn rank(kind: Kind) -> u32 {
+    match kind {
+        Kind::Pointer => 1,
+        Kind::Structure => 2,
+        _ => 0,
+    }
+}
+
+fn index<Ix: Index>(word: &str) -> Ix {
+    Ix::of(number(word) as usize)
+}
+
+fn parts<'a, Ix: Index>(
     alloc: Global,
-    entry: u64,
-    rank: u32,
-    kind: Kind,
-    size: u64,
-    tag: &'a [u8],
-    parts: Vec<Part<'a, Ix>>,
-) -> Result<Node<'a, Ix>, NoMemory> {
+    word: &str,
+    numbers: &str,
+) -> Result<Vec<Part<'a, Ix>>, NoMemory> {
+    let (first, second) = cut(numbers, ' ');
+    let mut parts = Vec::new(alloc);
+    match word {
+        "pointer" => parts.push(Part::Target { to: index(first) })?,
+        "linked" => {
+            parts.push(member(b"n", 0, number(first) as usize))?;
+            parts.push(member(b"v", 64, number(second) as usize))?;
+        }
+        _ => (),
+    }
+    Ok(parts)
+}
+
+fn labels<'a>(alloc: Global, kind: Kind, name: &'a str) -> Result<List<Label<'a>>, NoMemory> {
+    let mut labels = List::new(alloc);
+    if kind == Kind::Scalar {
+        labels.push(Label {
+            kind: LabelKind::Builtin,
+            name: b"int",
+        })?;
+        if !name.is_empty() {
+            labels.push(Label {
+                kind: LabelKind::Typedef,
+                name: name.as_bytes(),
+            })?;
+        }
+    }
+    Ok(labels)
+}
+
+fn tag(kind: Kind) -> &'static [u8] {
+    match kind {
+        Kind::Structure => b"a",
+        _ => &[],
+    }
+}
+
+fn type_of<'a, Ix: Index>(alloc: Global, text: &'a str) -> Result<Node<'a, Ix>, NoMemory> {
+    let (entry, text) = cut(text, ' ');
+    let (word, rest) = cut(text, ' ');
+    let kind = kind(word);
+    let mut view = view(alloc, kind, size(word), parts(alloc, word, rest)?)?;
+    view.declared_only = word == "declared";
+    view.tag = tag(kind);
     Ok(Node {
-        entry,
-        rank,
-        view: View {
-            kind,
-            declared_only: false,
-            tag,
-            size,
-            group: Group::Bool,
-            align: 0,
-            count: 0,
-            variadic: false,
-            parts: Parts::of(alloc, parts)?,
-            call: Call::none(),
-        },
-        labels: List::new(alloc),
+        entry: number(entry),
+        rank: rank(kind),
+        view,
+        labels: labels(alloc, kind, rest)?,
     })
 }
 
-fn void<'a, Ix: Index>(alloc: Global) -> Result<Node<'a, Ix>, NoMemory> {
-    node_of(alloc, 0, 0, Kind::Void, 0, &[], Vec::new(alloc))
-}
-
-fn scalar<'a, Ix: Index>(
-    alloc: Global,
-    entry: u64,
-    size: u64,
-    name: &'a [u8],
-) -> Result<Node<'a, Ix>, NoMemory> {
-    let mut node = node_of(alloc, entry, 0, Kind::Scalar, size, &[], Vec::new(alloc))?;
-    node.labels.push(Label {
-        kind: LabelKind::Builtin,
-        name,
-    })?;
-    Ok(node)
-}
-
-fn pointer<'a, Ix: Index>(alloc: Global, entry: u64, to: usize) -> Result<Node<'a, Ix>, NoMemory> {
-    let mut parts = Vec::new(alloc);
-    parts.push(Part::Target { to: Ix::of(to) })?;
-    node_of(alloc, entry, 1, Kind::Pointer, 8, &[], parts)
-}
-
-// A structure of the tag `a` with members `n` and `v`.
-fn linked<'a, Ix: Index>(
-    alloc: Global,
-    entry: u64,
-    next: usize,
-    value: usize,
-) -> Result<Node<'a, Ix>, NoMemory> {
-    let mut parts = Vec::new(alloc);
-    parts.push(Part::Member {
-        name: b"n",
-        bit: 0,
-        width: 0,
-        to: Ix::of(next),
-    })?;
-    parts.push(Part::Member {
-        name: b"v",
-        bit: 64,
-        width: 0,
-        to: Ix::of(value),
-    })?;
-    node_of(alloc, entry, 2, Kind::Structure, 16, b"a", parts)
-}
-
-// A row of a table: what is asserted of a graph is the node that stands for each node.
-fn assert_reps(
+fn graph_of<'a, Ix: Index>(
     rt: &impl Abort,
     alloc: Global,
-    nodes: List<Node<OldIx>>,
-    reps: &[usize],
-) -> Result<(), Fail> {
-    let is_made = is_graph(alloc, nodes.as_slice())?;
-    assert!(rt; is_made);
-    let graph = Graph::of_nodes(alloc, nodes)?;
-    assert_eq!(rt; graph.len(), reps.len());
-    let classes = alike(alloc, &graph)?;
-    let alone = plain(alloc, &graph)?;
+    types: &'a str,
+) -> Result<Graph<'a, Ix>, NoMemory> {
+    let mut nodes = List::new(alloc);
+    for text in types.split(';') {
+        nodes.push(type_of(alloc, text)?)?;
+    }
+    match graph(alloc, nodes)? {
+        Some(graph) => Ok(graph),
+        None => panic!(rt; "{types}"),
+    }
+}
+
+// For each type the number of the one that stands for it.
+fn reps_of<Ix: Index>(
+    alloc: Global,
+    graph: &Graph<Ix>,
+    classes: &Classes<Ix>,
+) -> Result<String, NoMemory>
+    requires { classes.now.nodes ≡ graph.now }
+{
+    let mut text = String::new(alloc);
     for i in 0..graph.len() {
-        assert_eq!(rt; classes.rep(OldIx::of(i)).number(), reps[i], "node {i}");
-        assert_eq!(rt; alone.rep(OldIx::of(i)).number(), i);
+        push_space(&mut text)?;
+        push_number(&mut text, classes.rep(Ix::of(i)).number())?;
+    }
+    Ok(text)
+}
+
+fn stand_alone<Ix: Index>(graph: &Graph<Ix>, classes: &Classes<Ix>) -> bool
+    requires { classes.now.nodes ≡ graph.now }
+{
+    for i in 0..graph.len() {
+        if classes.rep(Ix::of(i)).number() != i {
+            return false;
+        }
+    }
+    true
+}
+
+// For each type of a graph the number of the one that is alike and stands for it.
+fn alike_reps<Ix: Index>(alloc: Global, graph: &Graph<Ix>) -> Result<String, NoMemory> {
+    let classes = alike(alloc, graph)?;
+    reps_of(alloc, graph, &classes)
+}
+
+fn check_plain(rt: &impl Abort, alloc: Global, graph: &Graph<OldIx>) -> Result<(), NoMemory> {
+    let alone = plain(alloc, graph)?;
+    assert!(rt; stand_alone(graph, &alone));
+    Ok(())
+}
+
+fn check_alike<Ix: Index>(
+    rt: &impl Abort,
+    alloc: Global,
+    graph: &Graph<Ix>,
+    what: &str,
+    wanted: &str,
+) -> Result<(), NoMemory> {
+    let reps = alike_reps(alloc, graph)?;
+    expect(rt, what, reps.as_str(), wanted);
+    Ok(())
+}
+
+fn check(rt: &impl Abort, alloc: Global, line: &str) -> Result<(), NoMemory> {
+    let (what, line) = cut(line, '|');
+    let (types, wanted) = cut(line, '|');
+    let graph = graph_of::<OldIx>(rt, alloc, types)?;
+    check_plain(rt, alloc, &graph)?;
+    check_alike(rt, alloc, &graph, what, wanted)
+}
+
+#[test]
+fn types_are_alike_to_these(rt: HostRuntime) -> Result<(), Fail> {
+    for line in ROWS.lines() {
+        check(&rt, rt.alloc(), line)?;
     }
     Ok(())
 }
 
-// The nodes of a graph: void and an int, and what is pushed after them.
-fn start<'a, Ix: Index>(alloc: Global) -> Result<List<Node<'a, Ix>>, NoMemory> {
-    let mut nodes = List::new(alloc);
-    let void = void::<Ix>(alloc)?;
-    nodes.push(void)?;
-    let int = scalar(alloc, 5, 4, b"int")?;
-    nodes.push(int)?;
-    Ok(nodes)
-}
-
-// A structure at the number `at` of a list and a pointer to it after it. The structure's member `n` is the pointer `next`.
-fn push_link<'a, Ix: Index>(
+// For each type of a graph the number of the one that is alike beside known classes and stands for it.
+fn beside_reps(
     alloc: Global,
-    nodes: &mut List<Node<'a, Ix>>,
-    at: usize,
-    next: usize,
-    value: usize,
-) -> Result<(), NoMemory> {
-    let entry = (at as u64).saturating_mul(10);
-    let structure = linked(alloc, entry, next, value)?;
-    nodes.push(structure)?;
-    let pointer = pointer(alloc, entry.saturating_add(5), at)?;
-    nodes.push(pointer)
-}
-
-#[test]
-fn rings_of_any_length_are_one(rt: HostRuntime) -> Result<(), Fail> {
-    let alloc = rt.alloc();
-    let mut nodes = start::<OldIx>(alloc)?;
-    for (at, next) in [(2, 5), (4, 3), (6, 9), (8, 11), (10, 7)] {
-        push_link(alloc, &mut nodes, at, next, 1)?;
-    }
-    assert_reps(
-        &rt,
-        alloc,
-        nodes,
-        [0, 1, 2, 3, 2, 3, 2, 3, 2, 3, 2, 3].as_slice(),
-    )
-}
-
-// The last structure of the ring of three has no int.
-#[test]
-fn a_ring_with_another_member_is_told_apart(rt: HostRuntime) -> Result<(), Fail> {
-    let alloc = rt.alloc();
-    let mut nodes = start::<OldIx>(alloc)?;
-    for (at, next, value) in [(2, 5, 1), (4, 3, 1), (6, 9, 1), (8, 11, 1), (10, 7, 0)] {
-        push_link(alloc, &mut nodes, at, next, value)?;
-    }
-    assert_reps(
-        &rt,
-        alloc,
-        nodes,
-        [0, 1, 2, 3, 2, 3, 6, 7, 8, 9, 10, 11].as_slice(),
-    )
-}
-
-// Three units hold the same ring and int, and the last one has a typedef of the int between.
-#[test]
-fn units_share_classes_but_for_typedefs(rt: HostRuntime) -> Result<(), Fail> {
-    let alloc = rt.alloc();
-    let mut nodes = start::<OldIx>(alloc)?;
-    push_link(alloc, &mut nodes, 2, 3, 1)?;
-    let int = scalar(alloc, 41, 4, b"int")?;
-    nodes.push(int)?;
-    push_link(alloc, &mut nodes, 5, 6, 4)?;
-    let mut named = scalar(alloc, 71, 4, b"int")?;
-    named.labels.push(Label {
-        kind: LabelKind::Typedef,
-        name: b"number",
-    })?;
-    nodes.push(named)?;
-    push_link(alloc, &mut nodes, 8, 9, 7)?;
-    assert_reps(&rt, alloc, nodes, [0, 1, 2, 3, 1, 2, 3, 7, 8, 9].as_slice())
-}
-
-// A declared structure, a defined one of its tag, and another declared one.
-#[test]
-fn declared_and_defined_structures_differ(rt: HostRuntime) -> Result<(), Fail> {
-    let alloc = rt.alloc();
-    let mut nodes = start::<OldIx>(alloc)?;
-    for (entry, size, declared_only) in [(20, 0, true), (30, 16, false), (10, 0, true)] {
-        let mut node = node_of(
-            alloc,
-            entry,
-            1,
-            Kind::Structure,
-            size,
-            b"a",
-            Vec::new(alloc),
-        )?;
-        node.view.declared_only = declared_only;
-        nodes.push(node)?;
-    }
-    assert_reps(&rt, alloc, nodes, [0, 1, 4, 3, 4].as_slice())
-}
-
-// A row of a table: what is asserted of a graph beside another one is that each node has the same node stand for it as without
-// the other graph, and that it is this node.
-fn assert_reps_beside(
-    rt: &impl Abort,
-    alloc: Global,
-    nodes: List<Node<NewIx>>,
+    graph: &Graph<NewIx>,
     known: &Classes<OldIx>,
-    reps: &[usize],
-) -> Result<(), Fail>
+) -> Result<String, NoMemory>
     requires { AreCoarsest known.now }
 {
-    let is_made = is_graph(alloc, nodes.as_slice())?;
-    assert!(rt; is_made);
-    let graph = Graph::of_nodes(alloc, nodes)?;
-    assert_eq!(rt; graph.len(), reps.len());
-    let beside = alike_beside(alloc, &graph, known)?;
-    let classes = alike(alloc, &graph)?;
-    for i in 0..graph.len() {
-        assert_eq!(rt; beside.rep(NewIx::of(i)).number(), reps[i], "node {i}");
-        assert_eq!(rt; classes.rep(NewIx::of(i)).number(), reps[i], "node {i}");
-    }
+    let classes = alike_beside(alloc, graph, known)?;
+    reps_of(alloc, graph, &classes)
+}
+
+// The same, beside the classes of another graph.
+fn reps_beside(
+    alloc: Global,
+    graph: &Graph<NewIx>,
+    old: &Graph<OldIx>,
+) -> Result<String, NoMemory> {
+    let known = alike(alloc, old)?;
+    beside_reps(alloc, graph, &known)
+}
+
+// Checks the classes of a graph beside those of another one, and alone.
+fn check_beside(
+    rt: &impl Abort,
+    alloc: Global,
+    old: &Graph<OldIx>,
+    new: &str,
+    wanted: &str,
+) -> Result<(), NoMemory> {
+    let graph = graph_of::<NewIx>(rt, alloc, new)?;
+    check_alike(rt, alloc, &graph, "alone", wanted)?;
+    let reps = reps_beside(alloc, &graph, old)?;
+    expect(rt, "beside known ones", reps.as_str(), wanted);
     Ok(())
 }
 
-// Two structures, each with a pointer to the other one. The member `v` of the second one is the node `value`.
-fn ring_of_two<'a, Ix: Index>(alloc: Global, value: usize) -> Result<List<Node<'a, Ix>>, NoMemory> {
-    let mut nodes = start::<Ix>(alloc)?;
-    push_link(alloc, &mut nodes, 2, 5, 1)?;
-    push_link(alloc, &mut nodes, 4, 3, value)?;
-    Ok(nodes)
+fn check_pair(rt: &impl Abort, alloc: Global, line: &str) -> Result<(), NoMemory> {
+    let (old, line) = cut(line, '|');
+    let (new, wanted) = cut(line, '|');
+    let old = graph_of::<OldIx>(rt, alloc, old)?;
+    check_beside(rt, alloc, &old, new, wanted)
 }
 
-// The first new graph is the same as the old one, and the second one has void in place of an int.
 #[test]
 fn classes_beside_known_ones_are_the_same(rt: HostRuntime) -> Result<(), Fail> {
-    let alloc = rt.alloc();
-    let nodes = ring_of_two::<OldIx>(alloc, 1)?;
-    let is_made = is_graph(alloc, nodes.as_slice())?;
-    assert!(rt; is_made);
-    let old = Graph::of_nodes(alloc, nodes)?;
-    let known = alike(alloc, &old)?;
-    for (value, reps) in [(1, [0, 1, 2, 3, 2, 3]), (0, [0, 1, 2, 3, 4, 5])] {
-        let new = ring_of_two::<NewIx>(alloc, value)?;
-        assert_reps_beside(&rt, alloc, new, &known, reps.as_slice())?;
+    for line in PAIRS.lines() {
+        check_pair(&rt, rt.alloc(), line)?;
     }
     Ok(())
 }

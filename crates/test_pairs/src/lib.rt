@@ -5,3 +5,5 @@
 mod checks;
 #[cfg(test)]
 mod classes;
+#[cfg(test)]
+mod words;

@@ -1,8 +1,7 @@
 // The answers about libraries that are readable, and about words that are wrong.
-use crate::fixture::{CHECK, Status, checks, inputs, library_of, listeners, runs, status_of};
-use abi_base::MemSink;
-use abi_top::run;
+use crate::fixture::{Status, breaks, checks, cut, inputs, library_of, runs, told};
 use std::alloc::{AllocError, Global};
+use std::process::Abort;
 use std::test::Fail;
 use test_images::{ImageSymbol, library, library_with_soname};
 
@@ -34,6 +33,7 @@ usage: abi check [--rules FILE] [--report text|table|counts|first|own] OLD NEW
        abi migrate [--rules FILE] OLD NEW CERT
        abi compose A B C CERT1 CERT2
        abi layout LIB TAG
+       abi app [--rules FILE] [--report text|table|counts|first|own] APP OLD NEW
 ";
 
 #[test]
@@ -46,164 +46,159 @@ fn a_yes_prints_the_certificate(rt: HostRuntime) -> Result<(), Fail> {
     checks(&rt, &old, &new, Status::Yes, YES_TURNED_ROUND)
 }
 
-// A library with these exports, and a soname where one is given.
-fn plain_library(
-    alloc: Global,
-    soname: Option<&str>,
-    exports: &[&str],
-) -> Result<Vec<u8>, AllocError> {
-    match soname {
-        None => library(alloc, exports),
-        Some(soname) => library_with_soname(alloc, soname, exports),
+// The words of a cell, which commas part; an empty cell has none.
+fn words_of<'a>(alloc: Global, cell: &'a str) -> Result<Vec<&'a str>, AllocError> {
+    let mut words = Vec::new(alloc);
+    if !cell.is_empty() {
+        for word in cell.split(',') {
+            words.push(word)?;
+        }
     }
+    Ok(words)
+}
+
+// A library of a soname, if any, and of exports behind a colon.
+fn plain_library(alloc: Global, cell: &str) -> Result<Vec<u8>, AllocError> {
+    let (soname, exports) = cut(cell, ':');
+    let exports = words_of(alloc, exports)?;
+    match soname {
+        "" => library(alloc, &exports),
+        _ => library_with_soname(alloc, soname, &exports),
+    }
+}
+
+// Each line: the old library, its soname and its exports | the new one | what is said.
+const BREAKS: &str = "\
+:f,g|:f|X2 g: gone
+:a\x01\\|:|X2 a\\x01\\x5c: gone
+:~! é|:|X2 ~!\\x20\\xc3\\xa9: gone
+libx.so.1:|libx.so.2:|X1 -: SONAME libx.so.1, now libx.so.2
+:|libx.so.2:|X1 -: SONAME none, now libx.so.2
+libx.so.1:f|:f|X1 -: SONAME libx.so.1, now none
+libx.so.1:z,f,a|libx.so.2:f|X1 -: SONAME libx.so.1, now libx.so.2;X2 z: gone;X2 a: gone
+libx.so.1:z,f,a|libx.so.1:fa,b|X2 z: gone;X2 f: gone;X2 a: gone
+";
+
+fn is_broken<R: Abort + AllocGlobal>(rt: &R, row: &str) -> Result<(), Fail> {
+    let (old, row) = cut(row, '|');
+    let (new, lines) = cut(row, '|');
+    let old = plain_library(rt.alloc(), old)?;
+    let new = plain_library(rt.alloc(), new)?;
+    breaks(rt, &old, &new, lines)
 }
 
 #[test]
 fn a_no_prints_each_break(rt: HostRuntime) -> Result<(), Fail> {
-    let alloc = rt.alloc();
-    let (first, second) = (Some("libx.so.1"), Some("libx.so.2"));
-    let rows: [(Option<&str>, &[&str], Option<&str>, &[&str], &str); 8] = [
-        (None, &["f", "g"], None, &["f"], "no\nX2 g: gone\n"),
-        (None, &["a\x01\\"], None, &[], "no\nX2 a\\x01\\x5c: gone\n"),
-        (
-            None,
-            &["~! é"],
-            None,
-            &[],
-            "no\nX2 ~!\\x20\\xc3\\xa9: gone\n",
-        ),
-        (
-            first,
-            &[],
-            second,
-            &[],
-            "no\nX1 -: SONAME libx.so.1, now libx.so.2\n",
-        ),
-        (
-            None,
-            &[],
-            second,
-            &[],
-            "no\nX1 -: SONAME none, now libx.so.2\n",
-        ),
-        (
-            first,
-            &["f"],
-            None,
-            &["f"],
-            "no\nX1 -: SONAME libx.so.1, now none\n",
-        ),
-        (
-            first,
-            &["z", "f", "a"],
-            second,
-            &["f"],
-            "no\nX1 -: SONAME libx.so.1, now libx.so.2\nX2 z: gone\nX2 a: gone\n",
-        ),
-        (
-            first,
-            &["z", "f", "a"],
-            first,
-            &["fa", "b"],
-            "no\nX2 z: gone\nX2 f: gone\nX2 a: gone\n",
-        ),
-    ];
-    for (old_soname, old_exports, new_soname, new_exports, text) in rows {
-        let old = plain_library(alloc, old_soname, old_exports)?;
-        let new = plain_library(alloc, new_soname, new_exports)?;
-        checks(&rt, &old, &new, Status::No, text)?;
+    for row in BREAKS.lines() {
+        is_broken(&rt, row)?;
     }
     Ok(())
 }
 
-// An export of the old library is seen by its row where the new library has no symbol, and an export of the new library
-// where the old one exports its name and its row does not say that it is gone.
+// Each line: the info of a symbol, which is the binding times 16 and the type, its visibility and its section, in hexadecimal |
+// whether it is an export | what it is.
+const SYMBOLS: &str = "\
+12 0 1|yes|global function
+02 0 1|no|local
+22 0 1|yes|weak
+32 0 1|no|a binding that is not used
+a1 0 1|yes|unique
+b1 0 1|no|a binding that is not used
+10 0 1|yes|no type
+11 0 1|yes|object
+13 0 1|no|section
+14 0 1|no|file
+15 0 1|yes|common
+16 0 1|yes|thread-local
+17 0 1|no|a type that is not used
+1a 0 1|yes|function by a resolver
+1b 0 1|no|a type that is not used
+12 1 1|no|internal
+12 2 1|no|hidden
+12 3 1|yes|protected
+12 fc 1|yes|default, with bits that do not count
+12 06 1|no|hidden, with a bit that does not count
+12 0 0|no|undefined
+12 0 fff1|yes|absolute
+12 0 ff00|yes|the first number that is no section's
+";
+
+fn byte(text: &str) -> u8 {
+    u8::from_str_radix(text, 16).unwrap_or(0)
+}
+
+// The symbol of a row.
+fn symbol_of(cell: &str) -> ImageSymbol<'static> {
+    let (info, cell) = cut(cell, ' ');
+    let (other, section) = cut(cell, ' ');
+    ImageSymbol {
+        info: byte(info),
+        other: byte(other),
+        section: u16::from_str_radix(section, 16).unwrap_or(0),
+        ..ImageSymbol::function(b"s")
+    }
+}
+
+// An export of the old library is seen by its row where the new library has no symbol.
+fn as_old(alloc: Global, library_of_it: &[u8]) -> Result<&'static str, Fail> {
+    let (ended, _) = told(alloc, library_of_it, &library(alloc, &[])?)?;
+    Ok(match ended {
+        Status::No => "yes",
+        Status::Yes => "no",
+        _ => "unreadable",
+    })
+}
+
+// An export of the new library is seen where the old one exports its name, and its row does not say that it is gone.
+fn as_new(alloc: Global, library_of_it: &[u8]) -> Result<&'static str, Fail> {
+    let (_, sink) = told(alloc, &library(alloc, &["s"])?, library_of_it)?;
+    Ok(match str::from_utf8(sink.held()) {
+        Ok("no\nX2 s: gone\n") => "no",
+        _ => "yes",
+    })
+}
+
+fn is_told<R: Abort + AllocGlobal>(rt: &R, row: &str) -> Result<(), Fail> {
+    let (symbol, rest) = cut(row, '|');
+    let (wanted, _) = cut(rest, '|');
+    let file = library_of(rt.alloc(), &[symbol_of(symbol)])?;
+    assert_eq!(rt; as_old(rt.alloc(), &file)?, wanted, "old {row}");
+    assert_eq!(rt; as_new(rt.alloc(), &file)?, wanted, "new {row}");
+    Ok(())
+}
+
 #[test]
 fn exports_are_told_from_other_symbols(rt: HostRuntime) -> Result<(), Fail> {
-    let alloc = rt.alloc();
-    let none = library(alloc, &[])?;
-    let function = library(alloc, &["s"])?;
-    // The info, which is the binding times 16 and the type, the visibility, the section, and whether it is an export.
-    for (info, other, section, is_export) in [
-        (0x12, 0, 1, true), // global function
-        (0x02, 0, 1, false), // local
-        (0x22, 0, 1, true), // weak
-        (0x32, 0, 1, false), // a binding that is not used
-        (0xa1, 0, 1, true), // unique
-        (0xb1, 0, 1, false), // a binding that is not used
-        (0x10, 0, 1, true), // no type
-        (0x11, 0, 1, true), // object
-        (0x13, 0, 1, false), // section
-        (0x14, 0, 1, false), // file
-        (0x15, 0, 1, true), // common
-        (0x16, 0, 1, true), // thread-local
-        (0x17, 0, 1, false), // a type that is not used
-        (0x1a, 0, 1, true), // function by a resolver
-        (0x1b, 0, 1, false), // a type that is not used
-        (0x12, 1, 1, false), // internal
-        (0x12, 2, 1, false), // hidden
-        (0x12, 3, 1, true), // protected
-        (0x12, 0xfc, 1, true), // default, with bits that do not count
-        (0x12, 0x06, 1, false), // hidden, with a bit that does not count
-        (0x12, 0, 0, false), // undefined
-        (0x12, 0, 0xfff1, true), // absolute
-        (0x12, 0, 0xff00, true), // the first number that is no section's
-    ] {
-        let symbol = ImageSymbol {
-            info,
-            other,
-            section,
-            ..ImageSymbol::function(b"s")
-        };
-        let other_library = library_of(alloc, &[symbol])?;
-        let mut sink = MemSink::new(alloc, 4096, Vec::new(alloc))?;
-        let files: [(&str, &[u8]); 2] = [("old", &other_library), ("new", &none)];
-        let gone = run(
-            alloc,
-            CHECK,
-            &mut inputs(alloc, &files, &[])?,
-            &mut sink,
-            listeners(alloc)?,
-        );
-        let files: [(&str, &[u8]); 2] = [("old", &function), ("new", &other_library)];
-        let mut sink = MemSink::new(alloc, 4096, Vec::new(alloc))?;
-        run(
-            alloc,
-            CHECK,
-            &mut inputs(alloc, &files, &[])?,
-            &mut sink,
-            listeners(alloc)?,
-        );
-        let is_there = str::from_utf8(sink.held()).ok() != Some("no\nX2 s: gone\n");
-        let wanted = if is_export { Status::No } else { Status::Yes };
-        assert_eq!(rt;
-            status_of(gone.outcome),
-            wanted,
-            "old {info} {other} {section}"
-        );
-        assert_eq!(rt; is_there, is_export, "new {info} {other} {section}");
+    for row in SYMBOLS.lines() {
+        is_told(&rt, row)?;
     }
     Ok(())
+}
+
+// Each line: words that are wrong. The first line has none.
+const WRONG: &str = "
+check
+check,a
+check,a,b,c
+verify,a,b
+CHECK,a,b
+,a,b
+a,check,b
+entries
+entries,a,b
+Entries,a
+";
+
+fn prints_the_usage<R: Abort + AllocGlobal>(rt: &R, row: &str) -> Result<(), Fail> {
+    let words = words_of(rt.alloc(), row)?;
+    let mut inputs = inputs(rt.alloc(), &[("a", b""), ("b", b"")], &[])?;
+    runs(rt, &words, &mut inputs, Status::Usage, USAGE)
 }
 
 #[test]
 fn wrong_words_print_the_usage(rt: HostRuntime) -> Result<(), Fail> {
-    let rows: [&[&str]; 11] = [
-        &[],
-        &["check"],
-        &["check", "a"],
-        &["check", "a", "b", "c"],
-        &["verify", "a", "b"],
-        &["CHECK", "a", "b"],
-        &["", "a", "b"],
-        &["a", "check", "b"],
-        &["entries"],
-        &["entries", "a", "b"],
-        &["Entries", "a"],
-    ];
-    for words in rows {
-        let mut inputs = inputs(rt.alloc(), &[("a", b""), ("b", b"")], &[])?;
-        runs(&rt, words, &mut inputs, Status::Usage, USAGE)?;
+    for row in WRONG.lines() {
+        prints_the_usage(&rt, row)?;
     }
     Ok(())
 }

@@ -1,8 +1,10 @@
 // The calls that read a file, on one image.
-use crate::fixture::good_library;
-use elf::file::read_elf;
-use elf::symbols::{soname, symbols};
+use crate::fixture::cut;
+use elf::file::{ElfFile, read_elf};
+use elf::symbols::{Symbol, soname, symbols};
 use std::alloc::{AllocError, Global};
+use std::fmt::Write;
+use std::process::Abort;
 use std::test::Fail;
 use test_images::{Image, ImageSection, ImageSymbol};
 
@@ -30,60 +32,130 @@ fn library_with_comments(alloc: Global) -> Result<Vec<u8>, AllocError> {
     image.bytes(alloc)
 }
 
-#[test]
-fn sections_are_found(rt: HostRuntime) -> Result<(), Fail> {
-    let alloc = rt.alloc();
-    let bytes = library_with_comments(alloc)?;
-    assert!(rt; bytes.len() < 4096);
-    let file = read_elf(&bytes)?;
-    assert_eq!(rt; file.section(b".comment"), Some(b"first".as_slice()));
-    assert_eq!(rt; file.section(b".dynstr"), Some(b"\0f\0data\0".as_slice()));
-    assert_eq!(rt; file.section(b".comm"), None);
-    assert_eq!(rt; file.section_name(0), Some(b"".as_slice()));
-    assert_eq!(rt; file.section_name(6), Some(b".comment".as_slice()));
-    assert_eq!(rt; file.section_name(8), None);
-    assert_eq!(rt; file.strings(5), Some(b"\0libx.so.1\0".as_slice()));
-    assert_eq!(rt; file.strings(3), None);
-    assert_eq!(rt; file.strings(8), None);
-    let found = file.section_of_kind(1).ok_or("no section of the kind")?;
-    assert_eq!(rt; found.index, 3);
-    assert_eq!(rt; found.bytes, b"first".as_slice());
-    assert_eq!(rt; (found.link, found.info, found.entsize), (5, 9, 3));
-    assert!(rt; file.section_of_kind(2).is_none());
+// Appends bytes as a text, with a slash for each 0 byte.
+fn push_bytes(text: &mut String, bytes: &[u8]) -> Result<(), AllocError> {
+    for byte in bytes {
+        text.push(if *byte == 0 { '/' } else { char::from(*byte) })?;
+    }
+    Ok(())
+}
+
+// Bytes as a text, or a minus where there are none.
+fn shown(alloc: Global, bytes: Option<&[u8]>) -> Result<String, AllocError> {
+    let mut text = String::new(alloc);
+    match bytes {
+        None => text.push('-')?,
+        Some(bytes) => push_bytes(&mut text, bytes)?,
+    }
+    Ok(text)
+}
+
+// Each line: what is asked, by a name or by the number of a section | the bytes.
+const LOOKUPS: &str = "\
+section .comment|first
+section .dynstr|/f/data/
+section .comm|-
+name 0|
+name 6|.comment
+name 8|-
+strings 5|/libx.so.1/
+strings 3|-
+strings 8|-
+";
+
+// What a row asks of a file.
+fn looked_up<'a>(file: &ElfFile<'a>, row: &str) -> Option<&'a [u8]> {
+    let (call, what) = cut(row, ' ');
+    match call {
+        "section" => file.section(what.as_bytes()),
+        "name" => file.section_name(what.parse().unwrap_or(0)),
+        _ => file.strings(what.parse().unwrap_or(0)),
+    }
+}
+
+fn is_found<R: Abort + AllocGlobal>(rt: &R, file: &ElfFile, row: &str) -> Result<(), Fail> {
+    let (asked, wanted) = cut(row, '|');
+    let told = shown(rt.alloc(), looked_up(file, asked))?;
+    assert_eq!(rt; told.as_str(), wanted, "{row}");
     Ok(())
 }
 
 #[test]
-fn symbols_and_the_soname_are_read(rt: HostRuntime) -> Result<(), Fail> {
-    let alloc = rt.alloc();
-    let bytes = library_with_comments(alloc)?;
+fn sections_are_found(rt: HostRuntime) -> Result<(), Fail> {
+    let bytes = library_with_comments(rt.alloc())?;
+    assert!(rt; bytes.len() < 4096);
+    let file = read_elf(&bytes)?;
+    for row in LOOKUPS.lines() {
+        is_found(&rt, &file, row)?;
+    }
+    Ok(())
+}
+
+// The first section of a type, by its number, its bytes, its link, its info and the size of its entries.
+fn first_of_kind(alloc: Global, file: &ElfFile, kind: u32) -> Result<String, AllocError> {
+    let mut text = String::new(alloc);
+    if let Some(found) = file.section_of_kind(kind) {
+        let (index, link, info, size) = (found.index, found.link, found.info, found.entsize);
+        push_bytes(&mut text, found.bytes)?;
+        write!(text, " {index} {link} {info} {size}")?;
+    }
+    Ok(text)
+}
+
+#[test]
+fn the_first_section_of_a_type_is_found(rt: HostRuntime) -> Result<(), Fail> {
+    let bytes = library_with_comments(rt.alloc())?;
+    assert!(rt; bytes.len() < 4096);
+    let file = read_elf(&bytes)?;
+    let found = first_of_kind(rt.alloc(), &file, 1)?;
+    assert_eq!(rt; found.as_str(), "first 3 5 9 3");
+    let found = first_of_kind(rt.alloc(), &file, 2)?;
+    assert_eq!(rt; found.as_str(), "");
+    Ok(())
+}
+
+// For each symbol its number, its name, whether it is an export, its binding, type, visibility, section, value and size.
+const SYMBOLS: &str = "\
+0  false 0 0 0 0 0 0
+1 f true 1 2 0 1 4096 16
+2 data true 10 1 3 65521 81985529216486895 8
+";
+
+fn push_symbol(text: &mut String, symbol: &Symbol) -> Result<(), AllocError> {
+    let number = symbol.number;
+    write!(text, "{number} ")?;
+    push_bytes(text, symbol.name)?;
+    let is_exported = symbol.is_exported();
+    let (binding, kind, visibility) = (symbol.binding, symbol.kind, symbol.visibility);
+    write!(text, " {is_exported} {binding} {kind} {visibility}")?;
+    let (section, value, size) = (symbol.section, symbol.value, symbol.size);
+    writeln!(text, " {section} {value} {size}")
+}
+
+fn symbols_of(alloc: Global, file: &ElfFile) -> Result<String, Fail> {
+    let mut text = String::new(alloc);
+    for symbol in symbols(alloc, file)?.as_slice() {
+        push_symbol(&mut text, symbol)?;
+    }
+    Ok(text)
+}
+
+#[test]
+fn symbols_are_read(rt: HostRuntime) -> Result<(), Fail> {
+    let bytes = library_with_comments(rt.alloc())?;
+    assert!(rt; bytes.len() < 4096);
+    let file = read_elf(&bytes)?;
+    let told = symbols_of(rt.alloc(), &file)?;
+    assert_eq!(rt; told.as_str(), SYMBOLS);
+    Ok(())
+}
+
+#[test]
+fn the_soname_is_read(rt: HostRuntime) -> Result<(), Fail> {
+    let bytes = library_with_comments(rt.alloc())?;
     assert!(rt; bytes.len() < 4096);
     let file = read_elf(&bytes)?;
     assert_eq!(rt; soname(&file)?, Some(b"libx.so.1".as_slice()));
-    let all = symbols(alloc, &file)?;
-    assert_eq!(rt; all.len(), 3);
-    let rows = [(0, "", false), (1, "f", true), (2, "data", true)];
-    for (symbol, (number, name, is_exported)) in all.iter().zip(rows) {
-        assert_eq!(rt; symbol.number, number);
-        assert_eq!(rt; symbol.name, name.as_bytes());
-        assert_eq!(rt; symbol.is_exported(), is_exported);
-    }
-    let function = &all[1];
-    assert_eq!(rt;
-        (function.binding, function.kind, function.visibility),
-        (1, 2, 0)
-    );
-    assert_eq!(rt;
-        (function.section, function.value, function.size),
-        (1, 0x1000, 16)
-    );
-    let object = &all[2];
-    assert_eq!(rt;
-        (object.binding, object.kind, object.visibility),
-        (10, 1, 3)
-    );
-    assert_eq!(rt; object.section, 0xfff1);
-    assert_eq!(rt; (object.value, object.size), (0x0123_4567_89ab_cdef, 8));
     Ok(())
 }
 

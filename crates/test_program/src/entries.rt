@@ -1,5 +1,5 @@
 // Debugging information entries: what `entries` prints, and the faults that it names.
-use crate::fixture::{Change, Status, change, inputs, runs};
+use crate::fixture::{Status, change, cut, inputs, number, runs};
 use std::alloc::{AllocError, Global};
 use std::process::Abort;
 use std::test::Fail;
@@ -55,22 +55,53 @@ fn is_refused<R: Abort + AllocGlobal>(
     lists(rt, &file, Status::Unreadable, &text)
 }
 
+// The abbreviations and the unit that a word names.
+fn unit_of(word: &str) -> &'static [u8] {
+    match word {
+        "5" => UNIT,
+        "4" => UNIT_4,
+        "type" => TYPE_UNIT,
+        _ => b"",
+    }
+}
+
+fn abbreviations_of(word: &str) -> &'static [u8] {
+    match word {
+        "type" => TYPE_ABBREVS,
+        _ => ABBREVS,
+    }
+}
+
+// Each line: a unit of version 5 or 4, a type unit beside one, or none | the entries, which semicolons end.
+const LISTS: &str = "\
+5|12 0 11;15 1 24;22 1 2e;
+4|11 0 11;14 1 24;21 1 2e;
+type|24 0 41;25 1 24;45 0 11;48 1 2e;
+none|
+";
+
+fn prints<R: Abort + AllocGlobal>(rt: &R, row: &str) -> Result<(), Fail> {
+    let (word, lines) = cut(row, '|');
+    let file = library(rt.alloc(), abbreviations_of(word), unit_of(word))?;
+    let mut text = String::new(rt.alloc());
+    for c in lines.chars() {
+        text.push(if c == ';' { '\n' } else { c })?;
+    }
+    lists(rt, &file, Status::Done, &text)
+}
+
 #[test]
 fn entries_are_printed(rt: HostRuntime) -> Result<(), Fail> {
-    let alloc = rt.alloc();
-    for (abbrevs, entries, text) in [
-        (ABBREVS, UNIT, "12 0 11\n15 1 24\n22 1 2e\n"),
-        (ABBREVS, UNIT_4, "11 0 11\n14 1 24\n21 1 2e\n"),
-        (
-            TYPE_ABBREVS,
-            TYPE_UNIT,
-            "24 0 41\n25 1 24\n45 0 11\n48 1 2e\n",
-        ),
-        (ABBREVS, b"", ""),
-    ] {
-        lists(&rt, &library(alloc, abbrevs, entries)?, Status::Done, text)?;
+    for row in LISTS.lines() {
+        prints(&rt, row)?;
     }
-    // Symbols, versions and the dynamic table are not asked, and may be missing.
+    Ok(())
+}
+
+// Symbols, versions and the dynamic table are not asked, and may be missing.
+#[test]
+fn a_library_may_have_no_entries(rt: HostRuntime) -> Result<(), Fail> {
+    let alloc = rt.alloc();
     let mut image = Image::new(alloc);
     image.add_symbols(&[ImageSymbol::function(b"f"), ImageSymbol::function(b"f")])?;
     lists(&rt, &image.bytes(alloc)?, Status::Done, "")?;
@@ -78,74 +109,97 @@ fn entries_are_printed(rt: HostRuntime) -> Result<(), Fail> {
 }
 
 // The length of the unit is that of the cut section.
-fn cut(alloc: Global, entries: &[u8], size: usize) -> Result<Vec<u8>, AllocError> {
-    let mut cut = Vec::new(alloc);
+fn shortened(alloc: Global, entries: &[u8], size: usize) -> Result<Vec<u8>, AllocError> {
+    let mut bytes = Vec::new(alloc);
     for byte in entries.iter().take(size) {
-        cut.push(*byte)?;
+        bytes.push(*byte)?;
     }
-    if let Some(length) = cut.first_mut() {
+    if let Some(length) = bytes.first_mut() {
         *length = u8::try_from(size.saturating_sub(4)).unwrap_or(0);
     }
-    Ok(cut)
+    Ok(bytes)
 }
 
-#[test]
-fn units_that_are_cut_are_refused(rt: HostRuntime) -> Result<(), Fail> {
-    let alloc = rt.alloc();
-    for (entries, first, last, fault) in [
-        (UNIT, 1, 11, "20 UnitHeader 0"),
-        (UNIT, 12, 12, "29 Tree 12"),
-        (UNIT, 13, 14, "28 Cut 12"),
-        (UNIT, 15, 15, "29 Tree 15"),
-        (UNIT, 16, 21, "28 Cut 15"),
-        (UNIT, 22, 22, "29 Tree 22"),
-        (UNIT, 23, 36, "28 Cut 22"),
-        (UNIT, 37, 37, "29 Tree 37"),
-        (UNIT_4, 1, 10, "20 UnitHeader 0"),
-        (UNIT_4, 11, 11, "29 Tree 11"),
-        (UNIT_4, 12, 13, "28 Cut 11"),
-        (UNIT_4, 14, 14, "29 Tree 14"),
-        (UNIT_4, 36, 36, "29 Tree 36"),
-        (TYPE_UNIT, 1, 23, "20 UnitHeader 0"),
-        (TYPE_UNIT, 24, 24, "29 Tree 24"),
-    ] {
-        for size in first..=last {
-            is_refused(&rt, TYPE_ABBREVS, &cut(alloc, entries, size)?, fault)?;
-        }
+// Each line: a unit | the sizes to which it is cut, from the first to the last | the fault.
+const CUTS: &str = "\
+5|1 11|20 UnitHeader 0
+5|12 12|29 Tree 12
+5|13 14|28 Cut 12
+5|15 15|29 Tree 15
+5|16 21|28 Cut 15
+5|22 22|29 Tree 22
+5|23 36|28 Cut 22
+5|37 37|29 Tree 37
+4|1 10|20 UnitHeader 0
+4|11 11|29 Tree 11
+4|12 13|28 Cut 11
+4|14 14|29 Tree 14
+4|36 36|29 Tree 36
+type|1 23|20 UnitHeader 0
+type|24 24|29 Tree 24
+";
+
+fn cuts_are_refused<R: Abort + AllocGlobal>(rt: &R, row: &str) -> Result<(), Fail> {
+    let (word, row) = cut(row, '|');
+    let (sizes, fault) = cut(row, '|');
+    let (first, last) = cut(sizes, ' ');
+    for size in number(first)..=number(last) {
+        let entries = shortened(rt.alloc(), unit_of(word), size)?;
+        is_refused(rt, TYPE_ABBREVS, &entries, fault)?;
     }
     Ok(())
 }
 
 #[test]
-fn damaged_entries_are_refused(rt: HostRuntime) -> Result<(), Fail> {
-    let alloc = rt.alloc();
-    let rows: [(&[u8], &[Change], &[Change], &str); 17] = [
-        (UNIT, &[], &[(0, b"\xff\xff\xff\xff")], "24 Dwarf64 0"),
-        (UNIT, &[], &[(0, b"\xf0\xff\xff\xff")], "20 UnitHeader 0"),
-        (UNIT, &[], &[(4, b"\x04")], "23 AddressSize 0"),
-        (UNIT, &[], &[(4, b"\x03")], "21 DwarfVersion 0"),
-        (UNIT, &[], &[(6, b"\x02")], "29 Tree 24"),
-        (UNIT, &[], &[(6, b"\x04")], "22 UnitType 0"),
-        (UNIT, &[], &[(7, b"\x04")], "23 AddressSize 0"),
-        (UNIT, &[], &[(12, b"\x07")], "26 AbbrevCode 12"),
-        (UNIT, &[], &[(12, b"\x00")], "29 Tree 12"),
-        (UNIT, &[], &[(13, b"\x04")], "33 Language 12"),
-        (UNIT, &[(2, b"\x02")], &[], "25 Abbrev 0"),
-        (UNIT, &[(2, b"\x00")], &[], "29 Tree 15"),
-        (UNIT, &[(4, b"\x02")], &[], "27 Form 12"),
-        (UNIT, &[(4, b"\x1d")], &[], "38 Supplementary 12"),
-        (UNIT, &[(18, b"\x02")], &[], "25 Abbrev 18"),
-        (TYPE_UNIT, &[], &[(20, b"\x1a")], "43 TypeOffset 0"),
-        (UNIT, &[], &[(8, b"\xff")], "25 Abbrev 255"),
-    ];
-    for (entries, abbrev_changes, entry_changes, fault) in rows {
-        let mut abbrevs = TYPE_ABBREVS.to_vec(alloc)?;
-        change(&mut abbrevs, abbrev_changes);
-        let mut entries = entries.to_vec(alloc)?;
-        change(&mut entries, entry_changes);
-        is_refused(&rt, &abbrevs, &entries, fault)?;
+fn units_that_are_cut_are_refused(rt: HostRuntime) -> Result<(), Fail> {
+    for row in CUTS.lines() {
+        cuts_are_refused(&rt, row)?;
     }
-    let short = [0; 63];
+    Ok(())
+}
+
+// Each line: a unit | a change of its abbreviations | a change of its entries | the fault.
+const DAMAGED: &str = "\
+5||0=ff,ff,ff,ff|24 Dwarf64 0
+5||0=f0,ff,ff,ff|20 UnitHeader 0
+5||4=04|23 AddressSize 0
+5||4=03|21 DwarfVersion 0
+5||6=02|29 Tree 24
+5||6=04|22 UnitType 0
+5||7=04|23 AddressSize 0
+5||12=07|26 AbbrevCode 12
+5||12=00|29 Tree 12
+5||13=04|33 Language 12
+5|2=02||25 Abbrev 0
+5|2=00||29 Tree 15
+5|4=02||27 Form 12
+5|4=1d||38 Supplementary 12
+5|18=02||25 Abbrev 18
+type||20=1a|43 TypeOffset 0
+5||8=ff|25 Abbrev 255
+";
+
+fn damage_is_refused<R: Abort + AllocGlobal>(rt: &R, row: &str) -> Result<(), Fail> {
+    let (word, row) = cut(row, '|');
+    let (abbrev_changes, row) = cut(row, '|');
+    let (entry_changes, fault) = cut(row, '|');
+    let mut abbrevs = TYPE_ABBREVS.to_vec(rt.alloc())?;
+    change(&mut abbrevs, abbrev_changes);
+    let mut entries = unit_of(word).to_vec(rt.alloc())?;
+    change(&mut entries, entry_changes);
+    is_refused(rt, &abbrevs, &entries, fault)
+}
+
+#[test]
+fn damaged_entries_are_refused(rt: HostRuntime) -> Result<(), Fail> {
+    for row in DAMAGED.lines() {
+        damage_is_refused(&rt, row)?;
+    }
+    Ok(())
+}
+
+#[test]
+fn a_short_file_is_refused(rt: HostRuntime) -> Result<(), Fail> {
     let text = "unreadable library 1 ShortFile 63\n";
-    lists(&rt, &short, Status::Unreadable, text)
+    lists(&rt, &[0; 63], Status::Unreadable, text)
 }

@@ -13,9 +13,6 @@ use test_images::{Image, ImageSection, ImageSymbol, library_with_soname};
 /// The words of the rows, whose inputs are named as what they are.
 pub const CHECK: &[&str] = &["check", "old", "new"];
 
-/// A change of an image: the place, and the bytes that are put there.
-pub type Change = (usize, &'static [u8]);
-
 /// How a run ended: its outcome, without the input and the fault that it names, which stand in the text, and without what is counted
 /// beside a verdict.
 #[derive(Clone, Copy, Debug, PartialEq, Eq)]
@@ -70,6 +67,18 @@ pub(crate) fn listeners(alloc: Global) -> Result<Vec<Box<dyn Listener>>, NoMemor
     Ok(listeners)
 }
 
+/// How a run of the words over the inputs ends, with what it writes.
+fn ended<I: Inputs>(
+    alloc: Global,
+    words: &[&str],
+    inputs: &mut I,
+) -> Result<(Status, MemSink), Fail> {
+    let listeners = listeners(alloc)?;
+    let mut sink = MemSink::new(alloc, 4096, Vec::new(alloc))?;
+    let ended = run(alloc, words, inputs, &mut sink, listeners);
+    Ok((status_of(ended.outcome), sink))
+}
+
 /// A run of the words over the inputs must end with the status, and write the text.
 pub(crate) fn runs<R: Abort + AllocGlobal, I: Inputs>(
     rt: &R,
@@ -78,12 +87,16 @@ pub(crate) fn runs<R: Abort + AllocGlobal, I: Inputs>(
     status: Status,
     text: &str,
 ) -> Result<(), Fail> {
-    let alloc = rt.alloc();
-    let mut sink = MemSink::new(alloc, 4096, Vec::new(alloc))?;
-    let ended = run(alloc, words, inputs, &mut sink, listeners(alloc)?);
+    let (ended, sink) = ended(rt.alloc(), words, inputs)?;
     assert_eq!(rt; str::from_utf8(sink.held()).ok(), Some(text));
-    assert_eq!(rt; status_of(ended.outcome), status, "for {text}");
+    assert_eq!(rt; ended, status, "for {text}");
     Ok(())
+}
+
+/// How the check of an old and of a new library ends, with what it writes.
+pub(crate) fn told(alloc: Global, old: &[u8], new: &[u8]) -> Result<(Status, MemSink), Fail> {
+    let mut inputs = inputs(alloc, &[("old", old), ("new", new)], &[])?;
+    ended(alloc, CHECK, &mut inputs)
 }
 
 /// The check of an old and of a new library must end with the status, and write the text.
@@ -98,6 +111,67 @@ pub(crate) fn checks<R: Abort + AllocGlobal>(
     runs(rt, CHECK, &mut inputs, status, text)
 }
 
+/// The check must say no, with these lines behind it, which semicolons part.
+pub(crate) fn breaks<R: Abort + AllocGlobal>(
+    rt: &R,
+    old: &[u8],
+    new: &[u8],
+    lines: &str,
+) -> Result<(), Fail> {
+    let text = lines_of(rt.alloc(), "no", lines)?;
+    checks(rt, old, new, Status::No, &text)
+}
+
+// How many bytes a certificate has before the line of the rules.
+const BEFORE_RULES: usize = 144;
+
+const RULES: &str = "rules e3b0c44298fc1c149afbf4c8996fb92427ae41e4649b934ca495991b7852b855";
+
+// The check must say yes, with a certificate of this text behind the digests.
+fn certifies<R: Abort + AllocGlobal>(
+    rt: &R,
+    old: &[u8],
+    new: &[u8],
+    text: &str,
+) -> Result<(), Fail> {
+    let (ended, sink) = told(rt.alloc(), old, new)?;
+    assert_eq!(rt; sink.held().get(BEFORE_RULES..), Some(text.as_bytes()));
+    assert_eq!(rt; ended, Status::Yes);
+    Ok(())
+}
+
+/// The check must say yes, with a certificate of these lines behind the digests, which semicolons part.
+pub(crate) fn is_yes<R: Abort + AllocGlobal>(
+    rt: &R,
+    old: &[u8],
+    new: &[u8],
+    lines: &str,
+) -> Result<(), Fail> {
+    let text = lines_of(rt.alloc(), RULES, lines)?;
+    certifies(rt, old, new, &text)
+}
+
+/// What stands before the first such character, and what stands behind it.
+pub(crate) fn cut(text: &str, by: char) -> (&str, &str) {
+    text.split_once(by).unwrap_or((text, ""))
+}
+
+/// A number, and 0 where the text is none.
+pub(crate) fn number(text: &str) -> usize {
+    text.parse().unwrap_or(0)
+}
+
+/// The text of a first line and of lines that semicolons part.
+pub(crate) fn lines_of(alloc: Global, first: &str, lines: &str) -> Result<String, AllocError> {
+    let mut text = String::from_str(alloc, first)?;
+    text.push('\n')?;
+    for line in lines.split(';') {
+        text.push_str(line)?;
+        text.push('\n')?;
+    }
+    Ok(text)
+}
+
 /// A library of 624 bytes that exports `f` and `g` and has a soname.
 ///
 /// Its sections, each with its place, its size and the place of its header: 0 with its header at 240; 1 `.dynsym` at 64,
@@ -107,12 +181,18 @@ pub(crate) fn good_library(alloc: Global) -> Result<Vec<u8>, AllocError> {
     library_with_soname(alloc, "a.so", &["f", "g"])
 }
 
-/// Puts other bytes into an image.
-pub(crate) fn change(image: &mut [u8], changes: &[Change]) {
-    for (at, bytes) in changes {
-        for (place, byte) in image.iter_mut().skip(*at).zip(bytes.iter()) {
-            *place = *byte;
-        }
+// Puts bytes into an image: a word is a place and the bytes from there on.
+fn put(image: &mut [u8], word: &str) {
+    let (at, bytes) = cut(word, '=');
+    for (place, byte) in image.iter_mut().skip(number(at)).zip(bytes.split(',')) {
+        *place = u8::from_str_radix(byte, 16).unwrap_or(0);
+    }
+}
+
+/// Changes an image by words, as `60=00,ff` for the bytes 00 and ff from place 60 on.
+pub(crate) fn change(image: &mut [u8], changes: &str) {
+    for word in changes.split_whitespace() {
+        put(image, word);
     }
 }
 
@@ -142,20 +222,46 @@ pub(crate) fn library_with_section(
     image.bytes(alloc)
 }
 
-/// Each change of a readable library must be refused with its fault, as the old library and as the new one.
+/// The check must refuse an old or a new library with its fault.
+pub(crate) fn names_fault<R: Abort + AllocGlobal>(
+    rt: &R,
+    old: &[u8],
+    new: &[u8],
+    side: &str,
+    fault: &str,
+) -> Result<(), Fail> {
+    let text = format!(in rt.alloc(); "unreadable {side} {fault}\n")?;
+    checks(rt, old, new, Status::Unreadable, &text)
+}
+
+/// The check must refuse a library with its fault, as the old one and as the new one.
+pub(crate) fn refuses<R: Abort + AllocGlobal>(
+    rt: &R,
+    bad: &[u8],
+    good: &[u8],
+    fault: &str,
+) -> Result<(), Fail> {
+    names_fault(rt, bad, good, "old", fault)?;
+    names_fault(rt, good, bad, "new", fault)
+}
+
+fn is_refused<R: Abort + AllocGlobal>(rt: &R, good: &[u8], row: &str) -> Result<(), Fail> {
+    let (changes, fault) = cut(row, '|');
+    let mut bad = good.to_vec(rt.alloc())?;
+    change(&mut bad, changes);
+    refuses(rt, &bad, good, fault)
+}
+
+/// Each change of a readable library must be refused with its fault. A line is a change and the fault, or a remark behind a `#`.
 pub(crate) fn are_refused<R: Abort + AllocGlobal>(
     rt: &R,
     good: &[u8],
-    rows: &[(&[Change], &str)],
+    rows: &str,
 ) -> Result<(), Fail> {
-    let alloc = rt.alloc();
-    for (changes, fault) in rows {
-        let mut bad = good.to_vec(alloc)?;
-        change(&mut bad, changes);
-        let old = format!(in alloc; "unreadable old {fault}\n")?;
-        checks(rt, &bad, good, Status::Unreadable, &old)?;
-        let new = format!(in alloc; "unreadable new {fault}\n")?;
-        checks(rt, good, &bad, Status::Unreadable, &new)?;
+    for row in rows.lines() {
+        if !row.starts_with('#') {
+            is_refused(rt, good, row)?;
+        }
     }
     Ok(())
 }

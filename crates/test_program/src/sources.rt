@@ -1,63 +1,104 @@
 // Inputs and sinks that fail, and inputs that are long.
 ghost use Rattle.std.specs.Prelude.{List, ℕ, None};
 
-use crate::fixture::{CHECK, Status, checks, inputs, listeners, runs, status_of};
-use abi_base::{Failed, FileInputs, Inputs, MemSink};
+use crate::fixture::{CHECK, Status, checks, cut, inputs, listeners, number, runs, status_of};
+use abi_base::{Failed, FileInputs, Inputs, MemInputs, MemSink};
 use abi_top::run;
+use std::alloc::{AllocError, Global};
+use std::process::Abort;
 use std::test::Fail;
 use test_images::library;
 
+// Two libraries that differ in the order of their exports.
+fn turned_inputs(alloc: Global) -> Result<MemInputs, AllocError> {
+    let old = library(alloc, &["f", "g"])?;
+    let new = library(alloc, &["g", "f"])?;
+    inputs(alloc, &[("old", &old), ("new", &new)], &[])
+}
+
+// The sink takes ten bytes a call, and its second call fails.
 #[test]
 fn a_failed_write_leaves_a_front(rt: HostRuntime) -> Result<(), Fail> {
     let alloc = rt.alloc();
-    let old = library(alloc, &["f", "g"])?;
-    let new = library(alloc, &["g", "f"])?;
-    let files: [(&str, &[u8]); 2] = [("old", &old), ("new", &new)];
+    let mut inputs = turned_inputs(alloc)?;
+    let listeners = listeners(alloc)?;
     let mut sink = MemSink::new(alloc, 10, vec![in alloc; 2]?)?;
-    let ended = run(
-        alloc,
-        CHECK,
-        &mut inputs(alloc, &files, &[])?,
-        &mut sink,
-        listeners(alloc)?,
-    );
+    let ended = run(alloc, CHECK, &mut inputs, &mut sink, listeners);
     assert_eq!(rt; status_of(ended.outcome), Status::WriteFault);
     assert_eq!(rt; sink.held(), b"yes 2\nold ".as_slice());
     Ok(())
 }
 
-// A whole run over two files makes six calls: for each file its start, the read that gives its bytes, and the read that
-// gives none. No call has the number 0.
-#[test]
-fn a_failed_read_names_the_input(rt: HostRuntime) -> Result<(), Fail> {
-    let alloc = rt.alloc();
+// Each line: the names of the inputs | the call that fails | what is said. A whole run over two files makes six calls: for each file
+// its start, the read that gives its bytes, and the read that gives none. No call has the number 0.
+const READS: &str = "\
+old missing|0|read fault new
+missing new|0|read fault old
+missing missing|0|read fault old
+old new|1|read fault old
+old new|2|read fault old
+old new|3|read fault old
+old new|4|read fault new
+old new|5|read fault new
+old new|6|read fault new
+old new|7|no;X2 f: gone
+";
+
+fn status(text: &str) -> Status {
+    if text.starts_with("no") {
+        Status::No
+    } else {
+        Status::ReadFault
+    }
+}
+
+// Two libraries, the reading of which fails at a call.
+fn failing_inputs(alloc: Global, failing: u64) -> Result<MemInputs, AllocError> {
     let old = library(alloc, &["f"])?;
     let new = library(alloc, &[])?;
-    let files: [(&str, &[u8]); 2] = [("old", &old), ("new", &new)];
-    let (old_failed, new_failed) = ("read fault old\n", "read fault new\n");
-    for (old_name, new_name, failing, status, text) in [
-        ("old", "missing", 0, Status::ReadFault, new_failed),
-        ("missing", "new", 0, Status::ReadFault, old_failed),
-        ("missing", "missing", 0, Status::ReadFault, old_failed),
-        ("old", "new", 1, Status::ReadFault, old_failed),
-        ("old", "new", 2, Status::ReadFault, old_failed),
-        ("old", "new", 3, Status::ReadFault, old_failed),
-        ("old", "new", 4, Status::ReadFault, new_failed),
-        ("old", "new", 5, Status::ReadFault, new_failed),
-        ("old", "new", 6, Status::ReadFault, new_failed),
-        ("old", "new", 7, Status::No, "no\nX2 f: gone\n"),
-    ] {
-        let mut inputs = inputs(alloc, &files, &[failing])?;
-        let words = ["check", old_name, new_name];
-        runs(&rt, &words, &mut inputs, status, text)?;
+    inputs(alloc, &[("old", &old), ("new", &new)], &[failing])
+}
+
+fn reads<R: Abort + AllocGlobal>(
+    rt: &R,
+    names: &str,
+    failing: &str,
+    text: &str,
+) -> Result<(), Fail> {
+    let (old, new) = cut(names, ' ');
+    let mut inputs = failing_inputs(rt.alloc(), failing.parse().unwrap_or(0))?;
+    runs(rt, &["check", old, new], &mut inputs, status(text), text)
+}
+
+fn ends_so<R: Abort + AllocGlobal>(rt: &R, row: &str) -> Result<(), Fail> {
+    let (names, row) = cut(row, '|');
+    let (failing, text) = cut(row, '|');
+    let mut wanted = String::new(rt.alloc());
+    for line in text.split(';') {
+        wanted.push_str(line)?;
+        wanted.push('\n')?;
     }
+    reads(rt, names, failing, &wanted)
+}
+
+#[test]
+fn a_failed_read_names_the_input(rt: HostRuntime) -> Result<(), Fail> {
+    for row in READS.lines() {
+        ends_so(&rt, row)?;
+    }
+    Ok(())
+}
+
+#[test]
+fn a_folder_is_not_read(rt: HostRuntime) -> Result<(), Fail> {
     let mut files = FileInputs::new(&rt);
+    let words = ["check", ".", "."];
     runs(
         &rt,
-        &["check", ".", "."],
+        &words,
         &mut files,
         Status::ReadFault,
-        old_failed,
+        "read fault old\n",
     )
 }
 
@@ -112,20 +153,25 @@ impl Inputs for Zeros {
     }
 }
 
+// Each line: how long the inputs are | the fault of the first that has one.
+const LONG: &str = "\
+268435457 0|old 40 TooLong 268435456
+10 268435457|new 40 TooLong 268435456
+268435456 0|old 2 NotElf 0
+";
+
+fn is_long<R: Abort + AllocGlobal>(rt: &R, row: &str) -> Result<(), Fail> {
+    let (sizes, fault) = cut(row, '|');
+    let (old, new) = cut(sizes, ' ');
+    let mut zeros = Zeros::new(number(old), number(new));
+    let text = format!(in rt.alloc(); "unreadable {fault}\n")?;
+    runs(rt, CHECK, &mut zeros, Status::Unreadable, &text)
+}
+
 #[test]
 fn long_inputs_are_refused(rt: HostRuntime) -> Result<(), Fail> {
-    for (old, new, text) in [
-        (268_435_457, 0, "unreadable old 40 TooLong 268435456\n"),
-        (10, 268_435_457, "unreadable new 40 TooLong 268435456\n"),
-        (268_435_456, 0, "unreadable old 2 NotElf 0\n"),
-    ] {
-        runs(
-            &rt,
-            CHECK,
-            &mut Zeros::new(old, new),
-            Status::Unreadable,
-            text,
-        )?;
+    for row in LONG.lines() {
+        is_long(&rt, row)?;
     }
     Ok(())
 }

@@ -1,16 +1,11 @@
 // Libraries with debug information: the certificates and the breaks of their types, their faults, and what `exports` prints.
 use crate::entries::{ABBREVS, TYPE_ABBREVS, TYPE_UNIT, UNIT, UNIT_4};
-use crate::fixture::{CHECK, Change, Status, change, checks, inputs, listeners, runs, status_of};
-use abi_base::MemSink;
-use abi_top::run;
+use crate::fixture::{Status, breaks, change, cut, inputs, is_yes, refuses, runs};
 use std::alloc::{AllocError, Global};
 use std::process::Abort;
 use std::test::Fail;
 use test_images::constants::SHT_PROGBITS;
 use test_images::{Image, ImageSection, ImageSymbol};
-
-// How many bytes a certificate has before the line of the rules.
-const BEFORE_RULES: usize = 144;
 
 // A unit as clang writes it: names and addresses by index.
 const INDEXED: &[(&str, &[u8])] = &[
@@ -44,9 +39,6 @@ const TYPEDEF_ABBREVS: &[u8] =
     b"\x01\x11\x01\x13\x05\x00\x00\x02\x24\x00\x0b\x0b\x3e\x0b\x03\x08\x00\x00\
 \x03\x2e\x00\x03\x08\x49\x13\x11\x01\x00\x00\x04\x16\x00\x03\x08\x49\x13\x00\x00\x00";
 
-// A typedef `t` that is itself, in the place of the base type.
-const CIRCLE: &[Change] = &[(15, b"\x04t\x00\x0f\x00\x00\x00")];
-
 // A library that exports the function `f`, and has no section beside those of its symbols.
 fn bare(alloc: Global) -> Result<Image, AllocError> {
     let mut image = Image::new(alloc);
@@ -73,7 +65,7 @@ pub(crate) fn changed(
     alloc: Global,
     abbrevs: &[u8],
     unit: &[u8],
-    changes: &[Change],
+    changes: &str,
 ) -> Result<Vec<u8>, AllocError> {
     let mut unit = unit.to_vec(alloc)?;
     change(&mut unit, changes);
@@ -83,82 +75,98 @@ pub(crate) fn changed(
     image.bytes(alloc)
 }
 
-// The check must end with a yes, whose certificate has these lines after the digests.
-fn is_yes<R: Abort + AllocGlobal>(rt: &R, old: &[u8], new: &[u8], lines: &str) -> Result<(), Fail> {
-    let alloc = rt.alloc();
-    let mut sink = MemSink::new(alloc, 4096, Vec::new(alloc))?;
-    let mut inputs = inputs(alloc, &[("old", old), ("new", new)], &[])?;
-    let ended = run(alloc, CHECK, &mut inputs, &mut sink, listeners(alloc)?);
-    let rules = "rules e3b0c44298fc1c149afbf4c8996fb92427ae41e4649b934ca495991b7852b855";
-    let lines = format!(in alloc; "{rules}\n{lines}end\n")?;
-    assert_eq!(rt; sink.held().get(BEFORE_RULES..), Some(lines.as_bytes()));
-    assert_eq!(rt; status_of(ended.outcome), Status::Yes);
-    Ok(())
+// The library of a word: a unit of version 5 or 4, one beside a type unit, one that clang wrote, or none.
+fn library_of(alloc: Global, word: &str) -> Result<Vec<u8>, AllocError> {
+    match word {
+        "5" => changed(alloc, ABBREVS, UNIT, ""),
+        "4" => changed(alloc, ABBREVS, UNIT_4, ""),
+        "type" => changed(alloc, TYPE_ABBREVS, TYPE_UNIT, ""),
+        "indexed" => library(alloc, INDEXED),
+        _ => library(alloc, &[]),
+    }
+}
+
+// Each line: two libraries of the same types | the lines of the certificate behind the digests.
+const ALIKE: &str = "\
+5 5|bind 1 1;pair 15 15 direct;pair 22 22 direct;end
+5 4|bind 1 1;pair 15 14 direct;pair 22 21 direct;end
+5 type|bind 1 1;pair 15 25 direct;pair 22 48 direct;end
+indexed indexed|bind 1 1;pair 25 25 direct;pair 29 29 direct;end
+5 indexed|bind 1 1;pair 15 25 direct;pair 22 29 direct;end
+";
+
+fn are_alike<R: Abort + AllocGlobal>(rt: &R, row: &str) -> Result<(), Fail> {
+    let (words, lines) = cut(row, '|');
+    let (old, new) = cut(words, ' ');
+    let old = library_of(rt.alloc(), old)?;
+    let new = library_of(rt.alloc(), new)?;
+    is_yes(rt, &old, &new, lines)
 }
 
 #[test]
 fn a_library_may_replace_itself(rt: HostRuntime) -> Result<(), Fail> {
-    let alloc = rt.alloc();
-    let version_5 = changed(alloc, ABBREVS, UNIT, &[])?;
-    let version_4 = changed(alloc, ABBREVS, UNIT_4, &[])?;
-    let type_unit = changed(alloc, TYPE_ABBREVS, TYPE_UNIT, &[])?;
-    let indexed = library(alloc, INDEXED)?;
-    let lines = "bind 1 1\npair 15 15 direct\npair 22 22 direct\n";
-    is_yes(&rt, &version_5, &version_5, lines)?;
-    let lines = "bind 1 1\npair 15 14 direct\npair 22 21 direct\n";
-    is_yes(&rt, &version_5, &version_4, lines)?;
-    let lines = "bind 1 1\npair 15 25 direct\npair 22 48 direct\n";
-    is_yes(&rt, &version_5, &type_unit, lines)?;
-    let lines = "bind 1 1\npair 25 25 direct\npair 29 29 direct\n";
-    is_yes(&rt, &indexed, &indexed, lines)?;
-    let lines = "bind 1 1\npair 15 25 direct\npair 22 29 direct\n";
-    is_yes(&rt, &version_5, &indexed, lines)
-}
-
-#[test]
-fn breaks_of_types_have_rows(rt: HostRuntime) -> Result<(), Fail> {
-    let alloc = rt.alloc();
-    let good = changed(alloc, ABBREVS, UNIT, &[])?;
-    let rows: [(&[Change], &str); 4] = [
-        (&[(16, b"\x08")], "no\nL2 f result: size 4, now 8\n"),
-        (
-            &[(17, b"\x07")],
-            "no\nL3 f result: scalar signed, now unsigned\n",
-        ),
-        (
-            &[(16, b"\x08\x04")],
-            "no\nL14 f: result in rax, now xmm0\nL2 f result: size 4, now 8\nL3 f result: scalar signed, now float\n",
-        ),
-        // The function stands at another address: the export has no type.
-        (&[(30, b"\x20")], "no\nX6 f: type gone\n"),
-    ];
-    for (changes, text) in rows {
-        let new = changed(alloc, ABBREVS, UNIT, changes)?;
-        checks(&rt, &good, &new, Status::No, text)?;
+    for row in ALIKE.lines() {
+        are_alike(&rt, row)?;
     }
     Ok(())
 }
 
+// Each line: a change of the unit of the new library | what is said. In the last one the function stands at another address: the
+// export has no type.
+const BREAKS: &str = "\
+16=08|L2 f result: size 4, now 8
+17=07|L3 f result: scalar signed, now unsigned
+16=08,04|L14 f: result in rax, now xmm0;L2 f result: size 4, now 8;L3 f result: scalar signed, now float
+30=20|X6 f: type gone
+";
+
+fn is_broken<R: Abort + AllocGlobal>(rt: &R, row: &str) -> Result<(), Fail> {
+    let (changes, lines) = cut(row, '|');
+    let good = changed(rt.alloc(), ABBREVS, UNIT, "")?;
+    let new = changed(rt.alloc(), ABBREVS, UNIT, changes)?;
+    breaks(rt, &good, &new, lines)
+}
+
+#[test]
+fn breaks_of_types_have_rows(rt: HostRuntime) -> Result<(), Fail> {
+    for row in BREAKS.lines() {
+        is_broken(&rt, row)?;
+    }
+    Ok(())
+}
+
+// Each line: a change of the unit | the fault. The first one puts a typedef `t` that is itself in the place of the base type.
+const FAULTS: &str = "\
+15=04,74,00,0f,00,00,00|36 TooDeep 15
+17=0b|35 Shape 15
+25=0c|35 Shape 22
+25=16|35 Shape 22
+13=04|33 Language 12
+15=07|26 AbbrevCode 15
+";
+
+// Only a fault of depth wants the abbreviation of a typedef.
+fn abbreviations(fault: &str) -> &'static [u8] {
+    match fault {
+        "36 TooDeep 15" => TYPEDEF_ABBREVS,
+        _ => ABBREVS,
+    }
+}
+
+// The check and `exports` must refuse a library with the fault.
+fn is_refused<R: Abort + AllocGlobal>(rt: &R, bad: &[u8], fault: &str) -> Result<(), Fail> {
+    let good = changed(rt.alloc(), ABBREVS, UNIT, "")?;
+    refuses(rt, bad, &good, fault)?;
+    let text = format!(in rt.alloc(); "unreadable library {fault}\n")?;
+    lists(rt, bad, Status::Unreadable, &text)
+}
+
 #[test]
 fn faults_of_types_are_named(rt: HostRuntime) -> Result<(), Fail> {
-    let alloc = rt.alloc();
-    let good = changed(alloc, ABBREVS, UNIT, &[])?;
-    let rows: [(&[u8], &[Change], &str); 6] = [
-        (TYPEDEF_ABBREVS, CIRCLE, "36 TooDeep 15"),
-        (ABBREVS, &[(17, b"\x0b")], "35 Shape 15"),
-        (ABBREVS, &[(25, b"\x0c")], "35 Shape 22"),
-        (ABBREVS, &[(25, b"\x16")], "35 Shape 22"),
-        (ABBREVS, &[(13, b"\x04")], "33 Language 12"),
-        (ABBREVS, &[(15, b"\x07")], "26 AbbrevCode 15"),
-    ];
-    for (abbrevs, changes, fault) in rows {
-        let bad = changed(alloc, abbrevs, UNIT, changes)?;
-        let text = format!(in alloc; "unreadable old {fault}\n")?;
-        checks(&rt, &bad, &good, Status::Unreadable, &text)?;
-        let text = format!(in alloc; "unreadable new {fault}\n")?;
-        checks(&rt, &good, &bad, Status::Unreadable, &text)?;
-        let text = format!(in alloc; "unreadable library {fault}\n")?;
-        lists(&rt, &bad, Status::Unreadable, &text)?;
+    for row in FAULTS.lines() {
+        let (changes, fault) = cut(row, '|');
+        let bad = changed(rt.alloc(), abbreviations(fault), UNIT, changes)?;
+        is_refused(&rt, &bad, fault)?;
     }
     Ok(())
 }
@@ -176,31 +184,20 @@ fn lists<R: Abort + AllocGlobal>(
 
 #[test]
 fn exports_are_printed(rt: HostRuntime) -> Result<(), Fail> {
-    let alloc = rt.alloc();
-    let line = "1 f FUNC 16 params - result rax\n";
-    lists(
-        &rt,
-        &changed(alloc, ABBREVS, UNIT, &[])?,
-        Status::Done,
-        line,
-    )?;
-    lists(
-        &rt,
-        &changed(alloc, ABBREVS, UNIT_4, &[])?,
-        Status::Done,
-        line,
-    )?;
-    lists(
-        &rt,
-        &changed(alloc, TYPE_ABBREVS, TYPE_UNIT, &[])?,
-        Status::Done,
-        line,
-    )?;
-    lists(&rt, &library(alloc, INDEXED)?, Status::Done, line)?;
-    lists(
-        &rt,
-        &library(alloc, &[])?,
-        Status::Done,
-        "1 f FUNC 16 untyped\n",
-    )
+    for word in "5 4 type indexed".split(' ') {
+        let file = library_of(rt.alloc(), word)?;
+        lists(
+            &rt,
+            &file,
+            Status::Done,
+            "1 f FUNC 16 params - result rax\n",
+        )?;
+    }
+    Ok(())
+}
+
+#[test]
+fn an_export_may_have_no_type(rt: HostRuntime) -> Result<(), Fail> {
+    let file = library_of(rt.alloc(), "none")?;
+    lists(&rt, &file, Status::Done, "1 f FUNC 16 untyped\n")
 }

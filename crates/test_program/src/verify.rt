@@ -1,9 +1,8 @@
 // Certificates that were changed, each with what `verify` must answer.
 use crate::entries::{ABBREVS, UNIT};
-use crate::fixture::{CHECK, Status, inputs, listeners, runs, status_of as ending_of};
+use crate::fixture::{Status, cut, inputs, runs, told};
 use crate::typed::changed;
-use abi_base::{MemSink, NoMemory};
-use abi_top::run;
+use abi_base::NoMemory;
 use std::alloc::Global;
 use std::fmt::Write;
 use std::process::Abort;
@@ -114,10 +113,8 @@ fn expect<R: Abort + AllocGlobal>(
     row: &str,
 ) -> Result<(), Fail> {
     let alloc = rt.alloc();
-    let mut cells = row.split('|');
-    let heads = cells.next().unwrap_or("");
-    let lines = cells.next().unwrap_or("");
-    let answer = cells.next().unwrap_or("");
+    let (heads, row) = cut(row, '|');
+    let (lines, answer) = cut(row, '|');
     let text = certificate(alloc, own, heads, lines)?;
     let wanted = format!(in alloc; "{answer}\n")?;
     verifies(rt, library, text.as_bytes(), status_of(answer), &wanted)
@@ -125,13 +122,9 @@ fn expect<R: Abort + AllocGlobal>(
 
 #[test]
 fn changed_certificates_are_refused(rt: HostRuntime) -> Result<(), Fail> {
-    let alloc = rt.alloc();
-    let library = changed(alloc, ABBREVS, UNIT, &[])?;
-    let mut sink = MemSink::new(alloc, 4096, Vec::new(alloc))?;
-    let files: [(&str, &[u8]); 2] = [("old", &library), ("new", &library)];
-    let mut inputs = inputs(alloc, &files, &[])?;
-    let ended = run(alloc, CHECK, &mut inputs, &mut sink, listeners(alloc)?);
-    assert_eq!(rt; ending_of(ended.outcome), Status::Yes);
+    let library = changed(rt.alloc(), ABBREVS, UNIT, "")?;
+    let (ended, sink) = told(rt.alloc(), &library, &library)?;
+    assert_eq!(rt; ended, Status::Yes);
     let own = str::from_utf8(sink.held()).unwrap_or("");
     for row in ROWS.lines() {
         expect(&rt, &library, own, row)?;

@@ -92,13 +92,27 @@ fn changed<'a, Ix: Index>(alloc: Global) -> Result<View<'a, Ix>, NoMemory> {
     Ok(view)
 }
 
+// The row of a rule for this old type and one that became something else.
+fn row_beside(alloc: Global, rule: Rule, old: &View<OldIx>) -> Result<Row, NoMemory>
+    requires { speaks_of_parts rule ≡ false }
+{
+    let new = changed(alloc)?;
+    whole(alloc, rule, old, &new)
+}
+
+fn scalar_row(alloc: Global, rule: Rule) -> Result<Row, NoMemory>
+    requires { speaks_of_parts rule ≡ false }
+{
+    let old = scalar(alloc, b"")?;
+    row_beside(alloc, rule, &old)
+}
+
 // Of a scalar that became something else, the row of this rule says this.
 fn says_of_scalar(rt: &impl Abort, alloc: Global, rule: Rule, wanted: &str) -> Result<(), NoMemory>
     requires { speaks_of_parts rule ≡ false }
 {
-    let old = scalar(alloc, b"")?;
-    let new = changed(alloc)?;
-    says(rt, &whole(alloc, rule, &old, &new)?, wanted);
+    let row = scalar_row(alloc, rule)?;
+    says(rt, &row, wanted);
     Ok(())
 }
 
@@ -139,6 +153,23 @@ fn pair_of<'a, Ix: Index>(
     made(alloc, Kind::Structure, name, parts)
 }
 
+// The row of a rule for this old structure and one whose second member moved and became a bit field.
+fn member_row_beside(
+    rt: &impl Abort,
+    alloc: Global,
+    rule: Rule,
+    part: usize,
+    old: &View<OldIx>,
+) -> Result<Row, NoMemory> {
+    let new = pair_of(alloc, b"v", 40, 3)?;
+    at_part(rt, alloc, rule, part, old, &new)
+}
+
+fn member_row(rt: &impl Abort, alloc: Global, rule: Rule, part: usize) -> Result<Row, NoMemory> {
+    let old = pair_of(alloc, b"v", 32, 0)?;
+    member_row_beside(rt, alloc, rule, part, &old)
+}
+
 // Of the second member `v`, which moved and became a bit field, or of the first one, the row of this rule says this.
 fn says_of_member(
     rt: &impl Abort,
@@ -147,9 +178,8 @@ fn says_of_member(
     part: usize,
     wanted: &str,
 ) -> Result<(), NoMemory> {
-    let old = pair_of(alloc, b"v", 32, 0)?;
-    let new = pair_of(alloc, b"v", 40, 3)?;
-    says(rt, &at_part(rt, alloc, rule, part, &old, &new)?, wanted);
+    let row = member_row(rt, alloc, rule, part)?;
+    says(rt, &row, wanted);
     Ok(())
 }
 
@@ -189,6 +219,22 @@ fn enumeration<'a, Ix: Index>(
     Ok(view)
 }
 
+// The row of a rule for this old enumeration and one of another value.
+fn enumerator_row_beside(
+    rt: &impl Abort,
+    alloc: Global,
+    rule: Rule,
+    old: &View<OldIx>,
+) -> Result<Row, NoMemory> {
+    let new = enumeration(alloc, b"A", 1, 258)?;
+    at_part(rt, alloc, rule, 0, old, &new)
+}
+
+fn enumerator_row(rt: &impl Abort, alloc: Global, rule: Rule) -> Result<Row, NoMemory> {
+    let old = enumeration(alloc, b"A", 1, u64::MAX)?;
+    enumerator_row_beside(rt, alloc, rule, &old)
+}
+
 // Of an enumerator of one byte whose value was the greatest one, the row of this rule says this.
 fn says_of_enumerator(
     rt: &impl Abort,
@@ -196,9 +242,8 @@ fn says_of_enumerator(
     rule: Rule,
     wanted: &str,
 ) -> Result<(), NoMemory> {
-    let old = enumeration(alloc, b"A", 1, u64::MAX)?;
-    let new = enumeration(alloc, b"A", 1, 258)?;
-    says(rt, &at_part(rt, alloc, rule, 0, &old, &new)?, wanted);
+    let row = enumerator_row(rt, alloc, rule)?;
+    says(rt, &row, wanted);
     Ok(())
 }
 
@@ -217,6 +262,19 @@ fn register(number: u8) -> Place {
     Place::Registers { eightbytes }
 }
 
+fn function_parts<'a, Ix: Index>(alloc: Global) -> Result<Vec<Part<'a, Ix>>, NoMemory> {
+    let mut parts = Vec::new(alloc);
+    parts.push(Part::Outcome { to: Ix::of(0) })?;
+    parts.push(Part::Param { to: Ix::of(0) })?;
+    Ok(parts)
+}
+
+fn call_of(alloc: Global, outcome: Place, param: Place) -> Result<Call, NoMemory> {
+    let mut params = List::new(alloc);
+    params.push(param)?;
+    Call::of(alloc, CallShape { outcome, params })
+}
+
 // A function of one parameter, with these places.
 fn function<'a, Ix: Index>(
     alloc: Global,
@@ -224,14 +282,31 @@ fn function<'a, Ix: Index>(
     outcome: Place,
     param: Place,
 ) -> Result<View<'a, Ix>, NoMemory> {
-    let mut parts = Vec::new(alloc);
-    parts.push(Part::Outcome { to: Ix::of(0) })?;
-    parts.push(Part::Param { to: Ix::of(0) })?;
+    let call = call_of(alloc, outcome, param)?;
+    let parts = function_parts(alloc)?;
     let mut view = made(alloc, Kind::Function, tag, parts)?;
-    let mut params = List::new(alloc);
-    params.push(param)?;
-    view.call = Call::of(alloc, CallShape { outcome, params })?;
+    view.call = call;
     Ok(view)
+}
+
+// The row of places for this old function and one with its result in memory and its parameter on the stack.
+fn place_row_beside(
+    rt: &impl Abort,
+    alloc: Global,
+    part: usize,
+    old: &View<OldIx>,
+) -> Result<Row, NoMemory> {
+    let stack = Place::Stack {
+        offset: 0,
+        size: 24,
+    };
+    let new = function(alloc, b"", Place::Hidden, stack)?;
+    at_part(rt, alloc, Rule::PassingPlace, part, old, &new)
+}
+
+fn place_row(rt: &impl Abort, alloc: Global, part: usize) -> Result<Row, NoMemory> {
+    let old = function(alloc, b"", register(6), register(0))?;
+    place_row_beside(rt, alloc, part, &old)
 }
 
 // Of a function whose result went to memory and whose parameter went to the stack, the row says this of a part.
@@ -241,17 +316,8 @@ fn says_of_place(
     part: usize,
     wanted: &str,
 ) -> Result<(), NoMemory> {
-    let old = function(alloc, b"", register(6), register(0))?;
-    let stack = Place::Stack {
-        offset: 0,
-        size: 24,
-    };
-    let new = function(alloc, b"", Place::Hidden, stack)?;
-    says(
-        rt,
-        &at_part(rt, alloc, Rule::PassingPlace, part, &old, &new)?,
-        wanted,
-    );
+    let row = place_row(rt, alloc, part)?;
+    says(rt, &row, wanted);
     Ok(())
 }
 
@@ -280,24 +346,35 @@ fn export<'a>(name: &'a [u8], version: &'a [u8], kind: SymbolKind, size: u64) ->
     }
 }
 
+// Of a function of a version that became a thread-local object, the row of this rule says this.
+fn says_of_export(
+    rt: &impl Abort,
+    alloc: Global,
+    rule: Rule,
+    wanted: &str,
+) -> Result<(), NoMemory> {
+    let old = export(b"f", b"V1", SymbolKind::Func, 4);
+    let new = export(b"f", b"V1", SymbolKind::Tls, 8);
+    let row = export_row(alloc, rule, &old, &new)?;
+    assert_eq!(rt; row.export.as_slice(), b"f@V1".as_slice());
+    says(rt, &row, wanted);
+    Ok(())
+}
+
 #[test]
 fn exports(rt: HostRuntime) -> Result<(), Fail> {
     let alloc = rt.alloc();
-    let old = export(b"f", b"V1", SymbolKind::Func, 4);
-    let new = export(b"f", b"V1", SymbolKind::Tls, 8);
-    let rows = [
-        (Rule::ExportPresence, "gone"),
-        (Rule::ExportVersion, "version gone"),
-        (Rule::ExportKind, "kind FUNC, now TLS"),
-        (Rule::ExportSize, "object size 4, now 8"),
-        (Rule::ExportType, "type gone"),
-    ];
-    for (rule, wanted) in &rows {
-        let row = export_row(alloc, *rule, &old, &new)?;
-        assert_eq!(rt; row.export.as_slice(), b"f@V1".as_slice());
-        says(&rt, &row, wanted);
-    }
-    let row = soname_row(alloc, Some(b"libx.so.1"), None)?;
+    says_of_export(&rt, alloc, Rule::ExportPresence, "gone")?;
+    says_of_export(&rt, alloc, Rule::ExportVersion, "version gone")?;
+    says_of_export(&rt, alloc, Rule::ExportKind, "kind FUNC, now TLS")?;
+    says_of_export(&rt, alloc, Rule::ExportSize, "object size 4, now 8")?;
+    says_of_export(&rt, alloc, Rule::ExportType, "type gone")?;
+    Ok(())
+}
+
+#[test]
+fn sonames(rt: HostRuntime) -> Result<(), Fail> {
+    let row = soname_row(rt.alloc(), Some(b"libx.so.1"), None)?;
     assert_eq!(rt; row.export.as_slice(), b"-".as_slice());
     says(&rt, &row, "SONAME libx.so.1, now none");
     Ok(())

@@ -2,7 +2,7 @@
 ghost use Rattle.std.specs.Prelude.{◌≡◌, ◌<◌, IfOk};
 ghost use Rattle.pair_explorer.specs.Visits.{AreEarlier};
 
-use crate::spelled::spelled_graph;
+use crate::spelled::{cut, spelled_graph};
 use abi_base::{List, NoMemory};
 use abi_types::{Graph, Index, Marks, NewIx, OldIx};
 use pair_explorer::{Explored, GraphPair, Root, Visits, explore, is_scope, route_to};
@@ -51,8 +51,8 @@ fn graph<'a, Ix: Index>(
 fn roots(alloc: Global, cell: &str) -> Result<Vec<Root>, NoMemory> {
     let mut roots = Vec::new(alloc);
     for word in cell.split_whitespace() {
-        let (export, types) = word.split_once(':').unwrap_or((word, ""));
-        let (old, new) = types.split_once('-').unwrap_or((types, ""));
+        let (export, types) = cut(word, ':');
+        let (old, new) = cut(types, '-');
         roots.push(Root {
             export: export.parse().unwrap_or(0),
             old: OldIx::of(number(old)),
@@ -87,22 +87,26 @@ struct Row<'a> {
     roots: &'a str,
     direct: &'a str,
     pointer: &'a str,
-    triples: &'a str,
-    breaks: &'a str,
+    told: &'a str,
 }
 
 fn row_of(line: &str) -> Row<'_> {
-    let mut cells = line.split('|');
+    let (what, line) = cut(line, '|');
+    let (classes, line) = cut(line, '|');
+    let (old, line) = cut(line, '|');
+    let (new, line) = cut(line, '|');
+    let (roots, line) = cut(line, '|');
+    let (direct, line) = cut(line, '|');
+    let (pointer, told) = cut(line, '|');
     Row {
-        what: cells.next().unwrap_or(""),
-        classes: cells.next().unwrap_or(""),
-        old: cells.next().unwrap_or(""),
-        new: cells.next().unwrap_or(""),
-        roots: cells.next().unwrap_or(""),
-        direct: cells.next().unwrap_or(""),
-        pointer: cells.next().unwrap_or(""),
-        triples: cells.next().unwrap_or(""),
-        breaks: cells.next().unwrap_or(""),
+        what,
+        classes,
+        old,
+        new,
+        roots,
+        direct,
+        pointer,
+        told,
     }
 }
 
@@ -151,47 +155,53 @@ fn text_of(alloc: Global, explored: &Explored) -> Result<String, NoMemory>
     Ok(format!(in alloc; "{triples}|{breaks}")?)
 }
 
-// What an exploration over classes tells.
-fn told_over<L: Ledger>(
+// What an exploration tells.
+fn told_by<L: Ledger>(
     rt: &impl Abort,
     alloc: Global,
     blank: Blank,
+    graphs: &GraphPair,
+) -> Result<String, NoMemory>
+    requires name { blank.name ≡ L.name }
+    requires parts { blank.parts ≡ L.parts }
+    requires some { 0 < blank.parts }
+    requires old_nodes { graphs.now.old_classes.now.nodes ≡ graphs.now.old.now }
+    requires new_nodes { graphs.now.new_classes.now.nodes ≡ graphs.now.new.now }
+{
+    assert!(rt; is_scope(graphs));
+    let mut steps = Steps::<L>::new(blank);
+    let explored = explore(alloc, graphs, &mut steps)?;
+    text_of(alloc, &explored)
+}
+
+// What an exploration over classes tells.
+fn told_over(
+    rt: &impl Abort,
+    alloc: Global,
     row: &Row,
     old: &Graph<OldIx>,
     new: &Graph<NewIx>,
     old_classes: &Classes<OldIx>,
     new_classes: &Classes<NewIx>,
 ) -> Result<String, NoMemory>
-    requires name { blank.name ≡ L.name }
-    requires parts { blank.parts ≡ L.parts }
-    requires some { 0 < blank.parts }
     requires old_nodes { old_classes.now.nodes ≡ old.now }
     requires new_nodes { new_classes.now.nodes ≡ new.now }
 {
     let roots = roots(alloc, row.roots)?;
-    let roots = roots.as_slice();
     let marks = marks_of(alloc, row, old.len())?;
     let graphs = GraphPair {
         old,
         new,
-        roots,
+        roots: roots.as_slice(),
         marks: &marks,
         old_classes,
         new_classes,
     };
-    assert!(rt; is_scope(&graphs));
-    let mut steps = Steps::<L>::new(blank);
-    let explored = explore(alloc, &graphs, &mut steps)?;
-    text_of(alloc, &explored)
+    told_by::<Brand>(rt, alloc, Blank::new(1), &graphs)
 }
 
-fn expect(rt: &impl Abort, row: &Row, told: &str, alloc: Global) -> Result<(), NoMemory> {
-    let triples = row.triples;
-    let breaks = row.breaks;
-    let wanted = format!(in alloc; "{triples}|{breaks}")?;
-    let what = row.what;
-    assert_eq!(rt; told, wanted.as_str(), "{what}");
-    Ok(())
+fn expect(rt: &impl Abort, row: &Row, told: &str) {
+    assert_eq!(rt; told, row.told, "{}", row.what);
 }
 
 // The classes that a word names.
@@ -208,24 +218,42 @@ fn classes<'g, 'a, Ix: Index>(
     }
 }
 
+// What an exploration of two graphs tells.
+fn told_beside(
+    rt: &impl Abort,
+    alloc: Global,
+    row: &Row,
+    old: &Graph<OldIx>,
+    new: &Graph<NewIx>,
+) -> Result<String, NoMemory> {
+    let old_classes = classes(alloc, old, row.classes)?;
+    let new_classes = classes(alloc, new, row.classes)?;
+    told_over(rt, alloc, row, old, new, &old_classes, &new_classes)
+}
+
+// The same, where the new graph is still to be made.
+fn told_of(
+    rt: &impl Abort,
+    alloc: Global,
+    row: &Row,
+    old: &Graph<OldIx>,
+) -> Result<String, NoMemory> {
+    let new = graph::<NewIx>(rt, alloc, row.new)?;
+    told_beside(rt, alloc, row, old, &new)
+}
+
+// What is told of a row.
+fn told(rt: &impl Abort, alloc: Global, row: &Row) -> Result<String, NoMemory> {
+    let old = graph::<OldIx>(rt, alloc, row.old)?;
+    told_of(rt, alloc, row, &old)
+}
+
 // Checks a row.
 fn check(rt: &impl Abort, alloc: Global, line: &str) -> Result<(), NoMemory> {
     let row = row_of(line);
-    let old = graph::<OldIx>(rt, alloc, row.old)?;
-    let new = graph::<NewIx>(rt, alloc, row.new)?;
-    let old_classes = classes(alloc, &old, row.classes)?;
-    let new_classes = classes(alloc, &new, row.classes)?;
-    let told = told_over::<Brand>(
-        rt,
-        alloc,
-        Blank::new(1),
-        &row,
-        &old,
-        &new,
-        &old_classes,
-        &new_classes,
-    )?;
-    expect(rt, &row, told.as_str(), alloc)
+    let told = told(rt, alloc, &row)?;
+    expect(rt, &row, told.as_str());
+    Ok(())
 }
 
 #[test]

@@ -4,7 +4,7 @@ ghost use Rattle.cert_check.specs.Compatible.{task_of};
 ghost use Rattle.pair_compare.specs.BoundPair.{IsBinding, sides_of};
 ghost use Rattle.pair_compare.specs.reports.TypeFindings.{IsExplored};
 
-use crate::spelled::spelled_graph;
+use crate::spelled::{cut, spelled_graph};
 use abi_base::{List, NoMemory};
 use abi_types::{Export, Graph, Index, Library, Marks, NewIx, OldIx, SymbolKind};
 use elf_bind::bind_all;
@@ -55,29 +55,35 @@ fn symbol_kind(word: &str) -> SymbolKind {
     }
 }
 
+fn version_of(word: &str) -> Option<&[u8]> {
+    if word.is_empty() {
+        None
+    } else {
+        Some(word.as_bytes())
+    }
+}
+
+fn number(text: &str) -> u64 {
+    text.parse().unwrap_or(0)
+}
+
 fn export<'a>(symbol: u32, word: &'a str) -> Export<'a> {
-    let mut cells = word.split(':');
-    let name = cells.next().unwrap_or("").as_bytes();
-    let version = cells.next().unwrap_or("").as_bytes();
-    let kind = symbol_kind(cells.next().unwrap_or(""));
-    let size = cells.next().unwrap_or("").parse().unwrap_or(0);
-    let entry: u64 = cells.next().unwrap_or("").parse().unwrap_or(0);
+    let (name, word) = cut(word, ':');
+    let (version, word) = cut(word, ':');
+    let (kind, word) = cut(word, ':');
+    let (size, entry) = cut(word, ':');
     Export {
         symbol,
-        name,
-        version: if version.is_empty() {
-            None
-        } else {
-            Some(version)
-        },
+        name: name.as_bytes(),
+        version: version_of(version),
         index: 1,
         hidden: false,
-        kind,
+        kind: symbol_kind(kind),
         absolute: false,
         value: 0x1000,
-        size,
-        declared: name,
-        entry: entry.saturating_mul(10),
+        size: number(size),
+        declared: name.as_bytes(),
+        entry: number(entry).saturating_mul(10),
     }
 }
 
@@ -181,6 +187,30 @@ fn push_row(rt: &impl Abort, text: &mut String, row: &Row) -> Result<(), NoMemor
     Ok(())
 }
 
+// The rows between two libraries whose exports are bound.
+fn rows_of(rt: &impl Abort, alloc: Global, pair: &BoundPair) -> Result<List<Row>, NoMemory>
+    requires { IsBinding pair.now }
+{
+    let explored = explored::<Brand>(rt, alloc, Blank::new(1), pair)?;
+    report_rows(alloc, pair, &explored)
+}
+
+fn text_of(rt: &impl Abort, alloc: Global, rows: &[Row]) -> Result<String, NoMemory> {
+    let mut text = String::new(alloc);
+    for row in rows {
+        push_row(rt, &mut text, row)?;
+    }
+    Ok(text)
+}
+
+// The same rows as a text.
+fn told_by(rt: &impl Abort, alloc: Global, pair: &BoundPair) -> Result<String, NoMemory>
+    requires { IsBinding pair.now }
+{
+    let rows = rows_of(rt, alloc, pair)?;
+    text_of(rt, alloc, rows.as_slice())
+}
+
 // The rows between two libraries.
 fn told(
     rt: &impl Abort,
@@ -197,29 +227,70 @@ fn told(
         marks,
         bound,
     };
-    let explored = explored::<Brand>(rt, alloc, Blank::new(1), &pair)?;
-    let rows = report_rows(alloc, &pair, &explored)?;
-    let mut text = String::new(alloc);
-    for row in rows.as_slice() {
-        push_row(rt, &mut text, row)?;
+    told_by(rt, alloc, &pair)
+}
+
+// The cells of a line.
+#[derive(Clone, Copy)]
+struct Cells<'a> {
+    what: &'a str,
+    old_types: &'a str,
+    new_types: &'a str,
+    old_exports: &'a str,
+    new_exports: &'a str,
+    wanted: &'a str,
+}
+
+fn cells_of(line: &str) -> Cells<'_> {
+    let (what, line) = cut(line, '|');
+    let (old_types, line) = cut(line, '|');
+    let (new_types, line) = cut(line, '|');
+    let (old_exports, line) = cut(line, '|');
+    let (new_exports, wanted) = cut(line, '|');
+    Cells {
+        what,
+        old_types,
+        new_types,
+        old_exports,
+        new_exports,
+        wanted,
     }
-    Ok(text)
+}
+
+// The rows between two libraries, by the old exports of a line.
+fn told_beside(
+    rt: &impl Abort,
+    alloc: Global,
+    old: &Library<OldIx>,
+    new: &Library<NewIx>,
+    exports: &str,
+) -> Result<String, NoMemory> {
+    let marks = marks(alloc, exports, old.graph().len())?;
+    told(rt, alloc, old, new, &marks)
+}
+
+// The same, where the new library is still to be made.
+fn told_of(
+    rt: &impl Abort,
+    alloc: Global,
+    old: &Library<OldIx>,
+    cells: &Cells,
+) -> Result<String, NoMemory> {
+    let new = library::<NewIx>(rt, alloc, cells.new_types, cells.new_exports)?;
+    told_beside(rt, alloc, old, &new, cells.old_exports)
+}
+
+// The rows of a line.
+fn told_in(rt: &impl Abort, alloc: Global, cells: &Cells) -> Result<String, NoMemory> {
+    let old = library::<OldIx>(rt, alloc, cells.old_types, cells.old_exports)?;
+    told_of(rt, alloc, &old, cells)
 }
 
 // Checks a line.
 fn check(rt: &impl Abort, alloc: Global, line: &str) -> Result<(), NoMemory> {
-    let mut cells = line.split('|');
-    let what = cells.next().unwrap_or("");
-    let old_types = cells.next().unwrap_or("");
-    let new_types = cells.next().unwrap_or("");
-    let old_exports = cells.next().unwrap_or("");
-    let new_exports = cells.next().unwrap_or("");
-    let wanted = cells.next().unwrap_or("");
-    let old = library::<OldIx>(rt, alloc, old_types, old_exports)?;
-    let new = library::<NewIx>(rt, alloc, new_types, new_exports)?;
-    let marks = marks(alloc, old_exports, old.graph().len())?;
-    let text = told(rt, alloc, &old, &new, &marks)?;
-    assert_eq!(rt; text.as_str(), wanted, "{what}");
+    let cells = cells_of(line);
+    let told = told_in(rt, alloc, &cells)?;
+    assert_eq!(rt; told.as_str(), cells.wanted, "{}", cells.what);
     Ok(())
 }
 

@@ -4,6 +4,11 @@ use abi_types::{Call, CallShape, Graph, Group, Index, Kind, Node, Part, Parts, P
 use std::alloc::Global;
 use test_graphs::graph;
 
+/// What stands before the first such character, and what stands behind it.
+pub(crate) fn cut(text: &str, by: char) -> (&str, &str) {
+    text.split_once(by).unwrap_or((text, ""))
+}
+
 // A number in decimal, and 0 where it is none.
 fn number(text: &str) -> usize {
     text.parse().unwrap_or(0)
@@ -48,9 +53,9 @@ fn rank(kind: Kind) -> u32 {
 
 // What a word of a type of this kind leads to, as the part at this position.
 fn part<'a, Ix: Index>(kind: Kind, position: usize, word: &'a str) -> Part<'a, Ix> {
-    let (place, to) = word.split_once('>').unwrap_or((word, ""));
-    let (name, bit) = place.split_once('@').unwrap_or((place, ""));
-    let (to, _) = to.split_once('=').unwrap_or((to, ""));
+    let (place, to) = cut(word, '>');
+    let (name, bit) = cut(place, '@');
+    let (to, _) = cut(to, '=');
     let to = Ix::of(number(to));
     match kind {
         Kind::Structure | Kind::Union => Part::Member {
@@ -96,25 +101,38 @@ fn params(alloc: Global, words: &str) -> Result<List<Place>, NoMemory> {
     Ok(params)
 }
 
-// The node of a type.
-fn node<'a, Ix: Index>(alloc: Global, entry: u64, text: &'a str) -> Result<Node<'a, Ix>, NoMemory> {
-    let mut words = text.split_whitespace();
-    let first = words.next().unwrap_or("");
-    let (word, bytes) = first.split_once(':').unwrap_or((first, ""));
-    let kind = kind(word);
+// The places of a call, by the words of a type of this kind.
+fn call(alloc: Global, kind: Kind, text: &str) -> Result<Call, NoMemory> {
+    match kind {
+        Kind::Function => {
+            let outcome = place(text.split_whitespace().nth(1).unwrap_or(""));
+            let params = params(alloc, text)?;
+            Call::of(alloc, CallShape { outcome, params })
+        }
+        _ => Ok(Call::none()),
+    }
+}
+
+// The parts of a type of this kind, by the words behind the first.
+fn parts<'a, Ix: Index>(
+    alloc: Global,
+    kind: Kind,
+    text: &'a str,
+) -> Result<Parts<'a, Ix>, NoMemory> {
     let mut parts = Vec::new(alloc);
-    for word in words {
+    for word in text.split_whitespace().skip(1) {
         let part = part(kind, parts.len(), word);
         parts.push(part)?;
     }
-    let outcome = match kind {
-        Kind::Function => place(text.split_whitespace().nth(1).unwrap_or("")),
-        _ => Place::Nothing,
-    };
-    let params = match kind {
-        Kind::Function => params(alloc, text)?,
-        _ => List::new(alloc),
-    };
+    Parts::of(alloc, parts)
+}
+
+// The node of a type.
+fn node<'a, Ix: Index>(alloc: Global, entry: u64, text: &'a str) -> Result<Node<'a, Ix>, NoMemory> {
+    let (word, bytes) = cut(cut(text, ' ').0, ':');
+    let kind = kind(word);
+    let parts = parts(alloc, kind, text)?;
+    let call = call(alloc, kind, text)?;
     Ok(Node {
         entry,
         rank: rank(kind),
@@ -127,8 +145,8 @@ fn node<'a, Ix: Index>(alloc: Global, entry: u64, text: &'a str) -> Result<Node<
             align: 0,
             count: 0,
             variadic: false,
-            parts: Parts::of(alloc, parts)?,
-            call: Call::of(alloc, CallShape { outcome, params })?,
+            parts,
+            call,
         },
         labels: List::new(alloc),
     })

@@ -1,55 +1,72 @@
 // Worked rows of the printed form of places.
+use crate::spelled::cut;
+use abi_base::NoMemory;
 use abi_types::{Place, Slot};
-use report::*;
+use report::push_place;
+use std::alloc::Global;
+use std::process::Abort;
 use std::test::Fail;
+
+// Each line: a place, with the number of each register behind a dot | its text.
+const PLACES: &str = "\
+none|none
+memory|memory
+stack 0 16|stack+0:16
+registers general.0 general.1|rdi+rsi
+registers vector.0 upper.0|xmm0*2
+registers x87.0 general.6|st0+rax
+registers x87.0 x87.0 x87.1 x87.1|st0+st1
+";
+
+fn slot(word: &str) -> Slot {
+    let (kind, number) = cut(word, '.');
+    let number = number.parse().unwrap_or(0);
+    match kind {
+        "general" => Slot::General(number),
+        "vector" => Slot::Vector(number),
+        "upper" => Slot::Upper(number),
+        _ => Slot::X87(number),
+    }
+}
+
+fn registers(words: &str) -> Place {
+    let mut eightbytes = [Slot::Unused; 8];
+    for (at, word) in eightbytes.iter_mut().zip(words.split(' ')) {
+        *at = slot(word);
+    }
+    Place::Registers { eightbytes }
+}
+
+fn stack(words: &str) -> Place {
+    let (offset, size) = cut(words, ' ');
+    Place::Stack {
+        offset: offset.parse().unwrap_or(0),
+        size: size.parse().unwrap_or(0),
+    }
+}
+
+fn place(cell: &str) -> Place {
+    let (word, rest) = cut(cell, ' ');
+    match word {
+        "none" => Place::Nothing,
+        "memory" => Place::Hidden,
+        "stack" => stack(rest),
+        _ => registers(rest),
+    }
+}
+
+fn check(rt: &impl Abort, alloc: Global, row: &str) -> Result<(), NoMemory> {
+    let (cell, wanted) = cut(row, '|');
+    let mut text = String::new(alloc);
+    push_place(&mut text, &place(cell))?;
+    assert_eq!(rt; text.as_str(), wanted);
+    Ok(())
+}
 
 #[test]
 fn places_have_their_texts(rt: HostRuntime) -> Result<(), Fail> {
-    let alloc = rt.alloc();
-    let mut slots = [Slot::Unused; 8];
-    slots[0] = Slot::General(0);
-    slots[1] = Slot::General(1);
-    let general = Place::Registers { eightbytes: slots };
-    slots[0] = Slot::Vector(0);
-    slots[1] = Slot::Upper(0);
-    let vector = Place::Registers { eightbytes: slots };
-    slots[0] = Slot::X87(0);
-    slots[1] = Slot::General(6);
-    let mixed = Place::Registers { eightbytes: slots };
-    let complex = [
-        Slot::X87(0),
-        Slot::X87(0),
-        Slot::X87(1),
-        Slot::X87(1),
-        Slot::Unused,
-        Slot::Unused,
-        Slot::Unused,
-        Slot::Unused,
-    ];
-    let places = [
-        (Place::Nothing, "none"),
-        (Place::Hidden, "memory"),
-        (
-            Place::Stack {
-                offset: 0,
-                size: 16,
-            },
-            "stack+0:16",
-        ),
-        (general, "rdi+rsi"),
-        (vector, "xmm0*2"),
-        (mixed, "st0+rax"),
-        (
-            Place::Registers {
-                eightbytes: complex,
-            },
-            "st0+st1",
-        ),
-    ];
-    for (place, wanted) in &places {
-        let mut text = String::new(alloc);
-        push_place(&mut text, place)?;
-        assert_eq!(rt; text.as_str(), *wanted);
+    for row in PLACES.lines() {
+        check(&rt, rt.alloc(), row)?;
     }
     Ok(())
 }

@@ -4,4 +4,6 @@
 #[cfg(test)]
 mod marking;
 #[cfg(test)]
+mod rows;
+#[cfg(test)]
 mod sections;

@@ -1,4 +1,5 @@
 // What no clause says: that rules are asked where there is memory, and what rule files made by hand say of a library made by hand.
+use crate::rows::{file_of, wanted_of};
 use abi_base::{List, NoMemory};
 use abi_types::{
     Export, Graph, Kind, Label, LabelKind, Library, Marks, Node, OldIx, SymbolKind, Way,
@@ -10,316 +11,159 @@ use suppression_text::Rules;
 use suppressions::{drops_export, drops_labels, marks, read_rules};
 use test_graphs::{graph, is_library, view, void};
 
-// A rule file, and a digit for each export and each node by each way: 1 where it is dropped or marked.
-struct Row<'a> {
-    text: &'a str,
-    exports: &'a str,
-    direct: &'a str,
-    pointer: &'a str,
-}
+// Each line: a rule file, with a slash for the end of each line | a digit for each export, then for each node where it is reached by
+// value, and then for each node behind a pointer: 1 where it is dropped or marked.
+const ROWS: &str = "\
+|0000000 0000000 0000000
+[suppress_function]/name = g_decl|0100000 0000000 0000000
+[suppress_function]/name = g|0000000 0000000 0000000
+[suppress_function]/symbol_name = g|0100000 0000000 0000000
+[suppress_function]/symbol_name = o|0000000 0000000 0000000
+[suppress_variable]/symbol_name = f|0000000 0000000 0000000
+[suppress_variable]/symbol_name = o|0000100 0000000 0000000
+[suppress_function]/name_regexp = _d|0100000 0000000 0000000
+[suppress_function]/name_regexp = ^_d|0000000 0000000 0000000
+[suppress_function]/name_not_regexp = _|1011000 0000000 0000000
+[suppress_variable]/name_not_regexp = _|0000111 0000000 0000000
+[suppress_function]/symbol_name_regexp = ^[fg]$|1100000 0000000 0000000
+[suppress_function]/symbol_version = V1|1010000 0000000 0000000
+[suppress_function]/symbol_version = V|0000000 0000000 0000000
+[suppress_variable]/symbol_version_regexp = .|0000100 0000000 0000000
+[suppress_function]/symbol_version_regexp = ^V1$|1010000 0000000 0000000
+[suppress_function]/soname_regexp = ^lib|1111000 0000000 0000000
+[suppress_function]/soname_regexp = ^so|0000000 0000000 0000000
+[suppress_function]/symbol_version = V1/name = f|1000000 0000000 0000000
+[suppress_function]/label = a/name = f|1000000 0000000 0000000
+[suppress_function]/name = f/[suppress_variable]/name = o|1000100 0000000 0000000
+[suppress_function]/name = f/[suppress_function]/name = i/|1010000 0000000 0000000
+[suppress_type]/name = priv|0000000 0110001 0110001
+[suppress_type]/name = priv\r|0000000 0000000 0000000
+[suppress_type]/name = priv/type_kind = typedef|0000000 0000000 0000000
+[suppress_type]/name = priv/type_kind = struct|0000000 0110001 0110001
+[suppress_type]/type_kind = typedef|0000000 0010000 0010000
+[suppress_type]/type_kind = enum|0000000 0001000 0001000
+[suppress_type]/type_kind = union|0000000 0000100 0000100
+[suppress_type]/type_kind = builtin|0000000 0000010 0000010
+[suppress_type]/name = priv/accessed_through = direct|0000000 0110001 0000000
+[suppress_type]/name = priv/accessed_through = pointer|0000000 0000000 0110001
+[suppress_type]/accessed_through = pointer|0000000 0000000 0111111
+[suppress_type]/name_regexp = ri|0000000 0110001 0110001
+[suppress_type]/name_not_regexp = priv|0000000 0001110 0001110
+[suppress_type]/soname_regexp = 1|0000000 0111111 0111111
+[suppress_type]/name = int/[suppress_type]/name = e/accessed_through = direct|0000000 0001010 0000010
+";
 
-const ROWS: [Row<'static>; 37] = [
-    Row {
-        text: "",
-        exports: "0000000",
-        direct: "0000000",
-        pointer: "0000000",
-    },
-    Row {
-        text: "[suppress_function]\nname = g_decl",
-        exports: "0100000",
-        direct: "0000000",
-        pointer: "0000000",
-    },
-    Row {
-        text: "[suppress_function]\nname = g",
-        exports: "0000000",
-        direct: "0000000",
-        pointer: "0000000",
-    },
-    Row {
-        text: "[suppress_function]\nsymbol_name = g",
-        exports: "0100000",
-        direct: "0000000",
-        pointer: "0000000",
-    },
-    Row {
-        text: "[suppress_function]\nsymbol_name = o",
-        exports: "0000000",
-        direct: "0000000",
-        pointer: "0000000",
-    },
-    Row {
-        text: "[suppress_variable]\nsymbol_name = f",
-        exports: "0000000",
-        direct: "0000000",
-        pointer: "0000000",
-    },
-    Row {
-        text: "[suppress_variable]\nsymbol_name = o",
-        exports: "0000100",
-        direct: "0000000",
-        pointer: "0000000",
-    },
-    Row {
-        text: "[suppress_function]\nname_regexp = _d",
-        exports: "0100000",
-        direct: "0000000",
-        pointer: "0000000",
-    },
-    Row {
-        text: "[suppress_function]\nname_regexp = ^_d",
-        exports: "0000000",
-        direct: "0000000",
-        pointer: "0000000",
-    },
-    Row {
-        text: "[suppress_function]\nname_not_regexp = _",
-        exports: "1011000",
-        direct: "0000000",
-        pointer: "0000000",
-    },
-    Row {
-        text: "[suppress_variable]\nname_not_regexp = _",
-        exports: "0000111",
-        direct: "0000000",
-        pointer: "0000000",
-    },
-    Row {
-        text: "[suppress_function]\nsymbol_name_regexp = ^[fg]$",
-        exports: "1100000",
-        direct: "0000000",
-        pointer: "0000000",
-    },
-    Row {
-        text: "[suppress_function]\nsymbol_version = V1",
-        exports: "1010000",
-        direct: "0000000",
-        pointer: "0000000",
-    },
-    Row {
-        text: "[suppress_function]\nsymbol_version = V",
-        exports: "0000000",
-        direct: "0000000",
-        pointer: "0000000",
-    },
-    Row {
-        text: "[suppress_variable]\nsymbol_version_regexp = .",
-        exports: "0000100",
-        direct: "0000000",
-        pointer: "0000000",
-    },
-    Row {
-        text: "[suppress_function]\nsymbol_version_regexp = ^V1$",
-        exports: "1010000",
-        direct: "0000000",
-        pointer: "0000000",
-    },
-    Row {
-        text: "[suppress_function]\nsoname_regexp = ^lib",
-        exports: "1111000",
-        direct: "0000000",
-        pointer: "0000000",
-    },
-    Row {
-        text: "[suppress_function]\nsoname_regexp = ^so",
-        exports: "0000000",
-        direct: "0000000",
-        pointer: "0000000",
-    },
-    Row {
-        text: "[suppress_function]\nsymbol_version = V1\nname = f",
-        exports: "1000000",
-        direct: "0000000",
-        pointer: "0000000",
-    },
-    Row {
-        text: "[suppress_function]\nlabel = a\nname = f",
-        exports: "1000000",
-        direct: "0000000",
-        pointer: "0000000",
-    },
-    Row {
-        text: "[suppress_function]\nname = f\n[suppress_variable]\nname = o",
-        exports: "1000100",
-        direct: "0000000",
-        pointer: "0000000",
-    },
-    Row {
-        text: "[suppress_function]\nname = f\n[suppress_function]\nname = i\n",
-        exports: "1010000",
-        direct: "0000000",
-        pointer: "0000000",
-    },
-    Row {
-        text: "[suppress_type]\nname = priv",
-        exports: "0000000",
-        direct: "0110001",
-        pointer: "0110001",
-    },
-    Row {
-        text: "[suppress_type]\nname = priv\r",
-        exports: "0000000",
-        direct: "0000000",
-        pointer: "0000000",
-    },
-    Row {
-        text: "[suppress_type]\nname = priv\ntype_kind = typedef",
-        exports: "0000000",
-        direct: "0000000",
-        pointer: "0000000",
-    },
-    Row {
-        text: "[suppress_type]\nname = priv\ntype_kind = struct",
-        exports: "0000000",
-        direct: "0110001",
-        pointer: "0110001",
-    },
-    Row {
-        text: "[suppress_type]\ntype_kind = typedef",
-        exports: "0000000",
-        direct: "0010000",
-        pointer: "0010000",
-    },
-    Row {
-        text: "[suppress_type]\ntype_kind = enum",
-        exports: "0000000",
-        direct: "0001000",
-        pointer: "0001000",
-    },
-    Row {
-        text: "[suppress_type]\ntype_kind = union",
-        exports: "0000000",
-        direct: "0000100",
-        pointer: "0000100",
-    },
-    Row {
-        text: "[suppress_type]\ntype_kind = builtin",
-        exports: "0000000",
-        direct: "0000010",
-        pointer: "0000010",
-    },
-    Row {
-        text: "[suppress_type]\nname = priv\naccessed_through = direct",
-        exports: "0000000",
-        direct: "0110001",
-        pointer: "0000000",
-    },
-    Row {
-        text: "[suppress_type]\nname = priv\naccessed_through = pointer",
-        exports: "0000000",
-        direct: "0000000",
-        pointer: "0110001",
-    },
-    Row {
-        text: "[suppress_type]\naccessed_through = pointer",
-        exports: "0000000",
-        direct: "0000000",
-        pointer: "0111111",
-    },
-    Row {
-        text: "[suppress_type]\nname_regexp = ri",
-        exports: "0000000",
-        direct: "0110001",
-        pointer: "0110001",
-    },
-    Row {
-        text: "[suppress_type]\nname_not_regexp = priv",
-        exports: "0000000",
-        direct: "0001110",
-        pointer: "0001110",
-    },
-    Row {
-        text: "[suppress_type]\nsoname_regexp = 1",
-        exports: "0000000",
-        direct: "0111111",
-        pointer: "0111111",
-    },
-    Row {
-        text: "[suppress_type]\nname = int\n[suppress_type]\nname = e\naccessed_through = direct",
-        exports: "0000000",
-        direct: "0001010",
-        pointer: "0000010",
-    },
-];
+// The exports of the library in order of their symbols: the name, the declared name, the version or a minus, and the kind.
+const EXPORTS: &str = "\
+f f V1 function
+g g_decl - function
+i i V1 resolver
+n n - none
+o o V2 object
+c c - common
+t t - thread-local
+";
+
+// The labels of its types behind void, which are scalars of four bytes.
+const TYPES: &str = "\
+struct:priv
+typedef:priv_t struct:priv
+enum:e
+union:u
+builtin:int
+struct:priv
+";
 
 const SONAME: Option<&'static [u8]> = Some(b"lib.so.1");
 
-fn export(
-    symbol: u32,
-    name: &'static [u8],
-    declared: &'static [u8],
-    version: Option<&'static [u8]>,
-    kind: SymbolKind,
-) -> Export<'static> {
+fn symbol_kind(word: &str) -> SymbolKind {
+    match word {
+        "function" => SymbolKind::Func,
+        "resolver" => SymbolKind::Ifunc,
+        "object" => SymbolKind::Object,
+        "common" => SymbolKind::Common,
+        "thread-local" => SymbolKind::Tls,
+        _ => SymbolKind::NoType,
+    }
+}
+
+fn version(word: &str) -> Option<&[u8]> {
+    match word {
+        "-" => None,
+        _ => Some(word.as_bytes()),
+    }
+}
+
+fn export(symbol: u32, line: &str) -> Export<'_> {
+    let mut words = line.split(' ');
     Export {
         symbol,
-        name,
-        version,
+        name: words.next().unwrap_or("").as_bytes(),
+        declared: words.next().unwrap_or("").as_bytes(),
+        version: version(words.next().unwrap_or("")),
+        kind: symbol_kind(words.next().unwrap_or("")),
         index: 2,
         hidden: false,
-        kind,
         absolute: false,
         value: 0x1000,
         size: 16,
-        declared,
         entry: 0,
     }
 }
 
-fn exports() -> [Export<'static>; 7] {
-    [
-        export(1, b"f", b"f", Some(b"V1"), SymbolKind::Func),
-        export(2, b"g", b"g_decl", None, SymbolKind::Func),
-        export(3, b"i", b"i", Some(b"V1"), SymbolKind::Ifunc),
-        export(4, b"n", b"n", None, SymbolKind::NoType),
-        export(5, b"o", b"o", Some(b"V2"), SymbolKind::Object),
-        export(6, b"c", b"c", None, SymbolKind::Common),
-        export(7, b"t", b"t", None, SymbolKind::Tls),
-    ]
+fn exports(alloc: Global) -> Result<List<Export<'static>>, NoMemory> {
+    let mut exports = List::new(alloc);
+    let mut symbol = 0u32;
+    for line in EXPORTS.lines() {
+        symbol = symbol.saturating_add(1);
+        exports.push(export(symbol, line))?;
+    }
+    Ok(exports)
 }
 
-fn label(kind: LabelKind, name: &'static [u8]) -> Label<'static> {
-    Label { kind, name }
+fn label_kind(word: &str) -> LabelKind {
+    match word {
+        "struct" => LabelKind::Structure,
+        "typedef" => LabelKind::Typedef,
+        "enum" => LabelKind::Enumeration,
+        "union" => LabelKind::Union,
+        _ => LabelKind::Builtin,
+    }
 }
 
-// The labels of the node of a number.
-fn labels(alloc: Global, number: u64) -> Result<List<Label<'static>>, NoMemory> {
+fn label(word: &str) -> Label<'_> {
+    let (kind, name) = word.split_once(':').unwrap_or((word, ""));
+    Label {
+        kind: label_kind(kind),
+        name: name.as_bytes(),
+    }
+}
+
+fn labels<'a>(alloc: Global, line: &'a str) -> Result<List<Label<'a>>, NoMemory> {
     let mut labels = List::new(alloc);
-    match number {
-        1 | 6 => labels.push(label(LabelKind::Structure, b"priv"))?,
-        2 => {
-            labels.push(label(LabelKind::Typedef, b"priv_t"))?;
-            labels.push(label(LabelKind::Structure, b"priv"))?;
-        }
-        3 => labels.push(label(LabelKind::Enumeration, b"e"))?,
-        4 => labels.push(label(LabelKind::Union, b"u"))?,
-        5 => labels.push(label(LabelKind::Builtin, b"int"))?,
-        _ => {}
+    for word in line.split(' ') {
+        labels.push(label(word))?;
     }
     Ok(labels)
 }
 
 // A scalar of four bytes.
-fn labelled(
-    alloc: Global,
-    entry: u64,
-    labels: List<Label<'static>>,
-) -> Result<Node<'static, OldIx>, NoMemory> {
+fn scalar<'a>(alloc: Global, entry: u64, line: &'a str) -> Result<Node<'a, OldIx>, NoMemory> {
     Ok(Node {
         entry,
         rank: 0,
         view: view::<OldIx>(alloc, Kind::Scalar, 4, Vec::new(alloc))?,
-        labels,
+        labels: labels(alloc, line)?,
     })
 }
 
 fn nodes(alloc: Global) -> Result<List<Node<'static, OldIx>>, NoMemory> {
     let mut nodes = List::new(alloc);
     nodes.push(void::<OldIx>(alloc)?)?;
-    for number in 1..7u64 {
-        let labels = labels(alloc, number)?;
-        nodes.push(labelled(alloc, number * 8, labels)?)?;
+    let mut entry = 0u64;
+    for line in TYPES.lines() {
+        entry = entry.saturating_add(8);
+        nodes.push(scalar(alloc, entry, line)?)?;
     }
     Ok(nodes)
 }
@@ -337,7 +181,7 @@ fn library(
     soname: Option<&'static [u8]>,
 ) -> Result<Library<'static, OldIx>, NoMemory> {
     let graph = graph_of(rt, alloc)?;
-    let exports = List::copy_of(alloc, exports().as_slice())?;
+    let exports = exports(alloc)?;
     assert!(rt; is_library(exports.as_slice(), &graph));
     Library::new(alloc, b"", soname, exports, graph)
 }
@@ -349,33 +193,81 @@ fn rules_in(rt: &impl Abort, alloc: Global, text: &str) -> Rules {
     }
 }
 
-fn digits(alloc: Global, flags: &[bool]) -> Result<String, NoMemory> {
-    let mut digits = String::new(alloc);
+fn push_digits(digits: &mut String, flags: &[bool]) -> Result<(), NoMemory> {
     for flag in flags {
         digits.push(if *flag { '1' } else { '0' })?;
     }
+    Ok(())
+}
+
+fn digits(alloc: Global, marks: &Marks) -> Result<String, NoMemory> {
+    let mut digits = String::new(alloc);
+    push_digits(&mut digits, marks.exports.as_slice())?;
+    digits.push(' ')?;
+    push_digits(&mut digits, marks.direct.as_slice())?;
+    digits.push(' ')?;
+    push_digits(&mut digits, marks.pointer.as_slice())?;
     Ok(digits)
 }
 
-fn expect_marks(rt: &impl Abort, alloc: Global, row: &Row, marks: &Marks) -> Result<(), NoMemory> {
-    let exports = digits(alloc, marks.exports.as_slice())?;
-    let direct = digits(alloc, marks.direct.as_slice())?;
-    let pointer = digits(alloc, marks.pointer.as_slice())?;
-    assert_eq!(rt; exports.as_str(), row.exports, "{}", row.text);
-    assert_eq!(rt; direct.as_str(), row.direct, "{}", row.text);
-    assert_eq!(rt; pointer.as_str(), row.pointer, "{}", row.text);
+// The marks of a library by a rule file.
+fn marks_by(
+    rt: &impl Abort,
+    alloc: Global,
+    library: &Library<OldIx>,
+    file: &str,
+) -> Result<Marks, NoMemory> {
+    let rules = rules_in(rt, alloc, file);
+    marks(alloc, &rules, library)
+}
+
+// The same, as digits.
+fn told(
+    rt: &impl Abort,
+    alloc: Global,
+    library: &Library<OldIx>,
+    file: &str,
+) -> Result<String, NoMemory> {
+    let marks = marks_by(rt, alloc, library, file)?;
+    digits(alloc, &marks)
+}
+
+// The same, by the file of a row.
+fn told_of(
+    rt: &impl Abort,
+    alloc: Global,
+    library: &Library<OldIx>,
+    row: &str,
+) -> Result<String, NoMemory> {
+    let file = file_of(alloc, row)?;
+    told(rt, alloc, library, file.as_str())
+}
+
+// Checks a row.
+fn check(
+    rt: &impl Abort,
+    alloc: Global,
+    library: &Library<OldIx>,
+    row: &str,
+) -> Result<(), NoMemory> {
+    let told = told_of(rt, alloc, library, row)?;
+    assert_eq!(rt; told.as_str(), wanted_of(row), "{row}");
     Ok(())
+}
+
+fn check_all(rt: &impl Abort, alloc: Global, library: &Library<OldIx>) -> Result<u32, NoMemory> {
+    let mut count = 0u32;
+    for row in ROWS.lines() {
+        check(rt, alloc, library, row)?;
+        count = count.saturating_add(1);
+    }
+    Ok(count)
 }
 
 #[test]
 fn each_rule_file_has_its_marks(rt: HostRuntime) -> Result<(), Fail> {
-    let alloc = rt.alloc();
-    let library = library(&rt, alloc, SONAME)?;
-    for row in &ROWS {
-        let rules = rules_in(&rt, alloc, row.text);
-        let marks = marks(alloc, &rules, &library)?;
-        expect_marks(&rt, alloc, row, &marks)?;
-    }
+    let library = library(&rt, rt.alloc(), SONAME)?;
+    assert_eq!(rt; check_all(&rt, rt.alloc(), &library)?, 37);
     Ok(())
 }
 
@@ -383,25 +275,27 @@ fn each_rule_file_has_its_marks(rt: HostRuntime) -> Result<(), Fail> {
 fn a_soname_that_is_not_there_has_no_pattern(rt: HostRuntime) -> Result<(), Fail> {
     let alloc = rt.alloc();
     let library = library(&rt, alloc, None)?;
-    let rules = rules_in(&rt, alloc, "[suppress_function]\nsoname_regexp = .*\n");
-    let marks = marks(alloc, &rules, &library)?;
-    let exports = digits(alloc, marks.exports.as_slice())?;
-    assert_eq!(rt; exports.as_str(), "0000000");
+    let row = "[suppress_function]/soname_regexp = .*/|0000000 0000000 0000000";
+    check(&rt, alloc, &library, row)?;
     Ok(())
+}
+
+// Whether the rules drop an object of this name, and mark a union of this name by value, and behind a pointer.
+fn asked(alloc: Global, rules: &Rules) -> Result<[bool; 3], NoMemory> {
+    let object = export(5, "o o - object");
+    let labels = [label("union:u")];
+    Ok([
+        drops_export(alloc, rules, SONAME, &object)?,
+        drops_labels(alloc, rules, SONAME, labels.as_slice(), Way::Direct)?,
+        drops_labels(alloc, rules, SONAME, labels.as_slice(), Way::Pointer)?,
+    ])
 }
 
 #[test]
 fn one_export_and_one_type_are_asked(rt: HostRuntime) -> Result<(), Fail> {
-    let alloc = rt.alloc();
-    let rules = rules_in(
-        &rt,
-        alloc,
-        "[suppress_variable]\nname = o\n[suppress_type]\nname = u\naccessed_through = direct\n",
-    );
-    let object = export(5, b"o", b"o", None, SymbolKind::Object);
-    assert!(rt; drops_export(alloc, &rules, SONAME, &object)?);
-    let names = [label(LabelKind::Union, b"u")];
-    assert!(rt; drops_labels(alloc, &rules, SONAME, names.as_slice(), Way::Direct)?);
-    assert!(rt; !drops_labels(alloc, &rules, SONAME, names.as_slice(), Way::Pointer)?);
+    let text =
+        "[suppress_variable]\nname = o\n[suppress_type]\nname = u\naccessed_through = direct\n";
+    let rules = rules_in(&rt, rt.alloc(), text);
+    assert_eq!(rt; asked(rt.alloc(), &rules)?, [true, true, false]);
     Ok(())
 }

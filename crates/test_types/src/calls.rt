@@ -1,337 +1,341 @@
 // What no clause says: that calls find memory, and where calls of small functions put their results and arguments.
 use abi_base::{List, NoMemory};
-use abi_types::{Call, Graph, Group, Index, Kind, Node, OldIx, Part, Parts, Place, Slot, View};
-use psabi::{Class, align, call_shape, call_shapes, classes, size};
+use abi_types::{Call, Graph, Group, Index, Kind, Node, OldIx, Part, Place, Slot};
+use psabi::{align, call_shape, call_shapes, classes, size};
 use std::alloc::Global;
+use std::fmt::Write;
 use std::process::Abort;
 use std::test::Fail;
-use test_graphs::{function, graph, node, void};
+use test_graphs::{function, graph, view};
 
-// The nodes of the graph.
-const VOID: usize = 0;
+// Each line: the name of a type, its kind or the group of its scalar, its size, and its parts: a member as its bit, the width of a bit
+// field behind a plus, `>` and the name of its type, and an element as the count of the array, `>` and the name of its type.
+const TYPES: &str = "\
+void void 0
+int signed 4
+long signed 8
+double float 8
+long_double float 16
+int128 signed 16
+complex_float complex 8
+char signed 1
+double_union union 8 0>double
+two structure 16 0>long 64>long
+mixed union 16 0>long_double 64>long
+bits structure 4 0+3>int 3+5>int
+packed structure 5 0>char 8>int
+across structure 12 0>int 32>complex_float
+big structure 24 0>two 128>long
+nil structure 0
+doubles array 64 8>double
+";
 
-const INT: usize = 1;
-
-const LONG: usize = 2;
-
-const DOUBLE: usize = 3;
-
-const LONG_DOUBLE: usize = 4;
-
-const INT128: usize = 5;
-
-const COMPLEX_FLOAT: usize = 6;
-
-const CHAR: usize = 7;
-// union { double d; }
-const DOUBLE_UNION: usize = 8;
-// struct { long a; long b; }
-const TWO: usize = 9;
-// a union of a long double, and of a long at its second eightbyte
-const MIXED: usize = 10;
-// struct { int a : 3; int b : 5; }
-const BITS: usize = 11;
-// struct { char a; int b; }, packed
-const PACKED: usize = 12;
-// struct { int a; float _Complex b; }
-const ACROSS: usize = 13;
-// struct { struct two a; long b; }
-const BIG: usize = 14;
-// struct { }
-const NIL: usize = 15;
-// double[8]
-const DOUBLES: usize = 16;
-// a function
+// The number of the function behind these types.
 const FUNCTION: usize = 17;
 
-const RDI: Slot = Slot::General(0);
+fn cut(text: &str, by: char) -> (&str, &str) {
+    text.split_once(by).unwrap_or((text, ""))
+}
 
-const RSI: Slot = Slot::General(1);
+fn number(text: &str) -> u64 {
+    text.parse().unwrap_or(0)
+}
 
-const RDX: Slot = Slot::General(2);
+fn number_of(name: &str) -> usize {
+    let mut number = 0usize;
+    for line in TYPES.lines() {
+        if cut(line, ' ').0 == name {
+            return number;
+        }
+        number = number.saturating_add(1);
+    }
+    number
+}
 
-const RCX: Slot = Slot::General(3);
-
-const R8: Slot = Slot::General(4);
-
-const R9: Slot = Slot::General(5);
-
-const RAX: Slot = Slot::General(6);
-
-const XMM0: Slot = Slot::Vector(0);
-
-const ST0: Slot = Slot::X87(0);
-
-const NO: Slot = Slot::Unused;
-
-fn one(first: Slot) -> Place {
-    Place::Registers {
-        eightbytes: [first, NO, NO, NO, NO, NO, NO, NO],
+fn kind(word: &str) -> Kind {
+    match word {
+        "void" => Kind::Void,
+        "union" => Kind::Union,
+        "structure" => Kind::Structure,
+        "array" => Kind::Array,
+        _ => Kind::Scalar,
     }
 }
 
-fn two(first: Slot, second: Slot) -> Place {
-    Place::Registers {
-        eightbytes: [first, second, NO, NO, NO, NO, NO, NO],
+fn group(word: &str) -> Group {
+    match word {
+        "signed" => Group::Signed,
+        "float" => Group::Float,
+        "complex" => Group::Complex,
+        _ => Group::Bool,
     }
 }
 
-fn stack(offset: u64, size: u64) -> Place {
-    Place::Stack { offset, size }
+fn part<'a, Ix: Index>(kind: Kind, word: &str) -> Part<'a, Ix> {
+    let (place, name) = cut(word, '>');
+    let to = Ix::of(number_of(name));
+    if kind == Kind::Array {
+        return Part::Element { to };
+    }
+    let (bit, width) = cut(place, '+');
+    Part::Member {
+        name: b"m",
+        bit: number(bit),
+        width: number(width),
+        to,
+    }
 }
 
-// A node that holds others by value ranks above those of lower numbers.
-fn rank_of(number: usize) -> u32 {
-    u32::try_from(number).unwrap_or(0)
-}
-
-fn scalar_of<'a, Ix: Index>(
+fn parts<'a, Ix: Index>(
     alloc: Global,
-    number: usize,
-    group: Group,
-    size: u64,
+    kind: Kind,
+    words: &str,
+) -> Result<Vec<Part<'a, Ix>>, NoMemory> {
+    let mut parts = Vec::new(alloc);
+    for word in words.split_whitespace() {
+        parts.push(part(kind, word))?;
+    }
+    Ok(parts)
+}
+
+fn count(kind: Kind, words: &str) -> u64 {
+    match kind {
+        Kind::Array => number(cut(words, '>').0),
+        _ => 0,
+    }
+}
+
+// The type of a line. One that holds others by value ranks above those before it.
+fn node_of<'a, Ix: Index>(
+    alloc: Global,
+    number_of_it: u32,
+    line: &str,
 ) -> Result<Node<'a, Ix>, NoMemory> {
+    let (word, line) = cut(cut(line, ' ').1, ' ');
+    let (size, words) = cut(line, ' ');
+    let kind = kind(word);
+    let mut view = view(alloc, kind, number(size), parts(alloc, kind, words)?)?;
+    view.group = group(word);
+    view.count = count(kind, words);
     Ok(Node {
-        entry: number as u64,
-        rank: 0,
-        view: View {
-            kind: Kind::Scalar,
-            declared_only: false,
-            tag: &[],
-            size,
-            group,
-            align: 0,
-            count: 0,
-            variadic: false,
-            parts: Parts::new(alloc),
-            call: Call::none(),
-        },
+        entry: u64::from(number_of_it),
+        rank: number_of_it,
+        view,
         labels: List::new(alloc),
     })
 }
 
-// A structure or a union of members: the bit, the width and the node of each.
-fn aggregate<'a, Ix: Index>(
-    alloc: Global,
-    number: usize,
-    kind: Kind,
-    size: u64,
-    name: &'a [u8],
-    members: &[(u64, u64, usize)],
-) -> Result<Node<'a, Ix>, NoMemory> {
-    let mut parts = Vec::new(alloc);
-    for member in members {
-        parts.push(Part::Member {
-            name,
-            bit: member.0,
-            width: member.1,
-            to: Ix::of(member.2),
-        })?;
-    }
-    node(alloc, number as u64, rank_of(number), kind, size, parts)
-}
-
-fn array<'a, Ix: Index>(
-    alloc: Global,
-    number: usize,
-    size: u64,
-    count: u64,
-    to: usize,
-) -> Result<Node<'a, Ix>, NoMemory> {
-    let mut parts = Vec::new(alloc);
-    parts.push(Part::Element { to: Ix::of(to) })?;
-    let rank = rank_of(number);
-    let mut node = node(alloc, number as u64, rank, Kind::Array, size, parts)?;
-    node.view.count = count;
-    Ok(node)
-}
-
-fn scalars<'a, Ix: Index>(alloc: Global) -> Result<List<Node<'a, Ix>>, NoMemory> {
+fn types<'a, Ix: Index>(alloc: Global) -> Result<List<Node<'a, Ix>>, NoMemory> {
     let mut nodes = List::new(alloc);
-    nodes.push(void(alloc)?)?;
-    for (number, group, size) in [
-        (INT, Group::Signed, 4),
-        (LONG, Group::Signed, 8),
-        (DOUBLE, Group::Float, 8),
-        (LONG_DOUBLE, Group::Float, 16),
-        (INT128, Group::Signed, 16),
-        (COMPLEX_FLOAT, Group::Complex, 8),
-        (CHAR, Group::Signed, 1),
-    ] {
-        nodes.push(scalar_of(alloc, number, group, size)?)?;
+    let mut number = 0u32;
+    for line in TYPES.lines() {
+        nodes.push(node_of(alloc, number, line)?)?;
+        number = number.saturating_add(1);
     }
     Ok(nodes)
 }
 
-fn types<'a, Ix: Index>(alloc: Global, name: &'a [u8]) -> Result<List<Node<'a, Ix>>, NoMemory> {
-    let mut nodes = scalars(alloc)?;
-    let one = [(0, 0, DOUBLE)];
-    nodes.push(aggregate(alloc, DOUBLE_UNION, Kind::Union, 8, name, one.as_slice())?)?;
-    for (number, kind, size, members) in [
-        (TWO, Kind::Structure, 16, [(0, 0, LONG), (64, 0, LONG)]),
-        (MIXED, Kind::Union, 16, [(0, 0, LONG_DOUBLE), (64, 0, LONG)]),
-        (BITS, Kind::Structure, 4, [(0, 3, INT), (3, 5, INT)]),
-        (PACKED, Kind::Structure, 5, [(0, 0, CHAR), (8, 0, INT)]),
-        (
-            ACROSS,
-            Kind::Structure,
-            12,
-            [(0, 0, INT), (32, 0, COMPLEX_FLOAT)],
-        ),
-        (BIG, Kind::Structure, 24, [(0, 0, TWO), (128, 0, LONG)]),
-    ] {
-        nodes.push(aggregate(alloc, number, kind, size, name, members.as_slice())?)?;
+fn graph_of(
+    rt: &impl Abort,
+    alloc: Global,
+    nodes: List<Node<'static, OldIx>>,
+) -> Result<Graph<'static, OldIx>, NoMemory> {
+    match graph(alloc, nodes)? {
+        Some(graph) => Ok(graph),
+        None => panic!(rt; "no graph"),
     }
-    nodes.push(aggregate(alloc, NIL, Kind::Structure, 0, name, [].as_slice())?)?;
-    nodes.push(array(alloc, DOUBLES, 64, 8, DOUBLE)?)?;
-    Ok(nodes)
+}
+
+// Each line: a type | the classes of its first two eightbytes.
+const CLASSES: &str = "\
+int|Integer NoClass
+long_double|X87 X87Up
+double_union|Sse NoClass
+two|Integer Integer
+mixed|X87 Integer
+bits|Integer NoClass
+packed|Memory Memory
+across|Integer Sse
+big|Memory Memory
+nil|NoClass NoClass
+doubles|Memory Memory
+";
+
+fn check_classes(
+    rt: &impl Abort,
+    alloc: Global,
+    graph: &Graph<OldIx>,
+    row: &str,
+) -> Result<(), NoMemory> {
+    let (name, wanted) = cut(row, '|');
+    let number = number_of(name);
+    assert!(rt; number < graph.len());
+    let [first, second, _, _, _, _, _, _] = classes(graph, OldIx::of(number));
+    let told = format!(in alloc; "{first:?} {second:?}")?;
+    assert_eq!(rt; told.as_str(), wanted, "{name}");
+    Ok(())
+}
+
+fn check_all_classes(rt: &impl Abort, alloc: Global, graph: &Graph<OldIx>) -> Result<(), NoMemory> {
+    assert_eq!(rt; graph.len(), FUNCTION);
+    for row in CLASSES.lines() {
+        check_classes(rt, alloc, graph, row)?;
+    }
+    Ok(())
 }
 
 #[test]
 fn classes_of_small_objects(rt: HostRuntime) -> Result<(), Fail> {
-    let alloc = rt.alloc();
-    let graph = graph(alloc, types::<OldIx>(alloc, b"m")?)?.ok_or("no graph")?;
-    assert_eq!(rt; graph.len(), FUNCTION);
-    for (number, first, second) in [
-        (INT, Class::Integer, Class::NoClass),
-        (LONG_DOUBLE, Class::X87, Class::X87Up),
-        (DOUBLE_UNION, Class::Sse, Class::NoClass),
-        (TWO, Class::Integer, Class::Integer),
-        (MIXED, Class::X87, Class::Integer),
-        (BITS, Class::Integer, Class::NoClass),
-        (PACKED, Class::Memory, Class::Memory),
-        (ACROSS, Class::Integer, Class::Sse),
-        (BIG, Class::Memory, Class::Memory),
-        (NIL, Class::NoClass, Class::NoClass),
-        (DOUBLES, Class::Memory, Class::Memory),
-    ] {
-        assert!(rt; number < graph.len());
-        let found = classes(&graph, OldIx::of(number));
-        assert_eq!(rt; found[0], first, "first of {number}");
-        assert_eq!(rt; found[1], second, "second of {number}");
-    }
-    assert_eq!(rt; size(&graph, OldIx::of(ACROSS)), 12);
-    assert_eq!(rt; align(&graph, OldIx::of(MIXED)), 16);
+    let graph = graph_of(&rt, rt.alloc(), types(rt.alloc())?)?;
+    check_all_classes(&rt, rt.alloc(), &graph)?;
     Ok(())
 }
 
-// The graph with a function of this result and these parameters.
-fn graph_with<'a, Ix: Index>(
-    alloc: Global,
-    name: &'a [u8],
-    outcome: usize,
-    params: &[usize],
-) -> Result<Graph<'a, Ix>, Fail> {
-    let mut nodes = types(alloc, name)?;
-    let rank = rank_of(FUNCTION);
-    nodes.push(function(alloc, FUNCTION as u64, rank, outcome, params)?)?;
-    Ok(graph(alloc, nodes)?.ok_or("no graph")?)
+// The size and the alignment of a type.
+fn extent(rt: &impl Abort, graph: &Graph<OldIx>, name: &str) -> (u64, u64) {
+    let number = number_of(name);
+    assert!(rt; number < graph.len());
+    let ix = OldIx::of(number);
+    (size(graph, ix), align(graph, ix))
 }
 
-// Asserts where a call of a function puts its result and its arguments.
-fn assert_call(
-    alloc: Global,
+#[test]
+fn a_size_and_an_alignment(rt: HostRuntime) -> Result<(), Fail> {
+    let graph = graph_of(&rt, rt.alloc(), types(rt.alloc())?)?;
+    assert_eq!(rt; extent(&rt, &graph, "across").0, 12);
+    assert_eq!(rt; extent(&rt, &graph, "mixed").1, 16);
+    Ok(())
+}
+
+// The general registers in their order.
+const GENERAL: [&str; 7] = ["rdi", "rsi", "rdx", "rcx", "r8", "r9", "rax"];
+
+fn push_slot(text: &mut String, slot: Slot) -> Result<(), NoMemory> {
+    match slot {
+        Slot::Unused => (),
+        Slot::General(number) => {
+            let name = GENERAL.get(number as usize).copied().unwrap_or("");
+            write!(text, "+{name}")?;
+        }
+        Slot::Vector(number) => write!(text, "+xmm{number}")?,
+        Slot::Upper(number) => write!(text, "+upper{number}")?,
+        Slot::X87(number) => write!(text, "+st{number}")?,
+    }
+    Ok(())
+}
+
+// Where a result or an argument is: its registers, each behind a plus, or its place and its size on the stack.
+fn push_place(text: &mut String, place: Place) -> Result<(), NoMemory> {
+    match place {
+        Place::Nothing => text.push_str("none")?,
+        Place::Hidden => text.push_str("memory")?,
+        Place::Stack { offset, size } => write!(text, "stack+{offset}:{size}")?,
+        Place::Registers { eightbytes } => {
+            for slot in eightbytes {
+                push_slot(text, slot)?;
+            }
+        }
+    }
+    Ok(())
+}
+
+// Where a call puts its result, and behind it its arguments.
+fn places_of(alloc: Global, call: &Call) -> Result<String, NoMemory> {
+    let mut text = String::new(alloc);
+    push_place(&mut text, call.outcome())?;
+    text.push('|')?;
+    for place in call.params() {
+        text.push(' ')?;
+        push_place(&mut text, *place)?;
+    }
+    Ok(text)
+}
+
+// The graph with a function of this result and these parameters.
+fn graph_with(
     rt: &impl Abort,
-    outcome: usize,
-    params: &[usize],
-    expected: Place,
-    places: &[Place],
-) -> Result<(), Fail> {
-    let graph = graph_with::<OldIx>(alloc, b"m", outcome, params)?;
+    alloc: Global,
+    outcome: &str,
+    params: &str,
+) -> Result<Graph<'static, OldIx>, NoMemory> {
+    let mut numbers = Vec::new(alloc);
+    for name in params.split_whitespace() {
+        numbers.push(number_of(name))?;
+    }
+    let mut nodes = types(alloc)?;
+    let entry = FUNCTION as u64;
+    nodes.push(function(alloc, entry, 17, number_of(outcome), &numbers)?)?;
+    graph_of(rt, alloc, nodes)
+}
+
+// Each line: the result and the parameters of a function | where a call puts the result | and the arguments.
+const CALLS: &str = "\
+void double_union long|none| +xmm0 +rdi
+int int int int int int two int|+rax| +rdi +rsi +rdx +rcx +r8 stack+0:16 +r9
+long_double long_double int128 complex_float|+st0+st0| stack+0:16 +rdi+rsi +xmm0
+big int|memory| +rsi
+void nil int|none| none +rdi
+int int|+rax| +rdi
+mixed|+st0+rax|
+two|+rax+rdx|
+void two two two two int|none| +rdi+rsi +rdx+rcx +r8+r9 stack+0:16 stack+16:8
+";
+
+// Where a call of the function of a graph puts its result and its arguments.
+fn places_in(rt: &impl Abort, alloc: Global, graph: &Graph<OldIx>) -> Result<String, NoMemory> {
     assert!(rt; FUNCTION < graph.len());
-    let call = call_shape(alloc, &graph, OldIx::of(FUNCTION))?;
-    assert_eq!(rt; call.outcome(), expected);
-    assert_eq!(rt; call.params(), places);
+    let call = call_shape(alloc, graph, OldIx::of(FUNCTION))?;
+    places_of(alloc, &call)
+}
+
+fn check_call(rt: &impl Abort, alloc: Global, row: &str) -> Result<(), NoMemory> {
+    let (names, wanted) = cut(row, '|');
+    let (outcome, params) = cut(names, ' ');
+    let graph = graph_with(rt, alloc, outcome, params)?;
+    let told = places_in(rt, alloc, &graph)?;
+    assert_eq!(rt; told.as_str(), wanted, "{names}");
     Ok(())
 }
 
 #[test]
 fn places_of_small_calls(rt: HostRuntime) -> Result<(), Fail> {
-    let alloc = rt.alloc();
-    assert_call(
-        alloc,
-        &rt,
-        VOID,
-        [DOUBLE_UNION, LONG].as_slice(),
-        Place::Nothing,
-        [one(XMM0), one(RDI)].as_slice(),
-    )?;
-    assert_call(
-        alloc,
-        &rt,
-        INT,
-        [INT, INT, INT, INT, INT, TWO, INT].as_slice(),
-        one(RAX),
-        [
-            one(RDI),
-            one(RSI),
-            one(RDX),
-            one(RCX),
-            one(R8),
-            stack(0, 16),
-            one(R9),
-        ]
-        .as_slice(),
-    )?;
-    assert_call(
-        alloc,
-        &rt,
-        LONG_DOUBLE,
-        [LONG_DOUBLE, INT128, COMPLEX_FLOAT].as_slice(),
-        two(ST0, ST0),
-        [stack(0, 16), two(RDI, RSI), one(XMM0)].as_slice(),
-    )?;
-    assert_call(
-        alloc,
-        &rt,
-        BIG,
-        [INT].as_slice(),
-        Place::Hidden,
-        [one(RSI)].as_slice(),
-    )?;
-    assert_call(
-        alloc,
-        &rt,
-        VOID,
-        [NIL, INT].as_slice(),
-        Place::Nothing,
-        [Place::Nothing, one(RDI)].as_slice(),
-    )?;
-    assert_call(
-        alloc,
-        &rt,
-        INT,
-        [INT].as_slice(),
-        one(RAX),
-        [one(RDI)].as_slice(),
-    )?;
-    assert_call(
-        alloc,
-        &rt,
-        MIXED,
-        [].as_slice(),
-        two(ST0, RAX),
-        [].as_slice(),
-    )?;
-    assert_call(alloc, &rt, TWO, [].as_slice(), two(RAX, RDX), [].as_slice())
+    for row in CALLS.lines() {
+        check_call(&rt, rt.alloc(), row)?;
+    }
+    Ok(())
+}
+
+// Where the call of the type of a number puts its result and its arguments.
+fn expect_places(
+    rt: &impl Abort,
+    alloc: Global,
+    calls: &[Call],
+    number: usize,
+    wanted: &str,
+) -> Result<(), NoMemory> {
+    match calls.get(number) {
+        None => panic!(rt; "no call"),
+        Some(call) => {
+            let told = places_of(alloc, call)?;
+            assert_eq!(rt; told.as_str(), wanted);
+        }
+    }
+    Ok(())
+}
+
+// The calls of all types, of which an `int` has no places.
+fn check_calls(rt: &impl Abort, alloc: Global, graph: &Graph<OldIx>) -> Result<(), NoMemory> {
+    let calls = call_shapes(alloc, graph)?;
+    let calls = calls.as_slice();
+    assert_eq!(rt; calls.len(), graph.len());
+    let wanted = "none| +rdi+rsi +rdx+rcx +r8+r9 stack+0:16 stack+16:8";
+    expect_places(rt, alloc, calls, FUNCTION, wanted)?;
+    expect_places(rt, alloc, calls, number_of("int"), "none|")
 }
 
 #[test]
 fn all_calls_of_a_graph(rt: HostRuntime) -> Result<(), Fail> {
-    let alloc = rt.alloc();
-    let params = [TWO, TWO, TWO, TWO, INT];
-    let graph = graph_with::<OldIx>(alloc, b"m", VOID, params.as_slice())?;
-    let calls = call_shapes(alloc, &graph)?;
-    assert_eq!(rt; calls.as_slice().len(), graph.len());
-    assert!(rt; FUNCTION < graph.len());
-    let places = [
-        two(RDI, RSI),
-        two(RDX, RCX),
-        two(R8, R9),
-        stack(0, 16),
-        stack(16, 8),
-    ];
-    assert_eq!(rt; calls.as_slice()[FUNCTION].params(), places.as_slice());
-    assert_eq!(rt; calls.as_slice()[INT].outcome(), Place::Nothing);
+    let graph = graph_with(&rt, rt.alloc(), "void", "two two two two int")?;
+    check_calls(&rt, rt.alloc(), &graph)?;
     Ok(())
 }

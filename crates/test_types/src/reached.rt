@@ -1,7 +1,8 @@
 use crate::sections::dwarf;
-use abi_base::{Fault, FaultKind, NoMemory, Refusal};
+use abi_base::{FaultKind, NoMemory, Refusal};
 use dwarf_entries::Dwarf;
 use std::alloc::Global;
+use std::process::Abort;
 use std::test::*;
 use type_reach::*;
 
@@ -73,54 +74,67 @@ fn a_function_leads_to_its_type(rt: HostRuntime) -> Result<(), Fail> {
     let alloc = rt.alloc();
     let dwarf = dwarf(alloc, ABBREVS, FUNCTION)?;
     let found = listed(alloc, &dwarf, 22)?;
-    assert_eq!(rt;
-        offsets(alloc, &dwarf, &found)?.as_slice(),
-        [15, 22].as_slice()
-    );
+    let offsets = offsets(alloc, &dwarf, &found)?;
+    assert_eq!(rt; offsets.as_slice(), [15, 22].as_slice());
     Ok(())
+}
+
+// The number and the place of a fault, or zeros where there is none.
+fn fault_of(judged: Result<Option<Facts>, Refusal>) -> (u64, u64) {
+    match judged {
+        Err(Refusal::Fault(fault)) => (fault.kind.number(), fault.at),
+        _ => (0, 0),
+    }
 }
 
 #[test]
 fn a_typedef_of_itself_is_too_deep(rt: HostRuntime) -> Result<(), Fail> {
-    let alloc = rt.alloc();
-    let dwarf = dwarf(alloc, ABBREVS, CIRCLE)?;
-    match facts(alloc, &dwarf, 22) {
-        Err(Refusal::Fault(fault)) => {
-            assert_eq!(rt;
-                fault,
-                Fault {
-                    kind: FaultKind::TooDeep,
-                    at: 15
-                }
-            );
+    let dwarf = dwarf(rt.alloc(), ABBREVS, CIRCLE)?;
+    let fault = fault_of(facts(rt.alloc(), &dwarf, 22));
+    assert_eq!(rt; fault, (FaultKind::TooDeep.number(), 15));
+    Ok(())
+}
+
+// Each line: the offset of a type | its size, its count, its weight and its rank.
+const FACTS: &str = "\
+15|4 0 1 0
+22|4 0 3 1
+45|0 0 1 0
+46|0 18446744073709551615 2 1
+70|16 4 2 1
+78|16 4 3 2
+";
+
+fn facts_at(alloc: Global, dwarf: &Dwarf, offset: u64) -> Result<String, Refusal> {
+    match facts(alloc, dwarf, offset)? {
+        None => Ok(String::new(alloc)),
+        Some(one) => {
+            let (size, count, weight, rank) = (one.size, one.count, one.weight, one.rank);
+            Ok(format!(in alloc; "{size} {count} {weight} {rank}")?)
         }
-        _ => assert!(rt; false),
     }
+}
+
+fn check_facts(rt: &impl Abort, alloc: Global, dwarf: &Dwarf, row: &str) -> Result<(), Refusal> {
+    let (offset, wanted) = row.split_once('|').unwrap_or((row, ""));
+    let told = facts_at(alloc, dwarf, offset.parse().unwrap_or(0))?;
+    assert_eq!(rt; told.as_str(), wanted, "at {offset}");
     Ok(())
 }
 
 #[test]
 fn facts_of_types(rt: HostRuntime) -> Result<(), Fail> {
-    let alloc = rt.alloc();
-    let dwarf = dwarf(alloc, MORE_ABBREVS, TYPES)?;
-    // offset, size, count, weight, rank
-    let rows: [(u64, u64, u64, u64, u32); 6] = [
-        (15, 4, 0, 1, 0),
-        (22, 4, 0, 3, 1),
-        (45, 0, 0, 1, 0),
-        (46, 0, u64::MAX, 2, 1),
-        (70, 16, 4, 2, 1),
-        (78, 16, 4, 3, 2),
-    ];
-    for (offset, size, count, weight, rank) in rows {
-        let one = facts(alloc, &dwarf, offset)?.ok_or("no facts")?;
-        assert_eq!(rt;
-            (one.size, one.count, one.weight, one.rank),
-            (size, count, weight, rank),
-            "at {offset}"
-        );
+    let dwarf = dwarf(rt.alloc(), MORE_ABBREVS, TYPES)?;
+    for row in FACTS.lines() {
+        check_facts(&rt, rt.alloc(), &dwarf, row)?;
     }
-    let bits = facts(alloc, &dwarf, 22)?.ok_or("no facts")?;
+    Ok(())
+}
+
+#[test]
+fn a_structure_has_the_span_of_its_bit_fields(rt: HostRuntime) -> Result<(), Fail> {
+    let dwarf = dwarf(rt.alloc(), MORE_ABBREVS, TYPES)?;
+    let bits = facts(rt.alloc(), &dwarf, 22)?.ok_or("no facts")?;
     assert_eq!(rt; bits.span, Some(Span { low: 0, high: 3 }));
     Ok(())
 }

@@ -1,8 +1,9 @@
 use crate::sections::dwarf;
-use abi_base::{Fault, FaultKind, NoMemory, Refusal};
+use abi_base::{FaultKind, NoMemory, Refusal};
 use abi_types::{Graph, Index, OldIx, Part};
 use dwarf_entries::Dwarf;
 use std::alloc::Global;
+use std::process::Abort;
 use std::test::*;
 use type_graph::raw_graph;
 
@@ -34,15 +35,14 @@ fn graph<'a>(alloc: Global, dwarf: &Dwarf<'a>, offset: u64) -> Result<Graph<'a, 
 }
 
 // The size, the rank, and how many labels and parts the node of an entry has.
-fn node(graph: &Graph<OldIx>, offset: u64) -> Option<(u64, u32, usize, usize)> {
-    let ix = graph.find(offset)?;
+fn node(alloc: Global, graph: &Graph<OldIx>, offset: u64) -> Result<String, NoMemory> {
+    let Some(ix) = graph.find(offset) else {
+        return Ok(String::new(alloc));
+    };
     let view = graph.view(ix);
-    Some((
-        view.size,
-        graph.rank(ix),
-        graph.labels(ix).len(),
-        view.parts_len(),
-    ))
+    let (size, parts) = (view.size, view.parts_len());
+    let (rank, labels) = (graph.rank(ix), graph.labels(ix).len());
+    Ok(format!(in alloc; "{size} {rank} {labels} {parts}")?)
 }
 
 // Where the members of a type begin, and the entries of their types.
@@ -68,46 +68,60 @@ fn entry(graph: &Graph<OldIx>, ix: OldIx) -> u64 {
     }
 }
 
-#[test]
-fn a_graph_of_types(rt: HostRuntime) -> Result<(), Fail> {
-    let alloc = rt.alloc();
-    let dwarf = dwarf(alloc, ABBREVS, TYPES)?;
-    let graph = graph(alloc, &dwarf, 57)?;
-    // offset; size, rank, labels, parts
-    let rows: [(u64, (u64, u32, usize, usize)); 6] = [
-        (0, (0, 0, 0, 0)),
-        (15, (4, 0, 1, 0)),
-        (22, (8, 2, 1, 2)),
-        (34, (4, 1, 1, 1)),
-        (52, (8, 3, 1, 2)),
-        (57, (8, 4, 2, 2)),
-    ];
-    assert_eq!(rt; graph.len(), 6);
-    for (offset, row) in rows {
-        assert_eq!(rt; node(&graph, offset), Some(row), "at {offset}");
-    }
-    assert_eq!(rt;
-        members(alloc, &graph, 57)?.as_slice(),
-        [(0, 15), (32, 15)].as_slice()
-    );
+// Each line: the offset of a type | its size, its rank, and how many labels and parts it has.
+const NODES: &str = "\
+0|0 0 0 0
+15|4 0 1 0
+22|8 2 1 2
+34|4 1 1 1
+52|8 3 1 2
+57|8 4 2 2
+";
+
+fn check_node(
+    rt: &impl Abort,
+    alloc: Global,
+    graph: &Graph<OldIx>,
+    row: &str,
+) -> Result<(), NoMemory> {
+    let (offset, wanted) = row.split_once('|').unwrap_or((row, ""));
+    let told = node(alloc, graph, offset.parse().unwrap_or(0))?;
+    assert_eq!(rt; told.as_str(), wanted, "at {offset}");
     Ok(())
 }
 
 #[test]
-fn a_base_type_wants_its_encoding(rt: HostRuntime) -> Result<(), Fail> {
-    let alloc = rt.alloc();
-    let dwarf = dwarf(alloc, ABBREVS, NO_ENCODING)?;
-    match graph(alloc, &dwarf, 57) {
-        Err(Refusal::Fault(fault)) => {
-            assert_eq!(rt;
-                fault,
-                Fault {
-                    kind: FaultKind::Shape,
-                    at: 15
-                }
-            );
-        }
-        _ => assert!(rt; false),
+fn a_graph_of_types(rt: HostRuntime) -> Result<(), Fail> {
+    let dwarf = dwarf(rt.alloc(), ABBREVS, TYPES)?;
+    let graph = graph(rt.alloc(), &dwarf, 57)?;
+    assert_eq!(rt; graph.len(), 6);
+    for row in NODES.lines() {
+        check_node(&rt, rt.alloc(), &graph, row)?;
     }
+    Ok(())
+}
+
+#[test]
+fn members_lie_where_they_are_said_to(rt: HostRuntime) -> Result<(), Fail> {
+    let dwarf = dwarf(rt.alloc(), ABBREVS, TYPES)?;
+    let graph = graph(rt.alloc(), &dwarf, 57)?;
+    let members = members(rt.alloc(), &graph, 57)?;
+    assert_eq!(rt; members.as_slice(), [(0, 15), (32, 15)].as_slice());
+    Ok(())
+}
+
+// The number and the place of a fault, or zeros where there is none.
+fn fault_of(judged: Result<Graph<OldIx>, Refusal>) -> (u64, u64) {
+    match judged {
+        Err(Refusal::Fault(fault)) => (fault.kind.number(), fault.at),
+        _ => (0, 0),
+    }
+}
+
+#[test]
+fn a_base_type_wants_its_encoding(rt: HostRuntime) -> Result<(), Fail> {
+    let dwarf = dwarf(rt.alloc(), ABBREVS, NO_ENCODING)?;
+    let fault = fault_of(graph(rt.alloc(), &dwarf, 57));
+    assert_eq!(rt; fault, (FaultKind::Shape.number(), 15));
     Ok(())
 }
