@@ -24,13 +24,13 @@ def main() -> int:
     total = PackageLine("all")
     missing = []
     for debug in debug_packages(sys.argv[2:]):
-        debug_file = downloaded(debug.name, folder)
+        debug_files = [downloaded(name, folder) for name in (debug.name, *debug.others)]
         for name in debug.libraries:
-            file = downloaded(name, folder)
-            if file is None or debug_file is None:
+            files = [file for file in (downloaded(name, folder), *debug_files) if file is not None]
+            if len(files) < 2 + len(debug.others):
                 missing.append(name)
                 continue
-            line = compared(name, [file, debug_file])
+            line = compared(name, files)
             total.counts.update(line.counts)
             print(line.text(), flush=True)
     print(total.text())

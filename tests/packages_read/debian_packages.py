@@ -19,23 +19,39 @@ _LARGEST = 60 << 20
 
 @dataclass(frozen=True)
 class DebugPackage:
-    """A debug package, and the packages of libraries of the same version that it belongs to."""
+    """A debug package, the packages of libraries of the same version that it belongs to, and the other debug packages of its source,
+    where debug files of the same libraries may be."""
 
     name: str
     libraries: tuple[str, ...]
+    others: tuple[str, ...]
 
 
 def debug_packages(names: Sequence[str]) -> list[DebugPackage]:
     """The debug packages of the names, or all, as far as they are of packages of libraries."""
     found_names = (line.split(" ")[0] for line in _said("apt-cache", "search", "--names-only", "--", "-dbg$").splitlines())
-    chosen = names or [name for name in found_names if not _PASSED_OVER.fullmatch(name)]
-    found = {}
-    for paragraph in _said("apt-cache", "show", "--no-all-versions", *chosen).split("\n\n"):
-        fields = dict(_FIELD.findall(paragraph))
-        libraries = [name for name in _SAME_VERSION.findall(fields.get("Depends", "")) if _LIBRARY.fullmatch(name)]
-        if libraries and int(fields["Size"]) <= _LARGEST:
-            found[fields["Package"]] = DebugPackage(fields["Package"], tuple(libraries))
-    return [found[name] for name in sorted(found)]
+    fields_of = _fields([name for name in found_names if not _PASSED_OVER.fullmatch(name)])
+    sources: dict[tuple[str, str], list[str]] = {}
+    for name, fields in fields_of.items():
+        sources.setdefault(_source(fields), []).append(name)
+    found = []
+    for name, fields in fields_of.items():
+        libraries = [one for one in _SAME_VERSION.findall(fields.get("Depends", "")) if _LIBRARY.fullmatch(one)]
+        if libraries and name in (names or [name]):
+            found.append(DebugPackage(name, tuple(libraries), tuple(one for one in sources[_source(fields)] if one != name)))
+    return found
+
+
+def _fields(names: Sequence[str]) -> dict[str, dict[str, str]]:
+    """What the archive says of debug packages that are not too large, in the order of their names."""
+    paragraphs = _said("apt-cache", "show", "--no-all-versions", *names).split("\n\n")
+    all_fields = [dict(_FIELD.findall(paragraph)) for paragraph in paragraphs if paragraph]
+    return {fields["Package"]: fields for fields in sorted(all_fields, key=lambda one: one["Package"]) if int(fields["Size"]) <= _LARGEST}
+
+
+def _source(fields: dict[str, str]) -> tuple[str, str]:
+    """The source of a package, and its version."""
+    return fields.get("Source", fields["Package"]).split(" ")[0], fields["Version"]
 
 
 def downloaded(name: str, folder: Path) -> Optional[Path]:

@@ -182,6 +182,98 @@ def test_the_same_table_on_any_number_of_workers(tmp_path: Path) -> None:
     assert found[0]["digest"] == found[1]["digest"] == found[2]["digest"]
 
 
+def bundle(folder: Path, broken: int = 2, count: int = 5) -> dict[str, str]:
+    """A package of several libraries, one of which breaks, and its answers. One is gone, one is new."""
+    for side in ("old", "new"):
+        files = [library(folder, f"libpart{number}.so.1", "long" if side == "new" and number == broken else "int", number)
+                 for number in range(count)]
+        files.append(library(folder, f"lib{side}.so.1"))
+        deb(folder / side, "bundle", {f"{LIBRARIES}/{path.name}": path for path in files})
+    answers_of = {f"bundle libpart{number}.so.1": "no" if number == broken else "yes" for number in range(count)}
+    return {**answers_of, "bundle libold.so.1": "gone", "bundle libnew.so.1": "new"}
+
+
+def test_each_library_of_a_package_is_a_task(tmp_path: Path) -> None:
+    """On any number of workers, where a worker dies over one library each time, and where the run goes on."""
+    wanted = bundle(tmp_path)
+    assert release(tmp_path, workers=1).status == 1 and answers(tmp_path) == wanted
+    # a worker waits for another one to begin a library of the same package
+    wait = f"echo $worker >>{tmp_path}/workers; while [ $(sort -u {tmp_path}/workers | wc -l) -lt 2 ]; do sleep 0.1; done"
+    ended = release(tmp_path, workers=2, out="two", wrapper=wrapper_of(tmp_path, f"case \"$*\" in *libpart*) {wait} ;; esac"))
+    assert ended.status == 1 and unmeasured(table(tmp_path)) == unmeasured(table(tmp_path, "two")), ended
+    wrapper = wrapper_of(tmp_path, f"[ -e {tmp_path}/go ] || case \"$*\" in *libpart1.so.1*) kill -9 $worker; sleep 10 ;; esac")
+    ended = release(tmp_path, out="killed", wrapper=wrapper)
+    assert ended.status == 1 and answers(tmp_path, "killed") == {**wanted, "bundle libpart1.so.1": "not judged"}, ended
+    assert lines(tmp_path, "killed")["bundle libpart1.so.1"]["reason"] == "the worker died over it"
+    (tmp_path / "go").touch()
+    ended = release(tmp_path, out="killed", wrapper=wrapper)
+    assert ended.status == 1 and judged(ended) == (1, 4), ended
+    assert unmeasured(table(tmp_path)) == unmeasured(table(tmp_path, "killed"))
+    assert list((tmp_path / "killed/opened").iterdir()) == []
+    assert judged(release(tmp_path, out="killed", wrapper=wrapper)) == (0, 5)
+
+
+def test_results_that_are_in_pieces_are_judged_again(tmp_path: Path) -> None:
+    """A machine that loses power may leave files of no bytes."""
+    three(tmp_path)
+    assert release(tmp_path).status == 1
+    found = table(tmp_path)
+    first, second, third = results(tmp_path)
+    first.write_bytes(b"")
+    kept = json.loads(second.read_text())
+    (tmp_path / "out" / kept.get("certificate", kept.get("report"))).write_bytes(b"")
+    next((tmp_path / "out/packages").iterdir()).write_bytes(b"{")
+    assert judged(release(tmp_path)) == (2, 1) and unmeasured(table(tmp_path)) == unmeasured(found)
+    assert third.stat().st_size > 0
+
+
+APP = """\
+case "$1" in
+--help) echo 'usage: abi check OLD NEW'; echo '       abi app [--rules FILE] APP OLD NEW'; exit 0 ;;
+app) echo "$*" >>asked
+    shift; [ "$1" != -- ] || shift
+    [ -f "$2" ] && [ -f "$3" ] || exit 3
+    case "$1" in
+    */spared) echo 'yes app'; echo 'use area'; exit 0 ;;
+    */damaged) echo 'fault 1 Magic at 0'; echo 'app: no ELF file' >&2; exit 2 ;;
+    esac
+    echo no; echo 'L2 area param 1 / target: size 8, now 16'; exit 1 ;;
+esac
+"""
+
+
+def test_who_is_hit_by_what_abi_app_says(tmp_path: Path) -> None:
+    """A program `abi` with the command `app`: packages that depend on a broken library, with programs that survive it or do not."""
+    three(tmp_path)
+    (tmp_path / "area.c").write_text("int area(void *);\nint main(void) { return area(0); }\n")
+    done("gcc", "-o", tmp_path / "program", tmp_path / "area.c", tmp_path / "lib1.so.1")
+    for side in ("old", "new"):
+        for name in ("spared", "hit", "damaged"):
+            deb(tmp_path / side, name, {f"usr/bin/{name}": tmp_path / "program"}, depends="lib1")
+        deb(tmp_path / side, "unasked", {}, depends="lib1")
+        deb(tmp_path / side, "quiet", {"usr/bin/spared": tmp_path / "program"})
+    wrapper = wrapper_of(tmp_path, APP.replace(">>asked", f">>{tmp_path}/asked"))
+    ended = release(tmp_path, wrapper=wrapper, workers=2)
+    assert ended.status == 1, ended
+    found = {one["package"]: one.get("app") for one in lines(tmp_path)["lib1 lib1.so.1"]["hit"]}
+    assert found == {"hit": {"answer": "no", "programs": ["usr/bin/hit"], "exports": ["area"]},
+                     "damaged": {"answer": "cannot tell", "programs": [], "exports": [], "reason": "usr/bin/damaged: app: no ELF file"},
+                     "spared": {"answer": "yes", "programs": [], "exports": []}, "unasked": None}
+    text = (tmp_path / "out/table.txt").read_text()
+    assert "hits 3 packages: damaged (imports 1, abi app: cannot tell), hit (imports 1, abi app: no usr/bin/hit), unasked" in text
+    assert "spares 1 package: spared (imports 1, abi app: yes)" in text
+    asked = (tmp_path / "asked").read_text().splitlines()
+    assert len(asked) == 4
+    # what was asked is kept, and asked again where a library is another one
+    assert release(tmp_path, wrapper=wrapper).out == ended.out and len((tmp_path / "asked").read_text().splitlines()) == 4
+    packaged(tmp_path / "new", library(tmp_path, "lib1.so.1", "short"), version="2")
+    assert release(tmp_path, wrapper=wrapper).status == 1 and len((tmp_path / "asked").read_text().splitlines()) == 8
+    # a program without the command is not asked
+    ended = release(tmp_path, out="plain")
+    assert {one["package"] for one in lines(tmp_path, "plain")["lib1 lib1.so.1"]["hit"]} >= {"hit", "quiet", "unasked"}
+    assert len((tmp_path / "asked").read_text().splitlines()) == 8
+
+
 def test_a_worker_that_is_killed_loses_nothing(tmp_path: Path) -> None:
     """Once, and over one library each time."""
     three(tmp_path)

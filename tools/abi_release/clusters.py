@@ -17,6 +17,7 @@ from typing import Iterator, Optional
 import dask
 from distributed import Client, LocalCluster
 
+from abi_release.unpacked import let_go_of
 from abi_release.workers import LimitPlugin
 from abi_tools.faults import Fault
 
@@ -76,6 +77,7 @@ class OtherChoice:
 
     address: str
     patience: float
+    out: Path
 
     @contextlib.contextmanager
     def client(self) -> Iterator[Client]:
@@ -88,6 +90,9 @@ class OtherChoice:
             raise Fault(f"the scheduler cannot be reached: {error}") from error
         try:
             yield client
+            # Its workers go on.
+            with contextlib.suppress(OSError, TimeoutError):
+                client.run(let_go_of, str(self.out))
         finally:
             # The scheduler may be gone.
             with contextlib.suppress(OSError, TimeoutError):

@@ -4,7 +4,6 @@ from __future__ import annotations
 
 import argparse
 import contextlib
-import hashlib
 import io
 import os
 import sys
@@ -17,12 +16,14 @@ from abi_tools.arguments import Arguments
 from abi_tools.faults import Fault
 from abi_tools.gate_command import share
 from abi_tools.gates import Verdict
+from abi_release.apps import Ask, has_command
 from abi_release.clusters import Choice, LocalChoice, OtherChoice, default_megabytes, processors
-from abi_release.judging import Settings, digest_of_file, program_digest
+from abi_release.digests import OF_NOTHING, digest_of_file, program_digest
+from abi_release.judging import Part, Settings
 from abi_release.limited_program import Limits, check_time
 from abi_release.pages import write_page
 from abi_release.progress import progress_of
-from abi_release.scheduling import Run
+from abi_release.scheduling import Run, Task
 from abi_release.sources import Release, works
 from abi_release.stored_files import Json, Store
 from abi_release.tables import Table, moved, write_json, write_text
@@ -61,12 +62,12 @@ def main(arguments: Sequence[str]) -> int:
                             given.require_types, Limits(given.memory or default_megabytes(given.workers), given.seconds))
         os.environ["ABI"] = abi.path
         choice: Choice = (LocalChoice(given.workers, settings.limits.megabytes, store.folder) if given.scheduler is None
-                          else OtherChoice(given.scheduler, given.patience))
+                          else OtherChoice(given.scheduler, given.patience, store.folder))
         run = Run(settings, store, choice, given.tries, given.patience)
         for side, release in zip(("old", "new"), releases):
             for kind, count in sorted(release.passed_over.items()):
                 print(f"abi-release: {count} {side} files of {kind} are passed over", file=sys.stderr)
-        return _judge(run, releases, _head(given, settings))
+        return _judge(run, abi, releases, _head(given, settings))
     finally:
         os.close(lock)
 
@@ -104,32 +105,47 @@ def _count(text: str) -> int:
 
 def _head(given: argparse.Namespace, settings: Settings) -> Json:
     """What the tables say of the run."""
-    rules = hashlib.sha256(b"").hexdigest() if given.rules is None else digest_of_file(given.rules)
+    rules = OF_NOTHING if given.rules is None else digest_of_file(given.rules)
     return {"version": 1, "old": str(given.old), "new": str(given.new), "rules": rules, "program": settings.program,
             "require_types": settings.least_share}
 
 
-def _judge(run: Run, releases: Sequence[Release], head: Json) -> Verdict:
-    start = time.monotonic()
-    packages = works(*releases)
-    progress = progress_of(len(packages), sys.stderr)
+def _do(run: Run, tasks: Sequence[Task], what: str) -> None:
+    """Does tasks, and says how far it is."""
+    if not tasks:
+        return
+    progress = progress_of(len(tasks), what, sys.stderr)
     try:
-        run.over(packages, progress)
+        run.over(tasks, progress)
     finally:
         progress.end()
+
+
+def _judge(run: Run, abi: Abi, releases: Sequence[Release], head: Json) -> Verdict:
+    start = time.monotonic()
+    packages = works(*releases)
+    _do(run, [Part(work) for work in packages], "packages")
     moves = moved(packages, run.store, run.failures)
-    if moves:
-        progress = progress_of(len(moves), sys.stderr)
-        try:
-            run.over(moves, progress)
-        finally:
-            progress.end()
+    _do(run, [Part(work) for work in moves], "packages")
     table = Table(packages, moves, run.store, run.failures)
+    asks = table.asks() if has_command(abi) else []
+    if asks:
+        _do(run, asks, "packages asked")
+        _say_what_was_not_asked(run, asks)
+        table = Table(packages, moves, run.store, run.failures)
     print(f"abi-release: {len(packages)} packages in {time.monotonic() - start:.1f} seconds: {run.counts['judged']} pairs of libraries "
           f"judged, {run.counts['kept']} kept; this process took {_peak_megabytes():.0f} MB", file=sys.stderr)
     _write(table, head, run.store)
     print(table.summary())
     return table.verdict()
+
+
+def _say_what_was_not_asked(run: Run, asks: Sequence[Ask]) -> None:
+    """Says how many packages could not be asked, and why the first was not."""
+    failed = [ask.name for ask in asks if ask.name in run.failures]
+    if failed:
+        print(f"abi-release: {len(failed)} of {len(asks)} packages that need a broken library could not be asked; {failed[0]}: "
+              f"{run.failures[failed[0]].reason}", file=sys.stderr)
 
 
 def _peak_megabytes() -> float:

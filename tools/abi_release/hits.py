@@ -3,12 +3,13 @@
 from __future__ import annotations
 
 from dataclasses import dataclass, field
-from typing import Iterable, Iterator, Optional
+from typing import Iterable, Iterator, Mapping, Optional
 
+from abi_release.apps import Ask, answer_of, soname_of
 from abi_release.judging import GONE
 from abi_release.needs import ANY_LIBRARY, Imports
-from abi_release.sources import MOVED
-from abi_release.stored_files import Json
+from abi_release.sources import MOVED, Work
+from abi_release.stored_files import Json, Store
 from abi_tools.gates import Verdict
 
 BROKEN = (Verdict.NO.words(), GONE)
@@ -18,29 +19,38 @@ _MOST_NAMED = 20
 
 @dataclass
 class _Broken:
-    """A library that is broken: its exports that are, with a version and without one; none where it is gone."""
+    """A library that is broken, of a record with this name and identity: its exports that are, with a version and without one; none
+    where it is gone."""
 
+    work: str
+    identity: list[str]
     package: str
     library: str
     exports: Optional[frozenset[str]]
     hit: list[Json] = field(default_factory=list)
 
+    @property
+    def soname(self) -> str:
+        """Its soname."""
+        return soname_of(self.library)
+
     def imported(self, imports: Imports) -> Optional[list[str]]:
         """Which of its broken exports are imported; none where the library is not needed."""
-        soname = self.library.rsplit("/", 1)[-1]
-        if soname not in imports:
+        if self.soname not in imports:
             return None
         if self.exports is None:
             return []
-        with_version, plain = set(imports[soname]), set(imports.get(ANY_LIBRARY, ()))
+        with_version, plain = set(imports[self.soname]), set(imports.get(ANY_LIBRARY, ()))
         return sorted(label for label in self.exports
                       if label.replace("@@", "@") in with_version or label.partition("@")[0] in plain)
 
 
 class Hits:
-    """The broken libraries of a run, and who is hit by each."""
+    """The broken libraries of a run, and who is hit by each: by what `abi app` says, where the store has that, else by names."""
 
-    def __init__(self) -> None:
+    def __init__(self, store: Store) -> None:
+        self._store = store
+        self._asks: dict[tuple[str, str], set[str]] = {}
         self._by_package: dict[str, list[_Broken]] = {}
         self._by_library: dict[str, list[_Broken]] = {}
 
@@ -50,9 +60,9 @@ class Hits:
         for line in lines:
             if line["answer"] in BROKEN:
                 exports = frozenset(line["broken"]) if "broken" in line else None
-                broken = _Broken(package, line["library"], exports)
+                broken = _Broken(record["name"], record["identity"], package, line["library"], exports)
                 self._by_package.setdefault(package, []).append(broken)
-                self._by_library.setdefault(line["library"].rsplit("/", 1)[-1], []).append(broken)
+                self._by_library.setdefault(broken.soname, []).append(broken)
 
     def take_needs(self, record: Json) -> None:
         """Takes what an old package needs of the broken libraries."""
@@ -62,15 +72,25 @@ class Hits:
             if broken.package == name:
                 continue
             exports = broken.imported(record["imports"])
-            if broken.package in depends or exports or (exports == [] and broken.exports is None):
-                broken.hit.append({"package": name, "depends": broken.package in depends, "exports": (exports or [])[:_MOST_NAMED],
-                                   "imports": len(exports or []), "rebuilt": old != new})
+            app = None
+            if exports is not None and broken.exports is not None:
+                self._asks.setdefault((broken.work, name), set()).add(broken.library)
+                app = answer_of(self._store, record, broken.work, broken.identity, broken.library)
+            is_hit = app["answer"] != Verdict.YES.words() if app else exports or (exports == [] and broken.exports is None)
+            if broken.package in depends or is_hit:
+                hit = {"package": name, "depends": broken.package in depends, "exports": (exports or [])[:_MOST_NAMED],
+                       "imports": len(exports or []), "rebuilt": old != new}
+                broken.hit.append({**hit, "app": app} if app else hit)
 
     def _needed(self, imports: Imports, depends: Iterable[str]) -> Iterator[_Broken]:
         """The broken libraries of which a package may need something, each once."""
         found = [broken for package in sorted(depends) for broken in self._by_package[package]]
         found += [broken for soname in imports for broken in self._by_library.get(soname, ())]
         return iter({id(broken): broken for broken in found}.values())
+
+    def asks(self, works: Mapping[str, Work]) -> list[Ask]:
+        """What `abi app` can say: of each old package that needs a broken library, those of one package after the other."""
+        return [Ask(works[hit], works[work], tuple(sorted(libraries))) for (work, hit), libraries in sorted(self._asks.items())]
 
     def of(self, package: str, library: str) -> list[Json]:
         """Who is hit by the breaks of a library."""

@@ -1,33 +1,31 @@
-"""What a worker does with two packages: unpacks them, judges each pair of libraries that was not judged before, and keeps what came
-of it."""
+"""What a worker does with two packages: unpacks them, judges a pair of libraries that was not judged before, and keeps what came of
+it. Where the packages have several pairs, each is a task of its own."""
 
 from __future__ import annotations
 
-import hashlib
-import os
-import tempfile
 from collections import Counter
 from dataclasses import dataclass, field
-from functools import lru_cache
-from pathlib import Path, PurePosixPath
-from typing import NamedTuple, Optional, Sequence
+from pathlib import Path
+from typing import Callable, NamedTuple, Optional
 
 from abi_tools.faults import Fault
 from abi_tools.gates import Judgement, Verdict, judge
-from abi_tools.package_judging import put_joined
-from abi_tools.package_sides import PackagedLibrary, Pair, Side, libraries, package_rules, pairs
-from abi_tools.unpacking import Package
+from abi_tools.package_sides import Pair, package_rules
 from abi_release import workers
+from abi_release.digests import OF_NOTHING, digest_of_file, digest_of_files, program_digest
 from abi_release.limited_program import LimitedAbi, Limits
 from abi_release.needs import imports, version_and_depends
 from abi_release.sources import Work
-from abi_release.stored_files import Json, Store, record_name, result_name
+from abi_release.stored_files import Json, Store, opened_name, record_name, result_name
+from abi_release.unpacked import Unpacked, let_go, unpacked
 
 NOT_JUDGED = "not judged"
 GONE = "gone"
 NEW = "new"
 # How many exports of a broken library are kept, to be held beside what others import.
 _MOST_BROKEN = 10_000
+# What a result rests on beside the digests in its name, and which files it has: no part of a line.
+_GROUND = ("program", "least_share", "unjoined", "files")
 
 
 @dataclass(frozen=True)
@@ -43,25 +41,54 @@ class Settings:
     least_share: float
     limits: Limits
 
+    def places(self, work: Work) -> tuple[tuple[Path, ...], tuple[Path, ...]]:
+        """The files of both sides of two packages."""
+        return tuple(Path(self.old, name) for name in work.old), tuple(Path(self.new, name) for name in work.new)
+
+
+class Part(NamedTuple):
+    """A task: to open two packages, and to judge their pair of libraries where they have one; or to judge one pair of many, of packages
+    that were opened with this identity."""
+
+    work: Work
+    library: str = ""
+    identity: tuple[str, ...] = ()
+
+    @property
+    def name(self) -> str:
+        """The name of the packages."""
+        return self.work.name
+
 
 class Outcome(NamedTuple):
-    """What came of two packages: how many pairs of libraries were judged, how many had been before, how many could not be, and why
-    nothing could be done at all."""
+    """What came of a task: how many pairs of libraries were judged, how many had been before, how many could not be, and why nothing
+    could be done at all; of packages that were opened, the pairs that are tasks of their own, and the identity; of such a task, the
+    line, or where its result stands."""
 
     judged: int = 0
     kept: int = 0
     failed: int = 0
     reason: str = ""
+    left: tuple[str, ...] = ()
+    identity: tuple[str, ...] = ()
+    line: Optional[Json] = None
 
 
-def judged(work: Work, settings: Settings, passed_over: tuple[str, ...] = ()) -> Outcome:
-    """Judges what is missing of two packages. Libraries that are passed over made a worker die, and are not tried. Whatever a package
-    holds, this ends with an outcome."""
-    store = Store(Path(settings.out))
+def done(part: Part, settings: Settings, passed_over: tuple[str, ...] = ()) -> Outcome:
+    """Does a task. Libraries that are passed over made a worker die, and are not tried. Whatever a package holds, this ends with an
+    outcome."""
+    task = _Task(part, settings, passed_over, Store(Path(settings.out)))
+    return guarded(task.outcome, settings, task.store, part.name)
+
+
+def guarded(task: Callable[[], Outcome], settings: Settings, store: Store, name: str) -> Outcome:
+    """The outcome of a task, also where it fails."""
     try:
-        return _Task(work, settings, passed_over, store).outcome()
+        if program_digest(LimitedAbi(Path(), settings.limits).path) != settings.program:
+            raise Fault("abi on this worker is another program than the one of the run")
+        return task()
     except Fault as fault:
-        return Outcome(reason=_short(fault, settings))
+        return Outcome(reason=str(fault).replace(f"{settings.old}/", "").replace(f"{settings.new}/", ""))
     except OSError as error:
         return Outcome(reason=f"{error.strerror or error}")
     except MemoryError:
@@ -70,136 +97,158 @@ def judged(work: Work, settings: Settings, passed_over: tuple[str, ...] = ()) ->
         # The libraries that read packages raise more than they say, and no package may be lost for it.
         return Outcome(reason=f"{type(error).__name__}: {error}")
     finally:
-        store.end(work.name)
+        store.end(name)
 
 
-def _short(fault: Fault, settings: Settings) -> str:
-    """What a fault says, without the folders of the releases."""
-    return str(fault).replace(f"{settings.old}/", "").replace(f"{settings.new}/", "")
+def identity_of(work: Work, settings: Settings) -> tuple[str, ...]:
+    """What the record of two packages rests on: the digests of both sides, of the rule file and of the program, and the settings that
+    count."""
+    rules = settings.rules
+    return (*(digest_of_files(places) for places in settings.places(work)), "" if rules is None else digest_of_file(Path(rules)),
+            settings.program, str(settings.least_share), *work.only)
+
+
+def rule_file_of(settings: Settings, pair: Pair, packages: Unpacked) -> Optional[Path]:
+    """The rule file for a pair of libraries: that of the run, or that of a package. Raises a fault if a package has several."""
+    return Path(settings.rules) if settings.rules is not None else package_rules(pair, packages.sides, packages.folder)[0]
+
+
+def line_of(library: str, place: str, result: Json) -> Json:
+    """The line of a library whose result stands at a place."""
+    return {"library": library, **{key: value for key, value in result.items() if key not in _GROUND}, "result": place}
+
+
+def unjudged_line(library: str, reason: str) -> Json:
+    """The line of a library that could not be judged."""
+    return {"library": library, "answer": NOT_JUDGED, "reason": reason}
 
 
 @dataclass
 class _Task:
-    """Two packages, and what is done with them."""
+    """A task, and what is done with it."""
 
-    work: Work
+    part: Part
     settings: Settings
     passed_over: tuple[str, ...]
     store: Store
     counts: Counter[str] = field(default_factory=Counter)
 
-    def __post_init__(self) -> None:
-        self.places = tuple(tuple(Path(folder, name) for name in names)
-                            for folder, names in ((self.settings.old, self.work.old), (self.settings.new, self.work.new)))
-
     def outcome(self) -> Outcome:
         """Does what is missing."""
-        if program_digest(LimitedAbi(Path(), self.settings.limits).path) != self.settings.program:
-            raise Fault("abi on this worker is another program than the one of the run")
-        self.store.begin(self.work.name, "")
-        identity = self._identity()
-        record = self.store.json(record_name(self.work.name))
+        work = self.part.work
+        workers.allow_more_time(self.settings.limits.seconds)
+        if self.part.library:
+            packages = unpacked(self.settings.out, work, self.settings.places(work), self.part.identity)
+            line = self._line(packages.pairs[self.part.library], packages)
+            return self._outcome(line={key: line[key] for key in ("library", "result")} if "result" in line else line)
+        self.store.begin(work.name, "")
+        identity = identity_of(work, self.settings)
+        record = self.store.json(record_name(work.name))
         if record is not None and self._is_whole(record, identity):
             return Outcome(kept=sum("result" in line for line in record["lines"]))
-        workers.allow_more_time(self.settings.limits.seconds)
-        with tempfile.TemporaryDirectory(prefix="abi-release-", dir=workers.folder()) as folder:
-            record = self._record(Path(folder), identity)
-        self.store.put_json(record_name(self.work.name), record)
-        return Outcome(self.counts["judged"], self.counts["kept"], self.counts["failed"])
+        packages = unpacked(self.settings.out, work, self.settings.places(work), identity)
+        several = [pair.name for pair in packages.pairs.values() if pair.old is not None and pair.new is not None]
+        if len(several) > 1:
+            self.store.put_json(opened_name(work.name), self._record(packages, identity, [
+                _one_sided(pair) for pair in packages.pairs.values() if pair.name not in several]))
+            return self._outcome(left=tuple(several), identity=identity)
+        lines = [self._line(pair, packages) for pair in packages.pairs.values()]
+        self.store.put_json(record_name(work.name), self._record(packages, identity, lines))
+        let_go()
+        return self._outcome()
 
-    def _identity(self) -> list[str]:
-        """What the record rests on: the digests of both sides, of the rule file and of the program, and the settings that count."""
-        rules = self.settings.rules
-        said = [digest_of_files(places) for places in self.places]
-        return [*said, "" if rules is None else digest_of_file(Path(rules)), self.settings.program, str(self.settings.least_share),
-                *self.work.only]
+    def _outcome(self, left: tuple[str, ...] = (), identity: tuple[str, ...] = (), line: Optional[Json] = None) -> Outcome:
+        counts = self.counts
+        return Outcome(counts["judged"], counts["kept"], counts["failed"], left=left, identity=identity, line=line)
 
-    def _is_whole(self, record: Json, identity: list[str]) -> bool:
+    def _is_whole(self, record: Json, identity: tuple[str, ...]) -> bool:
         """Whether a record is of the same packages, and has all results."""
-        return record["identity"] == identity and all(
-            line["answer"] != NOT_JUDGED and ("result" not in line or self.store.has(f"{line['result']}.json"))
+        return record["identity"] == list(identity) and all(
+            line["answer"] != NOT_JUDGED and ("result" not in line or self.store.result(line["result"]) is not None)
             for line in record["lines"])
 
-    def _record(self, folder: Path, identity: list[str]) -> Json:
-        """Unpacks both packages and judges their libraries."""
-        sides = [_side(places, folder / f"{name}-packages") for name, places in zip(("old", "new"), self.places)]
+    def _record(self, packages: Unpacked, identity: tuple[str, ...], lines: list[Json]) -> Json:
+        """What is kept of two packages."""
         versions, depends = [], []
-        for places in self.places:
+        for places in packages.places:
             version, needed = version_and_depends(places[0]) if places else (None, [])
             versions.append(version)
             depends.append(needed)
-        lines = [self._line(pair, sides, folder) for pair in pairs(*sides) if not self.work.only or pair.name in self.work.only]
-        old = sides[0]
-        names = (Path(name) for package in _packages_of(old, self.places[0]) for name in package.names)
-        return {"name": self.work.name, "identity": identity, "versions": versions, "depends": depends[0],
-                "imports": imports(old.root, names) if self.places[0] else {}, "lines": lines}
+        return {"name": self.part.name, "identity": identity, "versions": versions, "depends": depends[0],
+                "imports": imports(packages.sides[0].root, map(Path, packages.names())), "lines": lines}
 
-    def _line(self, pair: Pair, sides: Sequence[Side], folder: Path) -> Json:
+    def _line(self, pair: Pair, packages: Unpacked) -> Json:
         """What is said of a library of either side."""
-        line: Json = {"library": pair.name}
-        if pair.new is None:
-            return {**line, "answer": GONE}
-        if pair.old is None:
-            return {**line, "answer": NEW}
+        if pair.new is None or pair.old is None:
+            return _one_sided(pair)
         if pair.name in self.passed_over:
-            return self._failed(line, "the worker died over it")
-        self.store.begin(self.work.name, pair.name)
-        workers.allow_more_time(self.settings.limits.seconds)
+            return self._failed(pair.name, "the worker died over it")
+        if not self.part.library:
+            self.store.begin(self.part.name, pair.name)
+            workers.allow_more_time(self.settings.limits.seconds)
         try:
-            return {**line, **self._answer(pair, sides, folder)}
+            return self._judged_line(pair, packages)
         except _NotJudged as reason:
-            return self._failed(line, str(reason))
+            return self._failed(pair.name, str(reason))
         except Fault as fault:
-            return {**line, "answer": Verdict.CANNOT_TELL.words(), "reason": str(fault).replace(f"{folder}/", "")}
+            return {"library": pair.name, "answer": Verdict.CANNOT_TELL.words(), "reason": str(fault).replace(f"{packages.folder}/", "")}
         except OSError as error:
-            return self._failed(line, error.strerror or str(error))
+            return self._failed(pair.name, error.strerror or str(error))
         except MemoryError:
-            return self._failed(line, "memory ran out under the limit of a worker")
+            return self._failed(pair.name, "memory ran out under the limit of a worker")
 
-    def _failed(self, line: Json, reason: str) -> Json:
+    def _failed(self, library: str, reason: str) -> Json:
         self.counts["failed"] += 1
-        return {**line, "answer": NOT_JUDGED, "reason": reason}
+        return unjudged_line(library, reason)
 
-    def _answer(self, pair: Pair, sides: Sequence[Side], folder: Path) -> Json:
-        """The result of a pair of libraries: an earlier one, or a new one, which is kept."""
-        name = pair.name.replace("/", "_")
-        rules = self.settings.rules
-        rule_file = Path(rules) if rules is not None else package_rules(pair, sides, folder)[0]
-        unjoined = [put_joined(library, side, folder / place / name)
-                    for library, side, place in zip((pair.old, pair.new), sides, ("old", "new"))]
-        digests = {place: digest_of_file(folder / place / name) for place in ("old", "new")}
-        digests["rules"] = hashlib.sha256(b"").hexdigest() if rule_file is None else digest_of_file(rule_file)
+    def _judged_line(self, pair: Pair, packages: Unpacked) -> Json:
+        """The line of a pair of libraries: of an earlier result, or of a new one, which is kept."""
+        rule_file = rule_file_of(self.settings, pair, packages)
+        old, new, unjoined = packages.joined(pair)
+        try:
+            place, result = self._result(packages, (old, new), rule_file, unjoined)
+        finally:
+            for file in (old, new):
+                (packages.folder / file).unlink(missing_ok=True)
+        return line_of(pair.name, place, result)
+
+    def _result(self, packages: Unpacked, files: tuple[Path, Path], rule_file: Optional[Path], unjoined: list[str]) -> tuple[str, Json]:
+        """The result of two files, and where it stands."""
+        old, new = files
+        digests = {"old": digest_of_file(packages.folder / old), "new": digest_of_file(packages.folder / new),
+                   "rules": OF_NOTHING if rule_file is None else digest_of_file(rule_file)}
         place = result_name(digests["old"], digests["new"], digests["rules"])
-        result = self.store.json(f"{place}.json")
+        result = self.store.result(place)
         ground = {"program": self.settings.program, "least_share": self.settings.least_share, "unjoined": unjoined}
         if result is None or any(result.get(key) != value for key, value in ground.items()):
-            result = {**ground, "digests": digests, **self._judged(folder, name, rule_file, place, unjoined)}
-            self.store.put_json(f"{place}.json", result)
+            abi = LimitedAbi(packages.folder, self.settings.limits)
+            judgement = judge(abi, old, new, rule_file, self.settings.least_share)
+            if abi.trouble:
+                raise _NotJudged(abi.trouble)
+            result = {**ground, "digests": digests, **_said(judgement, [reason for reason in unjoined if reason]),
+                      "measured": {"seconds": round(abi.seconds, 3), "megabytes": round(abi.megabytes, 1)}}
+            self.store.put_result(place, result, *_file(judgement))
             self.counts["judged"] += 1
         else:
             self.counts["kept"] += 1
-        for side in ("old", "new"):
-            (folder / side / name).unlink()
-        said = {key: value for key, value in result.items() if key not in ground}
-        return {**said, "result": place}
-
-    def _judged(self, folder: Path, name: str, rules: Optional[Path], place: str, unjoined: list[str]) -> Json:
-        """What the program says of two libraries; its certificate or report is kept."""
-        abi = LimitedAbi(folder, self.settings.limits)
-        judgement = judge(abi, Path("old", name), Path("new", name), rules, self.settings.least_share)
-        if abi.trouble:
-            raise _NotJudged(abi.trouble)
-        said = _said(judgement, [reason for reason in unjoined if reason])
-        said["measured"] = {"seconds": round(abi.seconds, 3), "megabytes": round(abi.megabytes, 1)}
-        if judgement.answer is not None and judgement.verdict != Verdict.CANNOT_TELL:
-            kind, suffix = ("certificate", "cert") if judgement.verdict == Verdict.YES else ("report", "report")
-            self.store.put(f"{place}.{suffix}", judgement.answer.text.encode("utf-8", "surrogateescape"))
-            said[kind] = f"{place}.{suffix}"
-        return said
+        return place, result
 
 
 class _NotJudged(Exception):
     """Why a pair of libraries has no answer that would stay."""
+
+
+def _one_sided(pair: Pair) -> Json:
+    """The line of a library that one side alone has."""
+    return {"library": pair.name, "answer": GONE if pair.new is None else NEW}
+
+
+def _file(judgement: Judgement) -> tuple[str, bytes]:
+    """Of which kind the text is that is kept of a judgement, and the text; both empty where none is."""
+    if judgement.answer is None or judgement.verdict == Verdict.CANNOT_TELL:
+        return "", b""
+    kind = "certificate" if judgement.verdict == Verdict.YES else "report"
+    return kind, judgement.answer.text.encode("utf-8", "surrogateescape")
 
 
 def _said(judgement: Judgement, unjoined: list[str]) -> Json:
@@ -217,57 +266,3 @@ def _said(judgement: Judgement, unjoined: list[str]) -> Json:
         said["breaks"] = dict(sorted(Counter(row[0] for row in rows).items()))
         said["broken"] = sorted({row[1].rstrip(":") for row in rows})[:_MOST_BROKEN]
     return said
-
-
-def _side(places: Sequence[Path], root: Path) -> Side:
-    """The packages of a side, unpacked, or the tree that it is."""
-    if len(places) == 1 and places[0].is_dir():
-        package = Package(places[0], tuple(_tree_names(places[0])))
-        return Side(places[0], tuple(libraries(package, places[0])))
-    return Side.unpacked(places, root)
-
-
-def _tree_names(root: Path) -> list[PurePosixPath]:
-    """The names of the files and links of a tree."""
-    found = []
-    for at, folders, files in os.walk(root):
-        folders.sort()
-        found += [PurePosixPath(os.path.relpath(os.path.join(at, name), root)) for name in sorted(files)]
-    return found
-
-
-def _packages_of(side: Side, places: Sequence[Path]) -> list[Package]:
-    """A side as one package, with all that lies below its root."""
-    return [Package(places[0], tuple(_tree_names(side.root)))] if places else []
-
-
-def digest_of_file(path: Path) -> str:
-    """The SHA-256 of a file."""
-    digest = hashlib.sha256()
-    with path.open("rb") as stream:
-        while part := stream.read(1 << 20):
-            digest.update(part)
-    return digest.hexdigest()
-
-
-def digest_of_files(places: Sequence[Path]) -> str:
-    """A digest of files by their names and digests, or of a tree by those of its files; empty where there are none."""
-    named = [(place.name, place) for place in places]
-    if len(places) == 1 and places[0].is_dir():
-        named = [(str(name), places[0] / name) for name in _tree_names(places[0])]
-    digest = hashlib.sha256()
-    for name, place in named:
-        said = os.readlink(place) if place.is_symlink() else digest_of_file(place) if place.is_file() else ""
-        digest.update(f"{name}\0{said}\0".encode("utf-8", "surrogateescape"))
-    return digest.hexdigest() if places else ""
-
-
-def program_digest(path: str) -> str:
-    """The SHA-256 of the program."""
-    changed = os.stat(path)
-    return _digest_at(path, changed.st_mtime_ns, changed.st_size)
-
-
-@lru_cache(maxsize=1)
-def _digest_at(path: str, _time: int, _size: int) -> str:
-    return digest_of_file(Path(path))

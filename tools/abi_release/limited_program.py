@@ -4,6 +4,7 @@ from __future__ import annotations
 
 import os
 import resource
+import select
 import signal
 import subprocess
 import tempfile
@@ -73,11 +74,11 @@ class LimitedAbi(Abi):
 
     def _waited(self, process: subprocess.Popen[bytes]) -> int:
         """The exit status of the process; below 0, the signal that ended it."""
-        try:
-            status = process.wait(_WAITS * self._limits.seconds)
-        except subprocess.TimeoutExpired:
+        if not _ends_within(process, _WAITS * self._limits.seconds):
             os.killpg(process.pid, signal.SIGKILL)
-            status = -signal.SIGKILL
+            process.wait()
+            return -signal.SIGKILL
+        status = process.wait()
         return ENDED_BY_SIGNAL - status if status > ENDED_BY_SIGNAL else status
 
     def _take(self, took: list[str]) -> None:
@@ -96,6 +97,18 @@ class LimitedAbi(Abi):
         if answer.status not in _TOLD or (answer.status == NO and not answer.text):
             return answer.why()
         return ""
+
+
+def _ends_within(process: subprocess.Popen[bytes], seconds: int) -> bool:
+    """Whether a process ends in some seconds. Python's own wait with a limit looks again and again, with up to 50 milliseconds
+    between, which is longer than `abi` takes for a small library."""
+    descriptor = os.pidfd_open(process.pid)
+    try:
+        ready = select.poll()
+        ready.register(descriptor, select.POLLIN)
+        return bool(ready.poll(1000 * seconds))
+    finally:
+        os.close(descriptor)
 
 
 def _at_most(limit: int, value: int) -> int:

@@ -3,8 +3,8 @@
 from __future__ import annotations
 
 import subprocess
-from pathlib import Path
-from typing import Iterator, Optional
+from pathlib import Path, PurePosixPath
+from typing import Iterable, Iterator, Optional
 
 from debian.arfile import ArError
 from debian.deb822 import PkgRelation
@@ -76,6 +76,16 @@ def imports(root: Path, names: Iterator[Path]) -> Imports:
             except DAMAGED:
                 continue
     return {library: sorted(symbols) for library, symbols in sorted(found.items())}
+
+
+def files_that_need(root: Path, names: Iterable[PurePosixPath]) -> dict[str, list[str]]:
+    """The files of a package that need each library."""
+    found: dict[str, list[str]] = {}
+    for name in names:
+        for library in imports(root, iter([Path(name)])):
+            if library != ANY_LIBRARY:
+                found.setdefault(library, []).append(str(name))
+    return found
 
 
 def _imported(elf: ELFFile) -> Iterator[tuple[str, str]]:

@@ -22,8 +22,8 @@ class Progress(Protocol):
 class PlainProgress:
     """A line now and then."""
 
-    def __init__(self, total: int, stream: TextIO) -> None:
-        self._total, self._stream = total, stream
+    def __init__(self, total: int, what: str, stream: TextIO) -> None:
+        self._total, self._what, self._stream = total, what, stream
         self._done = 0
         self._start = self._said = time.monotonic()
 
@@ -34,7 +34,7 @@ class PlainProgress:
         if now - self._said >= _EVERY or self._done == self._total:
             self._said = now
             rate = self._done / max(now - self._start, 1e-9)
-            print(f"abi-release: {self._done} of {self._total} packages, {rate:.1f} a second, "
+            print(f"abi-release: {self._done} of {self._total} {self._what}, {rate:.1f} a second, "
                   f"{(self._total - self._done) / rate:.0f} seconds left", file=self._stream, flush=True)
 
     def end(self) -> None:
@@ -44,13 +44,13 @@ class PlainProgress:
 class BarProgress:
     """A bar with the number that is done, the rate and what is left."""
 
-    def __init__(self, total: int) -> None:
+    def __init__(self, total: int, what: str) -> None:
         from rich.console import Console
         from rich.progress import BarColumn, MofNCompleteColumn, Progress as Bar, TextColumn, TimeRemainingColumn
 
-        self._bar = Bar(TextColumn("packages"), BarColumn(), MofNCompleteColumn(), TextColumn("{task.fields[rate]} a second, left"),
+        self._bar = Bar(TextColumn(what), BarColumn(), MofNCompleteColumn(), TextColumn("{task.fields[rate]} a second, left"),
                         TimeRemainingColumn(), console=Console(stderr=True))
-        self._task = self._bar.add_task("packages", total=total, rate="0.0")
+        self._task = self._bar.add_task(what, total=total, rate="0.0")
         self._done = 0
         self._start = time.monotonic()
         self._bar.start()
@@ -66,7 +66,7 @@ class BarProgress:
         self._bar.stop()
 
 
-def progress_of(total: int, stream: TextIO) -> Progress:
+def progress_of(total: int, what: str, stream: TextIO) -> Progress:
     """The way in which people see how far a run is."""
-    bar: Optional[Progress] = BarProgress(total) if stream.isatty() else None
-    return bar or PlainProgress(total, stream)
+    bar: Optional[Progress] = BarProgress(total, what) if stream.isatty() else None
+    return bar or PlainProgress(total, what, stream)

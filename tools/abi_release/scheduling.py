@@ -1,4 +1,5 @@
-"""The tasks of a run: a bounded number of them at a time, each tried again where it failed, and none forgotten."""
+"""The tasks of a run: a bounded number of them at a time, each tried again where it failed, and none forgotten. Packages with one pair
+of libraries are one task; those with more are one that opens them, and then one for each pair."""
 
 from __future__ import annotations
 
@@ -12,11 +13,12 @@ from typing import Iterator, NamedTuple, Optional, Sequence
 
 from distributed import Client, Future, KilledWorker, as_completed
 
+from abi_release.apps import Ask, asked
 from abi_release.clusters import Choice, LocalChoice
-from abi_release.judging import Outcome, Settings, judged
+from abi_release.judging import Outcome, Part, Settings, done, unjudged_line
+from abi_release.openings import Openings
 from abi_release.progress import Progress
-from abi_release.sources import Work
-from abi_release.stored_files import Store
+from abi_release.stored_files import Json, Store
 from abi_tools.faults import Fault
 
 # How many tasks the scheduler has for each thread of a worker, and at least.
@@ -25,6 +27,10 @@ _LEAST_TASKS = 16
 # How often a cluster that was lost is looked for again.
 _MOST_CLUSTERS = 10
 _LOOKS_EVERY = 1.0
+DIED = "the worker died over it"
+
+
+Task = Part | Ask
 
 
 class Failure(NamedTuple):
@@ -53,13 +59,16 @@ class Run:
     patience: float
     counts: Counter[str] = field(default_factory=Counter)
     failures: dict[str, Failure] = field(default_factory=dict)
-    _tried: Counter[str] = field(default_factory=Counter)
+    _tried: Counter[tuple[str, str]] = field(default_factory=Counter)
     _deaths: dict[str, Counter[str]] = field(default_factory=dict)
 
-    def over(self, works: Sequence[Work], progress: Progress) -> None:
-        """Judges all packages; those that could not be judged are failures then."""
-        left: deque[Work] = deque()
-        source = itertools.chain(works)
+    def __post_init__(self) -> None:
+        self._openings = Openings(self.store)
+
+    def over(self, tasks: Sequence[Task], progress: Progress) -> None:
+        """Does all tasks, which open packages or ask; those that could not be done are failures then."""
+        left: deque[Task] = deque()
+        source = iter(tasks)
         for _ in range(_MOST_CLUSTERS):
             reason = ""
             try:
@@ -74,65 +83,91 @@ class Run:
             except Fault as fault:
                 reason = str(fault)
                 break
-        for work in itertools.chain(left, source):
-            self.failures[work.name] = Failure(reason, self._tried[work.name] + 1)
-            progress.advance()
+        for part in itertools.chain(left, source):
+            if part.name not in self.failures:
+                self.failures[part.name] = Failure(reason, self._tried[part.name, part.library] + 1)
+                progress.advance()
 
-    def came_of(self, work: Work, outcome: Outcome) -> bool:
-        """Takes an outcome, and answers whether the packages are to be tried again."""
+    def came_of(self, part: Task, outcome: Outcome) -> "Next":
+        """Takes an outcome, and answers what is to be done then."""
         self.counts["judged"] += outcome.judged
         self.counts["kept"] += outcome.kept
-        if not outcome.reason and not outcome.failed:
-            self._tried.pop(work.name, None)
-            return False
-        self._tried[work.name] += 1
-        if self._tried[work.name] < self.tries:
-            return True
-        if outcome.reason:
-            self.failures[work.name] = Failure(outcome.reason, self._tried[work.name])
-        return False
+        tried = part.name, part.library
+        if outcome.left and isinstance(part, Part):
+            self._tried.pop(tried, None)
+            return Next(first=self._openings.open(part.work, outcome))
+        if outcome.reason or outcome.failed:
+            self._tried[tried] += 1
+            if self._tried[tried] < self.tries:
+                return Next(again=[part])
+        if not isinstance(part, Part) or not part.library:
+            if outcome.reason:
+                self.failures[part.name] = Failure(outcome.reason, self._tried[tried])
+            self._tried.pop(tried, None)
+            return Next(is_done=True)
+        self._tried.pop(tried, None)
+        return self._take_line(part, outcome.line or unjudged_line(part.library, outcome.reason))
 
-    def died(self, work: Work) -> bool:
-        """Takes the death of a worker over two packages, and answers whether they are to be tried again: so often for each library,
-        and without it then."""
-        deaths = self._deaths.setdefault(work.name, Counter())
-        library = self.store.begun(work.name)
+    def _take_line(self, part: Part, line: Json) -> "Next":
+        """Takes the line of one library of many."""
+        try:
+            return Next(is_done=self._openings.take(part, line))
+        except OSError as error:
+            self.failures[part.name] = Failure(error.strerror or str(error), 1)
+            return Next(is_done=True)
+
+    def died(self, part: Task) -> "Next":
+        """Takes the death of a worker, and answers what is to be done then: the same again, so often for each library, and without
+        it then."""
+        deaths = self._deaths.setdefault(part.name, Counter())
+        library = part.library or self.store.begun(part.name)
         deaths[library] += 1
-        if library or deaths[library] < self.tries:
-            return True
-        self.failures[work.name] = Failure("the worker died over it", deaths[library])
-        return False
+        if deaths[library] < self.tries or (library and not part.library):
+            return Next(again=[part])
+        if isinstance(part, Part) and part.library:
+            return self._take_line(part, unjudged_line(part.library, DIED))
+        self.failures[part.name] = Failure(DIED, deaths[library])
+        return Next(is_done=True)
 
-    def passed_over(self, work: Work) -> tuple[str, ...]:
+    def passed_over(self, part: Task) -> tuple[str, ...]:
         """The libraries over which workers died as often as they are tried."""
-        deaths = self._deaths.get(work.name, Counter())
+        deaths = self._deaths.get(part.name, Counter())
         return tuple(sorted(library for library, times in deaths.items() if library and times >= self.tries))
+
+
+class Next(NamedTuple):
+    """What is to be done after a task: others at once, others at the end; and whether its packages are done."""
+
+    first: Sequence[Task] = ()
+    again: Sequence[Task] = ()
+    is_done: bool = False
 
 
 class _Turn:
     """A run on one cluster, until that is lost."""
 
-    def __init__(self, run: Run, client: Client, source: Iterator[Work], left: deque[Work], progress: Progress) -> None:
+    def __init__(self, run: Run, client: Client, source: Iterator[Task], left: deque[Task], progress: Progress) -> None:
         self._run, self._client, self._source, self._left, self._progress = run, client, source, left, progress
-        self._under_way: dict[str, Work] = {}
+        self._under_way: dict[str, Task] = {}
         self._numbers = itertools.count()
-        self._again: deque[Work] = deque()
+        self._first: deque[Task] = deque()
+        self._again: deque[Task] = deque()
 
     def run(self) -> None:
         """Judges all that is left. Raises _Lost or _NoWorkers where the cluster does not go on; what is left then is in `left`."""
         watch = _Watch(self._client, self._run.patience)
         try:
             with watch:
-                done = as_completed(self._submitted(self._most()), loop=self._client.loop, raise_errors=False)
-                for future in done:
+                ended = as_completed(self._submitted(self._most()), loop=self._client.loop, raise_errors=False)
+                for future in ended:
                     self._take(future, watch)
-                    for more in self._submitted(1 + max(0, self._most() - len(self._under_way) - 1)):
-                        done.add(more)
+                    for more in self._submitted(max(1, self._most() - len(self._under_way))):
+                        ended.add(more)
         except OSError as error:
             raise _Lost("the scheduler is gone") from error
         finally:
-            self._left.extend(self._under_way.values())
-            self._left.extend(self._again)
+            for parts in (self._under_way.values(), self._first, self._again):
+                self._left.extend(parts)
 
     def _most(self) -> int:
         """How many tasks the scheduler is to have."""
@@ -143,21 +178,25 @@ class _Turn:
 
     def _submitted(self, count: int) -> list[Future]:
         """The next tasks, up to a count."""
-        return [self._submit(work) for work in itertools.islice(self._next(), count)]
+        return [self._submit(part) for part in itertools.islice(self._next(), count)]
 
-    def _next(self) -> Iterator[Work]:
-        """What is to be done next: what another cluster left, what was not tried yet, and then what is tried again."""
-        while self._left:
-            yield self._left.popleft()
+    def _next(self) -> Iterator[Task]:
+        """What is to be done next: libraries of packages that are open, what another cluster left, what was not tried yet, and then
+        what is tried again."""
+        for parts in (self._first, self._left):
+            while parts:
+                yield parts.popleft()
         yield from self._source
         while self._again:
             yield self._again.popleft()
 
-    def _submit(self, work: Work) -> Future:
+    def _submit(self, part: Task) -> Future:
         key = f"judged-{next(self._numbers)}"
-        self._under_way[key] = work
+        self._under_way[key] = part
+        function = done if isinstance(part, Part) else asked
         try:
-            future: Future = self._client.submit(judged, work, self._run.settings, self._run.passed_over(work), key=key, pure=False)
+            future: Future = self._client.submit(function, part, self._run.settings, self._run.passed_over(part), key=key, pure=False,
+                                                 priority=1 if part.library else 0)
         except Exception as error:
             raise _Lost("the scheduler is gone") from error
         return future
@@ -168,24 +207,23 @@ class _Turn:
             if watch.reason:
                 raise _NoWorkers(watch.reason)
             raise _Lost("the scheduler is gone")
-        work = self._under_way[future.key]
-        again = self._again_after(work, future)
+        then = self._next_after(self._under_way[future.key], future)
         del self._under_way[future.key]
         future.release()
-        if again:
-            self._again.append(work)
-        else:
+        self._first.extend(then.first)
+        self._again.extend(then.again)
+        if then.is_done:
             self._progress.advance()
 
-    def _again_after(self, work: Work, future: Future) -> bool:
+    def _next_after(self, part: Task, future: Future) -> Next:
         error = future.exception() if future.status == "error" else None
         if isinstance(error, KilledWorker):
-            return self._run.died(work)
+            return self._run.died(part)
         if isinstance(error, CancelledError):
             raise _Lost("the scheduler is gone")
         if error is not None:
-            return self._run.came_of(work, Outcome(reason=f"{type(error).__name__}: {error}"))
-        return self._run.came_of(work, future.result())
+            return self._run.came_of(part, Outcome(reason=f"{type(error).__name__}: {error}"))
+        return self._run.came_of(part, future.result())
 
 
 class _Watch:

@@ -3,6 +3,7 @@
 from __future__ import annotations
 
 import fcntl
+import hashlib
 import io
 import json
 import os
@@ -14,11 +15,19 @@ from abi_tools.faults import Fault
 
 Json = dict[str, Any]
 _PERMISSIONS = 0o644
+# Folders of what a run has begun, which the next run clears.
+_BEGUN = ("started", "opened", "unfinished")
+_SUFFIXES = {"certificate": "cert", "report": "report"}
 
 
 class Store:
     """A folder with a result for each pair of libraries (`results`), a record for each pair of packages (`packages`), and what a
-    run has begun (`started`, `unfinished`)."""
+    run has begun (`started`, `opened`, `unfinished`).
+
+    A file gets its name once all its bytes are written. Only the tables are forced to the disk, since to wait for the disk at each
+    file takes longer than to judge small libraries: what a machine that lost power left in pieces is told by its form and by the
+    digests in results, and counts as missing.
+    """
 
     def __init__(self, folder: Path) -> None:
         self.folder = folder
@@ -27,7 +36,7 @@ class Store:
     def open(self) -> int:
         """Makes the folder, takes away what a killed run left unfinished, and answers a lock, which the process keeps. Raises a
         fault if another run has it."""
-        for name in ("results", "packages", "started", "unfinished"):
+        for name in ("results", "packages", "apps", *_BEGUN):
             (self.folder / name).mkdir(parents=True, exist_ok=True)
         lock = os.open(self.folder / "lock", os.O_RDWR | os.O_CREAT | os.O_CLOEXEC, _PERMISSIONS)
         try:
@@ -35,18 +44,18 @@ class Store:
         except BlockingIOError as error:
             os.close(lock)
             raise Fault(f"another run works in {self.folder}") from error
-        for folder in (self._unfinished, self.folder / "started"):
-            for left in folder.iterdir():
+        for name in _BEGUN:
+            for left in (self.folder / name).iterdir():
                 left.unlink()
         return lock
 
     def put(self, name: str, contents: bytes) -> None:
-        """Writes a file of the folder: apart, and with its name only once its bytes are on the disk. Raises what the system says
-        where it cannot be written."""
-        self._put(name, lambda stream: stream.write(contents))
+        """Writes a file of the folder: apart, and with its name only once it is written. Raises what the system says where it cannot
+        be written."""
+        self._put(name, lambda stream: stream.write(contents), is_forced=False)
 
     def write(self, name: str, writer: Callable[[TextIO], None]) -> None:
-        """Writes a text so, piece by piece."""
+        """Writes a text so, piece by piece, and forces it to the disk."""
 
         def write(stream: BinaryIO) -> None:
             text = io.TextIOWrapper(stream, encoding="utf-8", errors="surrogateescape", write_through=False)
@@ -54,17 +63,18 @@ class Store:
             text.flush()
             text.detach()
 
-        self._put(name, write)
+        self._put(name, write, is_forced=True)
 
-    def _put(self, name: str, write: Callable[[BinaryIO], object]) -> None:
+    def _put(self, name: str, write: Callable[[BinaryIO], object], is_forced: bool) -> None:
         place = self.folder / name
         place.parent.mkdir(exist_ok=True)
         file, temporary = tempfile.mkstemp(dir=self._unfinished)
         try:
             with os.fdopen(file, "wb") as stream:
                 write(stream)
-                stream.flush()
-                os.fsync(stream.fileno())
+                if is_forced:
+                    stream.flush()
+                    os.fsync(stream.fileno())
             os.chmod(temporary, _PERMISSIONS)
             os.rename(temporary, place)
         except BaseException:
@@ -83,9 +93,28 @@ class Store:
             return None
         return value if isinstance(value, dict) else None
 
-    def has(self, name: str) -> bool:
-        """Whether a file is there."""
-        return (self.folder / name).is_file()
+    def put_result(self, place: str, result: Json, kind: str, text: bytes) -> None:
+        """Writes the result of two libraries, and before it the certificate or report, whose name the result gets."""
+        files = {}
+        if kind:
+            result[kind] = f"{place}.{_SUFFIXES[kind]}"
+            self.put(result[kind], text)
+            files = {result[kind]: hashlib.sha256(text).hexdigest()}
+        self.put_json(f"{place}.json", {**result, "files": files})
+
+    def result(self, place: str) -> Optional[Json]:
+        """The result of two libraries; none where it is not there, or its certificate or report is not."""
+        result = self.json(f"{place}.json")
+        if result is None or "files" not in result:
+            return None
+        for name, digest in result["files"].items():
+            try:
+                text = (self.folder / name).read_bytes()
+            except OSError:
+                return None
+            if hashlib.sha256(text).hexdigest() != digest:
+                return None
+        return result
 
     def begin(self, work: str, library: str) -> None:
         """Notes which library of two packages is judged now, for the case that the worker dies over it."""
@@ -102,10 +131,24 @@ class Store:
         """Notes that two packages are done."""
         (self.folder / "started" / work).unlink(missing_ok=True)
 
+    def drop(self, name: str) -> None:
+        """Takes a file away."""
+        (self.folder / name).unlink(missing_ok=True)
+
 
 def record_name(work: str) -> str:
     """The file of the record of two packages."""
     return f"packages/{work}.json"
+
+
+def opened_name(work: str) -> str:
+    """The file of what is known of two packages while their libraries are judged."""
+    return f"opened/{work}.json"
+
+
+def app_name(hit: str, work: str) -> str:
+    """The file of what the programs of a package are to the libraries of two others."""
+    return f"apps/{hit} asks {work}.json"
 
 
 def result_name(old: str, new: str, rules: str) -> str:

@@ -8,6 +8,7 @@ from collections import Counter
 from dataclasses import dataclass, field
 from typing import Iterator, Mapping, Sequence, TextIO
 
+from abi_release.apps import Ask
 from abi_release.hits import Hits
 from abi_release.judging import GONE, NEW, NOT_JUDGED
 from abi_release.scheduling import Failure
@@ -46,10 +47,10 @@ class Table:
     moves: Sequence[Work]
     store: Store
     failures: Mapping[str, Failure]
-    hits: Hits = field(default_factory=Hits)
     counts: Counter[str] = field(default_factory=Counter)
 
     def __post_init__(self) -> None:
+        self.hits = Hits(self.store)
         self._moved = {(side, library) for work in self.moves for side in work.name.split(MOVED) for library in work.only
                        if work.name not in self.failures}
         for record, counted in self._records():
@@ -89,6 +90,10 @@ class Table:
                 hit = self.hits.of(name.partition(MOVED)[0], line["library"]) if line["library"] else []
                 yield {**whole, "hit": hit} if hit else whole
 
+    def asks(self) -> list[Ask]:
+        """What `abi app` can say of who is hit."""
+        return self.hits.asks({work.name: work for work in (*self.works, *self.moves)})
+
     def verdict(self) -> Verdict:
         """No where one library has it or is gone, else that it cannot be told where that is so of one, or where none was compared,
         else yes."""
@@ -105,7 +110,7 @@ class Table:
 
 
 def _empty(name: str) -> Json:
-    return {"name": name, "versions": [None, None], "depends": None, "imports": {}}
+    return {"name": name, "identity": [], "versions": [None, None], "depends": None, "imports": {}}
 
 
 def text_of(line: Json) -> str:
@@ -126,15 +131,28 @@ def text_of(line: Json) -> str:
     if MEASURED in line:
         parts.append(f"{line[MEASURED]['seconds']:.2f} s, {line[MEASURED]['megabytes']:.1f} MB")
     parts += [f"{kind} {line[kind]}" for kind in ("certificate", "report") if kind in line]
-    if "hit" in line:
-        parts.append(f"hits {len(line['hit'])} package{'s' if len(line['hit']) != 1 else ''}: {', '.join(_hit(one) for one in line['hit'][:10])}"
-                     f"{', ..' if len(line['hit']) > 10 else ''}")
+    hit, spared = parted_hits(line)
+    for word, found in (("hits", hit), ("spares", spared)):
+        if found:
+            parts.append(f"{word} {len(found)} package{'s' if len(found) != 1 else ''}: {', '.join(_hit(one) for one in found[:10])}"
+                         f"{', ..' if len(found) > 10 else ''}")
     named = " ".join(str(word) for word in (line["answer"], line["package"], line["library"] or "") if word)
     return f"{named}{': ' if parts else ''}{'; '.join(parts)}"
 
 
+def parted_hits(line: Json) -> tuple[list[Json], list[Json]]:
+    """The packages that a break hits, and those that depend on the library but have programs that survive it, as `abi app` says."""
+    parted: tuple[list[Json], list[Json]] = [], []
+    for one in line.get("hit", ()):
+        parted[one.get("app", {}).get("answer") == Verdict.YES.words()].append(one)
+    return parted
+
+
 def _hit(one: Json) -> str:
-    return f"{one['package']} (imports {one['imports']})" if one["imports"] else str(one["package"])
+    said = [f"imports {one['imports']}"] if one["imports"] else []
+    if "app" in one:
+        said.append(f"abi app: {' '.join([one['app']['answer'], *one['app']['programs']])}")
+    return f"{one['package']} ({', '.join(said)})" if said else str(one["package"])
 
 
 def write_text(table: Table, stream: TextIO) -> None:

@@ -1,0 +1,136 @@
+"""Whether the programs of a package survive what broke in a library: what `abi app` says of each, where the program has that
+command."""
+
+from __future__ import annotations
+
+import re
+import tempfile
+from dataclasses import dataclass
+from pathlib import Path
+from typing import Iterable, Mapping, NamedTuple, Optional
+
+from abi_tools.abi_program import NO, YES, Abi, Answer
+from abi_tools.gates import Verdict
+from abi_tools.unpacking import unpack
+from abi_release import workers
+from abi_release.judging import Outcome, Settings, guarded, rule_file_of
+from abi_release.limited_program import LimitedAbi
+from abi_release.needs import files_that_need
+from abi_release.sources import Work
+from abi_release.stored_files import Json, Store, app_name, record_name
+from abi_release.unpacked import Unpacked, tree_names, unpacked
+
+_COMMAND = re.compile(r"^(usage:)?\s*abi app ", re.MULTILINE)
+# Of the programs that break, and of the exports by which they do, so many are named.
+_MOST_NAMED = 20
+
+
+class Ask(NamedTuple):
+    """A task: what broken libraries of two packages, `work`, are to the programs of an old package, `hit`."""
+
+    hit: Work
+    work: Work
+    libraries: tuple[str, ...]
+
+    @property
+    def name(self) -> str:
+        """The names of both."""
+        return f"{self.hit.name} asks {self.work.name}"
+
+    @property
+    def library(self) -> str:
+        """None: it is of all at once."""
+        return ""
+
+
+def has_command(abi: Abi) -> bool:
+    """Whether the program has the command `app`."""
+    said = abi.run("--help")
+    return _COMMAND.search(f"{said.text}\n{said.notes}") is not None
+
+
+def asked(ask: Ask, settings: Settings, _passed_over: tuple[str, ...] = ()) -> Outcome:
+    """Does the task."""
+    store = Store(Path(settings.out))
+    return guarded(lambda: _asked(ask, settings, store), settings, store, ask.name)
+
+
+def _asked(ask: Ask, settings: Settings, store: Store) -> Outcome:
+    identities = [_identity(store, work) for work in (ask.hit, ask.work)]
+    place = app_name(ask.hit.name, ask.work.name)
+    known = store.json(place)
+    if known is not None and known["identity"] == identities and all(library in known["answers"] for library in ask.libraries):
+        return Outcome()
+    workers.allow_more_time(settings.limits.seconds)
+    packages = unpacked(settings.out, ask.work, settings.places(ask.work), identities[1])
+    abi = LimitedAbi(packages.folder, settings.limits)
+    with tempfile.TemporaryDirectory(prefix="abi-release-", dir=workers.folder()) as folder:
+        root, needing = _programs(settings.places(ask.hit)[0][0], Path(folder))
+        answers = {library: _Asking(abi, packages, settings, library).answer(root, needing.get(soname_of(library), ()))
+                   for library in ask.libraries}
+    if abi.trouble:
+        return Outcome(reason=abi.trouble)
+    store.put_json(place, {"identity": identities, "answers": answers})
+    return Outcome()
+
+
+def _identity(store: Store, work: Work) -> list[str]:
+    record = store.json(record_name(work.name))
+    return record["identity"] if record is not None else []
+
+
+def soname_of(library: str) -> str:
+    """The soname of a library, by the name that it has in lines."""
+    return library.rsplit("/", 1)[-1]
+
+
+def _programs(place: Path, folder: Path) -> tuple[Path, Mapping[str, list[str]]]:
+    """The root of an old package, unpacked in the folder where it is no tree, and the files in it that need each library."""
+    root = place if place.is_dir() else folder
+    if not place.is_dir():
+        unpack(place, root)
+    return root, files_that_need(root, tree_names(root))
+
+
+@dataclass(frozen=True)
+class _Asking:
+    """A library that programs are asked of."""
+
+    abi: LimitedAbi
+    packages: Unpacked
+    settings: Settings
+    library: str
+
+    def answer(self, root: Path, programs: Iterable[str]) -> Json:
+        """What is said of programs below a root: no where it is of one, else that it cannot be told where that is so of one."""
+        broken: list[str] = []
+        labels: set[str] = set()
+        reason = ""
+        for name in programs:
+            said = self._of(root / name)
+            if said.status == NO:
+                broken.append(name)
+                labels.update(row.split(" ", 2)[1].rstrip(":") for row in said.rows if row.count(" "))
+            elif said.status != YES:
+                reason = reason or f"{name}: {said.why()}"
+        verdict = Verdict.NO if broken else Verdict.CANNOT_TELL if reason else Verdict.YES
+        answer: Json = {"answer": verdict.words(), "programs": broken[:_MOST_NAMED], "exports": sorted(labels)[:_MOST_NAMED]}
+        return {**answer, "reason": reason.replace(f"{root}/", "")} if reason else answer
+
+    def _of(self, program: Path) -> Answer:
+        """What the program says of one."""
+        pair = self.packages.pairs[self.library]
+        old, new = self.packages.kept(pair)
+        rules = rule_file_of(self.settings, pair, self.packages)
+        options = [] if rules is None else [f"--rules={rules}"]
+        return self.abi.run("app", *options, "--", str(program), str(old), str(new))
+
+
+def answer_of(store: Store, hit: Json, work: str, identity: list[str], library: str) -> Optional[Json]:
+    """What was said of the programs of an old package, whose record is given, and of a library of two packages; none where that was
+    not asked of these."""
+    known = store.json(app_name(hit["name"], work))
+    if known is None or known["identity"] != [hit["identity"], identity]:
+        return None
+    answer: Optional[Json] = known["answers"].get(library)
+    return answer

@@ -1,0 +1,45 @@
+"""Digests of files, trees and programs."""
+
+from __future__ import annotations
+
+import hashlib
+import os
+from functools import lru_cache
+from pathlib import Path
+from typing import Sequence
+
+from abi_release.unpacked import tree_names
+
+OF_NOTHING = hashlib.sha256(b"").hexdigest()
+
+
+def digest_of_file(path: Path) -> str:
+    """The SHA-256 of a file."""
+    digest = hashlib.sha256()
+    with path.open("rb") as stream:
+        while part := stream.read(1 << 20):
+            digest.update(part)
+    return digest.hexdigest()
+
+
+def digest_of_files(places: Sequence[Path]) -> str:
+    """A digest of files by their names and digests, or of a tree by those of its files; empty where there are none."""
+    named = [(place.name, place) for place in places]
+    if len(places) == 1 and places[0].is_dir():
+        named = [(str(name), places[0] / name) for name in tree_names(places[0])]
+    digest = hashlib.sha256()
+    for name, place in named:
+        said = os.readlink(place) if place.is_symlink() else digest_of_file(place) if place.is_file() else ""
+        digest.update(f"{name}\0{said}\0".encode("utf-8", "surrogateescape"))
+    return digest.hexdigest() if places else ""
+
+
+def program_digest(path: str) -> str:
+    """The SHA-256 of the program."""
+    changed = os.stat(path)
+    return _digest_at(path, changed.st_mtime_ns, changed.st_size)
+
+
+@lru_cache(maxsize=1)
+def _digest_at(path: str, _time: int, _size: int) -> str:
+    return digest_of_file(Path(path))
