@@ -20,6 +20,7 @@ usage: abi check [--rules FILE] [--report text|table|counts|first|own] OLD NEW
        abi migrate [--rules FILE] OLD NEW CERT
        abi compose A B C CERT1 CERT2
        abi layout LIB TAG
+       abi app [--rules FILE] [--report text|table|counts|first|own] APP OLD NEW
 END
 
 # build LIBRARY < SOURCE

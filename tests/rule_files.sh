@@ -128,4 +128,29 @@ each "$T~name = one~accessed_through = pointer"
 each "$T~name = five~accessed_through = pointer"
 each "$T~name = five~accessed_through = direct"
 each "$T~name = six~$F~name = f_beta"
+
+# differs LINES REPORTED HERE: with the rule file of these lines, which are separated by `~`, abidiff still reports so many exports
+# that are gone, and the program so many, or refuses the file with a fault. docs/RULE_FILES.md lists these differences.
+differs() {
+    local here ended=0
+    printf "$1\n" | tr '~' '\n' >rules
+    removed rules >want
+    [ "$(wc -l <want)" -eq "$2" ] || fail "abidiff reports $(wc -l <want) exports that are gone, not $2, with: $1"
+    "$program" check --rules rules old.so new.so >printed 2>errors || ended=$?
+    here=$(sed -n 's/^unreadable rules \([0-9]*\) .*/fault \1/p' printed)
+    [ -n "$here" ] || here=$(grep -c '^X[23] ' printed) || true
+    [ "$here" = "$3" ] || fail "the program reports $here, not $3, with: $1"
+    passed "they differ: $1: $2, $3"
+}
+differs "$F~name = f_alpha # x" 5 6
+differs "$F~name = f_alpha ; x" 5 6
+differs "$F~name = f_alpha#x" 5 6
+differs "$F # x~name = f_alpha" 5 "fault 51"
+differs "$F\r~name = f_alpha\r" 6 5
+differs "[ suppress_function ]~name = f_alpha" 6 5
+differs "$F~name =~  f_alpha" 5 "fault 51"
+differs "$F~name =" 6 "fault 51"
+differs "$F~name = f\\\\_alpha" 5 6
+differs "$F~name = f_alpha~name = g_beta" 5 "fault 57"
+differs "$F~property = x~name = f_alpha" 5 "fault 53"
 finished

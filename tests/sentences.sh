@@ -128,7 +128,7 @@ cat f.a >pipe &
 says 2 "pipe: it is not an ELF file" exports pipe
 says 2 "f.o: it is an object file (.o), not a shared object" exports f.o
 echo 'int main(void) { return 0; }' | gcc -no-pie -o program -x c -
-says 2 "program: it is an executable, not a shared object" exports program
+says 2 "program: it is an executable at a fixed address (compiled with -no-pie), not a shared object or a position-independent executable" exports program
 
 # In the file's header stand 4 e_ident[EI_CLASS], 5 e_ident[EI_DATA], 6 e_ident[EI_VERSION], 16 e_type, 18 e_machine, 20 e_version
 # and 40 e_shoff.
@@ -221,6 +221,19 @@ later=$(exports tables.so | awk -F '\t' '$2 == "f" { print $1 }' | tail -n 1)
 damaged "dynamic symbol $symbol has a version that is not defined" "$(contents .gnu.version $((2 * symbol)))" '\11\0'
 damaged "dynamic symbol $later has the name and the version of an earlier export" \
     "$(contents .gnu.version $((2 * symbol)))" '\3\0'
+
+# damaged_app SENTENCE PLACE BYTES: the same of a copy that is taken for an application, which needs a version of the C library.
+damaged_app() {
+    cp tables.so damaged.so
+    patched damaged.so "$2" "$3"
+    says 2 "damaged.so: $1" app damaged.so tables.so tables.so
+}
+
+# A need begins with vn_version.
+damaged_app "version need 0 is damaged" "$(contents .gnu.version_r 0)" '\2'
+imported=$(readelf --wide --dyn-syms tables.so | awk '$7 == "UND" && $8 ~ /^__cxa_finalize@/ { print $1 + 0 }')
+damaged_app "dynamic symbol $imported is imported with a version that the file does not name among those that it needs" \
+    "$(contents .gnu.version $((2 * imported)))" '\11\0'
 
 # ---- debug information that is not read
 

@@ -42,6 +42,11 @@ def against(old: bytes, new: bytes) -> Case:
     return Case({"old": old, "new": new}, ["check", "old", "new"])
 
 
+def applied(app: bytes, library: bytes) -> Case:
+    """`abi app` of an application and a library in the place of itself."""
+    return Case({"app": app, "old": library}, ["app", "app", "old", "old"])
+
+
 def ruled(contents: bytes, rules: str) -> Case:
     """`abi check` of a library against itself with a rule file."""
     return Case({"old": contents, "rules": rules.encode()}, ["check", "--rules", "rules", "old", "old"])

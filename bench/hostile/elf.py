@@ -10,6 +10,7 @@ SHT_STRTAB = 3
 SHT_DYNAMIC = 6
 SHT_DYNSYM = 11
 SHT_GNU_VERDEF = 0x6FFFFFFD
+SHT_GNU_VERNEED = 0x6FFFFFFE
 SHT_GNU_VERSYM = 0x6FFFFFFF
 DT_SONAME = 14
 GLOBAL_FUNCTION = 0x12
@@ -113,3 +114,15 @@ def version_sections(indexes: list[int], names_at: list[int]) -> list[Section]:
         Section(b".gnu.version", SHT_GNU_VERSYM, table, link=1, entry_size=2),
         Section(b".gnu.version_d", SHT_GNU_VERDEF, bytes(definitions), link=2, info=len(names_at)),
     ]
+
+
+def need_section(needs: int, entries: int) -> Section:
+    """So many needs, which all have one list of so many auxiliary entries; each name is the one at byte 1 of the names."""
+    table = bytearray()
+    for number in range(needs):
+        step = 16 if number + 1 < needs else 0
+        table += u16(1) + u16(entries) + u32(1) + u32(16 * (needs - number)) + u32(step)
+    for number in range(entries):
+        step = 16 if number + 1 < entries else 0
+        table += u32(0) + u16(0) + u16(number % 0x7FFE + 2) + u32(1) + u32(step)
+    return Section(b".gnu.version_r", SHT_GNU_VERNEED, bytes(table), link=2, info=needs)

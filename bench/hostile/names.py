@@ -1,7 +1,7 @@
 """Made libraries whose names and versions are long, share their bytes, or are many of one name."""
 
-from .cases import Case, Kind, against, against_itself, listed
-from .elf import SHT_PROGBITS, Section, Symbol, image, symbol_sections, version_sections
+from .cases import Case, Kind, against, against_itself, applied, listed
+from .elf import SHT_PROGBITS, Section, Symbol, image, need_section, symbol_sections, version_sections
 from .encode import short_name
 
 MOST_VERSIONS = 32766
@@ -60,6 +60,12 @@ def definitions(count: int) -> Case:
     return listed(image(symbol_sections([], names) + version_sections([0], places)))
 
 
+def shared_needs(count: int) -> Case:
+    """Needs that all have one list of auxiliary entries."""
+    app = image(symbol_sections([], b"\0v\0") + [need_section(count, min(count, 65535))])
+    return applied(app, image(symbol_sections([], b"\0")))
+
+
 def suffixes(count: int) -> bytes:
     """Symbols whose names are the ends of one text."""
     names = b"\0" + b"s" * count + b"\0"
@@ -95,6 +101,7 @@ KINDS = [
     Kind("versions", "n symbols of one name of 20 n bytes with n versions", versions, 600),
     Kind("short_versions", "n symbols of one short name with n versions", short_versions, 6000),
     Kind("definitions", "n definitions of versions, all of one name of 40 n bytes", definitions, 3000),
+    Kind("shared_needs", "n needs that share one list of n auxiliary entries, by abi app", shared_needs, 30000),
     Kind("shared_ends", "n symbols whose names are the ends of one text of n bytes", shared_ends, 5000),
     Kind("listed_ends", "the same, by abi exports", listed_ends, 5000),
     Kind("hidden_names", "n local symbols whose names are one text of 20 n bytes", hidden_names, 5000),

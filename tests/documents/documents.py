@@ -1,0 +1,123 @@
+"""Documents of `abi-json`: each is one by the schema, and the places in it are where the sources have the structures.
+
+usage: documents.py PROGRAM SCHEMA FOLDER COMPILER..
+"""
+
+from __future__ import annotations
+
+import json
+import random
+import subprocess
+import sys
+from pathlib import Path
+from typing import Any
+
+import jsonschema
+from elftools.elf.elffile import ELFFile
+
+COUNT = 12
+LINES = 5
+DAMAGED = 200
+
+
+def sources(folder: Path, member: str) -> Path:
+    """Writes a library whose structures each have a member of this type. Its header has a folder of its own, and structure k
+    begins there at line LINES * k + 1; one more stands in the source at line 2."""
+    (folder / "inc").mkdir(parents=True, exist_ok=True)
+    header = "".join(
+        f"struct s{k} {{\n    int first;\n    {member} second;\n}};\n\n" for k in range(COUNT)
+    )
+    (folder / "inc" / "types.h").write_text(header)
+    own = f"struct own {{ int first; {member} second; }};\n"
+    calls = "".join(f"int use{k}(struct s{k} *s) {{ return s->first; }}\n" for k in range(COUNT))
+    source = folder / "library.c"
+    source.write_text(f'#include "types.h"\n{own}int use(struct own *s) {{ return s->first; }}\n{calls}')
+    return source
+
+
+def built(compiler: str, version: int, folder: Path, member: str, absolute: bool) -> Path:
+    """Builds the library in its folder."""
+    source = sources(folder, member)
+    out = folder / "library.so"
+    name = str(source) if absolute else source.name
+    subprocess.run(
+        [compiler, f"-gdwarf-{version}", "-shared", "-fPIC", "-Iinc", "-o", str(out), name], cwd=folder, check=True
+    )
+    return out
+
+
+def place_of(export: str, folder: Path) -> dict[str, Any]:
+    """Where the structure stands that a function is given."""
+    number = export.removeprefix("use")
+    if number == "":
+        return {"file": str(folder / "library.c"), "line": 2}
+    return {"file": str(folder / "inc" / "types.h"), "line": LINES * int(number) + 1}
+
+
+class Documents:
+    """Runs the program, and holds what it prints against the schema."""
+
+    def __init__(self, program: str, schema: str) -> None:
+        self.program = program
+        self.schema = json.loads(Path(schema).read_text())
+
+    def of(self, *words: object) -> dict[str, Any]:
+        """The document of a run."""
+        ended = subprocess.run([self.program, *map(str, words)], capture_output=True, check=False)
+        document: dict[str, Any] = json.loads(ended.stdout)
+        jsonschema.validate(document, self.schema)
+        assert document["status"] == ended.returncode, (words, document)
+        return document
+
+
+def hold_places(document: dict[str, Any], side: str, library: Path) -> int:
+    """The structure that each function is given has its place in the sources; how many there are."""
+    rows = [row for row in document["breaks"] if row["steps"] == ["param 1", "target"] and row["rule"] == "L2"]
+    for row in rows:
+        place = document["places"][side].get(str(row[f"{side}_entry"]))
+        assert place == place_of(row["export"], library.parent), (row, place)
+    return len(rows)
+
+
+def damaged(library: Path, out: Path, chance: random.Random) -> None:
+    """A copy of a library with some changed bytes of `.debug_line`."""
+    with library.open("rb") as stream:
+        section = ELFFile(stream).get_section_by_name(".debug_line")
+        start, size = section["sh_offset"], section["sh_size"]
+    data = bytearray(library.read_bytes())
+    for _ in range(chance.randint(1, 4)):
+        data[start + chance.randrange(size)] = chance.randrange(256)
+    out.write_bytes(data)
+
+
+def main() -> None:
+    program, schema, folder, *compilers = sys.argv[1:]
+    documents = Documents(program, schema)
+    work = Path(folder)
+    held = 0
+    for compiler in compilers:
+        for version in (4, 5):
+            for absolute in (False, True):
+                place = work / f"{compiler}-{version}-{absolute}"
+                old = built(compiler, version, place / "old", "int", absolute)
+                new = built(compiler, version, place / "new", "long", absolute)
+                document = documents.of("check", old, new)
+                assert document["answer"] == "no", document
+                found = hold_places(document, "old", old) + hold_places(document, "new", new)
+                assert found == 2 * (COUNT + 1), (compiler, version, found)
+                held += found
+                assert documents.of("check", old, old)["answer"] == "yes"
+                assert documents.of("exports", old)["answer"] == "done"
+    assert documents.of("check", old, work / "missing")["answer"] == "read fault"
+    assert documents.of("check", old, __file__)["answer"] == "unreadable"
+    assert documents.of("check")["answer"] == "usage"
+    chance = random.Random(40)
+    whole = document["breaks"]
+    for _ in range(DAMAGED):
+        damaged(old, work / "damaged.so", chance)
+        other = documents.of("check", work / "damaged.so", new)
+        assert (other["status"], other["breaks"]) == (1, whole), other
+    print(f"{held} places, {DAMAGED} damaged line programs")
+
+
+main()

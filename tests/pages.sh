@@ -1,0 +1,38 @@
+#!/usr/bin/env bash
+# Runs each command of the pages word by word, and compares what it prints with what the page shows.
+#
+#   tests/pages.sh [PAGE..]            builds the program of this repository; takes all pages where none is named
+#   ABI=/path/of/abi tests/pages.sh    takes another one
+#   tests/pages.sh --print PAGE        prints a page with what its commands print in place
+#
+# The commands stand in blocks ```console, behind `$ `. A line `..` stands for any lines, and `9aa62e3a..` for a digest. `cat` of a
+# file that is not there makes it. What needs a mirror of Debian is left out where no mirror answers. The packages of README take a
+# minute or two of processor time.
+set -eu
+title="pages"
+tools="gcc g++ abidiff objcopy strip make python3 bsdtar /usr/bin/python3"
+crate=abi_cli
+print=
+[ "${1:-}" != --print ] || { print=--print && shift; }
+[ $# -gt 0 ] || set -- README.md docs/GUIDE.md docs/FAQ.md docs/RULE_FILES.md docs/LAYOUTS.md docs/PACKAGES.md
+pages=$*
+. "$(dirname "$0")/common.bash"
+
+version=$(gcc -dumpfullversion)
+if [ "${version%.*}" != 12.2 ]; then
+    why="gcc $version is not the one of the pages, 12.2"
+    [ -n "${SKIP_MISSING_TOOLS:-}" ] || fail "$why (with SKIP_MISSING_TOOLS=1 this is left out)"
+    told "nothing ran, since $why"
+    exit 0
+fi
+
+set --
+for page in $pages; do
+    set -- "$@" "$root/$page"
+done
+PYTHONPATH=$root/tests python3 -B -m pages $print "$work" "$program" "$@" >log || { cat log >&2 && fail "a page says something else"; }
+cat log
+[ -z "$print" ] || exit 0
+checks=$(awk '/ agree, / { agree += $2 } END { print agree + 0 }' log)
+left_out=$(sed -n 's/^left out: \([^ ]* [^ ]*\).*/\1/p' log | sort | uniq -c | awk '{ printf " %s %s (%d)", $2, $3, $1 }')
+finished
