@@ -147,7 +147,8 @@ def test_a_release_and_the_next(tmp_path: Path) -> None:
     assert found["lib1 lib1.so.1"]["breaks"] == {"L2": 2, "L7": 1}
     assert found["lib1 lib1.so.1"]["hit"] == [
         {"package": "metapackage", "depends": True, "exports": [], "imports": 0, "rebuilt": False},
-        {"package": "program", "depends": True, "exports": ["area"], "imports": 1, "rebuilt": True}]
+        {"package": "program", "depends": True, "exports": ["area"], "imports": 1, "rebuilt": True,
+         "app": {"answer": "no", "exports": ["area"], "programs": ["usr/bin/program"]}}]
     assert found["libdebug libdebug.so.1"]["types"] == {"old": [1, 1], "new": [1, 1]}
     for line in found.values():
         for kind in ("certificate", "report"):
