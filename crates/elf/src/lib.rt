@@ -3,6 +3,7 @@
 #![tactic(auto)]
 
 pub mod constants;
+pub mod effort;
 pub mod file;
 pub mod sections;
 pub mod symbols;

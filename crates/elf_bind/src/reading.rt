@@ -1,5 +1,5 @@
 // The exports of a library.
-ghost use Rattle.std.specs.Prelude.{◌≡◌, length, IfOk, map};
+ghost use Rattle.std.specs.Prelude.{◌≡◌, ◌++◌, ◌∷◌, [], length, IfOk, OnOk, map};
 ghost use Rattle.std.specs.List.{range_with_len};
 ghost use Rattle.abi_base.specs.Outcome.{Judges, first};
 ghost use Rattle.abi_types.specs.Plain.{plain_exports};
@@ -9,11 +9,13 @@ ghost use Rattle.elf_bind.specs.Exports as spec;
 
 use crate::duplicates::duplicate_fault;
 use crate::exporting::export_of;
-use abi_base::{Fault, FaultKind, Refusal};
+use abi_base::{Fault, FaultKind, NoMemory, Refusal};
 use abi_types::Export;
+use elf::constants::SYM_SIZE;
+use elf::effort::Effort;
 use elf::symbols::Symbol;
 use elf::versions::Versions;
-use std::alloc::{AllocError, Global};
+use std::alloc::Global;
 
 // The fault of a symbol whose version is not defined.
 fn version_fault_of(symbol: &Symbol, versions: &Versions) -> Option<Fault>
@@ -41,18 +43,32 @@ fn version_fault(symbols: &[Symbol], versions: &Versions) -> Option<Fault>
     None
 }
 
-// The exports among some symbols, in order.
+// Keeps an export behind those before it, as long as there is effort for its name and that of its version.
+fn keep<'a>(
+    exports: &mut Vec<Export<'a>>,
+    export: Export<'a>,
+    effort: &mut Effort,
+) -> Result<(), NoMemory>
+    ensures { OnOk result (exports.new.items ≡ exports.old.items ++ export.entry ∷ []) }
+{
+    effort.spend(0, export.name)?;
+    effort.spend(0, export.version.unwrap_or(&[]))?;
+    Ok(exports.push(export)?)
+}
+
+// The exports among some symbols, in order. All of them may have one version, whose name may be long.
 fn exports_in<'a>(
     alloc: Global,
     symbols: &[Symbol<'a>],
     versions: &Versions<'a>,
-) -> Result<Vec<Export<'a>>, AllocError>
+) -> Result<Vec<Export<'a>>, NoMemory>
     ensures { IfOk result (λ exports. plain_exports exports.items ≡ exports_with (plain_symbols symbols.now) versions.now) }
 {
     let mut exports = Vec::new(alloc);
+    let mut effort = Effort::for_bytes(symbols.len().saturating_mul(SYM_SIZE));
     for symbol in symbols {
         if let Some(export) = export_of(symbol, versions.version_of(symbol.number as usize)) {
-            exports.push(export)?;
+            keep(&mut exports, export, &mut effort)?;
         }
     }
     Ok(exports)

@@ -9,10 +9,10 @@ ghost use Rattle.elf_needs.specs.Needs.{has_bad_entry, need_fault, bad_need_at, 
 ghost use Rattle.elf_needs.specs.Plain.{IsNeed, plain_need, need_under};
 
 use crate::constants::{VERNAUX_SIZE, VERNEED_SIZE};
-use crate::effort::{Effort, effort_for};
 use crate::kept::Need;
 use crate::records::{Record, entry_in, need_in};
 use abi_base::{Fault, FaultKind, NoMemory, Refusal};
+use elf::effort::Effort;
 use std::alloc::Global;
 use std::collections::HashMap;
 
@@ -98,7 +98,7 @@ pub fn needs_in<'a>(
     ensures read { IfOk result (λ by_index. (q : ℕ) → need_under by_index q ≡ need_among (entries_of table.now strings.now count) q) }
 {
     let mut by_index = HashMap::new(alloc);
-    let mut effort = effort_for(table, strings);
+    let mut effort = Effort::for_table(table, strings);
     let mut at = 0;
     for number in 0..count {
         match need_in(table, strings, count, number, at) {

@@ -3,7 +3,6 @@
 #![tactic(auto)]
 
 pub mod constants;
-mod effort;
 mod entries;
 mod kept;
 pub mod laws;

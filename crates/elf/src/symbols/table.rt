@@ -12,6 +12,7 @@ ghost use Rattle.abi_base.specs.Elf.{sym_size};
 use crate::constants::{
     SHT_DYNSYM, ST_INFO, ST_NAME, ST_OTHER, ST_SHNDX, ST_SIZE, ST_VALUE, SYM_SIZE,
 };
+use crate::effort::Effort;
 use crate::file::ElfFile;
 use crate::symbols::strings::strings_for;
 use crate::symbols::symbol::Symbol;
@@ -62,9 +63,13 @@ fn symbols_in<'a>(
 {
     let count = (table.len() / SYM_SIZE) as u32;
     let mut symbols = Vec::with_capacity(alloc, count as usize)?;
+    let mut effort = Effort::for_table(table, strings);
     for number in 0..count {
         match symbol_in(table, strings, number) {
-            Ok(symbol) => symbols.push(symbol)?,
+            Ok(symbol) => {
+                effort.spend(SYM_SIZE, symbol.name)?;
+                symbols.push(symbol)?;
+            }
             Err(fault) => return Err(Refusal::Fault(fault)),
         }
     }

@@ -11,6 +11,7 @@ use crate::constants::{
     SHT_GNU_VERDEF, VD_AUX, VD_CNT, VD_NDX, VD_NEXT, VD_VERSION, VDA_NAME, VER_DEF_CURRENT,
     VERDAUX_SIZE, VERDEF_SIZE, VERSYM_HIDDEN,
 };
+use crate::effort::Effort;
 use crate::file::ElfFile;
 use abi_base::{Fault, FaultKind, INPUT_LIMIT, Refusal, text_at, u16_in, u32_in};
 use std::alloc::Global;
@@ -94,11 +95,13 @@ fn names_in<'a>(
     ensures read { IfOk result (λ names. IsNames names (λ index. option_and_then (name_of table.now strings.now) (definition_with table.now count index))) }
 {
     let mut names = HashMap::new(alloc);
+    let mut effort = Effort::for_table(table, strings);
     let mut at = 0;
     for number in 0..count {
         match definition_in(table, strings, count, number, at) {
             None => return Err(bad_definition(number)),
             Some(definition) => {
+                effort.spend(VERDEF_SIZE, definition.name)?;
                 let stood = names.insert(definition.index, definition.name)?.is_some();
                 if stood {
                     return Err(bad_definition(number));
