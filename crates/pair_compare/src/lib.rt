@@ -14,4 +14,5 @@ mod typed;
 pub use bound_pair::BoundPair;
 pub use comparing::{Comparison, compare};
 pub use empty::unmarked;
+pub use exploring::explore_types;
 pub use typed::roots;

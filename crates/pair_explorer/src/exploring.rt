@@ -22,6 +22,21 @@ pub struct Explored {
     pub breaks: List<(usize, Broken)>,
 }
 
+// How many visits may be made, for each type of both libraries and beside that. In libraries that were built from one source a type
+// meets itself in two ways at most. Two rings of types whose lengths have no common factor meet in all pairs, so that a small file
+// may ask for very many.
+const VISITS_A_TYPE: usize = 16;
+
+const VISITS_AT_LEAST: usize = 65_536;
+
+// How many visits may be made between two graphs.
+fn most_visits(ground: &GraphPair) -> usize {
+    let types = ground.old.len().saturating_add(ground.new.len());
+    types
+        .saturating_mul(VISITS_A_TYPE)
+        .saturating_add(VISITS_AT_LEAST)
+}
+
 // Adds the breaks of the visit of a number.
 fn add_breaks(
     list: &mut List<(usize, Broken)>,
@@ -86,7 +101,7 @@ pub fn explore<L: Ledger>(
     ground.old_classes.known();
     ground.new_classes.known();
     let mut explored = Explored {
-        visits: Visits::new(alloc),
+        visits: Visits::new(alloc, most_visits(ground)),
         breaks: List::new(alloc),
     };
     add_roots(ground, &mut explored.visits)?;

@@ -50,6 +50,8 @@ pub struct Visits {
     triples: IndexSet<Triple>,
     // What led to each of them.
     parents: Vec<Parent>,
+    // How many there may be.
+    most: usize,
 }
 
 impl Model for Visits {
@@ -65,6 +67,11 @@ impl Model for Visits {
     ghost invariant = { λ visits. length visits.triples.keys ≡ length visits.parents.items };
 }
 
+// Fails where there are as many visits as there may be.
+fn is_below(count: usize, most: usize) -> Result<(), NoMemory> {
+    if count < most { Ok(()) } else { Err(NoMemory) }
+}
+
 // Puts a triple last where it is new, and tells whether it is.
 fn put(triples: &mut IndexSet<Triple>, triple: Triple) -> Result<bool, NoMemory>
     ensures keys { OnOk result (triples.new.keys ≡ insert_key at_triple triples.old.keys triple) }
@@ -76,13 +83,14 @@ fn put(triples: &mut IndexSet<Triple>, triple: Triple) -> Result<bool, NoMemory>
 }
 
 impl Visits {
-    /// No visits. They take no memory yet.
-    pub(crate) fn new(alloc: Global) -> Visits
+    /// No visits, and room for so many. They take no memory yet.
+    pub(crate) fn new(alloc: Global, most: usize) -> Visits
         ensures { result ≡ [] }
     {
         Visits {
             triples: IndexSet::new(alloc),
             parents: Vec::new(alloc),
+            most,
         }
     }
 
@@ -115,10 +123,11 @@ impl Visits {
         self.get(number).unwrap()
     }
 
-    /// Adds a visit, where its triple is new.
+    /// Adds a visit, where its triple is new. Where there are as many visits as there may be, memory counts as run out.
     pub(crate) fn add(&mut self, visit: &Visit) -> Result<(), NoMemory>
         ensures { OnOk result (self.new ≡ added self.old visit.now) }
     {
+        is_below(self.parents.len(), self.most)?;
         // With room for what led to the triple, nothing can fail once the triple is in.
         self.parents.reserve(1)?;
         if put(&mut self.triples, visit.triple())? {

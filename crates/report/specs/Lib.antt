@@ -3,5 +3,6 @@ pub mod Listening
 pub mod Places
 pub mod Render
 pub mod Steps
+pub mod Values
 pub mod Words
 pub mod styles

@@ -4,33 +4,33 @@ ghost use Rattle.std.specs.List.{concat};
 ghost use Rattle.std.specs.Option.{option_copied};
 ghost use Rattle.abi_types.specs.Graphs.{part_at};
 ghost use Rattle.abi_types.specs.Plain.{plain_export};
-ghost use Rattle.pair_rules.specs.Matching.{number_of};
-ghost use Rattle.pair_rules.specs.TypeRules.{bit_at as the_bit_at, matched, value_at as the_value_at, width_at as the_width_at};
-ghost use Rattle.report.specs.Details.{export_detail as the_export_detail, param_place as the_param_place, IsInside, part_change, places_change, shown_or_none, shown_soname, soname_detail as the_soname_detail, type_detail as the_type_detail};
-ghost use Rattle.report.specs.Places.{place_text as the_place_text};
-ghost use Rattle.report.specs.Steps.{part_name as the_part_name};
-ghost use Rattle.report.specs.Words.{changed as the_change};
+ghost use Rattle.pair_rules.specs.Matching as matching;
+ghost use Rattle.pair_rules.specs.TypeRules.{matched};
+ghost use Rattle.pair_rules.specs.TypeRules as type_rules;
+ghost use Rattle.report.specs.Details.{IsInside, part_change, places_change, shown_or_none, shown_soname};
+ghost use Rattle.report.specs.Details as spec;
+ghost use Rattle.report.specs.Places as places;
+ghost use Rattle.report.specs.Steps as steps;
+ghost use Rattle.report.specs.Words as words;
 
 use crate::place::push_place;
 use crate::step::push_part_name;
 use crate::words::{group_word, kind_word, yes_or_no};
 use abi_types::{Export, Index, NewIx, OldIx, Part, Place, Rule, View, push_shown};
-use pair_rules::{
-    Broken, bit_at, match_of, number_of as like_before, params_of, value_at, width_at,
-};
+use pair_rules::{Broken, bit_at, match_of, number_of, params_of, value_at, width_at};
 use std::alloc::{AllocError, Global};
 use std::fmt::Write;
 
 // What changed, what it was, and what it is now.
 fn changed(alloc: Global, what: &str, old: &str, new: &str) -> Result<String, AllocError>
-    ensures { IfOk result (λ text. string_bytes text ≡ the_change what.now old.now new.now) }
+    ensures { IfOk result (λ text. string_bytes text ≡ words.changed what.now old.now new.now) }
 {
     format!(in alloc; "{what} {old}, now {new}")
 }
 
 // The same of two numbers.
 fn changed_number(alloc: Global, what: &str, old: u64, new: u64) -> Result<String, AllocError>
-    ensures { IfOk result (λ text. string_bytes text ≡ the_change what.now (decimal old) (decimal new)) }
+    ensures { IfOk result (λ text. string_bytes text ≡ words.changed what.now (decimal old) (decimal new)) }
 {
     format!(in alloc; "{what} {old}, now {new}")
 }
@@ -55,7 +55,7 @@ pub fn soname_detail(
     old: Option<&[u8]>,
     new: Option<&[u8]>,
 ) -> Result<String, AllocError>
-    ensures { IfOk result (λ text. string_bytes text ≡ the_soname_detail (option_copied old.entry) (option_copied new.entry)) }
+    ensures { IfOk result (λ text. string_bytes text ≡ spec.soname_detail (option_copied old.entry) (option_copied new.entry)) }
 {
     let old = soname_text(alloc, old)?;
     let new = soname_text(alloc, new)?;
@@ -69,7 +69,7 @@ pub fn export_detail(
     old: &Export,
     new: &Export,
 ) -> Result<String, AllocError>
-    ensures { IfOk result (λ text. string_bytes text ≡ the_export_detail rule (plain_export old.now) (plain_export new.now)) }
+    ensures { IfOk result (λ text. string_bytes text ≡ spec.export_detail rule (plain_export old.now) (plain_export new.now)) }
 {
     match rule {
         Rule::ExportPresence => String::from_str(alloc, "gone"),
@@ -97,7 +97,7 @@ fn tag_text(alloc: Global, tag: &[u8]) -> Result<String, AllocError>
 
 // Two tags.
 fn changed_tag(alloc: Global, old: &[u8], new: &[u8]) -> Result<String, AllocError>
-    ensures { IfOk result (λ text. string_bytes text ≡ the_change (codes "tag") (shown_or_none old.now) (shown_or_none new.now)) }
+    ensures { IfOk result (λ text. string_bytes text ≡ words.changed (codes "tag") (shown_or_none old.now) (shown_or_none new.now)) }
 {
     let old = tag_text(alloc, old)?;
     let new = tag_text(alloc, new)?;
@@ -105,9 +105,13 @@ fn changed_tag(alloc: Global, old: &[u8], new: &[u8]) -> Result<String, AllocErr
 }
 
 // The printed name of a part.
-fn part_name<Ix: Index>(alloc: Global, view: &View<Ix>, i: usize) -> Result<String, AllocError>
+pub(crate) fn part_name<Ix: Index>(
+    alloc: Global,
+    view: &View<Ix>,
+    i: usize,
+) -> Result<String, AllocError>
     requires { i < length view.now.parts }
-    ensures { IfOk result (λ text. string_bytes text ≡ the_part_name view.now i) }
+    ensures { IfOk result (λ text. string_bytes text ≡ steps.part_name view.now i) }
 {
     let mut text = String::new(alloc);
     push_part_name(alloc, &mut text, view, i)?;
@@ -117,16 +121,16 @@ fn part_name<Ix: Index>(alloc: Global, view: &View<Ix>, i: usize) -> Result<Stri
 // A part that is gone.
 fn part_gone(alloc: Global, sort: &str, old: &View<OldIx>, i: usize) -> Result<String, AllocError>
     requires { i < length old.now.parts }
-    ensures { IfOk result (λ text. string_bytes text ≡ concat (sort.now ∷ codes " " ∷ the_part_name old.now i ∷ codes " gone" ∷ [])) }
+    ensures { IfOk result (λ text. string_bytes text ≡ concat (sort.now ∷ codes " " ∷ steps.part_name old.now i ∷ codes " gone" ∷ [])) }
 {
     let name = part_name(alloc, old, i)?;
     format!(in alloc; "{sort} {name} gone")
 }
 
 // What the new type says of the match of old part `i`, or 0 where it has none.
-fn bit_of_match(old: &View<OldIx>, new: &View<NewIx>, i: usize) -> u64
+pub(crate) fn bit_of_match(old: &View<OldIx>, new: &View<NewIx>, i: usize) -> u64
     requires { i < length old.now.parts }
-    ensures { result ≡ unwrap_or (matched the_bit_at old.now new.now i) 0 }
+    ensures { result ≡ unwrap_or (matched type_rules.bit_at old.now new.now i) 0 }
 {
     match match_of(old, new, i) {
         Some(j) => bit_at(new, j),
@@ -134,9 +138,9 @@ fn bit_of_match(old: &View<OldIx>, new: &View<NewIx>, i: usize) -> u64
     }
 }
 
-fn width_of_match(old: &View<OldIx>, new: &View<NewIx>, i: usize) -> u64
+pub(crate) fn width_of_match(old: &View<OldIx>, new: &View<NewIx>, i: usize) -> u64
     requires { i < length old.now.parts }
-    ensures { result ≡ unwrap_or (matched the_width_at old.now new.now i) 0 }
+    ensures { result ≡ unwrap_or (matched type_rules.width_at old.now new.now i) 0 }
 {
     match match_of(old, new, i) {
         Some(j) => width_at(new, j),
@@ -144,9 +148,9 @@ fn width_of_match(old: &View<OldIx>, new: &View<NewIx>, i: usize) -> u64
     }
 }
 
-fn value_of_match(old: &View<OldIx>, new: &View<NewIx>, i: usize) -> u64
+pub(crate) fn value_of_match(old: &View<OldIx>, new: &View<NewIx>, i: usize) -> u64
     requires { i < length old.now.parts }
-    ensures { result ≡ unwrap_or (matched the_value_at old.now new.now i) 0 }
+    ensures { result ≡ unwrap_or (matched type_rules.value_at old.now new.now i) 0 }
 {
     match match_of(old, new, i) {
         Some(j) => value_at(new, j),
@@ -176,7 +180,7 @@ fn bit_changed(
     i: usize,
 ) -> Result<String, AllocError>
     requires { i < length old.now.parts }
-    ensures { IfOk result (λ text. string_bytes text ≡ part_change (codes "member ") (codes " at bit ") the_bit_at old.now new.now i) }
+    ensures { IfOk result (λ text. string_bytes text ≡ part_change (codes "member ") (codes " at bit ") type_rules.bit_at old.now new.now i) }
 {
     let name = part_name(alloc, old, i)?;
     number_changed(
@@ -197,7 +201,7 @@ fn width_changed(
     i: usize,
 ) -> Result<String, AllocError>
     requires { i < length old.now.parts }
-    ensures { IfOk result (λ text. string_bytes text ≡ part_change (codes "member ") (codes " width ") the_width_at old.now new.now i) }
+    ensures { IfOk result (λ text. string_bytes text ≡ part_change (codes "member ") (codes " width ") type_rules.width_at old.now new.now i) }
 {
     let name = part_name(alloc, old, i)?;
     number_changed(
@@ -218,7 +222,7 @@ fn value_changed(
     i: usize,
 ) -> Result<String, AllocError>
     requires { i < length old.now.parts }
-    ensures { IfOk result (λ text. string_bytes text ≡ part_change (codes "enumerator ") (codes " ") the_value_at old.now new.now i) }
+    ensures { IfOk result (λ text. string_bytes text ≡ part_change (codes "enumerator ") (codes " ") type_rules.value_at old.now new.now i) }
 {
     let name = part_name(alloc, old, i)?;
     number_changed(
@@ -232,8 +236,8 @@ fn value_changed(
 }
 
 // The place of the parameter of a number.
-fn param_place<Ix: Index>(view: &View<Ix>, number: usize) -> Place
-    ensures { result ≡ the_param_place view.now number }
+pub(crate) fn param_place<Ix: Index>(view: &View<Ix>, number: usize) -> Place
+    ensures { result ≡ spec.param_place view.now number }
 {
     match view.call.params().get(number) {
         Some(place) => *place,
@@ -242,8 +246,8 @@ fn param_place<Ix: Index>(view: &View<Ix>, number: usize) -> Place
 }
 
 // The printed form of a place.
-fn place_text(alloc: Global, place: &Place) -> Result<String, AllocError>
-    ensures { IfOk result (λ text. string_bytes text ≡ the_place_text place.now) }
+pub(crate) fn place_text(alloc: Global, place: &Place) -> Result<String, AllocError>
+    ensures { IfOk result (λ text. string_bytes text ≡ places.place_text place.now) }
 {
     let mut text = String::new(alloc);
     push_place(&mut text, place)?;
@@ -256,7 +260,7 @@ fn outcome_changed(
     old: &View<OldIx>,
     new: &View<NewIx>,
 ) -> Result<String, AllocError>
-    ensures { IfOk result (λ text. string_bytes text ≡ the_change (codes "result in") (the_place_text old.now.call.outcome) (the_place_text new.now.call.outcome)) }
+    ensures { IfOk result (λ text. string_bytes text ≡ words.changed (codes "result in") (places.place_text old.now.call.outcome) (places.place_text new.now.call.outcome)) }
 {
     let old = place_text(alloc, &old.call.outcome())?;
     let new = place_text(alloc, &new.call.outcome())?;
@@ -277,7 +281,7 @@ fn param_changed(
     old: &Place,
     new: &Place,
 ) -> Result<String, AllocError>
-    ensures { IfOk result (λ text. string_bytes text ≡ concat (codes "param " ∷ decimal (before + 1) ∷ codes " in " ∷ the_place_text old.now ∷ codes ", now " ∷ the_place_text new.now ∷ [])) }
+    ensures { IfOk result (λ text. string_bytes text ≡ concat (codes "param " ∷ decimal (before + 1) ∷ codes " in " ∷ places.place_text old.now ∷ codes ", now " ∷ places.place_text new.now ∷ [])) }
 {
     let old = place_text(alloc, old)?;
     let new = place_text(alloc, new)?;
@@ -292,11 +296,11 @@ fn place_changed(
     i: usize,
 ) -> Result<String, AllocError>
     requires { i < length old.now.parts }
-    ensures { IfOk result (λ text. string_bytes text ≡ places_change (part_at old.now i) (number_of old.now i) old.now new.now) }
+    ensures { IfOk result (λ text. string_bytes text ≡ places_change (part_at old.now i) (matching.number_of old.now i) old.now new.now) }
 {
     match old.part(i) {
         Part::Param { .. } => {
-            let number = like_before(old, i);
+            let number = number_of(old, i);
             param_changed(
                 alloc,
                 number,
@@ -317,7 +321,7 @@ pub fn type_detail(
     new: &View<NewIx>,
 ) -> Result<String, AllocError>
     requires { IsInside old.now broken.now }
-    ensures { IfOk result (λ text. string_bytes text ≡ the_type_detail broken.now.rule old.now new.now broken.now.part) }
+    ensures { IfOk result (λ text. string_bytes text ≡ spec.type_detail broken.now.rule old.now new.now broken.now.part) }
 {
     let i = broken.part;
     match broken.rule {

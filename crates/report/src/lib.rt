@@ -13,12 +13,16 @@ mod row;
 mod step;
 mod style;
 pub mod styles;
+mod value;
+mod values;
 mod words;
 
+pub use detail::type_detail;
 pub use listener::{Listener, add_listener, tell_all};
 pub use listeners::{CountsListener, FirstListener, TableListener, TextListener};
 pub use place::push_place;
-pub use row::{Row, export_row, soname_row, type_row};
+pub use row::{Row, Trail, export_row, soname_row, type_row};
 pub use step::push_step;
 pub use style::{More, Style};
+pub use value::Value;
 pub use words::kind_word;

@@ -3,10 +3,14 @@ ghost use Rattle.std.specs.Prelude.{◌≡◌, [], codes, IfOk, string_bytes};
 ghost use Rattle.std.specs.Option.{option_copied};
 ghost use Rattle.abi_types.specs.Plain.{plain_export};
 ghost use Rattle.abi_types.specs.Shown.{label};
-ghost use Rattle.report.specs.Details.{IsInside, export_detail as the_export_detail, soname_detail as the_soname_detail, type_detail as the_type_detail};
+ghost use Rattle.report.specs.Details.{IsInside};
+ghost use Rattle.report.specs.Details as details;
+ghost use Rattle.report.specs.Values as values;
 ghost use Rattle.report.specs.declared.row.Row.{Row as AnyRow};
 
 use crate::detail::{export_detail, soname_detail, type_detail};
+use crate::value::Value;
+use crate::values::{export_is, export_was, part_of, soname_value, type_is, type_was};
 use abi_base::{List, NoMemory};
 use abi_types::{Export, NewIx, OldIx, Rule, View, push_label};
 use pair_rules::Broken;
@@ -23,6 +27,13 @@ pub struct Row {
     pub path: List<u8>,
     /// What was there, and what is there now.
     pub detail: List<u8>,
+    /// The old member or enumerator that the rule speaks of, by its name, `param` and a number, or `result`; nothing where the rule
+    /// speaks of no part.
+    pub part: List<u8>,
+    /// What was there.
+    pub was: Value,
+    /// What is there now.
+    pub is: Value,
     /// The offset of the old type's debugging information entry, or 0.
     pub old_entry: u64,
     /// The offset of the new type's debugging information entry, or 0.
@@ -39,6 +50,9 @@ impl Row {
             export: List::copy_of(alloc, self.export.as_slice())?,
             path: List::copy_of(alloc, self.path.as_slice())?,
             detail: List::copy_of(alloc, self.detail.as_slice())?,
+            part: List::copy_of(alloc, self.part.as_slice())?,
+            was: self.was.copy(alloc)?,
+            is: self.is.copy(alloc)?,
             old_entry: self.old_entry,
             new_entry: self.new_entry,
         })
@@ -67,7 +81,10 @@ pub fn soname_row(alloc: Global, old: Option<&[u8]>, new: Option<&[u8]>) -> Resu
       rule = Rule.LibrarySoname;
       export = codes "-";
       path = [];
-      detail = the_soname_detail (option_copied old.entry) (option_copied new.entry);
+      detail = details.soname_detail (option_copied old.entry) (option_copied new.entry);
+      part = [];
+      was = values.soname_value (option_copied old.entry);
+      is = values.soname_value (option_copied new.entry);
       old_entry = 0;
       new_entry = 0;
     }) }
@@ -77,6 +94,9 @@ pub fn soname_row(alloc: Global, old: Option<&[u8]>, new: Option<&[u8]>) -> Resu
         export: List::copy_of(alloc, b"-")?,
         path: List::new(alloc),
         detail: bytes_of(soname_detail(alloc, old, new)?),
+        part: List::new(alloc),
+        was: soname_value(alloc, old)?,
+        is: soname_value(alloc, new)?,
         old_entry: 0,
         new_entry: 0,
     })
@@ -89,7 +109,10 @@ pub fn export_row(alloc: Global, rule: Rule, old: &Export, new: &Export) -> Resu
       rule = rule;
       export = label (plain_export old.now);
       path = [];
-      detail = the_export_detail rule (plain_export old.now) (plain_export new.now);
+      detail = details.export_detail rule (plain_export old.now) (plain_export new.now);
+      part = [];
+      was = values.export_was rule (plain_export old.now);
+      is = values.export_is rule (plain_export new.now);
       old_entry = 0;
       new_entry = 0;
     }) }
@@ -99,36 +122,52 @@ pub fn export_row(alloc: Global, rule: Rule, old: &Export, new: &Export) -> Resu
         export: bytes_of(label_of(alloc, old)?),
         path: List::new(alloc),
         detail: bytes_of(export_detail(alloc, rule, old, new)?),
+        part: List::new(alloc),
+        was: export_was(alloc, rule, old)?,
+        is: export_is(alloc, rule, new)?,
         old_entry: 0,
         new_entry: 0,
     })
 }
 
-/// The row of a rule that two types break, with the printed forms of the export and of the path that lead to them, and the
-/// types' entries.
+/// The printed forms of an export's label, and of the steps that lead from its type to other types.
+#[derive(Drop)]
+pub struct Trail {
+    /// The label.
+    pub export: String,
+    /// The steps.
+    pub path: String,
+}
+
+/// The row of a rule that two types break, with what leads to them, and the types' entries.
 pub fn type_row(
     alloc: Global,
     broken: &Broken,
-    export: String,
-    path: String,
+    trail: Trail,
     old: (u64, &View<OldIx>),
     new: (u64, &View<NewIx>),
 ) -> Result<Row, NoMemory>
     requires { IsInside old.1.now broken.now }
     ensures { IfOk result (λ (row : AnyRow). row ≡ record {
       rule = broken.now.rule;
-      export = string_bytes export;
-      path = string_bytes path;
-      detail = the_type_detail broken.now.rule old.entry.1.now new.entry.1.now broken.now.part;
+      export = string_bytes trail.export;
+      path = string_bytes trail.path;
+      detail = details.type_detail broken.now.rule old.entry.1.now new.entry.1.now broken.now.part;
+      part = values.part_of broken.now.rule old.entry.1.now broken.now.part;
+      was = values.type_was broken.now.rule old.entry.1.now broken.now.part;
+      is = values.type_is broken.now.rule old.entry.1.now new.entry.1.now broken.now.part;
       old_entry = old.entry.0;
       new_entry = new.entry.0;
     }) }
 {
     Ok(Row {
         rule: broken.rule,
-        export: bytes_of(export),
-        path: bytes_of(path),
+        export: bytes_of(trail.export),
+        path: bytes_of(trail.path),
         detail: bytes_of(type_detail(alloc, broken, old.1, new.1)?),
+        part: part_of(alloc, broken, old.1)?,
+        was: type_was(alloc, broken, old.1)?,
+        is: type_is(alloc, broken, old.1, new.1)?,
         old_entry: old.0,
         new_entry: new.0,
     })

@@ -1,4 +1,4 @@
-// A row for each rule: what it says of the old side and of the new one.
+// A row for each rule: what it says of the old side and of the new one, and the part and the values that it gives.
 ghost use Rattle.std.specs.Prelude.{◌≡◌, false};
 ghost use Rattle.pair_rules.specs.TypeRules.{speaks_of_parts};
 
@@ -8,9 +8,10 @@ use abi_types::{
     SymbolKind, View,
 };
 use pair_rules::Broken;
-use report::{Row, export_row, soname_row, type_row};
-use std::alloc::Global;
+use report::{Row, Trail, Value, export_row, soname_row, type_row};
+use std::alloc::{AllocError, Global};
 use std::process::Abort;
+use std::str;
 use std::test::Fail;
 
 // A type of four bytes, with these parts.
@@ -39,19 +40,20 @@ fn scalar<'a, Ix: Index>(alloc: Global, tag: &'a [u8]) -> Result<View<'a, Ix>, N
     made(alloc, Kind::Scalar, tag, Vec::new(alloc))
 }
 
+// No export and no steps.
+fn nowhere(alloc: Global) -> Trail {
+    Trail {
+        export: String::new(alloc),
+        path: String::new(alloc),
+    }
+}
+
 // The row of a rule that two types break as a whole.
 fn whole(alloc: Global, rule: Rule, old: &View<OldIx>, new: &View<NewIx>) -> Result<Row, NoMemory>
     requires { speaks_of_parts rule ≡ false }
 {
     let broken = Broken { rule, part: 0 };
-    type_row(
-        alloc,
-        &broken,
-        String::new(alloc),
-        String::new(alloc),
-        (0, old),
-        (0, new),
-    )
+    type_row(alloc, &broken, nowhere(alloc), (0, old), (0, new))
 }
 
 // The row of a rule that two types break at a part of the old one.
@@ -65,19 +67,34 @@ fn at_part(
 ) -> Result<Row, NoMemory> {
     assert!(rt; part < old.parts_len());
     let broken = Broken { rule, part };
-    type_row(
-        alloc,
-        &broken,
-        String::new(alloc),
-        String::new(alloc),
-        (0, old),
-        (0, new),
-    )
+    type_row(alloc, &broken, nowhere(alloc), (0, old), (0, new))
 }
 
-// What a row says is this.
-fn says(rt: &impl Abort, row: &Row, wanted: &str) {
-    assert_eq!(rt; row.detail.as_slice(), wanted.as_bytes());
+// A value with its unit.
+fn value_text(alloc: Global, value: &Value) -> Result<String, AllocError> {
+    match value {
+        Value::Nothing => String::from_str(alloc, "nothing"),
+        Value::Bytes(number) => format!(in alloc; "{number} bytes"),
+        Value::Bits(number) => format!(in alloc; "{number} bits"),
+        Value::Count(number) => format!(in alloc; "count {number}"),
+        Value::Number(number) => format!(in alloc; "number {number}"),
+        Value::Word(word) => String::from_str(alloc, utf8_of(word)),
+    }
+}
+
+fn utf8_of(bytes: &List<u8>) -> &str {
+    str::from_utf8(bytes.as_slice()).unwrap_or("no text")
+}
+
+// What a row says is this: its detail, the part, what was there and what is there now.
+fn says(rt: &impl Abort, alloc: Global, row: &Row, wanted: &str) -> Result<(), NoMemory> {
+    let detail = utf8_of(&row.detail);
+    let part = utf8_of(&row.part);
+    let was = value_text(alloc, &row.was)?;
+    let is = value_text(alloc, &row.is)?;
+    let text = format!(in alloc; "{detail}; {part}; {was}; {is}")?;
+    assert_eq!(rt; text.as_str(), wanted);
+    Ok(())
 }
 
 // A structure that has nothing of what a scalar of four bytes without a name has.
@@ -112,21 +129,60 @@ fn says_of_scalar(rt: &impl Abort, alloc: Global, rule: Rule, wanted: &str) -> R
     requires { speaks_of_parts rule ≡ false }
 {
     let row = scalar_row(alloc, rule)?;
-    says(rt, &row, wanted);
-    Ok(())
+    says(rt, alloc, &row, wanted)
 }
 
 #[test]
 fn whole_types(rt: HostRuntime) -> Result<(), Fail> {
     let alloc = rt.alloc();
-    says_of_scalar(&rt, alloc, Rule::KindOfType, "kind scalar, now struct")?;
-    says_of_scalar(&rt, alloc, Rule::TypeSize, "size 4, now 8")?;
-    says_of_scalar(&rt, alloc, Rule::ScalarGroup, "scalar signed, now unsigned")?;
-    says_of_scalar(&rt, alloc, Rule::TypeAlignment, "alignment 0, now 16")?;
-    says_of_scalar(&rt, alloc, Rule::DeclarationTag, "tag none, now a\\x20b")?;
-    says_of_scalar(&rt, alloc, Rule::ElementCount, "count 2, now 3")?;
-    says_of_scalar(&rt, alloc, Rule::ParameterCount, "parameters 0, now 0")?;
-    says_of_scalar(&rt, alloc, Rule::VariadicArguments, "variadic no, now yes")?;
+    says_of_scalar(
+        &rt,
+        alloc,
+        Rule::KindOfType,
+        "kind scalar, now struct; ; scalar; struct",
+    )?;
+    says_of_scalar(
+        &rt,
+        alloc,
+        Rule::TypeSize,
+        "size 4, now 8; ; 4 bytes; 8 bytes",
+    )?;
+    says_of_scalar(
+        &rt,
+        alloc,
+        Rule::ScalarGroup,
+        "scalar signed, now unsigned; ; signed; unsigned",
+    )?;
+    says_of_scalar(
+        &rt,
+        alloc,
+        Rule::TypeAlignment,
+        "alignment 0, now 16; ; 0 bytes; 16 bytes",
+    )?;
+    says_of_scalar(
+        &rt,
+        alloc,
+        Rule::DeclarationTag,
+        "tag none, now a\\x20b; ; nothing; a\\x20b",
+    )?;
+    says_of_scalar(
+        &rt,
+        alloc,
+        Rule::ElementCount,
+        "count 2, now 3; ; count 2; count 3",
+    )?;
+    says_of_scalar(
+        &rt,
+        alloc,
+        Rule::ParameterCount,
+        "parameters 0, now 0; ; count 0; count 0",
+    )?;
+    says_of_scalar(
+        &rt,
+        alloc,
+        Rule::VariadicArguments,
+        "variadic no, now yes; ; no; yes",
+    )?;
     Ok(())
 }
 
@@ -179,28 +235,39 @@ fn says_of_member(
     wanted: &str,
 ) -> Result<(), NoMemory> {
     let row = member_row(rt, alloc, rule, part)?;
-    says(rt, &row, wanted);
-    Ok(())
+    says(rt, alloc, &row, wanted)
 }
 
 #[test]
 fn members(rt: HostRuntime) -> Result<(), Fail> {
     let alloc = rt.alloc();
-    says_of_member(&rt, alloc, Rule::MemberPresence, 0, "member v gone")?;
-    says_of_member(&rt, alloc, Rule::MemberPresence, 1, "member v#2 gone")?;
+    says_of_member(
+        &rt,
+        alloc,
+        Rule::MemberPresence,
+        0,
+        "member v gone; v; v; nothing",
+    )?;
+    says_of_member(
+        &rt,
+        alloc,
+        Rule::MemberPresence,
+        1,
+        "member v#2 gone; v#2; v#2; nothing",
+    )?;
     says_of_member(
         &rt,
         alloc,
         Rule::MemberOffset,
         1,
-        "member v#2 at bit 32, now 40",
+        "member v#2 at bit 32, now 40; v#2; 32 bits; 40 bits",
     )?;
     says_of_member(
         &rt,
         alloc,
         Rule::BitFieldWidth,
         1,
-        "member v#2 width 0, now 3",
+        "member v#2 width 0, now 3; v#2; 0 bits; 3 bits",
     )?;
     Ok(())
 }
@@ -243,15 +310,24 @@ fn says_of_enumerator(
     wanted: &str,
 ) -> Result<(), NoMemory> {
     let row = enumerator_row(rt, alloc, rule)?;
-    says(rt, &row, wanted);
-    Ok(())
+    says(rt, alloc, &row, wanted)
 }
 
 #[test]
 fn enumerators(rt: HostRuntime) -> Result<(), Fail> {
     let alloc = rt.alloc();
-    says_of_enumerator(&rt, alloc, Rule::EnumeratorPresence, "enumerator A gone")?;
-    says_of_enumerator(&rt, alloc, Rule::EnumeratorValue, "enumerator A 255, now 2")?;
+    says_of_enumerator(
+        &rt,
+        alloc,
+        Rule::EnumeratorPresence,
+        "enumerator A gone; A; A; nothing",
+    )?;
+    says_of_enumerator(
+        &rt,
+        alloc,
+        Rule::EnumeratorValue,
+        "enumerator A 255, now 2; A; number 255; number 2",
+    )?;
     Ok(())
 }
 
@@ -317,15 +393,24 @@ fn says_of_place(
     wanted: &str,
 ) -> Result<(), NoMemory> {
     let row = place_row(rt, alloc, part)?;
-    says(rt, &row, wanted);
-    Ok(())
+    says(rt, alloc, &row, wanted)
 }
 
 #[test]
 fn places(rt: HostRuntime) -> Result<(), Fail> {
     let alloc = rt.alloc();
-    says_of_place(&rt, alloc, 0, "result in rax, now memory")?;
-    says_of_place(&rt, alloc, 1, "param 1 in rdi, now stack+0:24")?;
+    says_of_place(
+        &rt,
+        alloc,
+        0,
+        "result in rax, now memory; result; rax; memory",
+    )?;
+    says_of_place(
+        &rt,
+        alloc,
+        1,
+        "param 1 in rdi, now stack+0:24; param 1; rdi; stack+0:24",
+    )?;
     Ok(())
 }
 
@@ -357,18 +442,37 @@ fn says_of_export(
     let new = export(b"f", b"V1", SymbolKind::Tls, 8);
     let row = export_row(alloc, rule, &old, &new)?;
     assert_eq!(rt; row.export.as_slice(), b"f@V1".as_slice());
-    says(rt, &row, wanted);
-    Ok(())
+    says(rt, alloc, &row, wanted)
 }
 
 #[test]
 fn exports(rt: HostRuntime) -> Result<(), Fail> {
     let alloc = rt.alloc();
-    says_of_export(&rt, alloc, Rule::ExportPresence, "gone")?;
-    says_of_export(&rt, alloc, Rule::ExportVersion, "version gone")?;
-    says_of_export(&rt, alloc, Rule::ExportKind, "kind FUNC, now TLS")?;
-    says_of_export(&rt, alloc, Rule::ExportSize, "object size 4, now 8")?;
-    says_of_export(&rt, alloc, Rule::ExportType, "type gone")?;
+    says_of_export(&rt, alloc, Rule::ExportPresence, "gone; ; f@V1; nothing")?;
+    says_of_export(
+        &rt,
+        alloc,
+        Rule::ExportVersion,
+        "version gone; ; f@V1; nothing",
+    )?;
+    says_of_export(
+        &rt,
+        alloc,
+        Rule::ExportKind,
+        "kind FUNC, now TLS; ; FUNC; TLS",
+    )?;
+    says_of_export(
+        &rt,
+        alloc,
+        Rule::ExportSize,
+        "object size 4, now 8; ; 4 bytes; 8 bytes",
+    )?;
+    says_of_export(
+        &rt,
+        alloc,
+        Rule::ExportType,
+        "type gone; ; nothing; nothing",
+    )?;
     Ok(())
 }
 
@@ -376,6 +480,11 @@ fn exports(rt: HostRuntime) -> Result<(), Fail> {
 fn sonames(rt: HostRuntime) -> Result<(), Fail> {
     let row = soname_row(rt.alloc(), Some(b"libx.so.1"), None)?;
     assert_eq!(rt; row.export.as_slice(), b"-".as_slice());
-    says(&rt, &row, "SONAME libx.so.1, now none");
+    says(
+        &rt,
+        rt.alloc(),
+        &row,
+        "SONAME libx.so.1, now none; ; libx.so.1; nothing",
+    )?;
     Ok(())
 }

@@ -4,7 +4,7 @@ ghost use Rattle.std.specs.Prelude.{◌≡◌, [], All, IfOk};
 use abi_base::{List, NoMemory};
 use abi_types::Rule;
 use report::{
-    CountsListener, FirstListener, Listener, More, Row, Style, TableListener, TextListener,
+    CountsListener, FirstListener, Listener, More, Row, Style, TableListener, TextListener, Value,
     add_listener, tell_all,
 };
 use std::alloc::Global;
@@ -78,6 +78,9 @@ fn row(
         export: List::copy_of(alloc, export)?,
         path: List::copy_of(alloc, path)?,
         detail: List::copy_of(alloc, detail)?,
+        part: List::new(alloc),
+        was: Value::Nothing,
+        is: Value::Nothing,
         old_entry: 0,
         new_entry: 0,
     })

@@ -5,7 +5,8 @@ use crate::runs::{NamedFile, ran};
 use abi_base::{List, NoMemory};
 use abi_types::Rule;
 use report::{
-    CountsListener, FirstListener, Listener, More, Row, Style, TextListener, add_listener, tell_all,
+    CountsListener, FirstListener, Listener, More, Row, Style, TextListener, Value, add_listener,
+    tell_all,
 };
 use std::alloc::Global;
 use std::cell::RefCell;
@@ -223,6 +224,9 @@ fn gone(alloc: Global) -> Result<Row, NoMemory> {
         export: List::copy_of(alloc, b"f")?,
         path: List::new(alloc),
         detail: List::copy_of(alloc, b"gone")?,
+        part: List::new(alloc),
+        was: Value::Nothing,
+        is: Value::Nothing,
         old_entry: 0,
         new_entry: 0,
     })

@@ -13,6 +13,7 @@ use Rattle.abi_types.specs.Graphs.{node_at, view_at}
 use Rattle.abi_types.specs.Rules.{rule_place}
 use Rattle.abi_types.specs.Types.{PlainView}
 use Rattle.report.specs.Details.{type_detail}
+use Rattle.report.specs.Values.{part_of, type_is, type_was}
 use Rattle.report.specs.declared.row.Row.{Row}
 use Rattle.pair_rules.specs.declared.rules.Broken.{Broken}
 use Rattle.pair_rules.specs.Paths.{Path, Then}
@@ -148,22 +149,37 @@ export_of-followed : (path : Path) (parts : List ℕ) → export_of (followed pa
 export_of-followed path [] = refl
 export_of-followed path (part ∷ parts) = export_of-followed (Then path part) parts
 
+-- the row of a break between two types, with the texts that lead to them and their entries
+abbrev pub between_types : Broken → List ℕ → List ℕ → PlainView → PlainView → ℕ → ℕ → Row
+between_types b label steps one other old_entry new_entry = record {
+  rule = b.rule;
+  export = label;
+  path = steps;
+  detail = type_detail b.rule one other b.part;
+  part = part_of b.rule one b.part;
+  was = type_was b.rule one b.part;
+  is = type_is b.rule one other b.part;
+  old_entry = old_entry;
+  new_entry = new_entry;
+}
+
 -- what the code tells of a break is its row
 pub row_is : (s : Sides) (vs : List Visit) (number : ℕ) (b : Broken) (v : Visit) (export : ℕ) (parts label steps : List ℕ) (one other : PlainView) (old_entry new_entry : ℕ)
     → slice_get vs number ≡ Some v → path_of export parts ≡ path_at vs number → label ≡ label_at s.old export → steps ≡ steps_text s.old (path_of export parts)
     → one ≡ view_at s.old.graph v.old → other ≡ view_at s.new.graph v.new → old_entry ≡ (node_at s.old.graph v.old).entry → new_entry ≡ (node_at s.new.graph v.new).entry
-    → ◌≡◌ {A = Row} (record { rule = b.rule; export = label; path = steps; detail = type_detail b.rule one other b.part; old_entry = old_entry; new_entry = new_entry }) (row_of s (finding_of vs (number, b)))
+    → ◌≡◌ {A = Row} (between_types b label steps one other old_entry new_entry) (row_of s (finding_of vs (number, b)))
 unfolding finding_of row_of detail_at
 row_is s vs number b v export parts label steps one other old_entry new_entry at same is_label is_steps is_one is_other is_old is_new =
-    let mk : List ℕ → List ℕ → List ℕ → ℕ → ℕ → Row = λ l p d m n. record { rule = b.rule; export = l; path = p; detail = d; old_entry = m; new_entry = n } in
     let path = path_at vs number in
+    let old = view_at s.old.graph v.old in
+    let new = view_at s.new.graph v.new in
     let label' : label ≡ label_at s.old (export_of path) = is_label ∙ ap (label_at s.old) (sym (export_of-followed _ parts) ∙ ap export_of same) in
     let steps' : steps ≡ steps_text s.old path = is_steps ∙ ap (steps_text s.old) same in
-    let detail' : type_detail b.rule one other b.part ≡ detail_at (task_of s) v.old v.new b = ap (λ u. type_detail b.rule u other b.part) is_one ∙ ap (λ u. type_detail b.rule (view_at s.old.graph v.old) u b.part) is_other in
-    ap (λ x. mk x steps (type_detail b.rule one other b.part) old_entry new_entry) label' ∙ ap (λ x. mk (label_at s.old (export_of path)) x (type_detail b.rule one other b.part) old_entry new_entry) steps'
-    ∙ ap (λ x. mk (label_at s.old (export_of path)) (steps_text s.old path) x old_entry new_entry) detail'
-    ∙ ap (λ x. mk (label_at s.old (export_of path)) (steps_text s.old path) (detail_at (task_of s) v.old v.new b) x new_entry) is_old
-    ∙ ap (λ x. mk (label_at s.old (export_of path)) (steps_text s.old path) (detail_at (task_of s) v.old v.new b) (node_at s.old.graph v.old).entry x) is_new
+    ap (λ x. between_types b x steps one other old_entry new_entry) label' ∙ ap (λ x. between_types b (label_at s.old (export_of path)) x one other old_entry new_entry) steps'
+    ∙ ap (λ x. between_types b (label_at s.old (export_of path)) (steps_text s.old path) x other old_entry new_entry) is_one
+    ∙ ap (λ x. between_types b (label_at s.old (export_of path)) (steps_text s.old path) old x old_entry new_entry) is_other
+    ∙ ap (λ x. between_types b (label_at s.old (export_of path)) (steps_text s.old path) old new x new_entry) is_old
+    ∙ ap (λ x. between_types b (label_at s.old (export_of path)) (steps_text s.old path) old new (node_at s.old.graph v.old).entry x) is_new
     ∙ sym (ap (λ o. row_of s (found_of path b o)) at)
 
 -- the rows of the first of what is kept, behind others

@@ -11,20 +11,24 @@ use Rattle.elf_bind.specs.Exports.{same_name}
 use Rattle.cert_check.specs.Compatible.{Sides, bound}
 use Rattle.report.specs.Details.{export_detail, soname_detail}
 use Rattle.report.specs.declared.row.Row.{Row}
+use Rattle.report.specs.declared.value.Value.{Value}
+use Rattle.report.specs.Values.{export_is, export_was, soname_value}
 
 -- a row that tells of no types
-abbrev pub plain_row : Rule → List ℕ → List ℕ → Row
-plain_row rule of detail = record { rule = rule; export = of; path = []; detail = detail; old_entry = 0; new_entry = 0 }
+abbrev pub plain_row : Rule → List ℕ → List ℕ → Value → Value → Row
+plain_row rule of detail was is =
+    record { rule = rule; export = of; path = []; detail = detail; part = []; was = was; is = is; old_entry = 0; new_entry = 0 }
 
 -- X1, where the sonames differ
 unfoldable pub soname_rows : Option (List ℕ) → Option (List ℕ) → List Row
-soname_rows old new = if same_name old new then [] else plain_row LibrarySoname (codes "-") (soname_detail old new) ∷ []
+soname_rows old new =
+    if same_name old new then [] else plain_row LibrarySoname (codes "-") (soname_detail old new) (soname_value old) (soname_value new) ∷ []
 
 -- ---- one old export
 
 -- the row of a rule that an old export breaks beside a new one
 abbrev pub export_row : Rule → PlainExport → PlainExport → Row
-export_row rule e f = plain_row rule (label e) (export_detail rule e f)
+export_row rule e f = plain_row rule (label e) (export_detail rule e f) (export_was rule e) (export_is rule f)
 
 abbrev pub row_if : Bool → Row → List Row
 row_if broken row = if broken then row ∷ [] else []

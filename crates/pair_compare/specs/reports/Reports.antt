@@ -2,7 +2,7 @@
 use Rattle.std.specs.Prelude.{◌≡◌, ◌<◌, ◌≤◌, ◌⊎◌, ◌++◌, ℕ, false, List, Some, Contains, length, slice_get, map}
 use Rattle.abi_types.specs.declared.kind.Way.TheVariants.{Direct}
 use Rattle.abi_types.specs.Types.{PlainNode}
-use Rattle.abi_types.specs.Graphs.{node_at}
+use Rattle.abi_types.specs.Graphs.{node_at, view_at}
 use Rattle.pair_rules.specs.declared.rules.Broken.{Broken}
 use Rattle.pair_rules.specs.BreakOrder.{IsBrokenBefore}
 use Rattle.pair_rules.specs.Steps.{Task, Triple, is_marked, breaks_of}
@@ -11,6 +11,7 @@ use Rattle.type_classes.specs.Alike.{AreAlike}
 use Rattle.type_classes.specs.Classes.{IsLeast}
 use Rattle.cert_check.specs.Compatible.{Sides, task_of}
 use Rattle.report.specs.declared.row.Row.{Row}
+use Rattle.report.specs.Values.{part_of, type_is, type_was}
 use Rattle.pair_compare.specs.reports.Findings.{Finding, export_of, detail_at}
 use Rattle.pair_compare.specs.reports.PathTexts.{label_at, steps_text}
 use Rattle.pair_compare.specs.reports.ExportRows.{export_rows}
@@ -70,13 +71,17 @@ pub record AreRight (t : Task) (findings : List Finding) : Type 0 where
 
 -- ---- right rows
 
--- The row of a finding: its rule and detail, the label of the export and the steps of the path, and the entries.
+-- The row of a finding: its rule and detail, the label of the export and the steps of the path, the part and the values, and the
+-- entries.
 unfoldable pub row_of : Sides → Finding → Row
 row_of s f = record {
   rule = f.broken.rule;
   export = label_at s.old (export_of f.path);
   path = steps_text s.old f.path;
   detail = detail_at (task_of s) f.old f.new f.broken;
+  part = part_of f.broken.rule (view_at s.old.graph f.old) f.broken.part;
+  was = type_was f.broken.rule (view_at s.old.graph f.old) f.broken.part;
+  is = type_is f.broken.rule (view_at s.old.graph f.old) (view_at s.new.graph f.new) f.broken.part;
   old_entry = (node_at s.old.graph f.old).entry;
   new_entry = (node_at s.new.graph f.new).entry;
 }

@@ -6,6 +6,8 @@ pub mod laws;
 mod lookups;
 mod paths;
 mod right_report;
+mod room;
 mod type_findings;
 
+pub use paths::{label_at, steps_text};
 pub use right_report::report_rows;

@@ -13,6 +13,7 @@ ghost use Rattle.pair_explorer.specs.Visits.{AreEarlier};
 
 use crate::bound_pair::BoundPair;
 use crate::reports::paths::{label_at, steps_text};
+use crate::reports::room::Room;
 use abi_base::{List, NoMemory};
 use abi_types::laws::rules_have_places_of_their_own;
 use abi_types::{Index, NewIx, OldIx, View};
@@ -20,7 +21,7 @@ use indexmap::IndexSet;
 use pair_explorer::laws::parents_spell_paths;
 use pair_explorer::{Explored, Visits, route_to};
 use pair_rules::Broken;
-use report::{Row, type_row};
+use report::{Row, Trail, type_detail, type_row};
 use std::alloc::Global;
 
 // What a row says of a break of two types.
@@ -33,15 +34,8 @@ fn detail_of(
     requires { IsInside old.now broken.now }
     ensures { IfOk result (λ text. text.items ≡ spec.type_detail broken.now.rule old.now new.now broken.now.part) }
 {
-    let row = type_row(
-        alloc,
-        broken,
-        String::new(alloc),
-        String::new(alloc),
-        (0, old),
-        (0, new),
-    )?;
-    Ok(row.detail.into_vec())
+    let text = type_detail(alloc, broken, old, new)?;
+    Ok(text.into_bytes())
 }
 
 // What tells the row of a break at the visit of a number apart.
@@ -107,8 +101,7 @@ fn row_at(
     type_row(
         alloc,
         broken,
-        export,
-        path,
+        Trail { export, path },
         (old.entry_of(visit.old), old.view(visit.old)),
         (new.entry_of(visit.new), new.view(visit.new)),
     )
@@ -128,8 +121,10 @@ pub fn push_type_rows(
     rules_have_places_of_their_own();
     let told = told(alloc, ground, explored)?;
     let breaks = told.as_slice();
+    let mut room = Room::beside(ground);
     for found in breaks {
         let row = row_at(alloc, ground, &explored.visits, found.0, &found.1)?;
+        room.take(&row)?;
         rows.push(row)?;
     }
     Ok(())

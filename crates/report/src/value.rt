@@ -1,0 +1,38 @@
+// A value of a rule.
+ghost use Rattle.std.specs.Prelude.{◌≡◌, IfOk};
+
+use abi_base::{List, NoMemory};
+use std::alloc::Global;
+
+/// A value that a rule compares: what was there, or what is there now.
+#[derive(Drop)]
+pub enum Value {
+    /// There is none.
+    Nothing,
+    /// A size or an alignment in bytes.
+    Bytes(u64),
+    /// An offset or a width in bits.
+    Bits(u64),
+    /// How many elements or parameters there are.
+    Count(u64),
+    /// The value of an enumerator.
+    Number(u64),
+    /// A word or a name in its printed form.
+    Word(List<u8>),
+}
+
+impl Value {
+    /// An equal value. It fails where memory runs out, and nowhere else.
+    pub fn copy(&self, alloc: Global) -> Result<Value, NoMemory>
+        ensures { IfOk result (λ value. value ≡ self.now) }
+    {
+        match self {
+            Value::Nothing => Ok(Value::Nothing),
+            Value::Bytes(number) => Ok(Value::Bytes(*number)),
+            Value::Bits(number) => Ok(Value::Bits(*number)),
+            Value::Count(number) => Ok(Value::Count(*number)),
+            Value::Number(number) => Ok(Value::Number(*number)),
+            Value::Word(text) => Ok(Value::Word(List::copy_of(alloc, text.as_slice())?)),
+        }
+    }
+}
