@@ -79,6 +79,23 @@ def hold_places(document: dict[str, Any], side: str, library: Path) -> int:
     return len(rows)
 
 
+# Each structure has an `int` and a member that is an `int` in the old library and a `long` in the new one (System V psABI, figure
+# 3.1): what a break of a rule says of the part, of the old type, and of the new one.
+VALUES = {
+    "L2": (None, (8, "bytes"), (16, "bytes")),
+    "L7": ("second", (32, "bits"), (64, "bits")),
+}
+
+
+def hold_values(document: dict[str, Any]) -> int:
+    """The breaks of each structure have its sizes and offsets; how many there are."""
+    rows = [row for row in document["breaks"] if row["steps"] == ["param 1", "target"]]
+    for row in rows:
+        said = (row["part"], *((row[side]["value"], row[side]["unit"]) for side in ("was", "is")))
+        assert said == VALUES[row["rule"]], row
+    return len(rows)
+
+
 def damaged(library: Path, out: Path, chance: random.Random) -> None:
     """A copy of a library with some changed bytes of `.debug_line`."""
     with library.open("rb") as stream:
@@ -105,6 +122,7 @@ def main() -> None:
                 assert document["answer"] == "no", document
                 found = hold_places(document, "old", old) + hold_places(document, "new", new)
                 assert found == 2 * (COUNT + 1), (compiler, version, found)
+                assert hold_values(document) == len(VALUES) * (COUNT + 1), document
                 held += found
                 assert documents.of("check", old, old)["answer"] == "yes"
                 assert documents.of("exports", old)["answer"] == "done"

@@ -6,15 +6,13 @@ mod document;
 mod files;
 mod libraries;
 mod places;
+mod told;
 mod words;
 
-use crate::document::document_of;
+use crate::told::told_of;
 use crate::words::words_of;
 use abi_base::{FileInputs, NoMemory, StdSink, write_all};
-use abi_top::run;
 use commands::Outcome;
-use json_report::{JsonListener, TextSink};
-use report::{Listener, add_listener};
 use std::io::ErrorKind;
 use std::process::ExitCode;
 use std::rt::{Env, Files};
@@ -47,23 +45,17 @@ fn arguments_of<R: Env + AllocGlobal>(rt: &R) -> io::Result<Vec<String>> {
     Ok(arguments)
 }
 
-// Runs the words with a listener that makes JSON of the breaks, and prints the document. How the run ended stands, unless the
-// document cannot be made or printed.
+// Prints the document of the words' run. How the run ended stands, unless the document cannot be made or printed.
 fn outcome_of<R: Files + Print + AllocGlobal>(
     rt: &R,
     arguments: &[String],
 ) -> Result<Outcome, NoMemory> {
-    let alloc = rt.alloc();
-    let words = words_of(alloc, arguments)?;
+    let words = words_of(rt.alloc(), arguments)?;
     let mut inputs = FileInputs::new(rt);
-    let mut answer = TextSink::new(alloc);
-    let mut listeners: Vec<Box<dyn Listener>> = Vec::new(alloc);
-    add_listener(&mut listeners, Box::new(alloc, JsonListener::new(alloc))?)?;
-    let ended = run(alloc, &words, &mut inputs, &mut answer, listeners);
-    let document = document_of(rt, &words, ended.outcome, &ended.files, answer.held())?;
+    let told = told_of(rt, &words, &mut inputs)?;
     let mut sink = StdSink::new(rt);
-    match write_all(&mut sink, &document) {
-        Ok(()) => Ok(ended.outcome),
+    match write_all(&mut sink, &told.document) {
+        Ok(()) => Ok(told.outcome),
         Err(_) => Ok(Outcome::WriteFault),
     }
 }

@@ -5,6 +5,8 @@ use Rattle.std.specs.Str.{bytes_eq}
 use Rattle.abi_types.specs.Kinds.{rule_word}
 use Rattle.report.specs.declared.row.Row.{Row}
 use Rattle.report.specs.declared.style.Style.TheVariants.{Own}
+use Rattle.report.specs.declared.value.Value.{Value}
+use Rattle.report.specs.declared.value.Value.TheVariants.{Nothing, Bytes, Bits, Count, Number, Word}
 use Rattle.report.specs.Listening.{Voice}
 use Rattle.json_report.specs.Names.{rule_name}
 use Rattle.json_report.specs.Strings.{escaped, string_text}
@@ -38,9 +40,40 @@ place_text row =
     concat
     (codes ",\"export\":" ∷ string_text row.export ∷ codes ",\"steps\":" ∷ path_text row.path ∷ codes ",\"path\":" ∷ string_text row.path ∷ [])
 
--- what was there and what is there now
+-- what was there and what is there now, as one text
 unfoldable pub detail_text : Row → List ℕ
 detail_text row = codes ",\"detail\":" ++ string_text row.detail
+
+-- the part that the rule speaks of; null where it speaks of none
+unfoldable pub part_text : List ℕ → List ℕ
+part_text [] = codes "null"
+part_text (b ∷ part) = string_text (b ∷ part)
+
+-- what stands behind a value: its unit
+unfoldable pub unit_text : List ℕ → List ℕ
+unit_text unit = concat (codes ",\"unit\":\"" ∷ unit ∷ codes "\"}" ∷ [])
+
+-- a number with its unit
+unfoldable pub number_text : List ℕ → ℕ → List ℕ
+number_text unit number = concat (codes "{\"value\":" ∷ decimal number ∷ unit_text unit ∷ [])
+
+-- a word
+unfoldable pub word_text : List ℕ → List ℕ
+word_text word = concat (codes "{\"value\":" ∷ string_text word ∷ unit_text (codes "word") ∷ [])
+
+-- a value with its unit, or null where there is none
+abbrev pub value_text : Value → List ℕ
+value_text Nothing = codes "null"
+value_text (Bytes number) = number_text (codes "bytes") number
+value_text (Bits number) = number_text (codes "bits") number
+value_text (Count number) = number_text (codes "count") number
+value_text (Number number) = number_text (codes "number") number
+value_text (Word word) = word_text word
+
+-- the part that the rule speaks of, and what was there and what is there now as values
+unfoldable pub values_text : Row → List ℕ
+values_text row =
+    concat (codes ",\"part\":" ∷ part_text row.part ∷ codes ",\"was\":" ∷ value_text row.was ∷ codes ",\"is\":" ∷ value_text row.is ∷ [])
 
 -- a member that is an entry
 unfoldable pub entry_member : List ℕ → ℕ → List ℕ
@@ -52,7 +85,7 @@ entries_text row = concat (entry_member (codes "old_entry") row.old_entry ∷ en
 
 -- the object of a row
 unfoldable pub row_text : Row → List ℕ
-row_text row = concat (rule_text row ∷ place_text row ∷ detail_text row ∷ entries_text row ∷ [])
+row_text row = concat (rule_text row ∷ place_text row ∷ detail_text row ∷ values_text row ∷ entries_text row ∷ [])
 
 -- the objects of rows with a comma between two of them
 abbrev pub rows_text : List Row → List ℕ

@@ -1,10 +1,12 @@
 // The array of the breaks.
 ghost use Rattle.std.specs.Prelude.{◌≡◌, ◌+◌, ◌<◌, ◌++◌, drop, length, flat_map, codes, IfOk, OnOk};
-ghost use Rattle.json_report.specs.Breaks.{breaks_text as the_breaks_text, detail_text, entries_text, entry_member, entry_text, goes_on as the_path_goes_on, path_text, place_text, row_text, rows_text, rule_text, steps_behind};
+ghost use Rattle.json_report.specs.Breaks.{detail_text, entries_text, entry_member, entry_text, path_text, place_text, row_text, rows_text, rule_text, steps_behind};
+ghost use Rattle.json_report.specs.Breaks as spec;
 ghost use Rattle.report.specs.declared.row.Row.{Row as AnyRow};
 
 use crate::names::rule_name;
 use crate::strings::{push, push_escaped, push_string};
+use crate::values::push_values;
 use abi_base::NoMemory;
 use report::Row;
 use std::alloc::Global;
@@ -26,7 +28,7 @@ fn push_entry(alloc: Global, text: &mut Vec<u8>, offset: u64) -> Result<(), NoMe
 
 // Whether another step of a path follows here.
 fn goes_on(bytes: &[u8]) -> bool
-    ensures { result ≡ the_path_goes_on bytes.now }
+    ensures { result ≡ spec.goes_on bytes.now }
 {
     bytes.len() >= 3 && &bytes[..3] == BETWEEN
 }
@@ -104,7 +106,7 @@ fn push_place(text: &mut Vec<u8>, row: &Row) -> Result<(), NoMemory>
     push_string(text, row.path.as_slice())
 }
 
-// Appends what was there and what is there now.
+// Appends what was there and what is there now, as one text.
 #[tactic(auto, unfolding(crate::specs::Breaks::detail_text))]
 fn push_detail(text: &mut Vec<u8>, row: &Row) -> Result<(), NoMemory>
     ensures { OnOk result (text.new.items ≡ text.old.items ++ detail_text row.now) }
@@ -147,6 +149,7 @@ fn push_row(alloc: Global, text: &mut Vec<u8>, row: &Row) -> Result<(), NoMemory
     push_rule(text, row)?;
     push_place(text, row)?;
     push_detail(text, row)?;
+    push_values(alloc, text, row)?;
     push_entries(alloc, text, row)
 }
 
@@ -177,7 +180,7 @@ fn push_rows(alloc: Global, text: &mut Vec<u8>, rows: &[Row]) -> Result<(), NoMe
 // The array of the breaks, an object for each row.
 #[tactic(auto, unfolding(crate::specs::Breaks::breaks_text))]
 pub(crate) fn breaks_text(alloc: Global, rows: &[Row]) -> Result<Vec<u8>, NoMemory>
-    ensures { IfOk result (λ text. text.items ≡ the_breaks_text rows.now) }
+    ensures { IfOk result (λ text. text.items ≡ spec.breaks_text rows.now) }
 {
     let mut text = Vec::new(alloc);
     push(&mut text, b"[")?;

@@ -7,6 +7,7 @@ mod kept;
 mod listener;
 mod names;
 mod strings;
+mod values;
 
 pub use document::with_member;
 pub use kept::TextSink;

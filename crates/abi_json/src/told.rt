@@ -1,0 +1,58 @@
+// A run whose answer is a document.
+ghost use Rattle.std.specs.Prelude.{◌≡◌, ◌∷◌, [], Option, All, IfOk, OnOk, map};
+ghost use Rattle.abi_base.specs.declared.remark.Remark.{Remark as AnyRemark};
+ghost use Rattle.abi_json.specs.Documents.{TellsBreaks};
+ghost use Rattle.abi_top.specs.Answer.{Call, call_of};
+ghost use Rattle.json_report.specs.Breaks.{json_voice};
+
+use crate::document::document_of;
+use abi_base::{Inputs, NoMemory};
+use abi_top::run;
+use commands::{Outcome, Verdict};
+use json_report::{JsonListener, TextSink};
+use report::{Listener, add_listener};
+use std::rt::Files;
+
+/// How a run ended, and its document.
+#[derive(Drop)]
+pub(crate) struct Told {
+    pub outcome: Outcome,
+    pub document: Vec<u8>,
+}
+
+// Puts the listener that makes JSON into a list of none.
+#[tactic(auto, using(crate::proofs::NoLemmas::only_voice))]
+fn add_alone(
+    listeners: &mut Vec<Box<dyn Listener>>,
+    listener: Box<dyn Listener>,
+) -> Result<(), NoMemory>
+    requires none { listeners.old.items ≡ [] }
+    requires heard { heard listener ≡ [] }
+    requires voice { voice listener ≡ json_voice }
+    ensures unheard { All (λ listener. heard listener ≡ []) listeners.new.items }
+    ensures alone { OnOk result (map voice listeners.new.items ≡ json_voice ∷ []) }
+{
+    add_listener(listeners, listener)?;
+    Ok(())
+}
+
+/// Runs the words over inputs with a listener that makes JSON of the breaks, and makes the document of the run.
+pub(crate) fn told_of<R: Files + AllocGlobal, I: Inputs>(
+    rt: &R,
+    words: &[&str],
+    inputs: &mut I,
+) -> Result<Told, NoMemory>
+    // No: all inputs are readable, and the breaks of the document are the rows of the right report on the two libraries, or on what
+    // the application uses of them, in their order.
+    ensures { let call : Call = call_of I.told I.faults I.given I.started (json_voice ∷ []) words.entry.now inputs.old inputs.new in
+        IfOk result (λ told. (untyped : Option AnyRemark) → told.outcome ≡ Outcome.Judged Verdict.No untyped → TellsBreaks call told.document.items) }
+{
+    let alloc = rt.alloc();
+    let mut answer = TextSink::new(alloc);
+    let mut listeners: Vec<Box<dyn Listener>> = Vec::new(alloc);
+    add_alone(&mut listeners, Box::new(alloc, JsonListener::new(alloc))?)?;
+    let ended = run(alloc, words, inputs, &mut answer, listeners);
+    let outcome = ended.outcome;
+    let document = document_of(rt, words, outcome, &ended.files, answer.held())?;
+    Ok(Told { outcome, document })
+}
