@@ -100,6 +100,30 @@ limit=32768 says 4 "out of memory" trial 50000
 truncate -s 268435457 long.so
 says 2 "long.so: it is longer than 256 MiB" exports long.so
 
+# ---- words that ask for nothing
+
+# wrong SENTENCE WORD..: of words after which the usage is printed.
+wrong() {
+    local sentence=$1
+    shift
+    says 64 "$sentence" "$@"
+    grep -q '^usage: abi check' "$output" || fail "no usage after: $*"
+}
+wrong "no command is given"
+wrong "chek: it is no command; did you mean check?" chek plain.so plain.so
+wrong "diff: it is no command; the commands are check, app, verify, compose, migrate, exports, entries, layout and trial" diff plain.so
+wrong 'two\x0alines: it is no command; the commands are check, app, verify, compose, migrate, exports, entries, layout and trial' "$(printf 'two\nlines')"
+wrong "check: it takes OLD NEW, and 1 word is given" check plain.so
+wrong "compose: it takes A B C CERT1 CERT2, and 3 words are given" compose plain.so plain.so plain.so
+wrong "exports: it takes no --rules FILE" exports --rules plain.so plain.so
+wrong "verify: it takes no --report STYLE" verify plain.so plain.so plain.so --report text
+wrong "loud: it is no style of reports; the styles are text, table, counts, first and own" check --report loud plain.so plain.so
+wrong "0: it is no number from 1 to 50000 in decimal" trial 0
+wrong "--loud: it is no option; the options are --rules FILE and --report STYLE" check --loud plain.so plain.so
+wrong "--rules: the option has no value" check plain.so plain.so --rules
+wrong "--rules=plain.so: the option is given twice" check --rules=plain.so plain.so --rules plain.so plain.so
+wrong "--help=all: the option takes no value" --help=all
+
 # ---- files of other kinds
 
 : >empty
@@ -115,6 +139,12 @@ ar rcT thin.a f.o
 for archive in f.a thin.a; do
     says 2 "$archive: it is a static archive; give the shared object (.so) itself" exports $archive
 done
+echo 2.0 >debian-binary
+ar rc package.deb debian-binary
+packages="give a shared object (.so) out of it, or compare packages with abi-packages"
+says 2 "package.deb: it is a Debian package; $packages" exports package.deb
+printf '\355\253\356\333\3\0' >package.rpm
+says 2 "package.rpm: it is an RPM package; $packages" exports package.rpm
 for start in '/* GNU ld script */' 'INPUT(f.so.1)' 'GROUP(f.so.1)' 'OUTPUT_FORMAT(elf64-x86-64)' 'OUTPUT_ARCH(i386:x86-64)'; do
     echo "$start" >script.so
     says 2 "script.so: it is a linker script; give the shared object that it names" exports script.so
@@ -254,6 +284,9 @@ made "$split" f.c gcc -g -gsplit-dwarf -gdwarf-5
 made "the unit is in the 64-bit format of DWARF, which is not read" f.c gcc -g -gdwarf64
 made "the language of the unit is not C or assembler; only units in these are read" f.c clang -g -x c++
 
+not_there="the entry refers to one that is not there, as one in .debug_types is not, which DWARF 4 has by -fdebug-types-section; compile without it, or with -gdwarf-5"
+made "$not_there" f.c gcc -gdwarf-4 -fdebug-types-section
+
 # A bit field that begins before its storage, a structure around 600 others, and an array of 2^61 bytes.
 echo 'struct __attribute__((packed)) flags { char head; int low : 5, across : 30; } flags;' >packed.c
 made "the type lacks something that describes it, or is of a kind that is not read" packed.c gcc -gdwarf-4
@@ -313,7 +346,7 @@ entry int "the entry refers to a supplementary file (made by dwz -m), which is n
 entry entry_of_v "the entry does not end inside its unit" "length of the location of v" 255
 entry int "the name of the entry is no text that ends inside its section" "name of int" 0x1000
 entry point "an index of the entry leads to no place in its section" "index of the name of point" 1
-entry entry_of_f "the entry refers to one that is not there" "result of f" 1
+entry entry_of_f "$not_there" "result of f" 1
 entry entry_of_h "the entry has a chain of more than 8 origins" "origin of h" entry_of_h-unit
 entry entry_of_g "the list of ranges of the entry is damaged" "ranges of g" 0x1000
 entry int "the type lacks something that describes it, or is of a kind that is not read" "encoding of int" 0
@@ -346,6 +379,18 @@ certificate() {
 certificate "it is no line of a certificate, or not the one that belongs there" '2s/.*/nothing/'
 certificate "it is out of order" '/^bind/p'
 certificate "the certificate does not end with its line 'end'" '$d'
+
+# A comment behind a value is a part of it, and the answer stands.
+commented="a comment stands on a line of its own, so what looks like one is a part of the value"
+printf '[suppress_type]\nname_not_regexp = ^f # x\n' >rules
+says 0 "rules: $commented: name_not_regexp = ^f # x" check --rules rules plain.so plain.so
+printf '# name = a # b\n[suppress_type]\nname = a#b;c\n' >rules
+"$program" check --rules rules plain.so plain.so >got 2>errors && [ ! -s errors ] || fail "a comment is seen where none is: $(cat errors)"
+
+# Certificates that prove something else.
+sed 's/int x, y/long x, y/' f.c | gcc -shared -fPIC -g -o other.so -x c -
+says 5 "certificate: the certificate does not prove that other.so may replace plain.so" verify plain.so other.so certificate
+says 5 "certificate: with certificate it does not prove that plain.so may replace plain.so" compose plain.so other.so plain.so certificate certificate
 
 # ---- each sentence has its row
 

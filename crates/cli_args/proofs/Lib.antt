@@ -9,3 +9,6 @@ mod Trials
 mod PlainWords
 mod Counting
 mod Commands
+mod WrongLemmas
+mod NamedLemmas
+mod FoundLemmas

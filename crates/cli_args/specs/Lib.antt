@@ -4,3 +4,4 @@ pub mod Trials
 pub mod ParsedArguments
 pub mod Requests
 pub mod PlainLines
+pub mod WrongWords

@@ -4,7 +4,7 @@ use Rattle.std.specs.Prelude.{◌≡◌, ◌≢◌, ℕ, List, [], ◌∷◌, �
 use Rattle.clap.specs.Words.{App, Rule, Row, new_app, new_rule, with_rule, fault_of, matches_of, first_of, all_of, rows_of, found_of}
 use Rattle.clap.specs.Lexer.{usize_max}
 use Rattle.clap.specs.declared.error.kind.ErrorKind.{ErrorKind}
-use Rattle.clap.specs.declared.error.kind.ErrorKind.TheVariants.{DisplayHelp}
+use Rattle.clap.specs.declared.error.kind.ErrorKind.TheVariants.{DisplayHelp, OutOfMemory}
 use Rattle.clap.specs.declared.builder.action.ArgAction.TheVariants.{Set, Append}
 use Rattle.clap.specs.declared.parser.matches.ArgMatches.{ArgMatches}
 use Rattle.cli_args.specs.declared.line.Refused.{Refused}
@@ -34,6 +34,11 @@ Answers words (Ok m) = (fault_of line_app words ≡ []) × (rows_of (found_of m)
 Answers words (Err Help) = fault_of line_app words ≡ DisplayHelp ∷ []
 Answers words (Err Wrong) = (kind : ErrorKind) × (kind ≢ DisplayHelp) × (fault_of line_app words ≡ kind ∷ [])
 Answers words (Err NoMemory) = Unit {0}
+
+-- the same, where a refusal is the kind of error that `clap` has; where memory runs out nothing is known
+abbrev pub Finds : List (List ℕ) → Result ArgMatches ErrorKind → Type 0
+Finds words (Ok m) = (fault_of line_app words ≡ []) × (rows_of (found_of m) ≡ matches_of line_app words)
+Finds words (Err kind) = kind ≢ OutOfMemory → fault_of line_app words ≡ kind ∷ []
 
 -- what stands in a line that `clap` takes
 pub record PlainLine : Type 0 where

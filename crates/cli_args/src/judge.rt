@@ -208,9 +208,9 @@ fn lone<'a>(files: &[&'a str], rules: Option<&'a str>, report: Option<&'a str>) 
     }
 }
 
-// The command of that name.
+/// The command of that name.
 #[tactic(auto, unfolding(crate::specs::ParsedArguments::command_named))]
-fn command_named(word: &str) -> Option<CommandName>
+pub(crate) fn command_named(word: &str) -> Option<CommandName>
     ensures { result ≡ parsed_arguments_spec.command_named word.now }
 {
     if word == "check" {
@@ -236,9 +236,9 @@ fn command_named(word: &str) -> Option<CommandName>
     }
 }
 
-// The style of that name.
+/// The style of that name.
 #[tactic(auto, unfolding(crate::specs::ParsedArguments::report_style_named))]
-fn report_style_named(word: &str) -> Option<ReportStyle>
+pub(crate) fn report_style_named(word: &str) -> Option<ReportStyle>
     ensures { result ≡ parsed_arguments_spec.report_style_named word.now }
 {
     if word == "text" {
@@ -280,9 +280,9 @@ fn is_decimal(word: &str) -> bool
     has_only_digits(word) && word.as_bytes().first() != Some(&b'0')
 }
 
-// The number that the word writes, where it is one that a trial may have.
+/// The number that the word writes, where it is one that a trial may have.
 #[tactic(auto, unfolding(crate::specs::Trials::trial_count_of))]
-fn trial_count(word: &str) -> Option<u32>
+pub(crate) fn trial_count(word: &str) -> Option<u32>
     ensures { result ≡ trial_count_of word.now }
 {
     if !is_decimal(word) {

@@ -6,5 +6,7 @@ mod judge;
 pub mod laws;
 mod line;
 mod parsed_arguments;
+mod wrong;
 
 pub use parsed_arguments::{ParsedArguments, Request, parse_arguments};
+pub use wrong::{OptionName, WrongWords, wrong_words};

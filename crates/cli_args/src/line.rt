@@ -2,7 +2,7 @@
 ghost use Rattle.std.specs.Prelude.{◌≡◌, map, codes, option_map, IfOk, false};
 ghost use Rattle.clap.specs.Words.{app_of, rule_of, rows_of, found_of};
 ghost use Rattle.cli_args.specs.Words.{texts};
-ghost use Rattle.cli_args.specs.Line.{line_app, line_in, valued_rule, command_rule, files_rule, Answers};
+ghost use Rattle.cli_args.specs.Line.{line_app, line_in, valued_rule, command_rule, files_rule, Answers, Finds};
 ghost use Rattle.cli_args.specs.PlainLines.{plain_line};
 
 use clap::error::ErrorKind;
@@ -29,16 +29,26 @@ pub(crate) struct Line<'m, 'a> {
     pub report: Option<&'a str>,
 }
 
+/// What `clap` finds in the words, or the kind of its refusal.
+pub(crate) fn found_in<'a>(alloc: Global, words: &'a [&'a str]) -> Result<ArgMatches<'a>, ErrorKind>
+    ensures { Finds (texts words.entry.now) result }
+{
+    let Ok(command) = command_line(alloc) else {
+        return Err(ErrorKind::OutOfMemory);
+    };
+    match command.try_get_matches_from(words) {
+        Ok(matches) => Ok(matches),
+        Err(error) => Err(error.kind()),
+    }
+}
+
 /// What `clap` finds in the words.
 pub(crate) fn matches_in<'a>(alloc: Global, words: &'a [&'a str]) -> Result<ArgMatches<'a>, Refused>
     ensures { Answers (texts words.entry.now) result }
 {
-    let Ok(command) = command_line(alloc) else {
-        return Err(Refused::NoMemory);
-    };
-    match command.try_get_matches_from(words) {
+    match found_in(alloc, words) {
         Ok(matches) => Ok(matches),
-        Err(error) => match error.kind() {
+        Err(kind) => match kind {
             ErrorKind::OutOfMemory => Err(Refused::NoMemory),
             ErrorKind::DisplayHelp => Err(Refused::Help),
             _ => Err(Refused::Wrong),

@@ -1,3 +1,4 @@
 pub mod Lines
 pub mod Notes
+pub mod RuleLines
 pub mod Sentences

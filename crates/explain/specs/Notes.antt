@@ -1,14 +1,16 @@
 -- The notes beside an answer: which ones come with which outcome.
-use Rattle.std.specs.Prelude.{◌≡◌, ◌≢◌, ◌⊎◌, ◌==◌, ℕ, List, [], ◌∷◌, ◌++◌, All, Contains, Some, None, codes, if◌then◌else◌}
+use Rattle.std.specs.Prelude.{◌≡◌, ◌≢◌, ◌⊎◌, ◌==◌, ℕ, List, [], ◌∷◌, ◌++◌, All, Contains, Option, Some, None, codes, if◌then◌else◌}
 use Rattle.std.specs.Str.{bytes_eq}
 use Rattle.abi_base.specs.declared.remark.Remark.{Remark}
 use Rattle.abi_base.specs.declared.remark.SizedExports.{SizedExports}
 use Rattle.commands.specs.Commands.{PlainFile}
 use Rattle.commands.specs.declared.input.Input.{Input}
-use Rattle.commands.specs.declared.input.Input.TheVariants.{Old, New}
+use Rattle.commands.specs.declared.input.Input.TheVariants.{Old, New, Certificate, Certificate1, Certificate2, First, Last}
 use Rattle.commands.specs.declared.outcome.Outcome.{Outcome}
 use Rattle.commands.specs.declared.outcome.Outcome.TheVariants.{Judged, Unreadable, ReadFault, Help, Usage, NoMemory, WriteFault}
-use Rattle.explain.specs.Sentences.{SaysFault, said_of, untyped_words}
+use Rattle.commands.specs.declared.verdict.Verdict.{Verdict}
+use Rattle.commands.specs.declared.verdict.Verdict.TheVariants.{Yes, No, Done, Refused}
+use Rattle.explain.specs.Sentences.{SaysFault, loses_types, lost_words, refused_words, said_of, sizeless_words, uncomposed_words, untyped_words}
 
 -- the input was read under this name
 abbrev pub IsReadUnder : List PlainFile → Input → List ℕ → Type 0
@@ -30,14 +32,48 @@ untyped_notes path exports = if exports.untyped == 0 then [] else said_of path (
 abbrev pub both_untyped : Remark → List ℕ → List ℕ → List (List ℕ)
 both_untyped remark old new = untyped_notes old remark.old ++ (if bytes_eq old new then [] else untyped_notes new remark.new)
 
+-- the note on a new library that lost all types, where it did
+abbrev pub lost_notes : Remark → (old new : List ℕ) → List (List ℕ)
+lost_notes remark old new = if loses_types remark then said_of new (lost_words old) ∷ [] else []
+
+-- the note on a library none of whose exports has a size, where none has
+abbrev pub sizeless_notes : List ℕ → SizedExports → List (List ℕ)
+sizeless_notes path exports = if exports.all == 0 then said_of path sizeless_words ∷ [] else []
+
+-- the notes on what was compared without types
+abbrev pub compared_notes : Remark → (old new : List ℕ) → List (List ℕ)
+compared_notes remark old new = both_untyped remark old new ++ lost_notes remark old new ++ sizeless_notes old remark.old
+
 -- the one note, of which P holds
 abbrev pub IsOne : List (List ℕ) → (List ℕ → Type 0) → Type 0
 IsOne notes P = (note : List ℕ) × (notes ≡ note ∷ []) × P note
 
--- The notes that come with an outcome: on exports without a type, on the fault of an input, or why something failed.
+-- the notes on two certificates that do not compose
+abbrev pub TellsUncomposed : List PlainFile → List (List ℕ) → Type 0
+TellsUncomposed files notes = OnName files Certificate1 (λ one. OnName files Certificate2 (λ two. OnName files First (λ first. OnName files Last (λ last.
+    notes ≡ said_of one (uncomposed_words two first last) ∷ []) (notes ≡ [])) (notes ≡ [])) (notes ≡ [])) (notes ≡ [])
+
+-- the notes on a refusal: on the certificate, or on both; on the tag of a structure there is none here
+abbrev pub TellsRefused : List PlainFile → List (List ℕ) → Type 0
+TellsRefused files notes = OnName files Certificate (λ certificate. OnName files Old (λ old. OnName files New (λ new.
+    notes ≡ said_of certificate (refused_words old new) ∷ []) (notes ≡ [])) (notes ≡ [])) (TellsUncomposed files notes)
+
+-- the notes on two libraries that were compared
+abbrev pub TellsCompared : Option Remark → List PlainFile → List (List ℕ) → Type 0
+TellsCompared (Some remark) files notes = OnName files Old (λ old. OnName files New (λ new. notes ≡ compared_notes remark old new) (notes ≡ [])) (notes ≡ [])
+TellsCompared None files notes = notes ≡ []
+
+-- the notes on a verdict
+abbrev pub TellsJudged : Verdict → Option Remark → List PlainFile → List (List ℕ) → Type 0
+TellsJudged Refused remark files notes = TellsRefused files notes
+TellsJudged Yes remark files notes = TellsCompared remark files notes
+TellsJudged No remark files notes = TellsCompared remark files notes
+TellsJudged Done remark files notes = TellsCompared remark files notes
+
+-- The notes that come with an outcome: on exports without a type, on a certificate that is refused, on the fault of an input, or why
+-- something failed.
 abbrev pub Tells : Outcome → List PlainFile → List (List ℕ) → Type 0
-Tells (Judged v (Some remark)) files notes = OnName files Old (λ old. OnName files New (λ new. notes ≡ both_untyped remark old new) (notes ≡ [])) (notes ≡ [])
-Tells (Judged v None) files notes = notes ≡ []
+Tells (Judged verdict remark) files notes = TellsJudged verdict remark files notes
 Tells (Unreadable which fault) files notes = OnName files which (λ path. IsOne notes (SaysFault path fault)) (notes ≡ [])
 Tells (ReadFault which) files notes = OnName files which (λ path. IsOne notes (λ note. (reason : List ℕ) × (note ≡ said_of path reason))) (notes ≡ [])
 Tells NoMemory files notes = notes ≡ codes "out of memory" ∷ []

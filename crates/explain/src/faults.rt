@@ -58,7 +58,9 @@ fn entry_sentence(kind: FaultKind) -> &'static str {
         FaultKind::Text => "the name of the entry is no text that ends inside its section",
         FaultKind::Index => "an index of the entry leads to no place in its section",
         FaultKind::Ranges => "the list of ranges of the entry is damaged",
-        FaultKind::Reference => "the entry refers to one that is not there",
+        FaultKind::Reference => {
+            "the entry refers to one that is not there, as one in .debug_types is not, which DWARF 4 has by -fdebug-types-section; compile without it, or with -gdwarf-5"
+        }
         FaultKind::Shape =>
             "the type lacks something that describes it, or is of a kind that is not read",
         FaultKind::TooDeep => "the type holds others by value more than 512 deep",

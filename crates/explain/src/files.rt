@@ -9,6 +9,12 @@ const ARCHIVE: &[u8] = b"!<arch>\n";
 
 const THIN_ARCHIVE: &[u8] = b"!<thin>\n";
 
+// What the first member of an archive that is a Debian package is called (deb(5)), behind the archive's own first bytes.
+const DEBIAN_ARCHIVE: &[u8] = b"!<arch>\ndebian-binary";
+
+// What an RPM package begins with.
+const RPM_MAGIC: &[u8] = b"\xed\xab\xee\xdb";
+
 // What linker scripts begin with.
 const SCRIPT_STARTS: [&[u8]; 5] = [
     b"/* GNU ld script",
@@ -30,7 +36,11 @@ fn is_script(bytes: &[u8]) -> bool {
 
 // What a file is that does not begin as an ELF file does.
 fn other_file(bytes: &[u8]) -> &'static str {
-    if bytes.starts_with(ARCHIVE) || bytes.starts_with(THIN_ARCHIVE) {
+    if bytes.starts_with(DEBIAN_ARCHIVE) {
+        "it is a Debian package; give a shared object (.so) out of it, or compare packages with abi-packages"
+    } else if bytes.starts_with(RPM_MAGIC) {
+        "it is an RPM package; give a shared object (.so) out of it, or compare packages with abi-packages"
+    } else if bytes.starts_with(ARCHIVE) || bytes.starts_with(THIN_ARCHIVE) {
         "it is a static archive; give the shared object (.so) itself"
     } else if is_script(bytes) {
         "it is a linker script; give the shared object that it names"

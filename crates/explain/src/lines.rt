@@ -1,13 +1,14 @@
 // Texts in one line.
 ghost use Rattle.std.specs.Prelude.{◌≡◌, ◌++◌, IfOk, IsTrue, OnOk, string_bytes};
-ghost use Rattle.explain.specs.Lines.{in_line, is_escaped as the_character_is_escaped, is_one_line, shown_char};
+ghost use Rattle.explain.specs.Lines as spec;
+ghost use Rattle.explain.specs.Lines.{in_line, is_one_line, shown_char};
 ghost use Rattle.explain.specs.Sentences.{said_of};
 
 use std::alloc::{AllocError, Global};
 
 // Whether a character is a control character or the backslash.
 fn is_escaped(c: char) -> bool
-    ensures { result ≡ the_character_is_escaped c }
+    ensures { result ≡ spec.is_escaped c }
 {
     let code = c as u32;
     code < 0x20 || 0x7f <= code && code < 0xa0 || code == 0x5c

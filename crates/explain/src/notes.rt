@@ -3,13 +3,15 @@ ghost use Rattle.std.specs.Prelude.{◌≡◌, [], ◌∷◌, ◌++◌, All, IfN
 ghost use Rattle.abi_base.specs.declared.fault.Fault.{Fault as AnyFault};
 ghost use Rattle.commands.specs.Commands.{plain_file};
 ghost use Rattle.commands.specs.declared.outcome.Outcome.TheVariants as outcomes;
-ghost use Rattle.commands.specs.declared.verdict.Verdict.{Verdict as AnyVerdict};
 ghost use Rattle.explain.specs.Lines.{is_one_line};
-ghost use Rattle.explain.specs.Notes.{IsReadUnder, IsUnnamed, Tells, untyped_notes};
+ghost use Rattle.explain.specs.Notes.{IsReadUnder, IsUnnamed, Tells, TellsCompared, TellsJudged, TellsRefused, TellsUncomposed, both_untyped, compared_notes, lost_notes, sizeless_notes, untyped_notes};
 
-use crate::{failure_sentence, fault_sentence, untyped_sentence};
+use crate::{
+    failure_sentence, fault_sentence, lost_sentence, refused_sentence, sizeless_sentence,
+    uncomposed_sentence, untyped_sentence,
+};
 use abi_base::{Fault, NoMemory, Remark, SizedExports};
-use commands::{File, Input, Outcome};
+use commands::{File, Input, Outcome, Verdict};
 use std::alloc::Global;
 
 /// The name under which an input was read, if it was read under one.
@@ -84,13 +86,48 @@ fn push_untyped(
     }
 }
 
-// The notes on the exports that were compared without types, where two libraries were compared: one for each that has some.
+// Appends the note on a new library that lost all types, where it did.
+fn push_lost(
+    alloc: Global,
+    notes: &mut Vec<String>,
+    old: &str,
+    new: &str,
+    remark: Remark,
+) -> Result<(), NoMemory>
+    requires { All (λ note. IsTrue (is_one_line note)) (map string_bytes notes.old.items) }
+    ensures notes { IfOk result (λ _. map string_bytes notes.new.items ≡ map string_bytes notes.old.items ++ lost_notes remark old.now new.now) }
+    ensures lines { IfOk result (λ _. All (λ note. IsTrue (is_one_line note)) (map string_bytes notes.new.items)) }
+{
+    match lost_sentence(alloc, new, old, remark)? {
+        Some(note) => Ok(notes.push(note)?),
+        None => Ok(()),
+    }
+}
+
+// Appends the note on a library none of whose exports has a size, where none has.
+fn push_sizeless(
+    alloc: Global,
+    notes: &mut Vec<String>,
+    path: &str,
+    exports: SizedExports,
+) -> Result<(), NoMemory>
+    requires { All (λ note. IsTrue (is_one_line note)) (map string_bytes notes.old.items) }
+    ensures notes { IfOk result (λ _. map string_bytes notes.new.items ≡ map string_bytes notes.old.items ++ sizeless_notes path.now exports) }
+    ensures lines { IfOk result (λ _. All (λ note. IsTrue (is_one_line note)) (map string_bytes notes.new.items)) }
+{
+    match sizeless_sentence(alloc, path, exports)? {
+        Some(note) => Ok(notes.push(note)?),
+        None => Ok(()),
+    }
+}
+
+// The notes on the exports of libraries that were compared, where two were.
 fn on_remark(
     alloc: Global,
     files: &[File<'_>],
     remark: Option<Remark>,
 ) -> Result<Vec<String>, NoMemory>
-    ensures tells { (v : AnyVerdict) → IfOk result (λ notes. Tells (outcomes.Judged v remark) (map plain_file files.now) (map string_bytes notes.items)) }
+    ensures tells { IfOk result (λ notes. TellsCompared remark (map plain_file files.now) (map string_bytes notes.items)) }
     ensures lines { IfOk result (λ notes. All (λ note. IsTrue (is_one_line note)) (map string_bytes notes.items)) }
 {
     match remark {
@@ -99,23 +136,99 @@ fn on_remark(
     }
 }
 
-// The notes on two libraries, of which so many exports have no type.
+// The notes on two libraries that were compared.
 fn on_both(alloc: Global, files: &[File<'_>], remark: Remark) -> Result<Vec<String>, NoMemory>
-    ensures tells { (v : AnyVerdict) → IfOk result (λ notes. Tells (outcomes.Judged v (Some remark)) (map plain_file files.now) (map string_bytes notes.items)) }
+    ensures tells { IfOk result (λ notes. TellsCompared (Some remark) (map plain_file files.now) (map string_bytes notes.items)) }
+    ensures lines { IfOk result (λ notes. All (λ note. IsTrue (is_one_line note)) (map string_bytes notes.items)) }
+{
+    let Some(old) = name_of(files, Input::Old) else {
+        return Ok(Vec::new(alloc));
+    };
+    let Some(new) = name_of(files, Input::New) else {
+        return Ok(Vec::new(alloc));
+    };
+    compared(alloc, old, new, remark)
+}
+
+// The notes on two libraries of these names.
+fn compared(alloc: Global, old: &str, new: &str, remark: Remark) -> Result<Vec<String>, NoMemory>
+    ensures notes { IfOk result (λ notes. map string_bytes notes.items ≡ compared_notes remark old.now new.now) }
+    ensures lines { IfOk result (λ notes. All (λ note. IsTrue (is_one_line note)) (map string_bytes notes.items)) }
+{
+    let mut notes = untyped(alloc, old, new, remark)?;
+    push_lost(alloc, &mut notes, old, new, remark)?;
+    push_sizeless(alloc, &mut notes, old, remark.old)?;
+    Ok(notes)
+}
+
+// The notes on two libraries of these names, of which so many exports have no type.
+fn untyped(alloc: Global, old: &str, new: &str, remark: Remark) -> Result<Vec<String>, NoMemory>
+    ensures notes { IfOk result (λ notes. map string_bytes notes.items ≡ both_untyped remark old.now new.now) }
     ensures lines { IfOk result (λ notes. All (λ note. IsTrue (is_one_line note)) (map string_bytes notes.items)) }
 {
     let mut notes = Vec::new(alloc);
-    let Some(old) = name_of(files, Input::Old) else {
-        return Ok(notes);
-    };
-    let Some(new) = name_of(files, Input::New) else {
-        return Ok(notes);
-    };
     push_untyped(alloc, &mut notes, old, remark.old)?;
     if old != new {
         push_untyped(alloc, &mut notes, new, remark.new)?;
     }
     Ok(notes)
+}
+
+// The note on a certificate that is refused, or on two.
+fn on_refusal(alloc: Global, files: &[File<'_>]) -> Result<Vec<String>, NoMemory>
+    ensures tells { IfOk result (λ notes. TellsRefused (map plain_file files.now) (map string_bytes notes.items)) }
+    ensures lines { IfOk result (λ notes. All (λ note. IsTrue (is_one_line note)) (map string_bytes notes.items)) }
+{
+    let Some(certificate) = name_of(files, Input::Certificate) else {
+        return on_uncomposed(alloc, files);
+    };
+    let Some(old) = name_of(files, Input::Old) else {
+        return Ok(Vec::new(alloc));
+    };
+    let Some(new) = name_of(files, Input::New) else {
+        return Ok(Vec::new(alloc));
+    };
+    let note = refused_sentence(alloc, certificate, old, new)?;
+    let notes = one(alloc, note)?;
+    Ok(notes)
+}
+
+// The note on two certificates that do not compose.
+fn on_uncomposed(alloc: Global, files: &[File<'_>]) -> Result<Vec<String>, NoMemory>
+    ensures tells { IfOk result (λ notes. TellsUncomposed (map plain_file files.now) (map string_bytes notes.items)) }
+    ensures lines { IfOk result (λ notes. All (λ note. IsTrue (is_one_line note)) (map string_bytes notes.items)) }
+{
+    let Some(path) = name_of(files, Input::Certificate1) else {
+        return Ok(Vec::new(alloc));
+    };
+    let Some(second) = name_of(files, Input::Certificate2) else {
+        return Ok(Vec::new(alloc));
+    };
+    let Some(first) = name_of(files, Input::First) else {
+        return Ok(Vec::new(alloc));
+    };
+    let Some(last) = name_of(files, Input::Last) else {
+        return Ok(Vec::new(alloc));
+    };
+    let note = uncomposed_sentence(alloc, path, second, first, last)?;
+    let notes = one(alloc, note)?;
+    Ok(notes)
+}
+
+// The notes on a verdict.
+fn on_verdict(
+    alloc: Global,
+    verdict: Verdict,
+    remark: Option<Remark>,
+    files: &[File<'_>],
+) -> Result<Vec<String>, NoMemory>
+    ensures tells { IfOk result (λ notes. TellsJudged verdict remark (map plain_file files.now) (map string_bytes notes.items)) }
+    ensures lines { IfOk result (λ notes. All (λ note. IsTrue (is_one_line note)) (map string_bytes notes.items)) }
+{
+    match verdict {
+        Verdict::Refused => on_refusal(alloc, files),
+        Verdict::Yes | Verdict::No | Verdict::Done => on_remark(alloc, files, remark),
+    }
 }
 
 /// The notes on how a run ended, beside its text: a line each. `bytes` are those of the input that has a fault, or none where they
@@ -131,7 +244,7 @@ pub fn notes_on(
     ensures lines { IfOk result (λ notes. All (λ note. IsTrue (is_one_line note)) (map string_bytes notes.items)) }
 {
     match outcome {
-        Outcome::Judged(_, remark) => on_remark(alloc, files, remark),
+        Outcome::Judged(verdict, remark) => on_verdict(alloc, verdict, remark, files),
         Outcome::Unreadable(which, fault) => on_fault(alloc, files, which, fault, bytes),
         Outcome::ReadFault(which) => on_failure(alloc, files, which, reason),
         Outcome::NoMemory => one(alloc, String::from_str(alloc, "out of memory")?),

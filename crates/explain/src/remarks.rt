@@ -1,10 +1,11 @@
 // Exports that were compared without their types.
-ghost use Rattle.std.specs.Prelude.{◌≡◌, ◌==◌, IfOk, IfSome, IsTrue, is_none, string_bytes};
+ghost use Rattle.std.specs.Prelude.{◌≡◌, ◌==◌, IfOk, IfSome, IsTrue, is_none, is_some, string_bytes};
 ghost use Rattle.explain.specs.Lines.{is_one_line};
-ghost use Rattle.explain.specs.Sentences.{said_of, untyped_words};
+ghost use Rattle.explain.specs.Sentences as spec;
+ghost use Rattle.explain.specs.Sentences.{said_of, sizeless_words, untyped_words};
 
 use crate::lines::said;
-use abi_base::{NoMemory, SizedExports};
+use abi_base::{NoMemory, Remark, SizedExports};
 use std::alloc::{AllocError, Global};
 
 // What is said of such exports.
@@ -40,4 +41,76 @@ pub fn untyped_sentence(
     }
     let words = words_of(alloc, exports)?;
     Ok(Some(said(alloc, path, words.as_str())?))
+}
+
+// Whether a library has a type for an export of a size.
+fn has_types(exports: SizedExports) -> bool
+    ensures { result ≡ spec.has_types exports }
+{
+    exports.untyped < exports.all
+}
+
+// Whether a library has exports of a size, and types for none of them.
+fn lacks_types(exports: SizedExports) -> bool
+    ensures { result ≡ spec.lacks_types exports }
+{
+    0 < exports.all && exports.untyped == exports.all
+}
+
+// Whether a new library lost the types that the old one has.
+fn loses_types(remark: Remark) -> bool
+    ensures { result ≡ spec.loses_types remark }
+{
+    has_types(remark.old) && lacks_types(remark.new)
+}
+
+// What is said of a library without types, where the old one has some.
+fn lost_words(alloc: Global, old: &str) -> Result<String, AllocError>
+    ensures { IfOk result (λ words. string_bytes words ≡ spec.lost_words old.now) }
+{
+    format!(in alloc;
+        "the debug information has no types for the exports, but that of {old} has: whether their types broke cannot be told"
+    )
+}
+
+/// The sentence on a new library at a path that has no types for its exports, where the old one, at the path `old`, has some. There
+/// is one exactly where the old library has a type for an export of a size, and the new one has such exports and a type for none.
+/// It is one line, whatever the characters of the paths are.
+pub fn lost_sentence(
+    alloc: Global,
+    path: &str,
+    old: &str,
+    remark: Remark,
+) -> Result<Option<String>, NoMemory>
+    ensures some { IfOk result (λ said. is_some said ≡ spec.loses_types remark) }
+    ensures says { IfOk result (λ said. IfSome said (λ text. string_bytes text ≡ said_of path.now (spec.lost_words old.now))) }
+    ensures line { IfOk result (λ said. IfSome said (λ text. IsTrue (is_one_line (string_bytes text)))) }
+{
+    if !loses_types(remark) {
+        return Ok(None);
+    }
+    let words = lost_words(alloc, old)?;
+    Ok(Some(said(alloc, path, words.as_str())?))
+}
+
+// What is said of a library none of whose exports has a size.
+const SIZELESS_WORDS: &str =
+    "none of its exports has a size: names, versions and kinds were compared, and types only where an export without a size has one";
+
+/// The sentence on a library at a path, none of whose exports has a size. There is one exactly where none has. It is one line,
+/// whatever the characters of the path are.
+pub fn sizeless_sentence(
+    alloc: Global,
+    path: &str,
+    exports: SizedExports,
+) -> Result<Option<String>, NoMemory>
+    ensures some { IfOk result (λ said. is_some said ≡ (exports.all == 0)) }
+    ensures says { IfOk result (λ said. IfSome said (λ text. string_bytes text ≡ said_of path.now sizeless_words)) }
+    ensures line { IfOk result (λ said. IfSome said (λ text. IsTrue (is_one_line (string_bytes text)))) }
+{
+    if exports.all == 0 {
+        Ok(Some(said(alloc, path, SIZELESS_WORDS)?))
+    } else {
+        Ok(None)
+    }
 }

@@ -4,8 +4,12 @@
 #[cfg(test)]
 mod generated;
 #[cfg(test)]
+mod rule_lines;
+#[cfg(test)]
 mod sentences;
 #[cfg(test)]
 mod trials;
 #[cfg(test)]
 mod words;
+#[cfg(test)]
+mod wrong;

@@ -16,7 +16,7 @@ fn files_that_are_no_libraries_are_named(rt: HostRuntime) -> Result<(), Fail> {
     let object = b"\x7fELF\x02\x01\x01\x00\x00\x00\x00\x00\x00\x00\x00\x00\x01\x00";
     let program = b"\x7fELF\x02\x01\x01\x00\x00\x00\x00\x00\x00\x00\x00\x00\x02\x00";
     let core = b"\x7fELF\x02\x01\x01\x00\x00\x00\x00\x00\x00\x00\x00\x00\x04\x00";
-    let rows: [(FaultKind, u64, &[u8], &str); 15] = [
+    let rows: [(FaultKind, u64, &[u8], &str); 17] = [
         (
             FaultKind::ShortFile,
             0,
@@ -28,6 +28,18 @@ fn files_that_are_no_libraries_are_named(rt: HostRuntime) -> Result<(), Fail> {
             0,
             b"!<arch>\nlibx.o/",
             "lib.so: it is a static archive; give the shared object (.so) itself (fault 2 NotElf at 0)",
+        ),
+        (
+            FaultKind::NotElf,
+            0,
+            b"!<arch>\ndebian-binary   ",
+            "lib.so: it is a Debian package; give a shared object (.so) out of it, or compare packages with abi-packages (fault 2 NotElf at 0)",
+        ),
+        (
+            FaultKind::NotElf,
+            0,
+            b"\xed\xab\xee\xdb\x03\x00",
+            "lib.so: it is an RPM package; give a shared object (.so) out of it, or compare packages with abi-packages (fault 2 NotElf at 0)",
         ),
         (
             FaultKind::NotElf,
@@ -296,5 +308,89 @@ fn an_outcome_has_its_notes(rt: HostRuntime) -> Result<(), Fail> {
             assert!(rt; notes[0].starts_with(first));
         }
     }
+    Ok(())
+}
+
+// Where so many exports have a size and no type, each note begins with the name of its library and these words.
+#[test]
+fn lost_types_and_sizes_are_told(rt: HostRuntime) -> Result<(), Fail> {
+    let alloc = rt.alloc();
+    let typed = SizedExports { all: 3, untyped: 0 };
+    let bare = SizedExports { all: 3, untyped: 3 };
+    let sizeless = SizedExports { all: 0, untyped: 0 };
+    let pair = [file(Input::Old, "a.so"), file(Input::New, "b.so")];
+    for (old, new, count, last) in [
+        (typed, typed, 0, ""),
+        (
+            typed,
+            bare,
+            2,
+            "b.so: the debug information has no types for the exports, but that of a.so has: whether their types broke cannot be told",
+        ),
+        (
+            bare,
+            bare,
+            2,
+            "b.so: the debug information has no types for the exports: only",
+        ),
+        (typed, sizeless, 0, ""),
+        (
+            sizeless,
+            bare,
+            2,
+            "a.so: none of its exports has a size: names, versions and kinds were compared, and types only where an export without a size has one",
+        ),
+    ] {
+        let outcome = Outcome::Judged(Verdict::Yes, Some(Remark { old, new }));
+        let notes = notes_on(alloc, outcome, &pair, b"", "")?;
+        assert_eq!(rt; notes.len(), count);
+        if count > 0 {
+            assert!(rt; notes[count - 1].starts_with(last));
+        }
+    }
+    Ok(())
+}
+
+// An input, and the name under which it is read.
+const fn file<'a>(which: Input, name: &'a str) -> File<'a> {
+    File { which, name }
+}
+
+// What is said of a refusal where these files are read: one note, or none.
+fn refusal_of(alloc: Global, files: &[File<'_>]) -> Result<Option<String>, NoMemory> {
+    let outcome = Outcome::Judged(Verdict::Refused, None);
+    let mut notes = notes_on(alloc, outcome, files, b"", "")?;
+    Ok(notes.pop())
+}
+
+// What a refused certificate does not prove.
+#[test]
+fn a_refusal_is_told(rt: HostRuntime) -> Result<(), Fail> {
+    let alloc = rt.alloc();
+    let files = [
+        file(Input::Old, "a.so"),
+        file(Input::New, "b.so"),
+        file(Input::Certificate, "c"),
+    ];
+    let said = refusal_of(alloc, &files)?.ok_or("nothing is said")?;
+    assert_eq!(rt;
+        said.as_str(),
+        "c: the certificate does not prove that b.so may replace a.so"
+    );
+    let files = [
+        file(Input::First, "a"),
+        file(Input::Middle, "m"),
+        file(Input::Last, "b"),
+        file(Input::Certificate1, "c"),
+        file(Input::Certificate2, "d"),
+    ];
+    let said = refusal_of(alloc, &files)?.ok_or("nothing is said")?;
+    assert_eq!(rt;
+        said.as_str(),
+        "c: with d it does not prove that b may replace a"
+    );
+    // A structure that no library has is told elsewhere.
+    let said = refusal_of(alloc, &[file(Input::Library, "a.so")])?;
+    assert!(rt; said.is_none());
     Ok(())
 }

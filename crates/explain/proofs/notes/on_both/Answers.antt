@@ -2,4 +2,4 @@ use Rattle.std.proofs.Common.{rules, ap, inl, inr, map, string_bytes}
 use Rattle.explain.proofs.notes.on_both.Goals as goal
 
 pub returns-in_default-name_of-clause-tells : goal.returns-in_default-name_of-clause-tells
-returns-in_default-name_of-clause-tells c = λ v. inl (c.in-Some.old.now, search rules, inr (search rules, ap (map string_bytes) c.new-notes.ensures.items))
+returns-in_default-name_of-clause-tells c = inl (c.in-Some.old.now, search rules, inr (search rules, search rules))

@@ -1,0 +1,241 @@
+-- What is wrong with words that ask for nothing, and which word it is.
+use Rattle.std.specs.Prelude.{◌≡◌, ◌==◌, ◌&&◌, ◌||◌, ℕ, Bool, true, false, not, List, [], ◌∷◌, length, Contains, IfSome, Option, Some, None, codes, count_by, find, if◌then◌else◌, is_none, is_some, nat_eq, nat_lt}
+use Rattle.std.specs.List.{starts_with}
+use Rattle.std.specs.Str.{bytes_eq}
+use Rattle.clap.specs.Words.{Kinds, fault_of, matches_of}
+use Rattle.clap.specs.declared.error.kind.ErrorKind.{ErrorKind}
+use Rattle.clap.specs.declared.error.kind.ErrorKind.TheVariants as kind
+use Rattle.cli_args.specs.Line.{PlainLine, line_app, line_in}
+use Rattle.cli_args.specs.ParsedArguments.{command_named, style_of}
+use Rattle.cli_args.specs.Trials.{trial_count_of}
+use Rattle.cli_args.specs.declared.judge.CommandName.{CommandName}
+use Rattle.cli_args.specs.declared.judge.CommandName.TheVariants.{Check, Verify, Entries, Exports, Trial, Migrate, Compose, Layout, App}
+use Rattle.cli_args.specs.declared.wrong.OptionName.{OptionName}
+use Rattle.cli_args.specs.declared.wrong.OptionName.TheVariants.{Rules, Report}
+use Rattle.cli_args.specs.declared.wrong.WrongWords.{WrongWords}
+use Rattle.cli_args.specs.declared.wrong.WrongWords.TheVariants as code
+
+-- What is wrong, with the word that is. Of a line that `clap` takes: no command is given, or no command has the name; a command
+-- takes no such option, or another number of words; no style of reports has the name; a trial has no such number. Of words that
+-- `clap` refuses: no option has the name; an option has no value, stands twice or takes no value; or the words are wrong in
+-- another way.
+pub data PlainWrong : Type 0 where
+  missing_command : PlainWrong
+  unknown_command : (word : List ℕ) → PlainWrong
+  needless_option : (command : List ℕ) (option : OptionName) → PlainWrong
+  wrong_count : (command : List ℕ) (wanted given : ℕ) → PlainWrong
+  unknown_style : (word : List ℕ) → PlainWrong
+  wrong_number : (word : List ℕ) → PlainWrong
+  unknown_option : (word : List ℕ) → PlainWrong
+  missing_value : (option : List ℕ) → PlainWrong
+  repeated_option : (option : List ℕ) → PlainWrong
+  needless_value : (option : List ℕ) → PlainWrong
+  other_words : PlainWrong
+
+-- what the code finds, without where its words lie
+abbrev pub plain_wrong : WrongWords → PlainWrong
+plain_wrong code.MissingCommand = missing_command
+plain_wrong (code.UnknownCommand word) = unknown_command word.now
+plain_wrong (code.NeedlessOption command option) = needless_option command.now option
+plain_wrong (code.WrongCount command wanted given) = wrong_count command.now wanted given
+plain_wrong (code.UnknownStyle word) = unknown_style word.now
+plain_wrong (code.WrongNumber word) = wrong_number word.now
+plain_wrong (code.UnknownOption word) = unknown_option word.now
+plain_wrong (code.MissingValue option) = missing_value option.now
+plain_wrong (code.RepeatedOption option) = repeated_option option.now
+plain_wrong (code.NeedlessValue option) = needless_value option.now
+plain_wrong code.OtherWords = other_words
+
+-- ---- lines that `clap` takes
+
+-- a command takes `--rules`
+abbrev pub takes_rules : CommandName → Bool
+takes_rules Check = true
+takes_rules Verify = true
+takes_rules Migrate = true
+takes_rules App = true
+takes_rules Entries = false
+takes_rules Exports = false
+takes_rules Trial = false
+takes_rules Compose = false
+takes_rules Layout = false
+
+-- a command takes `--report`
+abbrev pub takes_report : CommandName → Bool
+takes_report Check = true
+takes_report App = true
+takes_report Verify = false
+takes_report Migrate = false
+takes_report Entries = false
+takes_report Exports = false
+takes_report Trial = false
+takes_report Compose = false
+takes_report Layout = false
+
+-- how many words stand behind a command, beside its options
+abbrev pub count_wanted : CommandName → ℕ
+count_wanted Check = 2
+count_wanted Verify = 3
+count_wanted Entries = 1
+count_wanted Exports = 1
+count_wanted Trial = 1
+count_wanted Migrate = 3
+count_wanted Compose = 5
+count_wanted Layout = 2
+count_wanted App = 3
+
+-- the option that a command does not take, of these that are given
+abbrev pub needless_of : CommandName → (has_rules has_report : Bool) → Option OptionName
+needless_of name has_rules has_report =
+    if has_report && not (takes_report name) then Some Report
+    else (if has_rules && not (takes_rules name) then Some Rules else None)
+
+-- no style of reports has the name that is given
+abbrev pub wrong_style : (report : Option (List ℕ)) → Option PlainWrong
+wrong_style None = None
+wrong_style (Some word) = if is_none (style_of (Some word)) then Some (unknown_style word) else None
+
+-- the one word is no number of a trial
+abbrev pub wrong_trial : (words : List (List ℕ)) → Option PlainWrong
+wrong_trial [] = None
+wrong_trial (word ∷ rest) = if is_none (trial_count_of word) then Some (wrong_number word) else None
+
+-- what is wrong with the words of a command, of which there are as many as it takes
+abbrev pub wrong_value : CommandName → (words : List (List ℕ)) (report : Option (List ℕ)) → Option PlainWrong
+wrong_value Check words report = wrong_style report
+wrong_value App words report = wrong_style report
+wrong_value Trial words report = wrong_trial words
+wrong_value Verify words report = None
+wrong_value Entries words report = None
+wrong_value Exports words report = None
+wrong_value Migrate words report = None
+wrong_value Compose words report = None
+wrong_value Layout words report = None
+
+-- what is wrong with the number of a command's words, or with one of them
+abbrev pub wrong_count_of : CommandName → (command : List ℕ) (words : List (List ℕ)) (report : Option (List ℕ)) → Option PlainWrong
+wrong_count_of name command words report =
+    if length words == count_wanted name then wrong_value name words report else Some (wrong_count command (count_wanted name) (length words))
+
+abbrev pub or_needless : (command : List ℕ) → Option OptionName → Option PlainWrong → Option PlainWrong
+or_needless command (Some option) next = Some (needless_option command option)
+or_needless command None next = next
+
+-- what is wrong with a command, its options and its words
+abbrev pub wrong_of : CommandName → (command : List ℕ) (words : List (List ℕ)) (rules report : Option (List ℕ)) → Option PlainWrong
+wrong_of name command words rules report =
+    or_needless command (needless_of name (is_some rules) (is_some report)) (wrong_count_of name command words report)
+
+abbrev pub wrong_named : (command : List ℕ) → Option CommandName → (words : List (List ℕ)) (rules report : Option (List ℕ)) → Option PlainWrong
+wrong_named command None words rules report = Some (unknown_command command)
+wrong_named command (Some name) words rules report = wrong_of name command words rules report
+
+abbrev pub wrong_with : Option (List ℕ) → (words : List (List ℕ)) (rules report : Option (List ℕ)) → Option PlainWrong
+wrong_with None words rules report = Some missing_command
+wrong_with (Some command) words rules report = wrong_named command (command_named command) words rules report
+
+-- what is wrong with a line that `clap` takes
+abbrev pub wrong_on : PlainLine → Option PlainWrong
+wrong_on line = wrong_with line.command line.files line.rules line.report
+
+-- ---- words that `clap` refuses
+
+-- the word is `--rules`, alone or with a value
+abbrev pub is_rules_word : List ℕ → Bool
+is_rules_word word = bytes_eq word (codes "--rules") || starts_with nat_eq word (codes "--rules=")
+
+-- the word is `--report`, alone or with a value
+abbrev pub is_report_word : List ℕ → Bool
+is_report_word word = bytes_eq word (codes "--report") || starts_with nat_eq word (codes "--report=")
+
+-- the word is `--help` with a value
+abbrev pub is_help_with_value : List ℕ → Bool
+is_help_with_value word = starts_with nat_eq word (codes "--help=")
+
+-- the word begins with `-`, and is more than that
+abbrev pub is_like_option : List ℕ → Bool
+is_like_option word = starts_with nat_eq word (codes "-") && not (bytes_eq word (codes "-"))
+
+-- the word looks like an option, and is neither one of the two nor `--`
+abbrev pub is_unknown_option : List ℕ → Bool
+is_unknown_option word = is_like_option word && not (bytes_eq word (codes "--") || (is_rules_word word || is_report_word word))
+
+-- the word is one of the two options, without a value
+abbrev pub is_bare_option : List ℕ → Bool
+is_bare_option word = bytes_eq word (codes "--rules") || bytes_eq word (codes "--report")
+
+-- no value stands first among these words
+abbrev pub lacks_value : List (List ℕ) → Bool
+lacks_value [] = true
+lacks_value (word ∷ rest) = is_like_option word
+
+-- the word is an option without a value, and none stands first among those behind it
+abbrev pub is_without_value : List ℕ → (rest : List (List ℕ)) → Bool
+is_without_value word rest = is_bare_option word && lacks_value rest
+
+-- the first option without a value behind which none stands
+unfoldable pub without_value : List (List ℕ) → Option (List ℕ)
+without_value [] = None
+without_value (word ∷ rest) = if is_without_value word rest then Some word else without_value rest
+
+-- the word is one of the two options, and the words have it twice
+abbrev pub is_repeated : List (List ℕ) → List ℕ → Bool
+is_repeated words word = is_rules_word word && nat_lt 1 (count_by is_rules_word words)
+    || is_report_word word && nat_lt 1 (count_by is_report_word words)
+
+abbrev pub or_other : (List ℕ → PlainWrong) → Option (List ℕ) → PlainWrong
+or_other named None = other_words
+or_other named (Some word) = named word
+
+-- What is wrong with words that `clap` refuses for this cause. A word is named where one looks like what `clap` refuses.
+abbrev pub refused_by : ErrorKind → List (List ℕ) → PlainWrong
+refused_by kind.MissingRequiredArgument words = missing_command
+refused_by kind.UnknownArgument words = or_other unknown_option (find is_unknown_option words)
+refused_by kind.InvalidValue words = or_other missing_value (without_value words)
+refused_by kind.ArgumentConflict words = or_other repeated_option (find (is_repeated words) words)
+refused_by kind.TooManyValues words = or_other needless_value (find is_help_with_value words)
+refused_by kind.InvalidSubcommand words = other_words
+refused_by kind.NoEquals words = other_words
+refused_by kind.ValueValidation words = other_words
+refused_by kind.TooFewValues words = other_words
+refused_by kind.WrongNumberOfValues words = other_words
+refused_by kind.MissingSubcommand words = other_words
+refused_by kind.DisplayHelp words = other_words
+refused_by kind.DisplayHelpOnMissingArgumentOrSubcommand words = other_words
+refused_by kind.DisplayVersion words = other_words
+refused_by kind.Io words = other_words
+refused_by kind.Format words = other_words
+refused_by kind.OutOfMemory words = other_words
+
+-- ---- all words
+
+-- what is wrong with words in which `clap` finds a fault of these kinds, or, where it finds none, this line
+abbrev pub wrong_by : Kinds → PlainLine → List (List ℕ) → Option PlainWrong
+wrong_by [] line words = wrong_on line
+wrong_by (kind.DisplayHelp ∷ rest) line words = None
+wrong_by (cause ∷ rest) line words = Some (refused_by cause words)
+
+-- what is wrong with words, if they ask for nothing
+unfoldable pub wrong_in : List (List ℕ) → Option PlainWrong
+wrong_in words = wrong_by (fault_of line_app words) (line_in (matches_of line_app words)) words
+
+-- ---- what is so of it
+
+-- the word that is named of words that `clap` refuses
+abbrev pub refused_word : PlainWrong → Option (List ℕ)
+refused_word (unknown_option word) = Some word
+refused_word (missing_value option) = Some option
+refused_word (repeated_option option) = Some option
+refused_word (needless_value option) = Some option
+refused_word missing_command = None
+refused_word (unknown_command word) = None
+refused_word (needless_option command option) = None
+refused_word (wrong_count command wanted given) = None
+refused_word (unknown_style word) = None
+refused_word (wrong_number word) = None
+refused_word other_words = None
+
+-- where `clap` refuses words and one is named, it is one of them
+abbrev pub NamesOne : List (List ℕ) → Option PlainWrong → Type 0
+NamesOne words None = Unit {0}
+NamesOne words (Some wrong) = IfSome (refused_word wrong) (Contains words)

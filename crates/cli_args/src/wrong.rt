@@ -1,0 +1,352 @@
+// What is wrong with words that ask for nothing.
+ghost use Rattle.std.specs.Prelude.{◌≡◌, ◌+◌, ◌<◌, ◌↔◌, IfOk, IsSome, count_by, drop, find, length, option_map};
+ghost use Rattle.cli_args.specs.ParsedArguments.{arguments_by, usage};
+ghost use Rattle.cli_args.specs.PlainLines.{plain_line};
+ghost use Rattle.cli_args.specs.Requests.{plain_word};
+ghost use Rattle.cli_args.specs.Words.{texts};
+ghost use Rattle.cli_args.specs.WrongWords.{NamesOne, count_wanted, needless_of, plain_wrong, refused_by, without_value, wrong_in, wrong_of, wrong_on, wrong_trial, wrong_value};
+ghost use Rattle.cli_args.specs.WrongWords as spec;
+
+use crate::judge::{CommandName, command_named, report_style_named, trial_count};
+use crate::line::{Line, found_in, line_of};
+use abi_base::NoMemory;
+use clap::error::ErrorKind;
+use std::alloc::Global;
+
+/// The options of the commands.
+#[derive(Clone, Copy, Debug, PartialEq, Eq)]
+pub enum OptionName {
+    /// `--rules FILE`
+    Rules,
+    /// `--report STYLE`
+    Report,
+}
+
+/// What is wrong with words that ask for nothing, with the word that is.
+#[derive(Clone, Copy, Debug, PartialEq, Eq)]
+pub enum WrongWords<'a> {
+    /// No command is given.
+    MissingCommand,
+    /// No command has this name.
+    UnknownCommand(&'a str),
+    /// The command takes no such option.
+    NeedlessOption(&'a str, OptionName),
+    /// The command takes another number of words than it is given.
+    WrongCount {
+        command: &'a str,
+        wanted: usize,
+        given: usize,
+    },
+    /// No style of reports has this name.
+    UnknownStyle(&'a str),
+    /// No trial has this number.
+    WrongNumber(&'a str),
+    /// No option has this name.
+    UnknownOption(&'a str),
+    /// The option has no value.
+    MissingValue(&'a str),
+    /// The option is given twice.
+    RepeatedOption(&'a str),
+    /// The option takes no value.
+    NeedlessValue(&'a str),
+    /// The words fit no command, in another way than these.
+    OtherWords,
+}
+
+/// What is wrong with the words after the program's name, and which word it is. There is nothing exactly where the words ask for
+/// something. It fails only when memory runs out.
+pub fn wrong_words<'a>(
+    alloc: Global,
+    words: &'a [&'a str],
+) -> Result<Option<WrongWords<'a>>, NoMemory>
+    ensures wrong { IfOk result (λ found. option_map plain_wrong found ≡ wrong_in (texts words.entry.now)) }
+    ensures exact { IfOk result (λ found. IsSome found ↔ (arguments_by (texts words.entry.now) ≡ usage)) }
+    ensures named { IfOk result (λ found. NamesOne (texts words.entry.now) (option_map plain_wrong found)) }
+{
+    let found = wrong_among(alloc, words)?;
+    Ok(found)
+}
+
+// What is wrong with the words.
+fn wrong_among<'a>(alloc: Global, words: &'a [&'a str]) -> Result<Option<WrongWords<'a>>, NoMemory>
+    ensures { IfOk result (λ found. option_map plain_wrong found ≡ wrong_in (texts words.entry.now)) }
+{
+    match found_in(alloc, words) {
+        Ok(matches) => Ok(wrong_line(line_of(&matches))),
+        Err(kind) => match kind {
+            ErrorKind::OutOfMemory => Err(NoMemory),
+            ErrorKind::DisplayHelp => Ok(None),
+            _ => Ok(Some(refused_words(kind, words))),
+        },
+    }
+}
+
+// ---- lines that `clap` takes
+
+// What is wrong with a line that `clap` takes.
+fn wrong_line<'a>(line: Line<'_, 'a>) -> Option<WrongWords<'a>>
+    ensures { option_map plain_wrong result ≡ wrong_on (plain_line line.entry) }
+{
+    let Some(command) = line.command else {
+        return Some(WrongWords::MissingCommand);
+    };
+    let Some(name) = command_named(command) else {
+        return Some(WrongWords::UnknownCommand(command));
+    };
+    if let Some(option) = needless_option(name, line.rules.is_some(), line.report.is_some()) {
+        return Some(WrongWords::NeedlessOption(command, option));
+    }
+    wrong_count(name, command, line.files.unwrap_or(&[]), line.report)
+}
+
+// The option that a command does not take, of these that are given.
+fn needless_option(name: CommandName, has_rules: bool, has_report: bool) -> Option<OptionName>
+    ensures { result ≡ needless_of name has_rules has_report }
+{
+    if has_report && !takes_report(name) {
+        Some(OptionName::Report)
+    } else if has_rules && !takes_rules(name) {
+        Some(OptionName::Rules)
+    } else {
+        None
+    }
+}
+
+// Whether a command takes `--rules`.
+fn takes_rules(name: CommandName) -> bool
+    ensures { result ≡ spec.takes_rules name }
+{
+    match name {
+        CommandName::Check | CommandName::Verify | CommandName::Migrate | CommandName::App => true,
+        CommandName::Entries
+        | CommandName::Exports
+        | CommandName::Trial
+        | CommandName::Compose
+        | CommandName::Layout => false,
+    }
+}
+
+// Whether a command takes `--report`.
+fn takes_report(name: CommandName) -> bool
+    ensures { result ≡ spec.takes_report name }
+{
+    match name {
+        CommandName::Check | CommandName::App => true,
+        CommandName::Verify
+        | CommandName::Migrate
+        | CommandName::Entries
+        | CommandName::Exports
+        | CommandName::Trial
+        | CommandName::Compose
+        | CommandName::Layout => false,
+    }
+}
+
+// How many words stand behind a command, beside its options.
+fn wanted_count(name: CommandName) -> usize
+    ensures { result ≡ count_wanted name }
+{
+    match name {
+        CommandName::Entries | CommandName::Exports | CommandName::Trial => 1,
+        CommandName::Check | CommandName::Layout => 2,
+        CommandName::Verify | CommandName::Migrate | CommandName::App => 3,
+        CommandName::Compose => 5,
+    }
+}
+
+// What is wrong with the number of a command's words, or with one of them.
+fn wrong_count<'a>(
+    name: CommandName,
+    command: &'a str,
+    words: &[&'a str],
+    report: Option<&'a str>,
+) -> Option<WrongWords<'a>>
+    ensures { option_map plain_wrong result ≡ spec.wrong_count_of name command.entry.now (texts words.now) (plain_word report.entry) }
+{
+    let wanted = wanted_count(name);
+    let given = words.len();
+    if given != wanted {
+        return Some(WrongWords::WrongCount {
+            command,
+            wanted,
+            given,
+        });
+    }
+    match name {
+        CommandName::Check | CommandName::App => wrong_style(report),
+        CommandName::Trial => wrong_number(words),
+        _ => None,
+    }
+}
+
+// The style that is none.
+fn wrong_style(report: Option<&str>) -> Option<WrongWords<'_>>
+    ensures { option_map plain_wrong result ≡ spec.wrong_style (plain_word report.entry) }
+{
+    let word = report?;
+    match report_style_named(word) {
+        Some(_) => None,
+        None => Some(WrongWords::UnknownStyle(word)),
+    }
+}
+
+// The number that no trial has.
+fn wrong_number<'a>(words: &[&'a str]) -> Option<WrongWords<'a>>
+    ensures { option_map plain_wrong result ≡ wrong_trial (texts words.now) }
+{
+    let word = *words.first()?;
+    match trial_count(word) {
+        Some(_) => None,
+        None => Some(WrongWords::WrongNumber(word)),
+    }
+}
+
+// ---- words that `clap` refuses
+
+// What is wrong with words that `clap` refuses for this cause.
+fn refused_words<'a>(kind: ErrorKind, words: &'a [&'a str]) -> WrongWords<'a>
+    ensures { plain_wrong result ≡ refused_by kind (texts words.entry.now) }
+{
+    match kind {
+        ErrorKind::MissingRequiredArgument => WrongWords::MissingCommand,
+        ErrorKind::UnknownArgument => match unknown_option(words) {
+            Some(word) => WrongWords::UnknownOption(word),
+            None => WrongWords::OtherWords,
+        },
+        ErrorKind::InvalidValue => match option_without_value(words) {
+            Some(word) => WrongWords::MissingValue(word),
+            None => WrongWords::OtherWords,
+        },
+        ErrorKind::ArgumentConflict => match repeated_option(words) {
+            Some(word) => WrongWords::RepeatedOption(word),
+            None => WrongWords::OtherWords,
+        },
+        ErrorKind::TooManyValues => match help_with_value(words) {
+            Some(word) => WrongWords::NeedlessValue(word),
+            None => WrongWords::OtherWords,
+        },
+        _ => WrongWords::OtherWords,
+    }
+}
+
+// Whether a word is `--rules`, alone or with a value.
+fn is_rules_word(word: &str) -> bool
+    ensures { result ≡ spec.is_rules_word word.now }
+{
+    word == "--rules" || word.as_bytes().starts_with(b"--rules=")
+}
+
+// Whether a word is `--report`, alone or with a value.
+fn is_report_word(word: &str) -> bool
+    ensures { result ≡ spec.is_report_word word.now }
+{
+    word == "--report" || word.as_bytes().starts_with(b"--report=")
+}
+
+// Whether a word is `--help` with a value.
+fn is_help_with_value(word: &str) -> bool
+    ensures { result ≡ spec.is_help_with_value word.now }
+{
+    word.as_bytes().starts_with(b"--help=")
+}
+
+// Whether a word begins with `-`, and is more than that.
+fn is_like_option(word: &str) -> bool
+    ensures { result ≡ spec.is_like_option word.now }
+{
+    word.as_bytes().starts_with(b"-") && word != "-"
+}
+
+// Whether a word looks like an option, and is neither one of the two nor `--`.
+fn is_unknown_option(word: &str) -> bool
+    ensures { result ≡ spec.is_unknown_option word.now }
+{
+    is_like_option(word) && !(word == "--" || is_rules_word(word) || is_report_word(word))
+}
+
+// Whether a word is one of the two options, without a value.
+fn is_bare_option(word: &str) -> bool
+    ensures { result ≡ spec.is_bare_option word.now }
+{
+    word == "--rules" || word == "--report"
+}
+
+// The first word that looks like an option and is none.
+fn unknown_option<'a>(words: &[&'a str]) -> Option<&'a str>
+    ensures { plain_word result ≡ find spec.is_unknown_option (texts words.now) }
+{
+    words.iter().find(|word| is_unknown_option(word)).copied()
+}
+
+// The first `--help` with a value.
+fn help_with_value<'a>(words: &[&'a str]) -> Option<&'a str>
+    ensures { plain_word result ≡ find spec.is_help_with_value (texts words.now) }
+{
+    words.iter().find(|word| is_help_with_value(word)).copied()
+}
+
+// Whether no value stands first among these words.
+fn lacks_value(words: &[&str]) -> bool
+    ensures { result ≡ spec.lacks_value (texts words.now) }
+{
+    match words.first() {
+        None => true,
+        Some(word) => is_like_option(word),
+    }
+}
+
+// Whether a word is an option without a value, and none stands first among those behind it.
+fn is_without_value(word: &str, rest: &[&str]) -> bool
+    ensures { result ≡ spec.is_without_value word.now (texts rest.now) }
+{
+    is_bare_option(word) && lacks_value(rest)
+}
+
+// The words behind the one at a place.
+fn words_behind<'w, 'a>(words: &'w [&'a str], index: usize) -> &'w [&'a str]
+    requires { index < length words.now }
+    ensures { result.now ≡ drop (index + 1) words.entry.now }
+{
+    &words[index + 1..]
+}
+
+// The first option without a value behind which none stands.
+fn option_without_value<'a>(words: &[&'a str]) -> Option<&'a str>
+    ensures { plain_word result ≡ without_value (texts words.now) }
+{
+    for index in 0..words.len() {
+        let word = words[index];
+        if is_without_value(word, words_behind(words, index)) {
+            return Some(word);
+        }
+    }
+    None
+}
+
+// How many words are `--rules`, and how many `--report`.
+fn count_rules(words: &[&str]) -> usize
+    ensures { result ≡ count_by spec.is_rules_word (texts words.now) }
+{
+    words.iter().filter(|word| is_rules_word(word)).count()
+}
+
+fn count_reports(words: &[&str]) -> usize
+    ensures { result ≡ count_by spec.is_report_word (texts words.now) }
+{
+    words.iter().filter(|word| is_report_word(word)).count()
+}
+
+// Whether a word is one of the two options, and the words have it twice.
+fn is_repeated(words: &[&str], word: &str) -> bool
+    ensures { result ≡ spec.is_repeated (texts words.now) word.now }
+{
+    is_rules_word(word) && count_rules(words) > 1
+        || is_report_word(word) && count_reports(words) > 1
+}
+
+// The first option that the words have twice.
+fn repeated_option<'a>(words: &[&'a str]) -> Option<&'a str>
+    ensures { plain_word result ≡ find (spec.is_repeated (texts words.now)) (texts words.now) }
+{
+    words.iter().find(|word| is_repeated(words, word)).copied()
+}

@@ -1,0 +1,147 @@
+// Words that ask for nothing.
+ghost use Rattle.std.specs.Prelude.{IfOk, IsTrue, string_bytes};
+ghost use Rattle.cli_args.specs.WrongWords.{plain_wrong};
+ghost use Rattle.explain.specs.Lines.{is_one_line};
+ghost use Rattle.explain.specs.Sentences.{SaysOf, SaysWrong};
+
+use crate::lines::said;
+use abi_base::NoMemory;
+use cli_args::{OptionName, WrongWords};
+use std::alloc::{AllocError, Global};
+use strsim::generic_levenshtein;
+
+// The commands, with the words that each one takes.
+const COMMANDS: [(&str, &str); 9] = [
+    ("check", "OLD NEW"),
+    ("app", "APP OLD NEW"),
+    ("verify", "OLD NEW CERT"),
+    ("compose", "A B C CERT1 CERT2"),
+    ("migrate", "OLD NEW CERT"),
+    ("exports", "LIB"),
+    ("entries", "LIB"),
+    ("layout", "LIB TAG"),
+    ("trial", "N"),
+];
+
+// From so many edits on, a word is not near a command.
+const FAR: usize = 3;
+
+// A word that is longer is near no command.
+const LONGEST: usize = 16;
+
+// What is wrong with a word that is no style, no number of a trial or no option.
+const UNKNOWN_STYLE: &str =
+    "it is no style of reports; the styles are text, table, counts, first and own";
+
+const WRONG_NUMBER: &str = "it is no number from 1 to 50000 in decimal";
+
+const UNKNOWN_OPTION: &str = "it is no option; the options are --rules FILE and --report STYLE";
+
+// The command that is nearest to a word, where one is near.
+fn near_command(alloc: Global, word: &str) -> Result<Option<&'static str>, AllocError> {
+    let mut found = None;
+    let mut least = FAR;
+    if word.len() > LONGEST {
+        return Ok(None);
+    }
+    for (name, _) in COMMANDS {
+        let edits = generic_levenshtein(alloc, word.as_bytes(), name.as_bytes())?;
+        if edits < least {
+            found = Some(name);
+            least = edits;
+        }
+    }
+    Ok(found)
+}
+
+// The words that a command takes.
+fn words_behind(command: &str) -> &'static str {
+    for (name, words) in COMMANDS {
+        if name == command {
+            return words;
+        }
+    }
+    "other words"
+}
+
+// What is wrong with a command that takes no such option.
+fn needless_option(option: OptionName) -> &'static str {
+    match option {
+        OptionName::Rules => "it takes no --rules FILE",
+        OptionName::Report => "it takes no --report STYLE",
+    }
+}
+
+// What is wrong with a word that is no command.
+fn unknown_command(alloc: Global, word: &str) -> Result<String, AllocError> {
+    match near_command(alloc, word)? {
+        Some(near) => format!(in alloc; "it is no command; did you mean {near}?"),
+        None => String::from_str(
+            alloc,
+            "it is no command; the commands are check, app, verify, compose, migrate, exports, entries, layout and trial",
+        ),
+    }
+}
+
+// What is wrong with a command that is given so many words.
+fn wrong_count(alloc: Global, command: &str, given: usize) -> Result<String, AllocError> {
+    let wanted = words_behind(command);
+    if given == 1 {
+        format!(in alloc; "it takes {wanted}, and 1 word is given")
+    } else {
+        format!(in alloc; "it takes {wanted}, and {given} words are given")
+    }
+}
+
+// The sentence that says this of a word.
+fn said_of_word(alloc: Global, word: &str, words: &str) -> Result<String, NoMemory>
+    ensures says { IfOk result (λ text. SaysOf word.now (string_bytes text)) }
+    ensures line { IfOk result (λ text. IsTrue (is_one_line (string_bytes text))) }
+{
+    Ok(said(alloc, word, words)?)
+}
+
+// The sentence on a word that is no command.
+fn command_sentence(alloc: Global, word: &str) -> Result<String, NoMemory>
+    ensures says { IfOk result (λ text. SaysOf word.now (string_bytes text)) }
+    ensures line { IfOk result (λ text. IsTrue (is_one_line (string_bytes text))) }
+{
+    let words = unknown_command(alloc, word)?;
+    said_of_word(alloc, word, words.as_str())
+}
+
+// The sentence on a command that is given so many words.
+fn count_sentence(alloc: Global, command: &str, given: usize) -> Result<String, NoMemory>
+    ensures says { IfOk result (λ text. SaysOf command.now (string_bytes text)) }
+    ensures line { IfOk result (λ text. IsTrue (is_one_line (string_bytes text))) }
+{
+    let words = wrong_count(alloc, command, given)?;
+    said_of_word(alloc, command, words.as_str())
+}
+
+/// The sentence on words that ask for nothing: what is wrong with the word that is, where one is. It is one line, whatever the
+/// characters of the word are.
+pub fn wrong_sentence(alloc: Global, wrong: WrongWords<'_>) -> Result<String, NoMemory>
+    ensures says { IfOk result (λ text. SaysWrong (plain_wrong wrong.entry) (string_bytes text)) }
+    ensures line { IfOk result (λ text. IsTrue (is_one_line (string_bytes text))) }
+{
+    match wrong {
+        WrongWords::MissingCommand => Ok(String::from_str(alloc, "no command is given")?),
+        WrongWords::UnknownCommand(word) => command_sentence(alloc, word),
+        WrongWords::NeedlessOption(command, option) => {
+            said_of_word(alloc, command, needless_option(option))
+        }
+        WrongWords::WrongCount { command, given, .. } => count_sentence(alloc, command, given),
+        WrongWords::UnknownStyle(word) => said_of_word(alloc, word, UNKNOWN_STYLE),
+        WrongWords::WrongNumber(word) => said_of_word(alloc, word, WRONG_NUMBER),
+        WrongWords::UnknownOption(word) => said_of_word(alloc, word, UNKNOWN_OPTION),
+        WrongWords::MissingValue(option) => said_of_word(alloc, option, "the option has no value"),
+        WrongWords::RepeatedOption(option) => {
+            said_of_word(alloc, option, "the option is given twice")
+        }
+        WrongWords::NeedlessValue(option) => {
+            said_of_word(alloc, option, "the option takes no value")
+        }
+        WrongWords::OtherWords => Ok(String::from_str(alloc, "the words fit no command")?),
+    }
+}
