@@ -2,23 +2,29 @@
 //! the answer it says on standard error what is wrong with an input.
 #![tactic(auto)]
 
+mod beside;
 mod notes;
 
+use crate::beside::{are_wanted, text_beside};
 use crate::notes::notes_of;
 use abi_base::{FileInputs, NoMemory, StdSink};
 use abi_top::{Ended, Outcome, run};
 use report::{CountsListener, FirstListener, Listener, TableListener, TextListener, add_listener};
-use std::io::ErrorKind;
+use std::io::{ErrorKind, IsTerminal};
 use std::process::ExitCode;
 use std::rt::{Env, Files};
 use std::{env, io};
 
 fn main(rt: HostRuntime) -> ExitCode {
-    ExitCode::from(outcome_of_process(&rt).number())
+    let is_terminal = rt.stderr().is_terminal();
+    ExitCode::from(outcome_of_process(&rt, is_terminal).number())
 }
 
 // Arguments that are no text are taken as no words, which are wrong ones.
-fn outcome_of_process<R: Files + Print + Eprint + Env + AllocGlobal>(rt: &R) -> Outcome {
+fn outcome_of_process<R: Files + Print + Eprint + Env + AllocGlobal>(
+    rt: &R,
+    is_terminal: bool,
+) -> Outcome {
     let arguments = match arguments_of(rt) {
         Ok(arguments) => arguments,
         Err(error) => {
@@ -28,7 +34,7 @@ fn outcome_of_process<R: Files + Print + Eprint + Env + AllocGlobal>(rt: &R) -> 
             Vec::new(rt.alloc())
         }
     };
-    outcome_of(rt, &arguments).unwrap_or(Outcome::NoMemory)
+    outcome_of(rt, &arguments, are_wanted(rt, is_terminal)).unwrap_or(Outcome::NoMemory)
 }
 
 // The arguments after the program's name.
@@ -47,6 +53,7 @@ const FIRST_ROWS: u32 = 10;
 fn outcome_of<R: Files + Print + Eprint + AllocGlobal>(
     rt: &R,
     arguments: &[String],
+    with_notes: bool,
 ) -> Result<Outcome, NoMemory> {
     let mut words = Vec::new(rt.alloc());
     for argument in arguments {
@@ -66,6 +73,9 @@ fn outcome_of<R: Files + Print + Eprint + AllocGlobal>(
     )?;
     let ended = run(alloc, &words, &mut inputs, &mut sink, listeners);
     tell(rt, &words, &ended);
+    if with_notes {
+        tell_notes(rt, &words, &ended);
+    }
     Ok(ended.outcome)
 }
 
@@ -76,5 +86,15 @@ fn tell<R: Files + Eprint + AllocGlobal>(rt: &R, words: &[&str], ended: &Ended<'
     };
     for note in &notes {
         let _ = eprintln!(rt; "abi: {note}");
+    }
+}
+
+// Says on standard error what no rule judges, for people. Where that fails, the answer stands.
+fn tell_notes<R: Files + Eprint + AllocGlobal>(rt: &R, words: &[&str], ended: &Ended<'_>) {
+    let Ok(bytes) = text_beside(rt, words, ended) else {
+        return;
+    };
+    if let Ok(text) = str::from_utf8(&bytes) {
+        let _ = eprint!(rt; "{text}");
     }
 }

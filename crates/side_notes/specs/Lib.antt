@@ -1,0 +1,9 @@
+pub mod Added
+pub mod AllNotes
+pub mod Arrows
+pub mod Between
+pub mod Bound
+pub mod Made
+pub mod NoteTexts
+pub mod Threads
+pub mod Versions

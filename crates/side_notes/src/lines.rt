@@ -1,0 +1,202 @@
+// Notes as lines, for people.
+ghost use Rattle.std.specs.Prelude.{◌≡◌, ◌++◌, ◌≤◌, IfOk, OnOk, count_by};
+ghost use Rattle.side_notes.specs.NoteTexts.{all_kinds, behind, change_sign_of, counted_to, first_lines, is_of, kind_text, line_end, line_front, line_if, line_start, note_line, note_text as the_note_text, rest_line, rest_words};
+
+use abi_base::NoMemory;
+use std::alloc::Global;
+use type_notes::{Note, NoteKind};
+
+// How many notes of a kind are printed.
+const MOST: usize = 10;
+
+// The kinds, in the order in which they are printed.
+static ALL_KINDS: [NoteKind; 21] = [
+    NoteKind::AffectedExport,
+    NoteKind::ExportAdded,
+    NoteKind::VersionAdded,
+    NoteKind::ThreadObject,
+    NoteKind::ObjectQualifiers,
+    NoteKind::Successor,
+    NoteKind::IdleSection,
+    NoteKind::ArrayDimensions,
+    NoteKind::MemberInPadding,
+    NoteKind::UnionWithoutMembers,
+    NoteKind::TagOrName,
+    NoteKind::ParameterName,
+    NoteKind::Qualifiers,
+    NoteKind::Prototype,
+    NoteKind::Endianity,
+    NoteKind::CallingConvention,
+    NoteKind::AddressClass,
+    NoteKind::NoReturn,
+    NoteKind::Packing,
+    NoteKind::EnumeratorSign,
+    NoteKind::DefinedElsewhere,
+];
+
+// All kinds, in order.
+#[tactic(auto, unfolding(crate::specs::NoteTexts::all_kinds))]
+fn kinds() -> &'static [NoteKind]
+    ensures { result.now ≡ all_kinds }
+{
+    &ALL_KINDS
+}
+
+// Appends bytes.
+fn push(text: &mut Vec<u8>, bytes: &[u8]) -> Result<(), NoMemory>
+    ensures { OnOk result (text.new.items ≡ text.old.items ++ bytes.now) }
+{
+    text.extend_from_slice(bytes)?;
+    Ok(())
+}
+
+// Appends what a line begins with: that it is a note, and of which kind.
+#[tactic(auto, unfolding(crate::specs::NoteTexts::line_start))]
+fn push_start(text: &mut Vec<u8>, kind: NoteKind) -> Result<(), NoMemory>
+    ensures { OnOk result (text.new.items ≡ text.old.items ++ line_start kind) }
+{
+    push(text, b"abi: note: ")?;
+    push(text, kind.name().as_bytes())
+}
+
+// Appends a text behind a sign, where there is one.
+fn push_behind(text: &mut Vec<u8>, sign: &str, bytes: &[u8]) -> Result<(), NoMemory>
+    ensures { OnOk result (text.new.items ≡ text.old.items ++ behind sign.now bytes.now) }
+{
+    if bytes.is_empty() {
+        return Ok(());
+    }
+    push(text, sign.as_bytes())?;
+    push(text, bytes)
+}
+
+// Appends what a line says of a note's place.
+fn push_front(text: &mut Vec<u8>, note: &Note) -> Result<(), NoMemory>
+    ensures { OnOk result (text.new.items ≡ text.old.items ++ line_front note.now) }
+{
+    push_start(text, note.kind)?;
+    push_behind(text, ": ", note.export.as_slice())?;
+    push_behind(text, " ", note.path.as_slice())
+}
+
+// Appends what a line says of a change, and the end of the line.
+fn push_end(text: &mut Vec<u8>, note: &Note) -> Result<(), NoMemory>
+    ensures { OnOk result (text.new.items ≡ text.old.items ++ line_end note.now) }
+{
+    let was = note.was.as_slice();
+    push_behind(text, ": was ", was)?;
+    push_behind(text, change_sign(was), note.is.as_slice())?;
+    push(text, b"\n")
+}
+
+// Appends a note as a line.
+#[tactic(auto, unfolding(crate::specs::NoteTexts::note_line))]
+fn push_line(text: &mut Vec<u8>, note: &Note) -> Result<(), NoMemory>
+    ensures { OnOk result (text.new.items ≡ text.old.items ++ note_line note.now) }
+{
+    push_front(text, note)?;
+    push_end(text, note)
+}
+
+// The sign in front of what is there now, behind what was there.
+fn change_sign(was: &[u8]) -> &'static str
+    ensures { result.now ≡ change_sign_of was.now }
+{
+    if was.is_empty() { ": " } else { ", now " }
+}
+
+// Appends a note as a line, where it is of a kind and fewer than ten of that kind stand before it.
+fn push_if(text: &mut Vec<u8>, kind: NoteKind, so_far: usize, note: &Note) -> Result<(), NoMemory>
+    ensures { OnOk result (text.new.items ≡ text.old.items ++ line_if kind so_far note.now) }
+{
+    if note.kind != kind {
+        return Ok(());
+    }
+    if so_far >= MOST {
+        return Ok(());
+    }
+    push_line(text, note)
+}
+
+// Appends how many more there are, in words.
+fn push_rest_words(alloc: Global, text: &mut Vec<u8>, rest: usize) -> Result<(), NoMemory>
+    ensures { OnOk result (text.new.items ≡ text.old.items ++ rest_words rest) }
+{
+    let digits = format!(in alloc; "{rest}")?;
+    push(text, b": and ")?;
+    push(text, digits.as_bytes())?;
+    push(text, b" more")?;
+    push(text, b"\n")
+}
+
+// Appends how many more there are of a kind than are printed.
+fn push_rest(
+    alloc: Global,
+    text: &mut Vec<u8>,
+    kind: NoteKind,
+    count: usize,
+) -> Result<(), NoMemory>
+    ensures { OnOk result (text.new.items ≡ text.old.items ++ rest_line kind count) }
+{
+    if count <= MOST {
+        return Ok(());
+    }
+    push_start(text, kind)?;
+    push_rest_words(alloc, text, count - MOST)
+}
+
+// How many notes there are of a kind.
+fn count_of(notes: &[Note], kind: NoteKind) -> usize
+    ensures { result ≡ count_by (is_of kind) notes.now }
+{
+    notes.iter().filter(|note| note.kind == kind).count()
+}
+
+// Appends the first notes of a kind.
+fn push_first(text: &mut Vec<u8>, notes: &[Note], kind: NoteKind) -> Result<(), NoMemory>
+    ensures { OnOk result (text.new.items ≡ text.old.items ++ first_lines kind notes.now) }
+{
+    let mut so_far = 0;
+    for note in notes {
+        push_if(text, kind, so_far, note)?;
+        so_far = counted(so_far, kind, note);
+    }
+    Ok(())
+}
+
+// So many and one more, where a note is of a kind. Ten are as good as more.
+fn counted(so_far: usize, kind: NoteKind, note: &Note) -> usize
+    requires { so_far ≤ 10 }
+    ensures { result ≡ counted_to kind so_far note.now }
+{
+    if note.kind == kind && so_far < MOST {
+        so_far + 1
+    } else {
+        so_far
+    }
+}
+
+// Appends the notes of a kind: the first ten, and how many more there are.
+fn push_kind(
+    alloc: Global,
+    text: &mut Vec<u8>,
+    notes: &[Note],
+    kind: NoteKind,
+) -> Result<(), NoMemory>
+    ensures { OnOk result (text.new.items ≡ text.old.items ++ kind_text notes.now kind) }
+{
+    push_first(text, notes, kind)?;
+    push_rest(alloc, text, kind, count_of(notes, kind))
+}
+
+/// The notes as lines, one kind after another: the first ten of each kind, and how many more there are of it.
+pub fn note_text(alloc: Global, notes: &[Note]) -> Result<Vec<u8>, NoMemory>
+    ensures { IfOk result (λ text. text.items ≡ the_note_text notes.now) }
+{
+    let kinds = kinds();
+    let mut text = Vec::new(alloc);
+    for kind in kinds {
+        push_kind(alloc, &mut text, notes, *kind)?;
+    }
+    Ok(text)
+}

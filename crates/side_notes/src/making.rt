@@ -1,0 +1,56 @@
+// The texts of notes, and notes that speak of one export.
+ghost use Rattle.std.specs.Prelude.{◌≡◌, IfOk, string_bytes};
+ghost use Rattle.abi_types.specs.Plain.{plain_export};
+ghost use Rattle.abi_types.specs.Shown.{label, shown};
+ghost use Rattle.side_notes.specs.Made.{note_on_export, sized as the_size};
+
+use abi_base::{List, NoMemory};
+use abi_types::{Export, push_label, push_shown};
+use std::alloc::Global;
+use type_notes::{Note, NoteKind};
+
+/// A text as bytes, in its room.
+pub fn bytes_of(text: String) -> List<u8>
+    ensures { result ≡ string_bytes text }
+{
+    List::of(text.into_bytes())
+}
+
+/// The label of an export.
+pub fn label_of(alloc: Global, export: &Export) -> Result<List<u8>, NoMemory>
+    ensures { IfOk result (λ text. text ≡ label (plain_export export.now)) }
+{
+    let mut text = String::new(alloc);
+    push_label(alloc, &mut text, export)?;
+    Ok(bytes_of(text))
+}
+
+/// The printed form of a name.
+pub fn shown_name(alloc: Global, name: &[u8]) -> Result<List<u8>, NoMemory>
+    ensures { IfOk result (λ text. text ≡ shown name.now) }
+{
+    let mut text = String::new(alloc);
+    push_shown(alloc, &mut text, name)?;
+    Ok(bytes_of(text))
+}
+
+/// A note on an export itself, with what was there and what is there now.
+pub fn note_on(alloc: Global, kind: NoteKind, export: List<u8>, was: List<u8>, is: List<u8>) -> Note
+    ensures { result ≡ note_on_export kind export was is }
+{
+    Note {
+        kind,
+        export,
+        path: List::new(alloc),
+        was,
+        is,
+    }
+}
+
+/// A size in words.
+pub fn sized(alloc: Global, size: u64) -> Result<List<u8>, NoMemory>
+    ensures { IfOk result (λ text. text ≡ the_size size) }
+{
+    let text = format!(in alloc; "size {size}")?;
+    Ok(bytes_of(text))
+}

@@ -1,0 +1,4 @@
+pub mod AnyLemmas
+pub mod ChainLemmas
+pub mod LawLemmas
+pub mod WalkLemmas

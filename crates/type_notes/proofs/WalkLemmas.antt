@@ -1,0 +1,88 @@
+-- Visits and the paths to them can be read, and notes are added visit by visit.
+use Rattle.std.proofs.Common.{◌≡◌, ◌<◌, ◌+◌, ◌∙◌, ℕ, zero, suc, List, [], ◌∷◌, ◌++◌, length, slice_get, map, Some, ap, sym, subst, arith, refl}
+use Rattle.std.specs.List.{flat_map, range_with_len}
+use Rattle.std.proofs.lemmas.List.{append-nil}
+use Rattle.std.proofs.lemmas.Grind.{flat_map-append}
+use Rattle.abi_types.specs.Graphs.{IsGraph}
+use Rattle.type_classes.specs.Classes.{PlainClasses}
+use Rattle.pair_rules.specs.declared.rules.Broken.{Broken}
+use Rattle.pair_rules.specs.Paths.{Path, Then, From, PathLeadsTo}
+use Rattle.pair_rules.specs.Steps.{Triple}
+use Rattle.pair_explorer.specs.declared.visits.Visit.{Visit}
+use Rattle.pair_explorer.specs.ByClass.{IsSound}
+use Rattle.pair_explorer.specs.Explorations.{IsExploration}
+use Rattle.pair_explorer.specs.Routes.{followed, path_at, path_of}
+use Rattle.pair_explorer.specs.Scopes.{Scope, rep, LeadsByRep}
+use Rattle.pair_explorer.specs.Visits.{seen, Along, AreEarlier}
+use Rattle.cert_check.specs.Compatible.{Sides, task_of}
+use Rattle.pair_compare.specs.Explored.{scope_of}
+use Rattle.pair_compare.specs.reports.Findings.{export_of}
+use Rattle.pair_compare.specs.reports.PathTexts.{label_at, steps_text, IsWalk}
+use Rattle.type_notes.specs.declared.difference.Difference.{Difference}
+use Rattle.type_notes.specs.declared.note.Note.{Note}
+use Rattle.type_notes.specs.NotedPairs.{PlainPair, AreReadable, difference_note, noted_at, notes_at, notes_below}
+
+-- what the laws below say that is used here
+pub record WalkLaws : Type 0 where
+  pub walks : (s : Sides) (path : Path) (x : Triple) → IsGraph s.old.graph → IsGraph s.new.graph → PathLeadsTo (task_of s) path x → IsWalk s.old path
+  pub comes : (s : Scope) (path : Path) (z : Triple) → IsSound s → LeadsByRep s path z → (x : Triple) × PathLeadsTo s.task path x × (rep s x ≡ z)
+  pub along : (visits : List Visit) (n : ℕ) (v : Visit) → AreEarlier visits → slice_get visits n ≡ Some v → Along visits n (path_at visits n)
+  pub one : (visits : List Visit) (n : ℕ) (p q : Path) → Along visits n p → Along visits n q → p ≡ q
+
+-- the item at a place that a list has
+there : {X : Type 0} (xs : List X) (n : ℕ) → n < length xs → (x : X) × (slice_get xs n ≡ Some x)
+there [] n lt = absurd (omega arith)
+there (x ∷ xs) zero lt = (x, refl)
+there (x ∷ xs) (suc n) lt = there xs n (omega arith)
+
+pub readable : WalkLaws → (s : Sides) (old new : PlainClasses) (vs : List Visit) (broken : List (ℕ × Broken)) → IsGraph s.old.graph → IsGraph s.new.graph
+    → IsSound (scope_of s old new) → IsExploration (scope_of s old new) vs broken → AreReadable s vs
+readable laws s old new vs broken old_graph new_graph sound e = record {
+  earlier = e.earlier;
+  each = λ n lt.
+      let v = there vs n lt in
+      let inside = e.inside n v.0 v.1 in
+      let reached = e.reached n v.0 v.1 in
+      let same : reached.0 ≡ path_at vs n = laws.one vs n reached.0 (path_at vs n) reached.1 (laws.along vs n v.0 e.earlier v.1) in
+      let comes = laws.comes (scope_of s old new) reached.0 (seen v.0) sound reached.2 in
+      record {
+        visit = v.0;
+        at = v.1;
+        old = inside.0;
+        new = inside.1;
+        walk = subst (λ (p : Path). IsWalk s.old p) same (laws.walks s reached.0 comes.0 old_graph new_graph comes.1);
+      };
+}
+
+-- ---- the note of a path
+
+export_of-followed : (path : Path) (parts : List ℕ) → export_of (followed path parts) ≡ export_of path
+export_of-followed path [] = refl
+export_of-followed path (part ∷ parts) = export_of-followed (Then path part) parts
+
+-- the notes of differences under the texts of a path are those at the visit to which it leads
+pub noted : (s : Sides) (vs : List Visit) (n export : ℕ) (parts label steps : List ℕ) (found : List Difference) → path_of export parts ≡ path_at vs n
+    → label ≡ label_at s.old export → steps ≡ steps_text s.old (path_of export parts) → map (difference_note label steps) found ≡ map (noted_at s vs n) found
+noted s vs n export parts label steps found same is_label is_steps =
+    let label' : label ≡ label_at s.old (export_of (path_at vs n)) = is_label ∙ ap (label_at s.old) (sym (export_of-followed (From export) parts) ∙ ap export_of same) in
+    let steps' : steps ≡ steps_text s.old (path_at vs n) = is_steps ∙ ap (steps_text s.old) same in
+    ap (λ (x : List ℕ). map (difference_note x steps) found) label' ∙ ap (λ (x : List ℕ). map (difference_note (label_at s.old (export_of (path_at vs n))) x) found) steps'
+
+-- ---- visit by visit
+
+range_more : (a n : ℕ) → range_with_len a (suc n) ≡ range_with_len a n ++ (a + n) ∷ []
+range_more a zero = ap (λ (k : ℕ). k ∷ []) (omega arith)
+range_more a (suc n) =
+    let e : a + 1 + n ≡ a + suc n = omega arith in
+    ap (λ (ks : List ℕ). a ∷ ks) (range_more (a + 1) n ∙ ap (λ (k : ℕ). range_with_len (a + 1) n ++ k ∷ []) e)
+
+range_next : (n : ℕ) → range_with_len 0 (n + 1) ≡ range_with_len 0 n ++ n ∷ []
+range_next n =
+    let e : n + 1 ≡ suc n = omega arith in
+    let z : 0 + n ≡ n = omega arith in
+    ap (range_with_len 0) e ∙ range_more 0 n ∙ ap (λ (k : ℕ). range_with_len 0 n ++ k ∷ []) z
+
+pub notes_more : (p : PlainPair) (vs : List Visit) (n : ℕ) → notes_below p vs (n + 1) ≡ notes_below p vs n ++ notes_at p vs n
+notes_more p vs n =
+    ap (flat_map (notes_at p vs)) (range_next n) ∙ flat_map-append (notes_at p vs) (range_with_len 0 n) (n ∷ [])
+    ∙ ap (λ (xs : List Note). notes_below p vs n ++ xs) (append-nil (notes_at p vs n))

@@ -1,0 +1,31 @@
+-- What was explored can be read, and its notes are those of all visits.
+use Rattle.std.proofs.Common.{◌∙◌, subst}
+use Rattle.abi_types.specs.Graphs.{IsGraph}
+use Rattle.pair_compare.specs.BoundPair.{sides_of}
+use Rattle.type_notes.proofs.WalkLemmas.{readable}
+use Rattle.type_notes.proofs.walk.counted_notes.Goals as goal
+
+pub notes_along-requires : goal.notes_along-requires
+notes_along-requires g c =
+    readable (record {
+      walks = c.paths_end_where_they_lead.ensures.walks;
+      comes = c.paths_by_representatives.ensures.comes;
+      along = c.parents_spell_paths.ensures.along;
+      one = c.parents_spell_paths.ensures.one;
+    }) (sides_of c.args.ground.now.pair) c.in_ok-old_classes.old_classes c.in_ok-new_classes.new_classes c.in_ok-explored.explored.visits c.in_ok-explored.explored.breaks
+    (subst IsGraph c.graph-old_graph.ensures c.known.ensures) (subst IsGraph c.graph-new_graph.ensures c.known-2.ensures)
+    c.explore_types.ensures.sound c.in_ok-explored.ensures.explored
+
+pub returns : goal.returns
+returns g c = record {
+  old_classes = c.in_ok-old_classes.old_classes;
+  new_classes = c.in_ok-new_classes.new_classes;
+  old_nodes = c.in_ok-old_classes.ensures.graph ∙ c.graph-old_graph.ensures;
+  new_nodes = c.in_ok-new_classes.ensures.graph ∙ c.graph-new_graph.ensures;
+  old_alone = c.in_ok-old_classes.ensures.alone;
+  new_alone = c.in_ok-new_classes.ensures.alone;
+  visits = c.in_ok-explored.explored.visits;
+  breaks = c.in_ok-explored.explored.breaks;
+  explored = c.in_ok-explored.ensures.explored;
+  are = c.in_ok-notes.ensures;
+}

@@ -1,0 +1,41 @@
+-- In which aspects two entries are compared that no rule judges.
+use Rattle.std.specs.Prelude.{Bool, if◌then◌else◌, List, [], ◌∷◌}
+use Rattle.type_reach.specs.declared.role.Role.{Role}
+use Rattle.type_reach.specs.declared.role.Role.TheVariants as role
+use Rattle.type_reach.specs.contracts.role.RolePartialEq.TheImpl.{ghosts}
+use Rattle.type_notes.specs.declared.note.NoteKind.{NoteKind}
+use Rattle.type_notes.specs.declared.note.NoteKind.TheVariants as kind
+use Rattle.type_notes.specs.declared.aspect.Aspect.{Aspect}
+use Rattle.type_notes.specs.declared.aspect.Aspect.TheVariants.{Dimensions, Prototyped, CallingConvention, AddressClass, NoReturn, ParameterNames, Endianity, Sign, Const, Volatile, Restrict, Atomic}
+
+-- the kind of notes on an aspect
+abbrev pub kind_of : Aspect → NoteKind
+kind_of Dimensions = kind.ArrayDimensions
+kind_of Prototyped = kind.Prototype
+kind_of CallingConvention = kind.CallingConvention
+kind_of AddressClass = kind.AddressClass
+kind_of NoReturn = kind.NoReturn
+kind_of ParameterNames = kind.ParameterName
+kind_of Endianity = kind.Endianity
+kind_of Sign = kind.EnumeratorSign
+kind_of Const = kind.Qualifiers
+kind_of Volatile = kind.Qualifiers
+kind_of Restrict = kind.Qualifiers
+kind_of Atomic = kind.Qualifiers
+
+-- the test of roles that the code derives
+abbrev pub same_role : Role → Role → Bool
+same_role = ghosts.eq
+
+-- the aspects of an entry of a role, in order; other roles have none
+abbrev pub aspects_of : Role → List Aspect
+aspects_of role.Array = Dimensions ∷ []
+aspects_of role.Function = Prototyped ∷ CallingConvention ∷ AddressClass ∷ NoReturn ∷ ParameterNames ∷ []
+aspects_of role.Base = Endianity ∷ []
+aspects_of role.Enumeration = Sign ∷ []
+aspects_of role.Pointer = AddressClass ∷ Const ∷ Volatile ∷ Restrict ∷ Atomic ∷ []
+aspects_of _ = []
+
+-- those of two entries of one role; entries of two roles have none
+abbrev pub aspects_between : Role → Role → List Aspect
+aspects_between old new = if same_role old new then aspects_of old else []

@@ -1,0 +1,13 @@
+pub mod Aspects
+pub mod Between
+pub mod Chains
+pub mod Differences
+pub mod Entries
+pub mod NotedPairs
+pub mod Notes
+pub mod Packing
+pub mod Padding
+pub mod Texts
+pub mod TypeNames
+pub mod TypePairs
+pub mod Unions

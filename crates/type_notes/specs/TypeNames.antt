@@ -1,0 +1,30 @@
+-- The names of types, as C sees them: the typedefs on the way to a structure, a union, an enumeration or a base type, and its own.
+use Rattle.std.specs.Prelude.{ℕ, List, [], ◌++◌, drop, Option, codes}
+use Rattle.std.specs.List.{flat_map}
+use Rattle.abi_types.specs.declared.kind.LabelKind.{LabelKind}
+use Rattle.abi_types.specs.declared.kind.LabelKind.TheVariants as label
+use Rattle.abi_types.specs.Shown.{shown}
+use Rattle.abi_types.specs.Types.{PlainLabel, PlainNode}
+use Rattle.type_notes.specs.declared.note.NoteKind.TheVariants as note
+use Rattle.type_notes.specs.declared.difference.Difference.{Difference}
+use Rattle.type_notes.specs.Differences.{differing}
+
+-- what stands before a name of a kind
+abbrev pub keyword : LabelKind → List ℕ
+keyword label.Structure = codes "struct "
+keyword label.Union = codes "union "
+keyword label.Enumeration = codes "enum "
+keyword label.Typedef = []
+keyword label.Builtin = []
+
+-- a name behind what stands between two names
+abbrev pub label_behind : PlainLabel → List ℕ
+label_behind l = codes " = " ++ (keyword l.kind ++ shown l.name)
+
+-- the names with ` = ` between them: each stands behind one, but for the first
+abbrev pub labels_text : List PlainLabel → List ℕ
+labels_text labels = drop 3 (flat_map label_behind labels)
+
+-- the names of two types, where they differ
+unfoldable pub name_change : PlainNode → PlainNode → Option Difference
+name_change a b = differing note.TagOrName (labels_text a.labels) (labels_text b.labels)

@@ -1,0 +1,87 @@
+// What entries say beside what rules compare.
+ghost use Rattle.std.specs.Prelude.{◌≡◌};
+ghost use Rattle.type_notes.specs.Aspects.{aspects_between as the_aspects_between, aspects_of as the_aspects_of, kind_of as the_kind_of};
+
+use crate::note::NoteKind;
+use type_reach::Role;
+
+/// What an entry says that no rule compares.
+#[derive(Clone, Copy)]
+pub enum Aspect {
+    /// The dimensions of an array.
+    Dimensions,
+    /// Whether a function is declared with a list of parameters.
+    Prototyped,
+    /// How a function is called.
+    CallingConvention,
+    /// What kind of address a pointer or a function has.
+    AddressClass,
+    /// Whether a function never returns.
+    NoReturn,
+    /// The names of a function's parameters.
+    ParameterNames,
+    /// The order of the bytes of a base type.
+    Endianity,
+    /// Whether an enumeration has a sign.
+    Sign,
+    /// Whether a pointer points to what is `const`.
+    Const,
+    /// Whether it points to what is `volatile`.
+    Volatile,
+    /// Whether it points to a pointer that is `restrict`.
+    Restrict,
+    /// Whether it points to what is `_Atomic`.
+    Atomic,
+}
+
+// The kind of notes on an aspect.
+pub(crate) fn kind_of(aspect: Aspect) -> NoteKind
+    ensures { result ≡ the_kind_of aspect }
+{
+    match aspect {
+        Aspect::Dimensions => NoteKind::ArrayDimensions,
+        Aspect::Prototyped => NoteKind::Prototype,
+        Aspect::CallingConvention => NoteKind::CallingConvention,
+        Aspect::AddressClass => NoteKind::AddressClass,
+        Aspect::NoReturn => NoteKind::NoReturn,
+        Aspect::ParameterNames => NoteKind::ParameterName,
+        Aspect::Endianity => NoteKind::Endianity,
+        Aspect::Sign => NoteKind::EnumeratorSign,
+        Aspect::Const | Aspect::Volatile | Aspect::Restrict | Aspect::Atomic => {
+            NoteKind::Qualifiers
+        }
+    }
+}
+
+// The aspects of an entry of a role, in order.
+fn aspects_of(role: Role) -> &'static [Aspect]
+    ensures { result.now ≡ the_aspects_of role }
+{
+    match role {
+        Role::Array => &[Aspect::Dimensions],
+        Role::Function => &[
+            Aspect::Prototyped,
+            Aspect::CallingConvention,
+            Aspect::AddressClass,
+            Aspect::NoReturn,
+            Aspect::ParameterNames,
+        ],
+        Role::Base => &[Aspect::Endianity],
+        Role::Enumeration => &[Aspect::Sign],
+        Role::Pointer => &[
+            Aspect::AddressClass,
+            Aspect::Const,
+            Aspect::Volatile,
+            Aspect::Restrict,
+            Aspect::Atomic,
+        ],
+        _ => &[],
+    }
+}
+
+// The aspects in which two entries are compared, in order.
+pub(crate) fn aspects_between(old: Role, new: Role) -> &'static [Aspect]
+    ensures { result.now ≡ the_aspects_between old new }
+{
+    if old == new { aspects_of(old) } else { &[] }
+}

@@ -1,0 +1,95 @@
+// What differs between two types.
+ghost use Rattle.std.specs.Prelude.{◌≡◌, ◌++◌, OnOk};
+ghost use Rattle.type_notes.specs.Between.{differences, entry_changes, node_changes, view_changes};
+ghost use Rattle.type_notes.specs.Chains.{core_at as the_core_at};
+ghost use Rattle.type_notes.specs.TypePairs.{AreNodes, new_node, new_nodes, new_view, old_node, old_nodes, old_view};
+
+use crate::chain::core_at;
+use crate::difference::{Difference, push_found};
+use crate::entries::{EntryPair, push_changes};
+use crate::packing::packing_change;
+use crate::padding::push_padding_changes;
+use crate::type_names::name_change;
+use crate::type_pair::TypePair;
+use crate::unions::union_change;
+use abi_base::{List, NoMemory};
+use dwarf_entries::Dwarf;
+use std::alloc::Global;
+
+/// The entries of two libraries.
+#[derive(Clone, Copy)]
+pub struct DwarfPair<'x, 'o, 'n> {
+    pub old: &'x Dwarf<'o>,
+    pub new: &'x Dwarf<'n>,
+}
+
+// Adds what differs between two entries, where both are there.
+fn push_entry_changes(
+    alloc: Global,
+    list: &mut List<Difference>,
+    dwarfs: &DwarfPair,
+    types: &TypePair,
+) -> Result<(), NoMemory>
+    requires { AreNodes types.now }
+    ensures { OnOk result (list.new ≡ list.old ++ entry_changes dwarfs.now.old.now dwarfs.now.new.now (the_core_at dwarfs.now.old.now.tree (old_node types.now).entry) (the_core_at dwarfs.now.new.now.tree (new_node types.now).entry)) }
+{
+    let old = core_at(dwarfs.old, types.old_graph.entry_of(types.old));
+    let new = core_at(dwarfs.new, types.new_graph.entry_of(types.new));
+    match (old, new) {
+        (Some(old), Some(new)) => {
+            let pair = EntryPair {
+                old_dwarf: dwarfs.old,
+                new_dwarf: dwarfs.new,
+                old,
+                new,
+            };
+            push_changes(alloc, list, &pair)
+        }
+        _ => Ok(()),
+    }
+}
+
+// Adds what differs between what two types look like.
+fn push_view_changes(
+    alloc: Global,
+    list: &mut List<Difference>,
+    types: &TypePair,
+) -> Result<(), NoMemory>
+    requires { AreNodes types.now }
+    ensures { OnOk result (list.new ≡ list.old ++ view_changes (old_nodes types.now) (new_nodes types.now) (old_view types.now) (new_view types.now)) }
+{
+    let old = types.old_graph.view(types.old);
+    let new = types.new_graph.view(types.new);
+    push_found(list, union_change(alloc, old, new)?)?;
+    push_padding_changes(alloc, list, types)
+}
+
+// Adds what differs between the names and the alignments of two types.
+fn push_node_changes(
+    alloc: Global,
+    list: &mut List<Difference>,
+    types: &TypePair,
+) -> Result<(), NoMemory>
+    requires { AreNodes types.now }
+    ensures { OnOk result (list.new ≡ list.old ++ node_changes (old_nodes types.now) (new_nodes types.now) types.now.old types.now.new) }
+{
+    push_found(list, name_change(alloc, types)?)?;
+    push_found(list, packing_change(alloc, types)?)
+}
+
+/// Adds what differs between two types and is not judged: what the entries behind them say, in order of aspects; that one is a
+/// union without members; the new members that stand in the padding of the old type; the names; and whether one alone is packed.
+#[tactic(auto, unfolding(crate::specs::Between::differences))]
+pub fn push_differences(
+    alloc: Global,
+    list: &mut List<Difference>,
+    dwarfs: &DwarfPair,
+    types: &TypePair,
+) -> Result<(), NoMemory>
+    requires { AreNodes types.now }
+    ensures { OnOk result (list.new ≡ list.old ++ differences dwarfs.now.old.now dwarfs.now.new.now (old_nodes types.now) (new_nodes types.now) types.now.old types.now.new) }
+{
+    push_entry_changes(alloc, list, dwarfs, types)?;
+    push_view_changes(alloc, list, types)?;
+    push_node_changes(alloc, list, types)
+}

@@ -1,0 +1,79 @@
+// What stands behind typedefs and qualifiers.
+ghost use Rattle.std.specs.Prelude.{◌≡◌, ◌<◌, ◌+◌, length, Some, IfSome};
+ghost use Rattle.abi_base.specs.Limits.{depth_limit};
+ghost use Rattle.type_reach.specs.References as references;
+ghost use Rattle.type_notes.specs.Chains.{behind as the_type_behind, core_at as the_core_at, is_passed as the_tag_is_passed, has_qualifier as the_qualifier_is_there};
+
+use dwarf_entries::Dwarf;
+use type_reach::{Role, role_of, type_of};
+
+// So many entries stand on the way from a type to what it stands for, at most: a step by value more than a library may have.
+const ENTRIES: usize = 513;
+
+// The type behind typedefs, qualifiers, variables and signatures.
+fn behind(dwarf: &Dwarf, from: Option<usize>) -> Option<usize>
+    requires { IfSome from (λ e. e < length dwarf.now.tree.entries) }
+    ensures found { result ≡ the_type_behind dwarf.now.tree (depth_limit + 1) from }
+    ensures inside { IfSome result (λ e. e < length dwarf.now.tree.entries) }
+{
+    let mut at = from;
+    'chain: for passed in 0..ENTRIES {
+        match at {
+            None => return None,
+            Some(e) => match role_of(dwarf, e) {
+                Role::Wrapper => at = type_of(dwarf, e),
+                _ => return Some(e),
+            },
+        }
+    }
+    None
+}
+
+// The entry that the type at an offset stands for.
+pub(crate) fn core_at(dwarf: &Dwarf, offset: u64) -> Option<usize>
+    ensures found { result ≡ the_core_at dwarf.now.tree offset }
+    ensures inside { IfSome result (λ e. e < length dwarf.now.tree.entries) }
+{
+    behind(dwarf, dwarf.find(offset))
+}
+
+// The entry that the type of an entry stands for.
+pub(crate) fn core_of_type(dwarf: &Dwarf, e: usize) -> Option<usize>
+    requires { e < length dwarf.now.tree.entries }
+    ensures found { result ≡ the_type_behind dwarf.now.tree (depth_limit + 1) (references.type_of dwarf.now.tree e) }
+    ensures inside { IfSome result (λ e. e < length dwarf.now.tree.entries) }
+{
+    behind(dwarf, type_of(dwarf, e))
+}
+
+// Whether an entry with a tag stands on the way from a type to what it stands for.
+fn is_passed(dwarf: &Dwarf, from: Option<usize>, tag: u64) -> bool
+    requires { IfSome from (λ e. e < length dwarf.now.tree.entries) }
+    ensures { result ≡ the_tag_is_passed dwarf.now.tree tag (depth_limit + 1) from }
+{
+    let mut at = from;
+    'chain: for passed in 0..ENTRIES {
+        match at {
+            None => return false,
+            Some(e) => match role_of(dwarf, e) {
+                Role::Wrapper => {
+                    let here = dwarf.tag(e);
+                    if here == tag {
+                        return true;
+                    }
+                    at = type_of(dwarf, e);
+                }
+                _ => return false,
+            },
+        }
+    }
+    false
+}
+
+// Whether the type of an entry has a qualifier, by its tag.
+pub(crate) fn has_qualifier(dwarf: &Dwarf, e: usize, tag: u64) -> bool
+    requires { e < length dwarf.now.tree.entries }
+    ensures { result ≡ the_qualifier_is_there dwarf.now.tree tag e }
+{
+    is_passed(dwarf, type_of(dwarf, e), tag)
+}

@@ -1,0 +1,53 @@
+// What differs between two entries.
+ghost use Rattle.std.specs.Prelude.{◌≡◌, ◌<◌, ◌++◌, IfOk, OnOk};
+ghost use Rattle.type_notes.specs.Entries.{AreThere, change as the_change, changes, plain};
+
+use crate::aspect::{Aspect, aspects_between, kind_of};
+use crate::difference::{Difference, differing, push_found};
+use crate::said::said;
+use abi_base::{List, NoMemory};
+use dwarf_entries::Dwarf;
+use std::alloc::Global;
+use type_reach::role_of;
+
+/// An entry of an old library, and one of a new library in its place.
+#[derive(Clone, Copy)]
+pub struct EntryPair<'x, 'o, 'n> {
+    pub old_dwarf: &'x Dwarf<'o>,
+    pub new_dwarf: &'x Dwarf<'n>,
+    /// The position of the old entry.
+    pub old: usize,
+    /// The position of the new entry.
+    pub new: usize,
+}
+
+// What differs between two entries in an aspect.
+#[tactic(auto, unfolding(crate::specs::Entries::change))]
+fn change(alloc: Global, aspect: Aspect, pair: &EntryPair) -> Result<Option<Difference>, NoMemory>
+    requires { AreThere (plain pair.now) }
+    ensures { IfOk result (λ found. found ≡ the_change (plain pair.now) aspect) }
+{
+    let was = said(alloc, aspect, pair.old_dwarf, pair.old)?;
+    let is = said(alloc, aspect, pair.new_dwarf, pair.new)?;
+    Ok(differing(kind_of(aspect), was, is))
+}
+
+/// Adds what differs between two entries that stand for types, in order of aspects: of entries of one role each text that is
+/// said of both and differs.
+#[tactic(auto, unfolding(crate::specs::Entries::changes))]
+pub fn push_changes(
+    alloc: Global,
+    list: &mut List<Difference>,
+    pair: &EntryPair,
+) -> Result<(), NoMemory>
+    requires { AreThere (plain pair.now) }
+    ensures { OnOk result (list.new ≡ list.old ++ changes (plain pair.now)) }
+{
+    let old = role_of(pair.old_dwarf, pair.old);
+    let new = role_of(pair.new_dwarf, pair.new);
+    let aspects = aspects_between(old, new);
+    for aspect in aspects {
+        push_found(list, change(alloc, *aspect, pair)?)?;
+    }
+    Ok(())
+}

@@ -1,0 +1,35 @@
+//! Notes on types: what the debug information of two libraries says differently, of types that are compared, and no rule judges.
+//! Each kind of note has a definition over the pairs of types and their entries, and the list of a kind holds exactly the notes of
+//! that definition.
+#![tactic(auto)]
+
+mod aspect;
+mod between;
+mod chain;
+mod constants;
+mod difference;
+mod dimensions;
+mod entries;
+pub mod laws;
+mod names;
+mod note;
+mod noted_pair;
+mod packing;
+mod padding;
+mod rest;
+mod said;
+mod sign;
+mod type_names;
+mod type_pair;
+mod unions;
+mod walk;
+
+pub use aspect::Aspect;
+pub use between::{DwarfPair, push_differences};
+pub use difference::Difference;
+pub use entries::{EntryPair, push_changes};
+pub use note::{Note, NoteKind};
+pub use noted_pair::NotedPair;
+pub use padding::Bits;
+pub use type_pair::TypePair;
+pub use walk::type_notes;

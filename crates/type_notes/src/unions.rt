@@ -1,0 +1,51 @@
+// Unions that have a size and no members.
+ghost use Rattle.std.specs.Prelude.{◌≡◌, IfOk, string_bytes};
+ghost use Rattle.type_notes.specs.Unions.{counts_text as the_counts, is_hollow as the_union_is_hollow, union_change as the_change, union_text as the_text};
+
+use crate::difference::{Difference, difference_of};
+use crate::note::NoteKind;
+use abi_base::NoMemory;
+use abi_types::{Index, Kind, NewIx, OldIx, View};
+use std::alloc::{AllocError, Global};
+
+// Whether a type is a union that has a size and no members.
+fn is_hollow<Ix: Index>(view: &View<Ix>) -> bool
+    ensures { result ≡ the_union_is_hollow view.now }
+{
+    match view.kind {
+        Kind::Union => view.size > 0 && view.parts.is_empty(),
+        _ => false,
+    }
+}
+
+// A size, and how many members there are.
+fn counted(alloc: Global, size: u64, members: usize) -> Result<String, AllocError>
+    ensures { IfOk result (λ text. string_bytes text ≡ the_counts size members) }
+{
+    format!(in alloc; "size {size}, members {members}")
+}
+
+// The size of a type, and how many members it has.
+fn union_text<Ix: Index>(alloc: Global, view: &View<Ix>) -> Result<String, AllocError>
+    ensures { IfOk result (λ text. string_bytes text ≡ the_text view.now) }
+{
+    counted(alloc, view.size, view.parts_len())
+}
+
+// What is said of two types of which one is such a union.
+pub(crate) fn union_change(
+    alloc: Global,
+    old: &View<OldIx>,
+    new: &View<NewIx>,
+) -> Result<Option<Difference>, NoMemory>
+    ensures { IfOk result (λ found. found ≡ the_change old.now new.now) }
+{
+    if !is_hollow(old) && !is_hollow(new) {
+        return Ok(None);
+    }
+    let was = union_text(alloc, old)?;
+    let is = union_text(alloc, new)?;
+    let was = was.into_bytes();
+    let is = is.into_bytes();
+    Ok(Some(difference_of(NoteKind::UnionWithoutMembers, was, is)))
+}

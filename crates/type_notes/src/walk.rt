@@ -1,0 +1,189 @@
+// The notes on all types that two libraries are compared in.
+ghost use Rattle.std.specs.Prelude.{◌≡◌, ◌<◌, ◌++◌, length, map, IfOk, OnOk};
+ghost use Rattle.pair_compare.specs.BoundPair.{IsBinding, sides_of};
+ghost use Rattle.pair_compare.specs.Marking.{AreMarksOf};
+ghost use Rattle.pair_explorer.specs.Visits.{AreEarlier};
+ghost use Rattle.pair_rules.specs.Steps.{is_marked as the_node_is_marked};
+ghost use Rattle.cert_check.specs.Compatible.{task_of};
+ghost use Rattle.type_notes.specs.NotedPairs.{AreNotes, AreReadable, IsReadable, difference_note, differences_of, noted_at, noted_pair, notes_at, notes_below};
+
+use crate::between::{DwarfPair, push_differences};
+use crate::difference::Difference;
+use crate::note::Note;
+use crate::noted_pair::NotedPair;
+use crate::type_pair::TypePair;
+use abi_base::{List, NoMemory};
+use abi_types::{Index, OldIx, Way};
+use pair_compare::explore_types;
+use pair_compare::reports::laws::paths_end_where_they_lead;
+use pair_compare::reports::{label_at, steps_text};
+use pair_explorer::laws::{parents_spell_paths, paths_by_representatives};
+use pair_explorer::{Visit, Visits, route_to};
+use pair_rules::Steps;
+use std::alloc::Global;
+use std::marker::Brand;
+use std::sync::ledger::{Blank, Ledger};
+use type_classes::plain;
+
+// Whether an old node is marked at a way.
+fn is_marked(ground: &NotedPair, node: OldIx, way: Way) -> bool
+    ensures { result ≡ the_node_is_marked (task_of (sides_of ground.now.pair)) node way }
+{
+    let flags = match way {
+        Way::Direct => ground.pair.marks.direct.as_slice(),
+        Way::Pointer => ground.pair.marks.pointer.as_slice(),
+    };
+    match flags.get(node.number()) {
+        Some(mark) => *mark,
+        None => false,
+    }
+}
+
+// The note of a difference, with the printed forms of the export and of the path that lead to it.
+fn note_of(alloc: Global, export: &str, path: &str, found: &Difference) -> Result<Note, NoMemory>
+    ensures { IfOk result (λ note. note ≡ difference_note export.now path.now found.now) }
+{
+    Ok(Note {
+        kind: found.kind,
+        export: List::copy_of(alloc, export.as_bytes())?,
+        path: List::copy_of(alloc, path.as_bytes())?,
+        was: List::copy_of(alloc, found.was.as_slice())?,
+        is: List::copy_of(alloc, found.is.as_slice())?,
+    })
+}
+
+// Adds the notes of differences.
+fn push_all(
+    alloc: Global,
+    notes: &mut List<Note>,
+    export: &str,
+    path: &str,
+    found: &[Difference],
+) -> Result<(), NoMemory>
+    ensures { OnOk result (notes.new ≡ notes.old ++ map (difference_note export.now path.now) found.now) }
+{
+    for difference in found {
+        let note = note_of(alloc, export, path, difference)?;
+        notes.push(note)?;
+    }
+    Ok(())
+}
+
+// What differs between the types of a visit.
+fn differences_at(
+    alloc: Global,
+    ground: &NotedPair,
+    visit: &Visit,
+) -> Result<List<Difference>, NoMemory>
+    requires old { visit.now.old < length ground.now.pair.old.now.graph }
+    requires new { visit.now.new < length ground.now.pair.new.now.graph }
+    ensures { IfOk result (λ list. list ≡ differences_of (noted_pair ground.now) visit.now) }
+{
+    let dwarfs = DwarfPair {
+        old: ground.old_dwarf,
+        new: ground.new_dwarf,
+    };
+    let types = TypePair {
+        old_graph: ground.pair.old.graph(),
+        new_graph: ground.pair.new.graph(),
+        old: visit.old,
+        new: visit.new,
+    };
+    let mut list = List::new(alloc);
+    push_differences(alloc, &mut list, &dwarfs, &types)?;
+    Ok(list)
+}
+
+// Adds the notes of differences at the visit of a number, under the path to it.
+fn push_under_path(
+    alloc: Global,
+    notes: &mut List<Note>,
+    ground: &NotedPair,
+    place: (&Visits, usize),
+    found: &[Difference],
+) -> Result<(), NoMemory>
+    requires readable { IsReadable (sides_of ground.now.pair) place.0.now place.1 }
+    requires earlier { AreEarlier place.0.now }
+    ensures { OnOk result (notes.new ≡ notes.old ++ map (noted_at (sides_of ground.now.pair) place.entry.0.now place.entry.1) found.now) }
+{
+    parents_spell_paths();
+    let (visits, number) = place;
+    let route = route_to(alloc, visits, number)?;
+    let export = label_at(alloc, ground.pair.old, route.export)?;
+    let path = steps_text(alloc, ground.pair.old, &route)?;
+    push_all(alloc, notes, export.as_str(), path.as_str(), found)
+}
+
+// Adds the notes of the visit of a number.
+#[tactic(auto, unfolding(crate::specs::NotedPairs::notes_at))]
+fn push_visit(
+    alloc: Global,
+    notes: &mut List<Note>,
+    ground: &NotedPair,
+    visits: &Visits,
+    number: usize,
+) -> Result<(), NoMemory>
+    requires readable { IsReadable (sides_of ground.now.pair) visits.now number }
+    requires earlier { AreEarlier visits.now }
+    ensures { OnOk result (notes.new ≡ notes.old ++ notes_at (noted_pair ground.now) visits.now number) }
+{
+    let visit = visits.visit(number);
+    if is_marked(ground, visit.old, visit.way) {
+        return Ok(());
+    }
+    let found = differences_at(alloc, ground, &visit)?;
+    if found.as_slice().is_empty() {
+        return Ok(());
+    }
+    push_under_path(alloc, notes, ground, (visits, number), found.as_slice())
+}
+
+// The notes of all visits, in their order.
+fn notes_along(alloc: Global, ground: &NotedPair, visits: &Visits) -> Result<List<Note>, NoMemory>
+    requires { AreReadable (sides_of ground.now.pair) visits.now }
+    ensures { IfOk result (λ notes. notes ≡ notes_below (noted_pair ground.now) visits.now (length visits.now)) }
+{
+    let mut notes = List::new(alloc);
+    'visits: for number in 0..visits.len() {
+        push_visit(alloc, &mut notes, ground, visits, number)?;
+    }
+    Ok(notes)
+}
+
+// The notes on two libraries, with a counter of steps.
+fn counted_notes<L: Ledger>(
+    alloc: Global,
+    blank: Blank,
+    ground: &NotedPair,
+) -> Result<List<Note>, NoMemory>
+    requires name { blank.name ≡ L.name }
+    requires parts { blank.parts ≡ L.parts }
+    requires some { 0 < blank.parts }
+    requires bound { IsBinding ground.now.pair }
+    requires marks { AreMarksOf ground.now.pair.old.now ground.now.pair.marks.now }
+    ensures { IfOk result (AreNotes (noted_pair ground.now)) }
+{
+    paths_end_where_they_lead();
+    paths_by_representatives();
+    parents_spell_paths();
+    let old_graph = ground.pair.old.graph();
+    let new_graph = ground.pair.new.graph();
+    old_graph.known();
+    new_graph.known();
+    let mut steps = Steps::<L>::new(blank);
+    let old_classes = plain(alloc, old_graph)?;
+    let new_classes = plain(alloc, new_graph)?;
+    let explored = explore_types(alloc, &ground.pair, &old_classes, &new_classes, &mut steps)?;
+    let notes = notes_along(alloc, ground, &explored.visits)?;
+    Ok(notes)
+}
+
+/// The notes on the types of two libraries: what differs between each two types that are compared and is not judged, at the first
+/// path to them. A type stands for itself alone, also where others look like it. Types that a rule file marks have no notes.
+pub fn type_notes(alloc: Global, ground: &NotedPair) -> Result<List<Note>, NoMemory>
+    requires bound { IsBinding ground.now.pair }
+    requires marks { AreMarksOf ground.now.pair.old.now ground.now.pair.marks.now }
+    ensures { IfOk result (AreNotes (noted_pair ground.now)) }
+{
+    counted_notes::<Brand>(alloc, Blank::new(1), ground)
+}
