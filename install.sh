@@ -1,6 +1,7 @@
 #!/usr/bin/env bash
-# Proves the program and the crates below it, several side by side, builds it, and puts it in place as PREFIX/bin/abi. Nothing is
-# put in place unless every proof passed.
+# Proves the programs abi and abi-json and the crates below them, several side by side, builds both, and puts them in place in
+# PREFIX/bin, beside links to the tools, which come to PREFIX/lib/abi/tools, with the manual pages and completions in PREFIX/share.
+# Nothing is put in place unless every proof passed.
 #
 # usage: ./install.sh [PREFIX]   (default: $HOME/.local)
 #
@@ -9,8 +10,10 @@ set -euo pipefail
 
 prefix=$(realpath -m "${1:-$HOME/.local}")
 cd "$(dirname "$0")"
+root=$PWD
 crates=$PWD/crates.txt
-cd crates/abi_cli
+# The crate of each program, under the name of the program.
+programs="abi:abi_cli abi-json:abi_json"
 
 fail() {
     echo "install.sh: $1" >&2
@@ -25,9 +28,9 @@ jobs_here() {
         END { if (jobs > processors) jobs = processors; print jobs < 1 ? 1 : jobs }' /proc/meminfo
 }
 
-# How many crates a proof of the program takes: its own and those below it, by crates.txt.
+# How many crates a proof of a program takes: its own and those below it, by crates.txt.
 crates_in_all() {
-    awk '
+    awk -v program="$1" '
         function visit(name,    i, uses, count) {
             if (seen[name]++ || !(name in below)) return
             total++
@@ -36,7 +39,7 @@ crates_in_all() {
         }
         { sub(/#.*/, "") }
         split($0, part, ":") == 2 { below[part[1]] = part[2] }
-        END { visit("abi_cli"); print total }' "$crates"
+        END { visit(program); print total }' "$crates"
 }
 
 # follow: keeps what rt prints in the log, and shows each crate as it is done.
@@ -53,25 +56,54 @@ follow() {
 
 log=$(mktemp)
 jobs=${JOBS:-$(jobs_here)}
-total=$(crates_in_all)
-echo "proving $total crates, $jobs at a time; the first time takes an hour or more"
-rt all check --jobs "$jobs" 2>&1 | follow || {
-    sed -n '/^== summary$/,$p' "$log" | grep -v ': ok$' >&2 || tail -n 20 "$log" >&2
-    fail "not everything is proved, so nothing is installed; all that rt printed is in $log"
+
+# prove CRATE: proves the crate and those below it. What is proved already takes no time.
+prove() {
+    total=$(crates_in_all "$1")
+    echo "proving $total crates for $1, $jobs at a time; the first time takes an hour or more"
+    (cd "$root/crates/$1" && rt all check --jobs "$jobs" 2>&1) | follow || {
+        sed -n '/^== summary$/,$p' "$log" | grep -v ': ok$' >&2 || tail -n 20 "$log" >&2
+        fail "not everything is proved, so nothing is installed; all that rt printed is in $log"
+    }
 }
 
-# `rt run` links and runs what was proved. Without arguments the program prints its usage and ends with status 64, which no step of
-# the toolchain ends with.
-program=out/abi_cli
-rm -f "$program"
-status=0
-rt run >"$log" 2>&1 </dev/null || status=$?
-[ "$status" -eq 64 ] && [ -x "$program" ] || {
-    tail -n 20 "$log" >&2
-    fail "the program was not built (status $status); all that rt printed is in $log"
+# build CRATE: links what was proved. `rt run` also runs it. Without arguments the programs say how they are used and end with
+# status 64, which no step of the toolchain ends with.
+build() {
+    local status=0
+    rm -f "$root/crates/$1/out/$1"
+    (cd "$root/crates/$1" && rt run) >"$log" 2>&1 </dev/null || status=$?
+    [ "$status" -eq 64 ] && [ -x "$root/crates/$1/out/$1" ] || {
+        tail -n 20 "$log" >&2
+        fail "the program of $1 was not built (status $status); all that rt printed is in $log"
+    }
 }
+
+for program in $programs; do prove "${program#*:}"; done
+for program in $programs; do build "${program#*:}"; done
 rm -f "$log"
 
 mkdir -p "$prefix/bin"
-install -m 755 "$program" "$prefix/bin/abi"
-echo "installed $prefix/bin/abi"
+for program in $programs; do
+    crate=${program#*:}
+    install -m 755 "$root/crates/$crate/out/$crate" "$prefix/bin/${program%%:*}"
+    echo "installed $prefix/bin/${program%%:*}"
+done
+
+# The tools find their packages beside the file that a link leads to.
+rm -rf "$prefix/lib/abi/tools"
+mkdir -p "$prefix/lib/abi/tools"
+for tool in abi-report abi-gate abi-packages abi-baseline abi-release join-debug; do
+    install -m 755 "$root/tools/$tool" "$prefix/lib/abi/tools/$tool"
+    ln -sfn "../lib/abi/tools/$tool" "$prefix/bin/$tool"
+done
+for package in abi_tools abi_report abi_release; do
+    mkdir "$prefix/lib/abi/tools/$package"
+    install -m 644 "$root/tools/$package"/*.* "$prefix/lib/abi/tools/$package"
+done
+echo "installed the tools in $prefix/lib/abi/tools, with links in $prefix/bin"
+
+(cd "$root/share" && find . -type f -print) | while IFS= read -r file; do
+    install -D -m 644 "$root/share/$file" "$prefix/share/$file"
+done
+echo "installed the manual pages and completions in $prefix/share"

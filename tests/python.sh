@@ -3,11 +3,11 @@
 # and packages that gcc, objcopy, dwz, dpkg-deb and rpmbuild make, and what the proved program says of them.
 #
 #   tests/python.sh                 builds the program of this repository
-#   ABI=/path/of/abi tests/python.sh    takes another one
+#   ABI=/path/of/abi tests/python.sh    takes another one, as ABI_JSON does for abi-json
 set -eu
 title="packages and recipes"
 tools="/usr/bin/python3 gcc clang readelf objcopy ar strip dwz eu-unstrip eu-elflint dpkg-deb bsdtar make prlimit /usr/bin/time
-    dask-scheduler dask-worker"
+    dask-scheduler dask-worker jq groff"
 crate=abi_cli
 . "$(dirname "$0")/common.bash"
 
@@ -18,7 +18,8 @@ for module in elftools debian zstandard yaml pytest distributed jinja2 jsonschem
     exit 0
 done
 
-ABI=$program /usr/bin/python3 -B -m pytest --quiet --color=no -p no:cacheprovider -rs --basetemp="$work/tests" \
+program_of abi_json 64 "${ABI_JSON:-}"
+ABI=$program ABI_JSON=$found /usr/bin/python3 -B -m pytest --quiet --color=no -p no:cacheprovider -rs --basetemp="$work/tests" \
     "$root/tests/python" >log 2>&1 || { tail -n 60 log >&2 && fail "$(tail -n 1 log)"; }
 cat log
 

@@ -1,0 +1,145 @@
+"""Manual pages in the macros of man(7)."""
+
+from __future__ import annotations
+
+import re
+import textwrap
+from typing import Iterable, Iterator
+
+from abi_manual.sources import Command, Manual
+
+_WIDTH = 76
+_OPTIONS = "Options may stand anywhere among the arguments, each once, as `--rules` *FILE* or `--rules=`*FILE*. Behind the argument `--` there are none."
+_MARKED = re.compile(r"`([^`]*)`|\*([^*]*)\*")
+# Options of commands that abi-json does not take.
+_CHOSEN_BY_JSON = ("report",)
+
+
+def abi_page(manual: Manual) -> str:
+    """The page abi(1)."""
+    source = manual.source
+    lines = [
+        *_head("abi", source["brief"], source["date"]),
+        *_synopsis("abi", [command.usage for command in manual.commands]),
+        ".SH DESCRIPTION", *_paragraphs(source["description"]),
+        ".SH COMMANDS", *_commands(manual.commands),
+        ".SH OPTIONS", *_sentences(_OPTIONS),
+        *_options(manual, ()),
+        *_statuses(manual), *_examples(source["example"]),
+        ".SH SEE ALSO", ".BR abi\\-json (1),", ".BR abidiff (1),", ".BR readelf (1),", ".BR pahole (1)",
+    ]
+    return "\n".join(lines) + "\n"
+
+
+def json_page(manual: Manual) -> str:
+    """The page abi-json(1)."""
+    source = manual.source
+    commands = [_without(command) for command in manual.commands]
+    lines = [
+        *_head("abi-json", "does what abi does, and prints one JSON document", source["date"]),
+        *_synopsis("abi-json", [command.usage for command in commands]),
+        ".SH DESCRIPTION", *_paragraphs(source["document"]),
+        ".SH OPTIONS", *_options(manual, _CHOSEN_BY_JSON),
+        *_statuses(manual), *_examples(source["json_example"]),
+        ".SH SEE ALSO", ".BR abi (1),", ".BR jq (1)",
+    ]
+    return "\n".join(lines) + "\n"
+
+
+def _without(command: Command) -> Command:
+    """A command as abi-json takes it."""
+    options = tuple(option for option in command.options if option.name not in _CHOSEN_BY_JSON)
+    return Command(command.name, options, command.files, command.words, command.text)
+
+
+def _head(name: str, brief: str, date: str) -> list[str]:
+    return ['.\\" Made by tools/make-manual from tools/abi_manual/commands.toml.',
+            f'.TH {_plain(name.upper())} 1 "{date}" "abi" "User Commands"', ".SH NAME", f"{_plain(name)} \\- {_plain(brief)}"]
+
+
+def _synopsis(name: str, usages: Iterable[str]) -> Iterator[str]:
+    yield ".SH SYNOPSIS"
+    yield ".nf"
+    for usage in usages:
+        command, _, rest = usage.partition(" ")
+        yield f"\\fB{_plain(name)} {_plain(command)}\\fR {_words(rest)}".rstrip()
+    yield ".fi"
+
+
+def _words(usage: str) -> str:
+    """The words of a usage line: those in capitals stand for something."""
+    return re.sub(r"\b([A-Z][A-Z0-9]*)\b", r"\\fI\1\\fR", _plain(usage))
+
+
+def _paragraphs(text: str) -> Iterator[str]:
+    for number, paragraph in enumerate(text.strip().split("\n\n")):
+        if number:
+            yield ".PP"
+        yield from _sentences(paragraph)
+
+
+def _sentences(text: str) -> Iterator[str]:
+    """The text with a line for each sentence, since roff sets the blank behind one itself."""
+    for sentence in re.split(r"(?<=[.:]) (?=[A-Z`])", text.strip()):
+        for line in textwrap.wrap(_marked(sentence), _WIDTH, break_long_words=False, break_on_hyphens=False):
+            yield _guarded(line)
+
+
+def _marked(text: str) -> str:
+    """A text whose words in backticks are bold, and those in stars italic."""
+    parts = []
+    at = 0
+    for found in _MARKED.finditer(text):
+        parts.append(_plain(text[at:found.start()]))
+        font, word = ("B", found[1]) if found[1] is not None else ("I", found[2])
+        parts.append(f"\\f{font}{_plain(word)}\\fR")
+        at = found.end()
+    return "".join(parts) + _plain(text[at:])
+
+
+def _plain(text: str) -> str:
+    """A text in which no character means something to roff."""
+    return text.replace("\\", "\\e").replace("-", "\\-").replace("'", "\\(aq").replace("^", "\\(ha").replace("~", "\\(ti")
+
+
+def _guarded(line: str) -> str:
+    return f"\\&{line}" if line.startswith((".", "'")) else line
+
+
+def _commands(commands: Iterable[Command]) -> Iterator[str]:
+    for command in commands:
+        yield ".TP"
+        name, _, rest = command.usage.partition(" ")
+        yield f"\\fB{_plain(name)}\\fR {_words(rest)}".rstrip()
+        yield from _sentences(command.text)
+
+
+def _options(manual: Manual, left_out: Iterable[str]) -> Iterator[str]:
+    for option in manual.options.values():
+        if option.name not in left_out:
+            value = "STYLE" if option.choices else option.value
+            yield ".TP"
+            yield f"\\fB\\-\\-{_plain(option.name)}\\fR \\fI{value}\\fR"
+            yield from _sentences(option.text)
+    yield ".TP"
+    yield "\\fB\\-h\\fR, \\fB\\-\\-help\\fR"
+    yield "Prints the usage."
+
+
+def _statuses(manual: Manual) -> Iterator[str]:
+    yield ".SH EXIT STATUS"
+    for status in manual.source["status"]:
+        yield ".TP"
+        yield f"\\fB{status['number']}\\fR"
+        yield from _sentences(status["text"])
+    yield ".PP"
+    yield "With 2, 3, 4 and 6 a sentence on standard error says what is wrong."
+
+
+def _examples(examples: Iterable[dict[str, str]]) -> Iterator[str]:
+    yield ".SH EXAMPLES"
+    for number, example in enumerate(examples):
+        if number:
+            yield ".PP"
+        yield from _sentences(example["text"])
+        yield from (".PP", ".nf", ".RS 4", _guarded(_plain(example["line"])), ".RE", ".fi")

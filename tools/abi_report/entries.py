@@ -1,0 +1,276 @@
+"""Entries of debug information, read one at a time by their offsets in `.debug_info`.
+
+The answer never rests on what is read here: it serves names and lines for people. What is damaged or of an unknown form is not
+there.
+"""
+
+from __future__ import annotations
+
+import bisect
+import struct
+from dataclasses import dataclass
+from pathlib import Path
+from typing import Iterator, Mapping, Optional, Union
+
+from abi_tools.dwarf_tables import ATTRIBUTES, FORM_NAMES, STEPS, TAGS, Abbreviation, fixed_sizes, read_number
+from abi_tools.dwarf_units import Tables, Unit, units
+from abi_tools.elf_files import DAMAGED, ElfFile
+from abi_tools.faults import Fault
+
+from abi_report.texts_shown import shown
+
+_FOUR = struct.Struct("<I")
+_REFERENCES = {"DW_FORM_ref1": 1, "DW_FORM_ref2": 2, "DW_FORM_ref4": 4, "DW_FORM_ref8": 8}
+_NUMBERS = {"DW_FORM_data1": 1, "DW_FORM_data2": 2, "DW_FORM_data4": 4, "DW_FORM_data8": 8, "DW_FORM_addr": 8,
+            "DW_FORM_sec_offset": 4, "DW_FORM_flag": 1}
+_INDEXES = {"DW_FORM_strx1": 1, "DW_FORM_strx2": 2, "DW_FORM_strx3": 3, "DW_FORM_strx4": 4}
+_TEXTS = {"DW_FORM_strp": ".debug_str", "DW_FORM_line_strp": ".debug_line_str"}
+_BLOCKS = {"DW_FORM_block1": 1, "DW_FORM_block2": 2, "DW_FORM_block4": 4}
+# Where the offsets of texts begin in `.debug_str_offsets` behind its header (DWARF 5, 7.26), where a unit does not say it.
+_FIRST_TEXT_OFFSET = 8
+# How often a name is looked for in `.debug_str`, and its offset in `.debug_info`.
+_MOST_TEXTS = 64
+_MOST_PLACES = 4096
+
+Value = Union[int, str, bytes]
+# What reading damaged bytes raises.
+BROKEN = (*DAMAGED, Fault, RecursionError)
+
+
+@dataclass(frozen=True)
+class Entry:
+    """An entry: where it begins, its unit, the name of its tag without `DW_TAG_`, the values of its attributes by their names
+    without `DW_AT_`, where it ends, and whether entries below it follow there."""
+
+    offset: int
+    unit: Unit
+    tag: str
+    values: Mapping[str, Value]
+    end: int
+    has_children: bool
+
+    def number(self, name: str) -> Optional[int]:
+        """The value of an attribute, where it is a number."""
+        value = self.values.get(name)
+        return value if isinstance(value, int) else None
+
+    @property
+    def name(self) -> Optional[str]:
+        """The name, where the entry has one."""
+        value = self.values.get("name")
+        return value if isinstance(value, str) else None
+
+    @property
+    def kind(self) -> Optional[int]:
+        """The offset of its type; none for void."""
+        return self.number("type")
+
+
+_TAG_NAMES = {number: name.removeprefix("DW_TAG_") for name, number in TAGS.items()}
+_ATTRIBUTE_NAMES = {number: name.removeprefix("DW_AT_") for name, number in ATTRIBUTES.items()}
+
+
+def _signed(data: bytes, at: int) -> tuple[int, int]:
+    """The signed number of variable length (SLEB128) at a place, and where it ends."""
+    value, end = read_number(data, at)
+    bits = 7 * (end - at)
+    return value - (1 << bits) if bits < 64 and value >> (bits - 1) & 1 else value, end
+
+
+class Entries:
+    """The entries of a library."""
+
+    def __init__(self, path: Path) -> None:
+        """Reads the units. Raises a fault if the file or a unit is damaged."""
+        self.file = ElfFile(path)
+        self.sections = {name: contents for name, (_, contents) in self.file.debug_sections().items()}
+        self.info = self.sections.get(".debug_info", b"")
+        self._abbreviations = self.sections.get(".debug_abbrev", b"")
+        self._tables = Tables(self._abbreviations, f"{path}: .debug_abbrev")
+        self._units = list(units(self.info, f"{path}: .debug_info"))
+        self._starts = [unit.start for unit in self._units]
+        self._read: dict[int, Optional[Entry]] = {}
+        self._bases: dict[int, int] = {}
+        self._indexes: dict[int, dict[str, list[Entry]]] = {}
+
+    def unit_at(self, offset: int) -> Optional[Unit]:
+        """The unit in which an offset lies."""
+        number = bisect.bisect_right(self._starts, offset) - 1
+        unit = self._units[number] if number >= 0 else None
+        return unit if unit is not None and unit.entries <= offset < unit.end else None
+
+    def at(self, offset: Optional[int]) -> Optional[Entry]:
+        """The entry at an offset, where one can be read there."""
+        if offset is None:
+            return None
+        if offset not in self._read:
+            self._read[offset] = self._entry(offset)
+        return self._read[offset]
+
+    def _entry(self, offset: int) -> Optional[Entry]:
+        unit = self.unit_at(offset)
+        if unit is None:
+            return None
+        try:
+            return self._decoded(unit, offset)
+        except BROKEN:
+            return None
+
+    def _decoded(self, unit: Unit, offset: int) -> Optional[Entry]:
+        """The entry at an offset of a unit; none where a list ends there."""
+        code, at = read_number(self.info, offset)
+        if code == 0:
+            return None
+        abbreviation = self._tables.at(unit.table)[code]
+        values, at = self._values(unit, abbreviation, at)
+        tag = _TAG_NAMES.get(abbreviation.tag, "")
+        return Entry(offset, unit, tag, values, at, abbreviation.has_children)
+
+    def _values(self, unit: Unit, abbreviation: Abbreviation, at: int) -> tuple[dict[str, Value], int]:
+        values: dict[str, Value] = {}
+        for one in abbreviation.attributes:
+            form = FORM_NAMES.get(one.form, "")
+            if form == "DW_FORM_implicit_const":
+                value: Optional[Value] = _signed(self._abbreviations, one.form_end)[0]
+            else:
+                value, at = self._value(unit, form, at)
+            if value is not None:
+                values[_ATTRIBUTE_NAMES.get(one.attribute, "")] = value
+        return values, at
+
+    def _value(self, unit: Unit, form: str, at: int) -> tuple[Optional[Value], int]:
+        """The value of a form at a place, where it is one that serves here, and where it ends."""
+        data = self.info
+        if form in _REFERENCES:
+            end = at + _REFERENCES[form]
+            return unit.start + int.from_bytes(data[at:end], "little"), end
+        if form in _NUMBERS or form == "DW_FORM_ref_addr":
+            end = at + _NUMBERS.get(form, 4)
+            return int.from_bytes(data[at:end], "little"), end
+        if form in _TEXTS:
+            return self._text(_TEXTS[form], _FOUR.unpack_from(data, at)[0]), at + 4
+        if form == "DW_FORM_string":
+            end = data.index(0, at)
+            return shown(data[at:end]), end + 1
+        if form in _INDEXES:
+            end = at + _INDEXES[form]
+            return self._indexed(unit, int.from_bytes(data[at:end], "little")), end
+        return self._other(unit, form, at)
+
+    def _other(self, unit: Unit, form: str, at: int) -> tuple[Optional[Value], int]:
+        """The same of the forms of variable size, and of those that say nothing here."""
+        data = self.info
+        if form == "DW_FORM_flag_present":
+            return 1, at
+        if form == "DW_FORM_sdata":
+            return _signed(data, at)
+        if form == "DW_FORM_udata":
+            return read_number(data, at)
+        if form == "DW_FORM_ref_udata":
+            value, end = read_number(data, at)
+            return unit.start + value, end
+        if form == "DW_FORM_strx":
+            value, end = read_number(data, at)
+            return self._indexed(unit, value), end
+        if form in ("DW_FORM_exprloc", "DW_FORM_block") or form in _BLOCKS:
+            end = STEPS[form](data, at)
+            start = read_number(data, at)[1] if form not in _BLOCKS else at + _BLOCKS[form]
+            return data[start:end], end
+        if form in STEPS:
+            return None, STEPS[form](data, at)
+        return None, at + fixed_sizes(unit.version)[form]
+
+    def _text(self, section: str, offset: int) -> str:
+        contents = self.sections[section]
+        return shown(contents[offset:contents.index(0, offset)])
+
+    def _indexed(self, unit: Unit, index: int) -> Optional[str]:
+        """The text of an index; its unit says where its offsets begin."""
+        if unit.start not in self._bases:
+            self._bases[unit.start] = self._base(unit)
+        at = self._bases[unit.start] + 4 * index
+        return self._text(".debug_str", _FOUR.unpack_from(self.sections[".debug_str_offsets"], at)[0])
+
+    def _base(self, unit: Unit) -> int:
+        """Where the offsets of a unit's texts begin: its root says it, in a form of four bytes."""
+        code, at = read_number(self.info, unit.entries)
+        for one in self._tables.at(unit.table)[code].attributes:
+            form = FORM_NAMES.get(one.form, "")
+            if one.attribute == ATTRIBUTES["DW_AT_str_offsets_base"]:
+                return int(_FOUR.unpack_from(self.info, at)[0])
+            sizes = fixed_sizes(unit.version)
+            at = at + sizes[form] if form in sizes else STEPS[form](self.info, at)
+        return _FIRST_TEXT_OFFSET
+
+    def children(self, entry: Entry) -> Iterator[Entry]:
+        """The entries one level below an entry, as far as they can be read."""
+        if not entry.has_children:
+            return
+        at: Optional[int] = entry.end
+        while at is not None:
+            child = self.at(at)
+            if child is None:
+                return
+            yield child
+            at = self._behind(child)
+
+    def _behind(self, entry: Entry) -> Optional[int]:
+        """Where the entry's next sibling begins, or their list ends."""
+        if not entry.has_children:
+            return entry.end
+        sibling = entry.number("sibling")
+        if sibling is not None and sibling > entry.offset:
+            return sibling
+        depth, at = 1, entry.end
+        while depth:
+            below = self.at(at)
+            if below is None:
+                if at >= entry.unit.end or self.info[at] != 0:
+                    return None
+                depth, at = depth - 1, at + 1
+            else:
+                depth, at = depth + below.has_children, below.end
+        return at
+
+    def root(self, unit: Unit) -> Optional[Entry]:
+        """The root of a unit."""
+        return self.at(unit.entries)
+
+    def named(self, name: str, tags: tuple[str, ...]) -> Iterator[Entry]:
+        """The entries below the roots of units that have a name and one of the tags, and are no declarations."""
+        for unit in self._units_with(name):
+            for entry in self._index(unit).get(name, ()):
+                if entry.tag in tags and "declaration" not in entry.values:
+                    yield entry
+
+    def _index(self, unit: Unit) -> dict[str, list[Entry]]:
+        """The entries below the root of a unit, by their names."""
+        if unit.start not in self._indexes:
+            found: dict[str, list[Entry]] = {}
+            root = self.root(unit)
+            for entry in self.children(root) if root is not None else ():
+                if entry.name is not None:
+                    found.setdefault(entry.name, []).append(entry)
+            self._indexes[unit.start] = found
+        return self._indexes[unit.start]
+
+    def _units_with(self, name: str) -> list[Unit]:
+        """The units whose bytes may name a text: those that have it, or where `.debug_str` has it. Where texts have indexes,
+        all."""
+        if ".debug_str_offsets" in self.sections:
+            return self._units
+        wanted = name.encode("ascii", "replace") + b"\0"
+        places = list(_found(self.info, wanted, _MOST_PLACES))
+        for offset in _found(self.sections.get(".debug_str", b""), wanted, _MOST_TEXTS):
+            places += _found(self.info, _FOUR.pack(offset), _MOST_PLACES)
+        found = {unit.start: unit for unit in map(self.unit_at, places) if unit is not None}
+        return [found[start] for start in sorted(found)]
+
+
+def _found(data: bytes, wanted: bytes, most: int) -> Iterator[int]:
+    at = data.find(wanted)
+    while at >= 0 and most > 0:
+        yield at
+        most -= 1
+        at = data.find(wanted, at + 1)
+

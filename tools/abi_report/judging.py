@@ -1,0 +1,67 @@
+"""The verdict on two libraries: what `abi-json` says of them, and whether that rests on types, as `abi-gate` asks."""
+
+from __future__ import annotations
+
+from concurrent.futures import ThreadPoolExecutor
+from dataclasses import dataclass
+from pathlib import Path
+from typing import Optional
+
+from abi_tools.abi_program import NO, YES, Abi, Answer
+from abi_tools.faults import Fault
+from abi_tools.gates import Library, Verdict, judge_answer
+
+from abi_report.documents import Break, Document
+
+# Of what the other rules say it can be that the debug information has no types.
+_CERTAIN = ("X1", "X2", "X3", "X4", "X5")
+
+
+@dataclass(frozen=True)
+class Judged:
+    """A verdict, the reasons where it cannot be told, and of a yes how many exports were compared and how many of these have types
+    in both libraries."""
+
+    verdict: Verdict
+    reasons: tuple[str, ...] = ()
+    compared: Optional[int] = None
+    typed: Optional[int] = None
+
+
+def judge_document(document: Document, old: Path, new: Path, least_share: float) -> Judged:
+    """The verdict of a document on two libraries."""
+    if document.status not in (YES, NO):
+        words = "; ".join(note.text for note in document.notes) or document.text.strip()
+        return Judged(Verdict.CANNOT_TELL, (words or f"abi-json ended with status {document.status}",))
+    if document.status == NO and any(_is_certain(one) for one in document.breaks):
+        return Judged(Verdict.NO)
+    answer = Answer(document.status, _text(document), "")
+    try:
+        abi = Abi()
+        with ThreadPoolExecutor() as pool:
+            first, second = pool.map(lambda path: Library.read(abi, path), (old, new))
+    except Fault as fault:
+        return Judged(Verdict.CANNOT_TELL, (str(fault),))
+    judgement = judge_answer(answer, first, second, least_share)
+    is_yes = document.status == YES
+    return Judged(judgement.verdict, judgement.reasons, judgement.compared if is_yes else None, judgement.typed if is_yes else None)
+
+
+def _is_certain(one: Break) -> bool:
+    """Whether a break cannot come from missing types: one of the export itself, or one behind a step, which types lead to."""
+    return one.rule in _CERTAIN or (one.rule.startswith("L") and bool(one.steps))
+
+
+def _text(document: Document) -> str:
+    """What `abi check` prints."""
+    if document.status == YES:
+        return document.text
+    return "".join(f"{line}\n" for line in ("no", *(one.row for one in document.breaks)))
+
+
+def labels_of(path: Path) -> list[str]:
+    """The labels of a library's exports; none where they cannot be read."""
+    try:
+        return [export.label for export in Abi().exports(path)]
+    except Fault:
+        return []

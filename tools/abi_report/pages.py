@@ -1,0 +1,69 @@
+"""A report as one page that needs no other file."""
+
+from __future__ import annotations
+
+from pathlib import Path
+from typing import Optional, TextIO
+
+from jinja2 import Environment, FileSystemLoader, select_autoescape
+
+from abi_report.blocks import Block
+from abi_report.layouts import Layouts, layouts_of
+from abi_report.records import RECORDS
+from abi_report.reports import Report
+from abi_report.texts_shown import counted
+
+_PIECES = 200
+# So many rows of layouts stand in a page; of further structures `abi layout` prints them.
+_MOST_ROWS = 3_000
+# Layouts of more rooms get no bar, whose parts could not be told apart.
+_MOST_PARTS = 64
+# So many exports are named again although an earlier block has the same ones; so many are seen before a click.
+_NAMED_AGAIN = 12
+_SEEN = 12
+
+
+class Page:
+    """What the page asks of a report."""
+
+    def __init__(self, report: Report) -> None:
+        self.report = report
+        self._rows = 0
+
+    def layouts(self, block: Block) -> Optional[Layouts]:
+        """Both layouts of a block's structure, as long as the page has room for them."""
+        if self._rows > _MOST_ROWS:
+            return None
+        found = layouts_of(block.subject, self.report.old, self.report.new)
+        self._rows += len(found.rows) if found is not None else 0
+        return found
+
+    def layout_words(self, block: Block) -> Optional[str]:
+        """The words that print a layout for which the page has no room, behind those for the program and the library."""
+        entry = block.subject.old.entry
+        return entry.name if entry is not None and entry.tag in RECORDS and block.subject.kind == "record" else None
+
+    def has_bar(self, layouts: Layouts) -> bool:
+        """Whether layouts are drawn, too."""
+        return len(layouts.rows) <= _MOST_PARTS and max(layouts.old_size, layouts.new_size) > 0 and not layouts.overlaps
+
+    def share(self, layouts: Layouts, size: int) -> str:
+        """How much of the page's width a layout of so many bytes takes, beside the other one."""
+        return f"{100 * size / max(layouts.old_size, layouts.new_size):.4g}%"
+
+    def same(self, block: Block) -> Optional[Block]:
+        """An earlier block with the same exports."""
+        return self.report.same_exports(block, _NAMED_AGAIN)
+
+
+def write_page(report: Report, stream: TextIO) -> None:
+    """Writes the page piece by piece."""
+    environment = Environment(loader=FileSystemLoader(Path(__file__).resolve().parent), trim_blocks=True, lstrip_blocks=True,
+                              autoescape=select_autoescape(default=True, default_for_string=True))
+    environment.filters["arrows"] = lambda text: text.replace(" -> ", " → ")
+    environment.filters["counted"] = lambda count, thing: counted(count, thing)
+    numbers = {id(block): number for number, block in enumerate(report.blocks, 1)}
+    pieces = environment.get_template("page.html.j2").stream(
+        report=report, page=Page(report), seen=_SEEN, number=lambda block: numbers[id(block)])
+    pieces.enable_buffering(_PIECES)
+    pieces.dump(stream)

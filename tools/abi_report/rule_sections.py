@@ -1,0 +1,61 @@
+"""Sections of a rule file for types that callers do not see."""
+
+from __future__ import annotations
+
+import os
+import re
+from pathlib import Path, PurePosixPath
+from typing import Optional
+
+from abi_report.blocks import Block
+from abi_report.documents import Place
+from abi_report.subjects import Described
+
+_SORTS = {"structure_type": "struct", "union_type": "union", "enumeration_type": "enum"}
+# Names that mean in a rule file what they mean in C.
+_PLAIN = re.compile(r"[A-Za-z_][A-Za-z0-9_$.]*")
+# What a file of the source is called that is no header.
+_SOURCES = (".c", ".s", ".S")
+
+
+class Headers:
+    """Which types callers see: those that are declared in a public header. Where no folder of these is given, only a type that is
+    declared in a `.c` file is known not to be seen."""
+
+    def __init__(self, folder: Optional[Path] = None) -> None:
+        """Finds the headers. A type counts as public, too, where a header of the same name is there, since headers are mostly
+        installed somewhere else than where the library is built."""
+        self.folder = folder
+        self._names: set[str] = set()
+        if folder is not None:
+            self._names = {name for _, _, names in os.walk(folder, followlinks=True) for name in names}
+
+    def hides(self, place: Optional[Place]) -> bool:
+        """Whether callers do not see what is declared at a place. What has no place counts as seen."""
+        if place is None:
+            return False
+        file = PurePosixPath(place.file)
+        if self.folder is None:
+            return file.suffix in _SOURCES
+        return file.name not in self._names
+
+
+def rule_section(block: Block, headers: Headers) -> Optional[str]:
+    """The section that leaves the type of a block out, where callers do not see it and only pointers lead to it."""
+    name = _selector(block.subject.old)
+    if block.subject.kind != "record" or name is None or not headers.hides(block.subject.old.place):
+        return None
+    if not all("target" in one.steps[:len(one.steps) - len(rest)] for one, rest in block.found):
+        return None
+    return f"[suppress_type]\nlabel = callers hold pointers to it, and never look inside\n{name}\naccessed_through = pointer\n"
+
+
+def _selector(described: Described) -> Optional[str]:
+    """The properties that name a type."""
+    entry = described.entry
+    if entry is None or entry.tag not in _SORTS:
+        return None
+    word, name = (_SORTS[entry.tag], entry.name) if entry.name is not None else ("typedef", described.name)
+    if name is None or not _PLAIN.fullmatch(name):
+        return None
+    return f"name = {name}\ntype_kind = {word}"

@@ -1,0 +1,190 @@
+"""To which type each break belongs.
+
+A person looks at the innermost structure or union on the way to what broke, since its declaration is what to read: a member
+`block` whose type grew is a change of the structure that holds it. Where there is none on the way, it is the type itself, or the
+function.
+"""
+
+from __future__ import annotations
+
+from dataclasses import dataclass
+from functools import cached_property
+from pathlib import Path
+from typing import Optional, Sequence
+
+from abi_report.c_names import Names
+from abi_report.documents import Break, Document, Place
+from abi_report.entries import BROKEN, Entries, Entry
+from abi_report.records import Records
+
+# Rules of exports and of the library.
+EXPORT_RULES = ("X1", "X2", "X3", "X4", "X5", "X6")
+GONE_RULES = ("X2", "X3")
+# Where the kind or the tag changed, the declaration that names the type is what changed.
+_OF_HOLDERS = ("L1", "L5")
+_FUNCTIONS = ("subprogram", "subroutine_type")
+
+
+class Side:
+    """One library of a report: what its document and its debug information say of it."""
+
+    def __init__(self, document: Document, side: str, path: Path) -> None:
+        self._document = document
+        self._exports: dict[str, Optional[Entry]] = {}
+        self.side = side
+        self.path = path
+
+    @cached_property
+    def records(self) -> Optional[Records]:
+        """What the library declares, where that can be read."""
+        try:
+            return Records(Entries(self.path))
+        except (*BROKEN, OSError):
+            return None
+
+    @property
+    def names(self) -> Optional[Names]:
+        """The names of its types."""
+        return self.records.names if self.records is not None else None
+
+    def entry(self, offset: Optional[int]) -> Optional[Entry]:
+        """The entry at an offset."""
+        return self.records.entries.at(offset) if self.records is not None else None
+
+    def export(self, label: str) -> Optional[Entry]:
+        """The function or variable of an export."""
+        if label not in self._exports:
+            self._exports[label] = self.records.export(label) if self.records is not None else None
+        return self._exports[label]
+
+    def walk(self, label: str, steps: Sequence[str]) -> Optional[Entry]:
+        """The type to which steps lead from an export."""
+        export = self.export(label)
+        if export is None or self.records is None:
+            return None
+        return self.records.walk(export, steps)
+
+    def record(self, label: str, steps: Sequence[str]) -> Optional[Entry]:
+        """The structure or union to which steps lead from an export."""
+        found = self.walk(label, steps)
+        return self.records.record(found.offset) if found is not None and self.records is not None else None
+
+    def place(self, entry: Optional[Entry], offset: Optional[int]) -> Optional[Place]:
+        """Where a type is declared: by the document, or else by the debug information."""
+        said = self._document.place(self.side, offset)
+        if said is not None or entry is None or self.records is None:
+            return said
+        return self.records.place(entry)
+
+    def type_name(self, entry: Optional[Entry], offset: Optional[int]) -> Optional[str]:
+        """A type as C writes it: by the document, or else by the debug information."""
+        said = self._document.type_name(self.side, offset)
+        if said is not None or entry is None or self.names is None:
+            return said
+        return self.names.prototype(entry) if entry.tag == "subprogram" else self.names.of(entry.offset)
+
+
+@dataclass(frozen=True)
+class Described:
+    """A type of one library: its entry where it could be read, the offset, its name as C writes it and its place."""
+
+    entry: Optional[Entry]
+    offset: Optional[int]
+    name: Optional[str]
+    place: Optional[Place]
+
+
+@dataclass(frozen=True)
+class Subject:
+    """What breaks belong to: its kind (`record`, `type`, `function`, `export` or `library`), both types, and the name by which
+    breaks are put together."""
+
+    kind: str
+    old: Described
+    new: Described
+    key: tuple[object, ...]
+
+
+class Subjects:
+    """The subjects of a document's breaks."""
+
+    def __init__(self, old: Side, new: Side, breaks: Sequence[Break]) -> None:
+        self.old = old
+        self.new = new
+        # The structures that breaks of their own name, by export and path.
+        self._known = {(one.export, one.steps): (one.old_entry, one.new_entry) for one in breaks if one.old_entry is not None}
+
+    def of(self, one: Break) -> tuple[Subject, tuple[str, ...]]:
+        """The subject of a break, and the steps from there to what broke."""
+        if one.rule in EXPORT_RULES:
+            return _of_export(one), ()
+        last = _last_record(one.steps)
+        if last is not None and (one.rule in _OF_HOLDERS or not self._is_tagged(one)):
+            found = self._record(one.export, one.steps[:last])
+            if found is not None:
+                return found, one.steps[last:]
+        return self._of_pair(one), ()
+
+    def _is_tagged(self, one: Break) -> bool:
+        """Whether the old type that broke is a structure, union or enumeration itself."""
+        if self.old.records is None:
+            return False
+        core = self.old.records.core(one.old_entry)
+        return core is not None and core.tag in ("structure_type", "union_type", "enumeration_type")
+
+    def _record(self, export: str, steps: tuple[str, ...]) -> Optional[Subject]:
+        """The structure or union at a path, where both libraries have one."""
+        offsets = self._known.get((export, steps), (None, None))
+        sides = [self._described_record(side, export, steps, offset) for side, offset in zip((self.old, self.new), offsets)]
+        old, new = sides
+        if old is None or new is None:
+            return None
+        return Subject("record", old, new, _record_key(old, new))
+
+    def _described_record(self, side: Side, export: str, steps: Sequence[str], offset: Optional[int]) -> Optional[Described]:
+        entry = side.records.record(offset) if side.records is not None and offset is not None else None
+        if entry is None:
+            entry = side.record(export, steps)
+        if entry is None:
+            return None
+        return Described(entry, entry.offset, side.type_name(entry, entry.offset), side.place(entry, entry.offset))
+
+    def _of_pair(self, one: Break) -> Subject:
+        """The types themselves."""
+        old, new = (self._described(side, offset) for side, offset in ((self.old, one.old_entry), (self.new, one.new_entry)))
+        if not one.steps and (old.entry is None or old.entry.tag in _FUNCTIONS):
+            return Subject("function", old, new, ("function", one.export))
+        if one.rule not in _OF_HOLDERS and self._is_tagged(one):
+            return Subject("record", old, new, _record_key(old, new))
+        return Subject("type", old, new, ("type", one.old_entry, one.new_entry, None if one.old_entry else one.export))
+
+    def _described(self, side: Side, offset: Optional[int]) -> Described:
+        entry = side.entry(offset)
+        records = side.records
+        if entry is not None and records is not None and entry.tag not in _FUNCTIONS:
+            core = records.core(offset)
+            if core is not None and core.tag in ("structure_type", "union_type", "enumeration_type"):
+                place = side.place(core, core.offset) or side.place(entry, offset)
+                name = side.type_name(core, core.offset) if core.name is not None else side.type_name(entry, offset)
+                return Described(core, core.offset, name, place)
+        return Described(entry, offset, side.type_name(entry, offset), side.place(entry, offset))
+
+
+def _of_export(one: Break) -> Subject:
+    """The export or the library that a rule of exports speaks of."""
+    nothing = Described(None, None, None, None)
+    if one.rule == "X1":
+        return Subject("library", nothing, nothing, ("library",))
+    return Subject("export", nothing, nothing, ("export", one.export))
+
+
+def _record_key(old: Described, new: Described) -> tuple[object, ...]:
+    """Types of one name and place are one for people, also where they are several entries."""
+    if old.name is None or old.place is None:
+        return ("record", old.offset, new.offset)
+    return ("record", old.name, old.place, new.name, new.place)
+
+
+def _last_record(steps: Sequence[str]) -> Optional[int]:
+    """Where the last step to a member stands."""
+    return next((at for at in range(len(steps) - 1, -1, -1) if steps[at].startswith("member ")), None)
