@@ -1,34 +1,61 @@
 #!/usr/bin/env bash
-# Makes two releases of small packages, judges them by `tools/abi-release` on 1, 2 and 4 workers, each time from nothing, and once
-# more where all is done. Prints a line for each run: workers, seconds, pairs a second, pairs judged, peak memory of the process in
-# which the scheduler is, and the digest of the table, which must be one for all.
+# Makes two releases of small packages and judges them by `tools/abi-release`: for each set so many pairs of packages, on each number
+# of workers from nothing, and on the last one once more where all is done. Prints a line for each run: pairs, workers, seconds, pairs
+# a second, pairs judged, the most memory of the process in which the scheduler is, how much of it that is for a pair beside a run
+# of five pairs, and the digest of the table, which must be one for all runs of a set. Where Chromium is there, it opens the page of
+# the last run (bench/page.py), and its pictures stand in bench/made/release/pictures.
 #
-# usage: bench/release.sh [ABI [COUNT [WORKERS..]]]   (default: the program that `rt run` built, 3000 pairs, and 1 2 4)
+# usage: bench/release.sh [ABI [PAIRS:WORKERS[,WORKERS]..]..]
+#            (default: the program that `rt run` built, and the sets 3000:1,2,4 and 30000:4)
 #        TRIAL_LIBRARY=/path/of/tool_trial_library DISTINCT=N bench/release.sh ..
+#
+# 30,000 pairs take 1.5 GB of disk, and a quarter of an hour of four processors.
 set -eu
 . "$(dirname "$0")/common.bash" "$@"
-count=${2:-3000}
-workers=("${@:3}")
-[ ${#workers[@]} -gt 0 ] || workers=(1 2 4)
+sets=("${@:2}")
+[ ${#sets[@]} -gt 0 ] || sets=(3000:1,2,4 30000:4)
 folder=$PWD/release
-rm -rf "$folder"
-python3 "$top/bench/made_release.py" ${DISTINCT:+--distinct "$DISTINCT"} ${TRIAL_LIBRARY:+--maker "$TRIAL_LIBRARY"} "$folder" "$count"
+mkdir -p "$folder"
 
-# run OUT WORKERS: a run, and its line.
-run() {
+# make PAIRS: the two releases.
+make() {
+    rm -rf "$folder/old" "$folder/new" "$folder"/out*
+    python3 "$top/bench/made_release.py" ${DISTINCT:+--distinct "$DISTINCT"} ${TRIAL_LIBRARY:+--maker "$TRIAL_LIBRARY"} "$folder" "$1"
+}
+
+# judge OUT WORKERS: a run; what it says is in the files `said` and `errors`.
+judge() {
     local ended=0
     ABI=$abi "$top/tools/abi-release" "$folder/old" "$folder/new" --out "$1" --workers "$2" >said 2>errors || ended=$?
-    [ "$ended" -eq 1 ] || failed abi-release, with status "$ended"
-    python3 - "$1/release.json" "$2" <<'END'
+    [ "$ended" -le 1 ] || failed abi-release, with status "$ended"
+}
+
+# line OUT WORKERS LEAST: the line of a run, beside the megabytes of one of five pairs.
+line() {
+    python3 - "$1/release.json" "$2" "$3" <<'END'
 import json, re, sys
 said = re.search(r"(\d+) packages in ([\d.]+) seconds: (\d+) pairs of libraries judged, .* took (\d+) MB", open("errors").read())
 table = json.load(open(sys.argv[1]))
-packages, seconds = int(said[1]), float(said[2])
-print(f"| {packages:,} | {sys.argv[2]} | {seconds:.1f} s | {packages / seconds:.1f} | {int(said[3]):,} | {said[4]} MB | {table['digest'][:12]} |")
+packages, seconds, megabytes = int(said[1]), float(said[2]), int(said[4])
+more = 1024 * (megabytes - int(sys.argv[3])) / packages
+print(f"| {packages:,} | {sys.argv[2]} | {seconds:.1f} s | {packages / seconds:.1f} | {int(said[3]):,} | {megabytes} MB | {more:.1f} KB | "
+      f"{table['digest'][:12]} |", flush=True)
 END
 }
 
-echo "| Pairs of packages | Workers | Time | Pairs a second | Judged | Memory | Digest |"
-echo "|---|---|---|---|---|---|---|"
-for number in "${workers[@]}"; do run "$folder/out$number" "$number"; done
-run "$folder/out$number" "$number"
+make 5
+judge "$folder/out" 4
+least=$(sed -n 's/.* took \([0-9]*\) MB$/\1/p' errors)
+echo "Five pairs on four workers: $least MB"
+echo "| Pairs of packages | Workers | Time | Pairs a second | Judged | Memory | more, for a pair | Digest |"
+echo "|---|---|---|---|---|---|---|---|"
+for set in "${sets[@]}"; do
+    make "${set%%:*}"
+    for number in $(tr , ' ' <<<"${set#*:}"); do
+        judge "$folder/out$number" "$number"
+        line "$folder/out$number" "$number" "$least"
+    done
+    judge "$folder/out$number" "$number"
+    line "$folder/out$number" "$number" "$least"
+done
+! command -v chromium >/dev/null || /usr/bin/python3 "$top/bench/page.py" "$folder/out$number/index.html" "$folder/pictures"

@@ -12,7 +12,7 @@ from typing import Optional
 from abi_tools.faults import Fault
 
 # Seconds of processor time that abidw gets for a library, and the status of a process that takes more.
-_LONGEST = 900
+_LONGEST = 1200
 _TOO_LONG = -signal.SIGXCPU
 
 

@@ -8,13 +8,13 @@ from dataclasses import dataclass, field
 from pathlib import Path, PurePosixPath
 from typing import Sequence
 
-from abi_tools.abi_program import Abi
+from abi_tools.abi_program import Abi, Export
 from abi_tools.elf_files import ElfFile
 from abi_tools.faults import Fault
 from abi_tools.joining import join
 from abi_tools.package_sides import PackagedLibrary, Side
 from packages_read.abidw_reading import Reading, abidw_reading
-from packages_read.readelf_reading import addresses
+from packages_read.readelf_reading import addresses, exports
 
 # The kinds of symbols that abidw lists.
 _LISTED = ("FUNC", "IFUNC", "OBJECT", "COMMON", "TLS")
@@ -64,7 +64,7 @@ def compared(package: str, files: Sequence[Path]) -> PackageLine:
 
 
 def _compare(library: PackagedLibrary, side: Side, joined: Path, line: PackageLine) -> None:
-    """Compares one library, and counts. Raises a fault if it is not read."""
+    """Compares one library, and counts. Raises a fault if `abi` does not read it."""
     joined.write_bytes(join(library.path, side.root))
     listed = {export.label: export for export in Abi().exports(joined) if export.kind in _LISTED}
     line.counts["read"] += 1
@@ -72,7 +72,11 @@ def _compare(library: PackagedLibrary, side: Side, joined: Path, line: PackageLi
     line.counts["typed"] += sum(export.is_typed for export in listed.values())
     own = Reading(set(listed), {label for label, export in listed.items() if export.is_typed},
                   {label: _parameters(export.said) for label, export in listed.items() if export.said.startswith("params ")})
-    other = abidw_reading(joined)
+    try:
+        other = abidw_reading(joined)
+    except Fault as fault:
+        line.counts["shown"] += _shown_by_readelf(library.name.name, str(fault), joined, listed, line)
+        return
     more, less = own.typed - other.typed, other.typed - own.typed
     shown = set()
     if more:
@@ -86,6 +90,18 @@ def _compare(library: PackagedLibrary, side: Side, joined: Path, line: PackageLi
             ("types that neither abidw nor readelf shows", more - shown), ("types that abidw alone has", less),
             ("other numbers of parameters", unlike)]
     line.remarks += [f"{library.name.name}: {len(labels)} {what}: {_named(labels)}" for what, labels in said if labels]
+
+
+def _shown_by_readelf(name: str, fault: str, joined: Path, listed: dict[str, Export], line: PackageLine) -> int:
+    """Compares a library that abidw does not read with what readelf shows, and answers for how many of the exports with types that
+    shows an entry."""
+    at, values, found = addresses(joined), ElfFile(joined).symbol_values(), exports(joined)
+    shown = [export for export in listed.values() if values[export.number] in at]
+    typed = sum(export.is_typed for export in shown)
+    alike = "the same" if found == set(listed) else f"{len(found ^ set(listed))} others"
+    line.remarks.append(f"{name}: {fault}; readelf lists {len(found):,} exports ({alike}), and shows an entry of {typed:,} of those with "
+                        f"types and of {len(shown) - typed:,} of the others")
+    return typed
 
 
 def _parameters(said: str) -> int:

@@ -45,7 +45,7 @@ def debug_packages(names: Sequence[str]) -> list[DebugPackage]:
 def _fields(names: Sequence[str]) -> dict[str, dict[str, str]]:
     """What the archive says of debug packages that are not too large, in the order of their names."""
     paragraphs = _said("apt-cache", "show", "--no-all-versions", *names).split("\n\n")
-    all_fields = [dict(_FIELD.findall(paragraph)) for paragraph in paragraphs if paragraph]
+    all_fields: list[dict[str, str]] = [dict(_FIELD.findall(paragraph)) for paragraph in paragraphs if paragraph]
     return {fields["Package"]: fields for fields in sorted(all_fields, key=lambda one: one["Package"]) if int(fields["Size"]) <= _LARGEST}
 
 

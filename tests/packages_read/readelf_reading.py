@@ -1,4 +1,5 @@
-"""At which addresses readelf shows an entry of a function or a variable: a witness where `abi` and abidw differ."""
+"""What readelf shows of a library: its exports, and at which addresses an entry of a function or a variable stands. It is a witness
+where `abi` and abidw differ, and where abidw takes too long."""
 
 from __future__ import annotations
 
@@ -9,6 +10,8 @@ from pathlib import Path
 _ENTRY = re.compile(rb" *<[0-9a-f]+><[0-9a-f]+>: Abbrev Number: \d+ \((DW_TAG_\w+)\)")
 _LOW = re.compile(rb" *<[0-9a-f]+> +DW_AT_(?:low_pc|entry_pc) *: .*?(?:0x)?([0-9a-f]+)\s*$")
 _PLACE = re.compile(rb" *<[0-9a-f]+> +DW_AT_location *:.*\(DW_OP_addr: ([0-9a-f]+)\)")
+_SYMBOL = re.compile(r" *\d+: [0-9a-f]+ +\w+ +(?:FUNC|IFUNC|OBJECT|COMMON|TLS) +(?:GLOBAL|WEAK|UNIQUE) +(?:DEFAULT|PROTECTED) +"
+                     r"(?!UND)\w+ (\S+)")
 _HOLDERS = {b"DW_TAG_subprogram": _LOW, b"DW_TAG_variable": _PLACE}
 
 
@@ -28,3 +31,10 @@ def addresses(library: Path) -> set[int]:
                 if value is not None:
                     found.add(int(value.group(1), 16))
     return found
+
+
+def exports(library: Path) -> set[str]:
+    """The functions and variables that a library exports, by their labels (`name`, `name@VERSION`, `name@@VERSION`)."""
+    listed = subprocess.run(["readelf", "--wide", "--dyn-syms", str(library)], stdin=subprocess.DEVNULL, capture_output=True, text=True,
+                            check=True).stdout
+    return {found.group(1) for line in listed.splitlines() if (found := _SYMBOL.match(line))}

@@ -184,6 +184,15 @@ def needs(*programs: str) -> None:
     assert not missing, f"there is no {', '.join(missing)} (with SKIP_MISSING_TOOLS=1 what needs it is left out)"
 
 
+def killer(folder: Path, number: signal.Signals, arguments: str) -> Path:
+    """A program `abi` that sends a signal to the tool that runs it, where its arguments match a pattern of the shell."""
+    path = folder / "killing_abi"
+    path.write_text(f"#!/bin/sh\ncase \"$*\" in *{arguments}*) kill -{int(number)} $PPID; exit 0 ;; esac\n"
+                    f"exec '{Path(os.environ['ABI']).resolve()}' \"$@\"\n")
+    path.chmod(0o755)
+    return path
+
+
 @pytest.fixture(scope="session", autouse=True)
 def program() -> None:
     """The program must be named."""

@@ -3,11 +3,12 @@
 from __future__ import annotations
 
 import os
+import signal
 from pathlib import Path
 from typing import Callable
 
 import pytest
-from conftest import TOOLS, Ended, abi, done, run, script, tool
+from conftest import TOOLS, Ended, abi, done, killer, run, script, tool
 
 Build = Callable[..., Path]
 
@@ -132,3 +133,16 @@ def test_the_script_ends_with_2_where_nothing_can_be_told(build: Build, tmp_path
     killed.unlink()
     killed.symlink_to(Path(os.environ["ABI"]).resolve())
     assert run("env", "-u", "ABI", f"PATH={tmp_path}:/usr/bin:/bin", TOOLS / "abi-gate", whole, whole).status == 0
+
+
+@pytest.mark.parametrize("number", (signal.SIGKILL, signal.SIGTERM))
+def test_a_run_that_is_killed_leaves_no_certificate(build: Build, tmp_path: Path, number: signal.Signals) -> None:
+    """Also none of an earlier run, and nothing beside it."""
+    whole, folder = build("whole.so", OLD), tmp_path / "kept"
+    folder.mkdir()
+    (folder / "cert").write_text("of an earlier run")
+    ended = run("env", f"ABI={killer(tmp_path, number, 'check')}", TOOLS / "abi-gate", "--certificate", folder / "cert", whole, whole)
+    assert ended.status == (-number if number == signal.SIGKILL else 128 + number) and ended.out == ""
+    assert list(folder.iterdir()) == []
+    assert script("abi-gate", "--certificate", folder / "cert", whole, whole).status == 0
+    assert abi("verify", whole, whole, folder / "cert").out == "accepted\n"

@@ -10,7 +10,7 @@ import struct
 import subprocess
 import time
 from pathlib import Path
-from typing import Callable
+from typing import Any, Callable
 
 import pytest
 from abi_tools import output_file
@@ -91,6 +91,20 @@ def test_a_debug_file_is_found_by_its_name_and_checksum(build: Build, tmp_path: 
     with (root / "usr/lib/debug/usr/lib/whole.debug").open("ab") as debug:
         debug.write(b"one more byte")
     refused(tool("join-debug", "--root", root, library, joined), 1, "is of another build", joined)
+
+
+def test_without_a_root_the_system_is_searched(build: Build, tmp_path: Path) -> None:
+    """Beside the library, and in `.debug` beside it, where `.gnu_debuglink` names the file; then by build id in /usr/lib/debug."""
+    whole = build("whole.so", FIRST)
+    stripped, joined = split(whole, tmp_path / "whole.debug"), tmp_path / "joined.so"
+    assert tool("join-debug", stripped, joined).status == 0
+    assert exports(joined) == exports(whole)
+    (tmp_path / ".debug").mkdir()
+    (tmp_path / "whole.debug").rename(tmp_path / ".debug/whole.debug")
+    assert tool("join-debug", stripped, joined).status == 0
+    assert exports(joined) == exports(whole)
+    (tmp_path / ".debug/whole.debug").unlink()
+    refused(tool("join-debug", stripped, joined), 1, str(system_place(Path(), build_id(whole))), joined)
 
 
 def test_a_library_with_debug_information_needs_no_debug_file(build: Build, tmp_path: Path) -> None:
@@ -180,7 +194,7 @@ def killed_while_writing(output: Path, contents: bytes) -> None:
     if child == 0:
         write = os.write
 
-        def half(file: int, part: bytes) -> int:
+        def half(file: int, part: Any) -> int:
             write(file, part[:len(part) // 2])
             os.kill(os.getpid(), signal.SIGKILL)
             return 0
@@ -213,19 +227,22 @@ def test_a_run_that_is_killed_leaves_nothing(build: Build, tmp_path: Path, monke
     assert (folder / "joined.so").read_bytes() == b"whole"
 
 
-def test_a_run_that_is_ended_leaves_nothing_or_the_whole_file(build: Build, tmp_path: Path) -> None:
+@pytest.mark.parametrize("name", ("join-debug", "abi-baseline"))
+def test_a_run_that_is_ended_leaves_nothing_or_the_whole_file(build: Build, tmp_path: Path, name: str) -> None:
     """A signal that comes once the file has its name finds it whole."""
-    stripped = split(build("whole.so", FIRST), tmp_path / "whole.debug")
-    folder = tmp_path / "output"
-    folder.mkdir()
-    for number, wait in ((signal.SIGKILL, 0.1), (signal.SIGTERM, 0.15)):
-        running = subprocess.Popen([TOOLS / "join-debug", stripped, folder / "joined.so", tmp_path / "whole.debug"])
+    whole = build("whole.so", FIRST)
+    stripped = split(whole, tmp_path / "whole.debug")
+    output = tmp_path / "output/made.so"
+    output.parent.mkdir()
+    arguments = (stripped, output, tmp_path / "whole.debug") if name == "join-debug" else (whole, output)
+    for number, wait in ((signal.SIGKILL, 0.1), (signal.SIGTERM, 0.15), (signal.SIGKILL, 0.2)):
+        running = subprocess.Popen([TOOLS / name, *arguments])
         time.sleep(wait)
         running.send_signal(number)
-        if running.wait() == 0 or (folder / "joined.so").exists():
-            assert exports(folder / "joined.so") == exports(tmp_path / "whole.so")
-            (folder / "joined.so").unlink()
-        assert list(folder.iterdir()) == []
+        if running.wait() == 0 or output.exists():
+            assert exports(output) == exports(whole)
+            output.unlink()
+        assert list(output.parent.iterdir()) == []
 
 
 @pytest.fixture(params=("-gdwarf-4", "-gdwarf-5", "-gdwarf-5 standard"))

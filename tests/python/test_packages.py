@@ -4,12 +4,16 @@ from __future__ import annotations
 
 import gzip
 import io
+import os
+import shutil
+import signal
 import tarfile
 from pathlib import Path
-from typing import Callable, Mapping
+from typing import Callable, Mapping, Sequence
 
 import pytest
-from conftest import FIRST, SECOND, Ended, abi, build_id, done, needs, script, shared, split, system_place, tool
+from conftest import (FIRST, SECOND, TOOLS, Ended, abi, build_id, done, killer, needs, run, script, shared, split, system_place,
+                      tool)
 
 Build = Callable[..., Path]
 Files = Mapping[str, Path]
@@ -26,12 +30,12 @@ def tree(folder: Path, files: Files) -> Path:
     return folder
 
 
-def deb(folder: Path, name: str, files: Files, compression: str = "xz") -> Path:
+def deb(folder: Path, name: str, files: Files, compression: str = "xz", version: str = "1") -> Path:
     """A .deb, by dpkg-deb."""
     made = tree(folder / f"{name}.tree", files)
     (made / "DEBIAN").mkdir(parents=True)
-    (made / "DEBIAN/control").write_text(f"Package: {name}\nVersion: 1\nArchitecture: amd64\nMaintainer: a <a@example.org>\n"
-                                         "Description: a package\n")
+    (made / "DEBIAN/control").write_text(f"Package: {name}\nVersion: {version}\nArchitecture: amd64\n"
+                                         "Maintainer: a <a@example.org>\nDescription: a package\n")
     done("dpkg-deb", "--root-owner-group", f"-Z{compression}", "-b", made, folder / f"{name}.deb")
     return folder / f"{name}.deb"
 
@@ -188,9 +192,11 @@ def test_a_package_writes_nothing_outside_of_its_folder(old: tuple[Path, Path], 
     contents = build("evil.so", FIRST).read_bytes()
     outside = tmp_path / "outside"
     outside.mkdir()
-    for number, members in enumerate(([("../../outside/evil.so", contents, "")], [(f"usr/{'../' * 9}tmp/evil.so", contents, "")],
-                                      [("usr/lib", None, str(outside)), ("usr/lib/evil.so", contents, "")],
-                                      [("usr/evil.so", None, str(outside / "evil.so")), ("usr/evil.so", contents, "")])):
+    hostile: list[list[tuple[str, bytes | None, str]]] = [
+        [("../../outside/evil.so", contents, "")], [(f"usr/{'../' * 9}tmp/evil.so", contents, "")],
+        [("usr/lib", None, str(outside)), ("usr/lib/evil.so", contents, "")],
+        [("usr/evil.so", None, str(outside / "evil.so")), ("usr/evil.so", contents, "")]]
+    for number, members in enumerate(hostile):
         ended = packages(tmp_path, hostile_deb(tmp_path / f"hostile{number}.deb", members), "--", *old)
         assert ended.status == 2 and ended.errors.startswith("abi-packages: "), ended
         assert list(outside.iterdir()) == [] and not Path("/tmp/evil.so").exists()
@@ -212,3 +218,86 @@ def test_what_is_no_package_is_refused(old: tuple[Path, Path], tmp_path: Path) -
     nothing = deb(tmp_path, "nothing", {"usr/share/doc/nothing/readme": tmp_path / "shapes.h"})
     ended = packages(tmp_path, nothing, "--", nothing)
     assert ended.status == 2 and "no library is in the old packages" in ended.errors
+
+
+def mirror(folder: Path, packages_of_it: Sequence[Path]) -> list[str]:
+    """A mirror of packages on this machine, and the options by which apt-get takes it alone."""
+    pool, state = folder / "mirror", folder / "apt"
+    pool.mkdir()
+    for number, package in enumerate(packages_of_it):
+        shutil.copy(package, pool / f"{number}.deb")
+    (pool / "Packages").write_text(done("dpkg-scanpackages", "--multiversion", ".", folder=pool))
+    for name in ("lists/partial", "cache/archives/partial"):
+        (state / name).mkdir(parents=True)
+    (state / "status").touch()
+    (state / "sources.list").write_text(f"deb [trusted=yes] copy:{pool} ./\n")
+    values = {"Dir::Etc::SourceList": state / "sources.list", "Dir::Etc::SourceParts": "-", "Dir::State": state,
+              "Dir::State::Status": state / "status", "Dir::Cache": state / "cache", "APT::Architecture": "amd64",
+              "APT::Sandbox::User": "root", "Acquire::Languages": "none"}
+    options = [f"-o{name}={value}" for name, value in values.items()]
+    done("apt-get", *options, "update")
+    return options
+
+
+def test_two_versions_that_apt_downloads(build: Build, tmp_path: Path) -> None:
+    """As a packager has them: two versions of a package and of its debug package, as `apt-get download` names them, and one command."""
+    needs("apt-get", "dpkg-scanpackages")
+    made = []
+    versions = ("1:1.2-1", "1:1.2-1+deb12u1", "1:1.3-1")
+    for version, text in zip(versions, (FIRST, FIRST.replace("* s->at->y", "+ s->at->y"), CHANGED)):
+        folder = tmp_path / version.replace(":", "_")
+        folder.mkdir()
+        library, debug, _ = parted(build, folder, text, "built", "libshapes.so.1")
+        made += [deb(folder, "libshapes1", library, version=version), deb(folder, "libshapes1-dbgsym", debug, version=version)]
+    work = tmp_path / "work"
+    work.mkdir()
+    done("apt-get", *mirror(tmp_path, made), "download",
+         *(f"{name}={version}" for version in versions for name in ("libshapes1", "libshapes1-dbgsym")), folder=work)
+    assert len(list(work.glob("libshapes1*_1%3a1.*_amd64.deb"))) == 6
+    for new, status, first in (("1.2-1+deb12u1", 0, "yes libshapes.so.1: 2 exports compared, 2 with types; "),
+                               ("1.3-1", 1, "no libshapes.so.1: ")):
+        ended = run("sh", "-c", f"{TOOLS}/abi-packages libshapes1*_1%3a1.2-1_*.deb -- libshapes1*_1%3a{new}_*.deb", folder=work)
+        assert ended.status == status and ended.out.startswith(first), ended
+        assert "exports with types: old 2 of 2, new 2 of 2; " in ended.out
+    assert sorted(path.name for path in (work / "abi-certificates").iterdir()) == ["libshapes.so.1.report"]
+
+
+@pytest.mark.parametrize("number", (signal.SIGKILL, signal.SIGTERM))
+def test_a_run_that_is_killed_leaves_no_half_file(build: Build, tmp_path: Path, monkeypatch: pytest.MonkeyPatch,
+                                                  number: signal.Signals) -> None:
+    """It is killed over the second of three libraries: what it kept of the first one is whole, and the next run keeps all three."""
+    files: dict[str, Path] = {}
+    for one in (1, 2, 3):
+        library = build(f"{one}.so", FIRST, soname=f"lib{one}.so.1")
+        files[f"{LIBRARIES}/lib{one}.so.1"] = library
+    made = deb(tmp_path, "three", files)
+    temporary, kept = tmp_path / "temporary", tmp_path / "certificates"
+    temporary.mkdir()
+    monkeypatch.setenv("TMPDIR", str(temporary))
+    program = os.environ["ABI"]
+    monkeypatch.setenv("ABI", str(killer(tmp_path, number, "check*lib2.so.1")))
+    ended = script("abi-packages", "--certificates", kept, made, "--", made)
+    assert ended.status == (-number if number == signal.SIGKILL else 128 + number) and ended.out.startswith("yes lib1.so.1: "), ended
+    assert [path.name for path in kept.iterdir()] == ["lib1.so.1.cert"]
+    assert (number == signal.SIGKILL) == (list(temporary.iterdir()) != [])
+    monkeypatch.setenv("ABI", program)
+    library = tmp_path / "1.so"
+    assert tool("join-debug", library, tmp_path / "joined.so").status == 0
+    assert abi("verify", tmp_path / "joined.so", tmp_path / "joined.so", kept / "lib1.so.1.cert").out == "accepted\n"
+    assert packages(tmp_path, made, "--", made).status == 0
+    assert sorted(path.name for path in kept.iterdir()) == [f"lib{one}.so.1.cert" for one in (1, 2, 3)]
+
+
+def test_the_worst_library_is_the_status(build: Build, tmp_path: Path) -> None:
+    """A no counts more than what cannot be told, and that more than a yes. A library that is new counts nothing."""
+    sides: dict[str, dict[str, Path]] = {"old": {}, "new": {}}
+    for side, texts in (("old", (FIRST, FIRST, FIRST)), ("new", (FIRST, FIRST, CHANGED))):
+        for name, text in zip(("yes", "untold", "no"), texts):
+            options = ("-g0",) if name == "untold" else ("-g",)
+            sides[side][name] = build(f"{side}.{name}", text, *options, soname=f"lib{name}.so.1")
+    sides["new"]["new"] = build("new.new", FIRST, soname="libnew.so.1")
+    for names, status in ((("yes",), 0), (("yes", "untold"), 2), (("yes", "untold", "no"), 1), (("no",), 1), (("untold",), 2)):
+        made = [deb(tmp_path, f"{side}-{'-'.join(names)}", {f"{LIBRARIES}/lib{name}.so.1": sides[side][name] for name in (
+            *names, *(["new"] if side == "new" else []))}) for side in ("old", "new")]
+        ended = packages(tmp_path, made[0], "--", made[1])
+        assert ended.status == status and len(ended.out.splitlines()) == len(names) + 2, ended

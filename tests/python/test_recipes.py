@@ -8,7 +8,7 @@ from pathlib import Path
 from typing import Iterator
 
 import pytest
-import yaml
+import yaml  # type: ignore[import]
 from conftest import ROOT, TOOLS, Ended, done, needs, run, tool
 
 EXAMPLES = ROOT / "examples"

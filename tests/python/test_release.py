@@ -2,21 +2,34 @@
 
 from __future__ import annotations
 
+import contextlib
 import json
 import os
+import pty
+import re
 import shutil
 import signal
 import socket
 import struct
 import subprocess
+import sys
 import time
 import zlib
+from collections import deque
 from pathlib import Path
 from typing import Any, Callable, Iterator, Mapping
 
 import jsonschema
 import pytest
-from conftest import ROOT, TOOLS, Ended, build_id, done, split, system_place
+from abi_release.clusters import LocalChoice
+from abi_release.judging import Part, Settings
+from abi_release.limited_program import Limits
+from abi_release.progress import PlainProgress
+from abi_release.scheduling import Run, _Turn
+from abi_release.sources import Work
+from abi_release.stored_files import Store
+from conftest import ROOT, TOOLS, Ended, build_id, done, run, split, system_place
+from distributed import KilledWorker
 
 Json = dict[str, Any]
 TOOL = TOOLS / "abi-release"
@@ -291,6 +304,37 @@ def test_a_worker_that_is_killed_loses_nothing(tmp_path: Path) -> None:
     assert release(tmp_path, out="other").status == 1 and answers(tmp_path, "other") == THREE
 
 
+def test_a_package_that_waited_at_a_worker_that_died_is_not_blamed(tmp_path: Path) -> None:
+    """Dask gives the first packages to a worker before it begins them."""
+    three(tmp_path)
+    wrapper = wrapper_of(tmp_path, "case \"$*\" in *lib0.so.1*) kill -9 $worker; sleep 10 ;; esac")
+    ended = release(tmp_path, "--tries", 1, wrapper=wrapper)
+    assert ended.status == 1 and answers(tmp_path) == {**THREE, "lib0 lib0.so.1": "not judged"}, ended
+
+
+class LostResult:
+    """A task that ended, and did not end when Dask did it once more, since the worker had died that had the result."""
+
+    key, status = "judged-0", "finished"
+
+    def result(self) -> None:
+        """The result, which is fetched from the worker."""
+        raise KilledWorker(self.key, None, 0)
+
+    def release(self) -> None:
+        """Nobody wants it any more."""
+
+
+def test_a_result_that_is_lost_with_its_worker_is_made_again(tmp_path: Path) -> None:
+    store = Store(tmp_path / "out")
+    os.close(store.open())
+    settings = Settings(str(tmp_path), str(tmp_path), str(store.folder), None, "", 0.0, Limits(100, 10))
+    part = Part(Work("lib0", ("old.deb",), ("new.deb",)))
+    judging = Run(settings, store, LocalChoice(1, 100, store.folder), tries=2, patience=1)
+    turn = _Turn(judging, None, iter(()), deque(), PlainProgress(1, "packages", sys.stderr))
+    assert turn._next_after(part, LostResult()).again == [part] and not judging.failures  # pylint: disable=protected-access
+
+
 def started(folder: Path, *options: object, wrapper: Path) -> subprocess.Popen[str]:
     """A run that goes on beside the test."""
     command = [TOOL, "old", "new", "--out", "out", *options]
@@ -396,6 +440,55 @@ def test_a_full_disk_is_a_reason(tmp_path: Path) -> None:
     assert release(tmp_path).status == 1 and answers(tmp_path) == THREE
 
 
+# In a mount namespace of its own: `disk` is a file system of so many bytes, and what stands in `disk/out` at the end is kept.
+ON_A_DISK = """\
+mount -t tmpfs -o size=$1 tmpfs disk && mkdir disk/out && head -c $2 /dev/zero >disk/filler && shift 2 || exit 64
+status=0
+"$@" || status=$?
+rm -f disk/filler
+mkdir kept && cp -r disk/out/. kept
+exit $status
+"""
+
+
+def on_a_disk(folder: Path, size: int, filled: int, **environment: str) -> Ended:
+    """What the tool says where results go to a disk of a size, of which so much is taken."""
+    (folder / "disk").mkdir()
+    ended = release(folder, out="disk/out", before=("unshare", "--map-root-user", "--mount", "env", *(
+        f"{name}={value}" for name, value in environment.items()), "sh", "-c", ON_A_DISK, "sh", size, filled))
+    (folder / "disk").rmdir()
+    return ended
+
+
+def needs_mounts(folder: Path) -> None:
+    """Leaves a test out where the system lets no program mount a file system in a namespace of its own."""
+    if run("unshare", "--map-root-user", "--mount", "mount", "-t", "tmpfs", "tmpfs", folder).status != 0:
+        pytest.skip("there is no right to mount a file system")
+
+
+def test_results_on_a_full_disk(tmp_path: Path) -> None:
+    """Nothing can be written: each package has a line, and the table is printed."""
+    needs_mounts(tmp_path)
+    three(tmp_path)
+    ended = on_a_disk(tmp_path, 1 << 16, 1 << 16)
+    assert ended.status == 2 and "a table could not be written, so it is printed: " in ended.errors, ended
+    assert ended.out.splitlines() == [f"not judged lib{one}: No space left on device; tried 2 times" for one in range(3)] + [
+        "3 lines: 3 not judged"] * 2
+
+
+def test_packages_are_unpacked_on_a_full_disk(tmp_path: Path) -> None:
+    """One library is larger than the disk."""
+    needs_mounts(tmp_path)
+    three(tmp_path)
+    large = tmp_path / "lib1.so.1"
+    large.write_bytes(large.read_bytes() + os.urandom(3 << 20))
+    packaged(tmp_path / "new", large)
+    ended = on_a_disk(tmp_path, 2 << 20, 0, TMPDIR=str(tmp_path / "disk"))
+    assert ended.status == 2, ended
+    assert answers(tmp_path, "kept") == {"lib0 lib0.so.1": "yes", "lib1 -": "not judged", "lib2 lib2.so.1": "yes"}
+    assert lines(tmp_path, "kept")["lib1 -"]["reason"] == "No space left on device"
+
+
 def test_a_table_that_cannot_be_written_is_printed(tmp_path: Path) -> None:
     three(tmp_path)
     (tmp_path / "out/release.json").mkdir(parents=True)
@@ -440,6 +533,43 @@ def test_libraries_that_ask_for_gigabytes_cost_a_line_each(tmp_path: Path) -> No
     assert "10737418240 bytes" in reasons["libsays"]
     assert reasons["libhas"] == "memory ran out under the limit of a worker"
     assert reasons["libasks"] == "abi ran out of memory under its limit of 300 MB"
+
+
+def test_a_library_that_takes_too_long_costs_a_line(tmp_path: Path) -> None:
+    three(tmp_path)
+    wrapper = wrapper_of(tmp_path, 'case "$*" in *lib1.so.1*) while :; do :; done ;; esac')
+    ended = release(tmp_path, "--seconds", 3, "--tries", 1, wrapper=wrapper)
+    assert ended.status == 2 and answers(tmp_path) == {**THREE, "lib1 lib1.so.1": "not judged"}, ended
+    assert lines(tmp_path)["lib1 lib1.so.1"]["reason"] == "abi was ended: its limit is 3 seconds of processor time"
+
+
+PROGRESS = """\
+import sys
+from abi_release.progress import progress_of
+progress = progress_of(3, "packages", sys.stderr)
+for _ in range(3):
+    progress.advance()
+progress.end()
+"""
+
+
+def test_progress_is_a_bar_on_a_terminal_and_lines_elsewhere(tmp_path: Path) -> None:
+    """How many are done, the rate, and what is left."""
+    command = ["/usr/bin/python3", "-c", PROGRESS]
+    environment = {**os.environ, "PYTHONPATH": str(TOOLS), "TERM": "xterm", "COLUMNS": "100"}
+    plain = subprocess.run(command, env=environment, capture_output=True, text=True, check=True).stderr.splitlines()
+    assert len(plain) == 1 and re.fullmatch(r"abi-release: 3 of 3 packages, [\d.]+ a second, 0 seconds left", plain[0]), plain
+    terminal, other_end = pty.openpty()
+    with subprocess.Popen(command, env=environment, stderr=other_end) as process:
+        os.close(other_end)
+        said = b""
+        # Linux says EIO where no process has the other end any more.
+        with contextlib.suppress(OSError):
+            while part := os.read(terminal, 1 << 16):
+                said += part
+    os.close(terminal)
+    words = re.sub(r"\x1b\[[0-9;?]*[A-Za-z]", "", said.decode())
+    assert process.returncode == 0 and re.search(r"packages .* 3/3 [\d.]+ a second, left \d:\d\d:\d\d", words), said
 
 
 def test_unpacked_trees(tmp_path: Path) -> None:

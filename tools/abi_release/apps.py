@@ -42,6 +42,11 @@ class Ask(NamedTuple):
         """None: it is of all at once."""
         return ""
 
+    @property
+    def mark(self) -> str:
+        """What tells this task from all others of a run."""
+        return self.name
+
 
 def has_command(abi: Abi) -> bool:
     """Whether the program has the command `app`."""
@@ -52,7 +57,7 @@ def has_command(abi: Abi) -> bool:
 def asked(ask: Ask, settings: Settings, _passed_over: tuple[str, ...] = ()) -> Outcome:
     """Does the task."""
     store = Store(Path(settings.out))
-    return guarded(lambda: _asked(ask, settings, store), settings, store, ask.name)
+    return guarded(lambda: _asked(ask, settings, store), settings, store, ask.mark)
 
 
 def _asked(ask: Ask, settings: Settings, store: Store) -> Outcome:

@@ -26,9 +26,11 @@ _MEGABYTE = 1 << 20
 # Seconds that a client may take to leave a cluster.
 _CLOSES_IN = 2
 # What Dask's scheduler keeps of the past, and how it deals: one task a worker at a time, so that only one is suspected when a worker
-# dies, which is reported at once. On a machine that is taken it may last long until a worker is started again. Workers have a hard
-# limit of memory, so that Dask has no need to spill or to pause.
+# dies, which is reported at once. On a machine that is taken it may last long until a worker is started again, or says that it lives.
+# Workers have a hard limit of memory, so that Dask has no need to spill or to pause.
 _LOCAL_SETTINGS = {
+    "distributed.comm.timeouts.connect": "5 minutes",
+    "distributed.scheduler.worker-ttl": "1 hour",
     "distributed.scheduler.worker-saturation": 1.0,
     "distributed.scheduler.allowed-failures": 0,
     "distributed.deploy.lost-worker-timeout": "1 hour",
@@ -42,6 +44,10 @@ _LOCAL_SETTINGS = {
 }
 
 
+class NotStarted(Exception):
+    """This machine's cluster could not be started, as it happens where the machine has too much to do."""
+
+
 @dataclass(frozen=True)
 class LocalChoice:
     """A cluster of this machine: so many workers, of so many megabytes each, for the folder of a run."""
@@ -52,18 +58,30 @@ class LocalChoice:
 
     @contextlib.contextmanager
     def client(self) -> Iterator[Client]:
-        """The cluster, for a while."""
+        """The cluster, for a while. Raises NotStarted where it does not start."""
         folder = self._folder()
         shutil.rmtree(folder, ignore_errors=True)
         with dask.config.set(_LOCAL_SETTINGS):
+            parts = contextlib.ExitStack()
             try:
-                with LocalCluster(n_workers=self.workers, threads_per_worker=1, processes=True, dashboard_address=":0",
-                                  memory_limit=2 * self.megabytes * _MEGABYTE, local_directory=str(folder),
-                                  silence_logs=logging.CRITICAL) as cluster, Client(cluster) as client:
-                    client.register_worker_plugin(LimitPlugin(self.megabytes))
-                    yield client
+                yield self._started(parts, folder)
             finally:
+                # What is done is kept; a worker that does not end in time is no reason to lose it.
+                with contextlib.suppress(OSError, TimeoutError, RuntimeError):
+                    parts.close()
                 shutil.rmtree(folder, ignore_errors=True)
+
+    def _started(self, parts: contextlib.ExitStack, folder: Path) -> Client:
+        """A client of the cluster, both of which `parts` ends."""
+        try:
+            cluster = parts.enter_context(LocalCluster(
+                n_workers=self.workers, threads_per_worker=1, processes=True, dashboard_address=":0",
+                memory_limit=2 * self.megabytes * _MEGABYTE, local_directory=str(folder), silence_logs=logging.CRITICAL))
+            client = parts.enter_context(Client(cluster))
+            client.register_worker_plugin(LimitPlugin(self.megabytes))
+        except (OSError, TimeoutError, RuntimeError) as error:
+            raise NotStarted(f"this machine's cluster did not start: {error}") from error
+        return client
 
     def _folder(self) -> Path:
         """Where the workers unpack: a folder of this run's own, which the next run of the same results clears."""

@@ -59,6 +59,11 @@ class Part(NamedTuple):
         """The name of the packages."""
         return self.work.name
 
+    @property
+    def mark(self) -> str:
+        """What tells this task from all others of a run."""
+        return f"{self.work.name}\0{self.library}"
+
 
 class Outcome(NamedTuple):
     """What came of a task: how many pairs of libraries were judged, how many had been before, how many could not be, and why nothing
@@ -78,12 +83,13 @@ def done(part: Part, settings: Settings, passed_over: tuple[str, ...] = ()) -> O
     """Does a task. Libraries that are passed over made a worker die, and are not tried. Whatever a package holds, this ends with an
     outcome."""
     task = _Task(part, settings, passed_over, Store(Path(settings.out)))
-    return guarded(task.outcome, settings, task.store, part.name)
+    return guarded(task.outcome, settings, task.store, part.mark)
 
 
-def guarded(task: Callable[[], Outcome], settings: Settings, store: Store, name: str) -> Outcome:
+def guarded(task: Callable[[], Outcome], settings: Settings, store: Store, mark: str) -> Outcome:
     """The outcome of a task, also where it fails."""
     try:
+        store.begin(mark, "")
         if program_digest(LimitedAbi(Path(), settings.limits).path) != settings.program:
             raise Fault("abi on this worker is another program than the one of the run")
         return task()
@@ -97,7 +103,7 @@ def guarded(task: Callable[[], Outcome], settings: Settings, store: Store, name:
         # The libraries that read packages raise more than they say, and no package may be lost for it.
         return Outcome(reason=f"{type(error).__name__}: {error}")
     finally:
-        store.end(name)
+        store.end(mark)
 
 
 def identity_of(work: Work, settings: Settings) -> tuple[str, ...]:
@@ -141,7 +147,6 @@ class _Task:
             packages = unpacked(self.settings.out, work, self.settings.places(work), self.part.identity)
             line = self._line(packages.pairs[self.part.library], packages)
             return self._outcome(line={key: line[key] for key in ("library", "result")} if "result" in line else line)
-        self.store.begin(work.name, "")
         identity = identity_of(work, self.settings)
         record = self.store.json(record_name(work.name))
         if record is not None and self._is_whole(record, identity):
@@ -184,7 +189,7 @@ class _Task:
         if pair.name in self.passed_over:
             return self._failed(pair.name, "the worker died over it")
         if not self.part.library:
-            self.store.begin(self.part.name, pair.name)
+            self.store.begin(self.part.mark, pair.name)
             workers.allow_more_time(self.settings.limits.seconds)
         try:
             return self._judged_line(pair, packages)

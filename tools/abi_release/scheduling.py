@@ -14,7 +14,7 @@ from typing import Iterator, NamedTuple, Optional, Sequence
 from distributed import Client, Future, KilledWorker, as_completed
 
 from abi_release.apps import Ask, asked
-from abi_release.clusters import Choice, LocalChoice
+from abi_release.clusters import Choice, LocalChoice, NotStarted
 from abi_release.judging import Outcome, Part, Settings, done, unjudged_line
 from abi_release.openings import Openings
 from abi_release.progress import Progress
@@ -27,6 +27,8 @@ _LEAST_TASKS = 16
 # How often a cluster that was lost is looked for again.
 _MOST_CLUSTERS = 10
 _LOOKS_EVERY = 1.0
+# How often the worker may die at which a task waits that has not begun.
+_MOST_WAITS = 20
 DIED = "the worker died over it"
 
 
@@ -61,6 +63,7 @@ class Run:
     failures: dict[str, Failure] = field(default_factory=dict)
     _tried: Counter[tuple[str, str]] = field(default_factory=Counter)
     _deaths: dict[str, Counter[str]] = field(default_factory=dict)
+    _waits: Counter[str] = field(default_factory=Counter)
 
     def __post_init__(self) -> None:
         self._openings = Openings(self.store)
@@ -78,7 +81,7 @@ class Run:
                 reason = str(lost)
                 if not isinstance(self.choice, LocalChoice):
                     break
-            except _Lost as lost:
+            except (_Lost, NotStarted) as lost:
                 reason = str(lost)
             except Fault as fault:
                 reason = str(fault)
@@ -118,9 +121,14 @@ class Run:
 
     def died(self, part: Task) -> "Next":
         """Takes the death of a worker, and answers what is to be done then: the same again, so often for each library, and without
-        it then."""
+        it then. A task that had not begun only waited at the worker."""
+        begun = self.store.begun(part.mark)
+        if begun is None:
+            self._waits[part.mark] += 1
+            if self._waits[part.mark] < _MOST_WAITS:
+                return Next(again=[part])
+        library = part.library or begun or ""
         deaths = self._deaths.setdefault(part.name, Counter())
-        library = part.library or self.store.begun(part.name)
         deaths[library] += 1
         if deaths[library] < self.tries or (library and not part.library):
             return Next(again=[part])
@@ -217,13 +225,17 @@ class _Turn:
 
     def _next_after(self, part: Task, future: Future) -> Next:
         error = future.exception() if future.status == "error" else None
+        if error is None:
+            try:
+                return self._run.came_of(part, future.result())
+            except (KilledWorker, CancelledError) as ended:
+                # Where the worker dies that has the result, Dask does the task again, and that may end in another way.
+                error = ended
         if isinstance(error, KilledWorker):
             return self._run.died(part)
         if isinstance(error, CancelledError):
-            raise _Lost("the scheduler is gone")
-        if error is not None:
-            return self._run.came_of(part, Outcome(reason=f"{type(error).__name__}: {error}"))
-        return self._run.came_of(part, future.result())
+            raise _Lost("the scheduler is gone") from error
+        return self._run.came_of(part, Outcome(reason=f"{type(error).__name__}: {error}"))
 
 
 class _Watch:

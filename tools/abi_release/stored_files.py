@@ -116,20 +116,23 @@ class Store:
                 return None
         return result
 
-    def begin(self, work: str, library: str) -> None:
-        """Notes which library of two packages is judged now, for the case that the worker dies over it."""
-        (self.folder / "started" / work).write_text(library)
+    def begin(self, task: str, library: str) -> None:
+        """Notes that a task has begun, and which library it judges now, for the case that the worker dies over it."""
+        self._started(task).write_text(library)
 
-    def begun(self, work: str) -> str:
-        """Which library of two packages was being judged: an empty name where it was none."""
+    def begun(self, task: str) -> Optional[str]:
+        """Which library a task was judging: an empty name where it was none yet, and none where the task had not begun."""
         try:
-            return (self.folder / "started" / work).read_text()
+            return self._started(task).read_text()
         except OSError:
-            return ""
+            return None
 
-    def end(self, work: str) -> None:
-        """Notes that two packages are done."""
-        (self.folder / "started" / work).unlink(missing_ok=True)
+    def end(self, task: str) -> None:
+        """Notes that a task is done."""
+        self._started(task).unlink(missing_ok=True)
+
+    def _started(self, task: str) -> Path:
+        return self.folder / "started" / hashlib.sha256(os.fsencode(task)).hexdigest()
 
     def drop(self, name: str) -> None:
         """Takes a file away."""

@@ -107,10 +107,11 @@ class AttributeForm:
 
 @dataclass(frozen=True)
 class Abbreviation:
-    """The tag of entries, and the forms of their attributes."""
+    """The tag of entries, the forms of their attributes, and whether each has a list of entries below it."""
 
     tag: int
     attributes: tuple[AttributeForm, ...]
+    has_children: bool
 
 
 Table = Mapping[int, Abbreviation]
@@ -124,8 +125,9 @@ def read_table(section: Bytes, at: int) -> dict[int, Abbreviation]:
         if code == 0:
             return table
         tag, at = read_number(section, at)
+        has_children = section[at] != 0
         attributes, at = _read_attributes(section, at + 1)
-        table[code] = Abbreviation(tag, attributes)
+        table[code] = Abbreviation(tag, attributes, has_children)
 
 
 def _read_attributes(section: Bytes, at: int) -> tuple[tuple[AttributeForm, ...], int]:

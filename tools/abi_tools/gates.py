@@ -97,6 +97,11 @@ def judge(abi: Abi, old_path: Path, new_path: Path, rules: Optional[Path], least
         old, new = Library.read(abi, old_path), Library.read(abi, new_path)
     except Fault as fault:
         return Judgement(Verdict.CANNOT_TELL, (str(fault),), answer)
+    return judge_answer(answer, old, new, least_share)
+
+
+def judge_answer(answer: Answer, old: Library, new: Library, least_share: float = 0.0) -> Judgement:
+    """The same of a yes or a no that `abi` has said, and of both libraries."""
     return _of_no(answer, old, new) if answer.status == NO else _of_yes(answer, old, new, least_share)
 
 

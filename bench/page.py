@@ -1,0 +1,160 @@
+"""Opens a page in headless Chromium, says how long that took, and keeps pictures of it.
+
+usage: /usr/bin/python3 bench/page.py PAGE [FOLDER]
+
+Opens the page of `tools/abi-release` three times, each time in a new browser, and prints the seconds until its event `load` and until
+the frame behind it is painted, counted from the moment at which the browser is told to open it. FOLDER gets pictures: the top of
+the page, the page with its filter set, a light and a dark one, and its end.
+"""
+
+from __future__ import annotations
+
+import asyncio
+import base64
+import itertools
+import json
+import subprocess
+import sys
+import tempfile
+import time
+from pathlib import Path
+from typing import Any, Optional
+
+from tornado.websocket import WebSocketClientConnection, websocket_connect
+
+_RUNS = 3
+_BROWSER = ["chromium", "--headless", "--no-sandbox", "--disable-gpu", "--no-first-run", "--remote-debugging-port=0",
+            "--window-size=1400,900", "about:blank"]
+# Two frames later what was laid out is painted.
+_PAINTED = "new Promise(done => requestAnimationFrame(() => requestAnimationFrame(() => done(true))))"
+_ROWS = "document.querySelectorAll('main tr').length"
+
+
+class Browser:
+    """A page of a browser, by the protocol of its developer tools."""
+
+    def __init__(self, connection: WebSocketClientConnection) -> None:
+        self._connection = connection
+        self._numbers = itertools.count(1)
+
+    async def call(self, method: str, **parameters: object) -> dict[str, Any]:
+        """The answer to a method; what the browser says in between is passed over."""
+        number = next(self._numbers)
+        await self._connection.write_message(json.dumps({"id": number, "method": method, "params": parameters}))
+        while True:
+            message = await self._message()
+            if message.get("id") == number:
+                if "error" in message:
+                    raise RuntimeError(f"{method}: {message['error']}")
+                found: dict[str, Any] = message["result"]
+                return found
+
+    async def event(self, method: str) -> None:
+        """Waits for an event."""
+        while (await self._message()).get("method") != method:
+            pass
+
+    async def _message(self) -> dict[str, Any]:
+        text = await self._connection.read_message()
+        if text is None:
+            raise RuntimeError("the browser is gone")
+        message: dict[str, Any] = json.loads(text)
+        return message
+
+    async def value(self, expression: str) -> Any:
+        """The value of an expression in the page."""
+        answer = await self.call("Runtime.evaluate", expression=expression, awaitPromise=True, returnByValue=True)
+        return answer["result"].get("value")
+
+    async def picture(self, place: Path) -> None:
+        """Keeps what is seen."""
+        await self.value(_PAINTED)
+        answer = await self.call("Page.captureScreenshot", format="png")
+        place.write_bytes(base64.b64decode(answer["data"]))
+
+
+async def opened(browser: Browser, page: Path) -> tuple[float, float]:
+    """Opens the page, and answers the seconds until it was loaded and until it was painted."""
+    await browser.call("Page.enable")
+    start = time.monotonic()
+    await browser.call("Page.navigate", url=page.as_uri())
+    await browser.event("Page.loadEventFired")
+    loaded = time.monotonic() - start
+    await browser.value(_PAINTED)
+    return loaded, time.monotonic() - start
+
+
+async def pictures(browser: Browser, folder: Path) -> None:
+    """Keeps pictures of the page, and prints how many lines were shown in them."""
+    folder.mkdir(parents=True, exist_ok=True)
+    await browser.picture(folder / "top.png")
+    await browser.value("document.querySelector('button[data-answer=no]')?.click()")
+    await browser.picture(folder / "no.png")
+    print(f"with the button `no`: {await browser.value('shown.textContent')}")
+    await browser.value("field.value = '99 report'; filter()")
+    await browser.call("Emulation.setEmulatedMedia", features=[{"name": "prefers-color-scheme", "value": "dark"}])
+    await browser.picture(folder / "filter_dark.png")
+    print(f"with `99 report` in the filter: {await browser.value('shown.textContent')}")
+    await browser.call("Emulation.setEmulatedMedia", features=[])
+    await browser.value("document.querySelector('button[data-answer=no]')?.click(); field.value = ''; filter()")
+    await browser.value("document.querySelector('main details')?.setAttribute('open', '')")
+    await browser.value("window.scrollTo(0, document.body.scrollHeight)")
+    await browser.value(_PAINTED)
+    await browser.value("window.scrollTo(0, document.body.scrollHeight)")
+    await browser.picture(folder / "end.png")
+
+
+async def run(page: Path, folder: Optional[Path]) -> tuple[float, float]:
+    """Opens the page in a new browser."""
+    with tempfile.TemporaryDirectory(prefix="page-") as profile:
+        with subprocess.Popen([*_BROWSER[:-1], f"--user-data-dir={profile}", _BROWSER[-1]], stdin=subprocess.DEVNULL,
+                              stdout=subprocess.DEVNULL, stderr=subprocess.DEVNULL) as process:
+            try:
+                browser = Browser(await websocket_connect(await _address(Path(profile, "DevToolsActivePort")), max_message_size=1 << 28))
+                target = (await browser.call("Target.getTargets"))["targetInfos"]
+                place = next(one["targetId"] for one in target if one["type"] == "page")
+                browser = Browser(await websocket_connect(f"{await _origin(Path(profile, 'DevToolsActivePort'))}/devtools/page/{place}",
+                                                          max_message_size=1 << 28))
+                times = await opened(browser, page)
+                rows = await browser.value(_ROWS)
+                print(f"loaded after {times[0]:.2f} s, painted after {times[1]:.2f} s; rows that are laid out: {rows}")
+                if folder is not None:
+                    await pictures(browser, folder)
+            finally:
+                process.terminate()
+    return times
+
+
+async def _lines(port: Path) -> list[str]:
+    """What the browser says of its port, once it does."""
+    for _ in range(600):
+        if port.exists() and len(port.read_text().splitlines()) == 2:
+            return port.read_text().splitlines()
+        await asyncio.sleep(0.1)
+    raise RuntimeError("the browser does not start")
+
+
+async def _origin(port: Path) -> str:
+    return f"ws://127.0.0.1:{(await _lines(port))[0]}"
+
+
+async def _address(port: Path) -> str:
+    return f"{await _origin(port)}{(await _lines(port))[1]}"
+
+
+def main() -> int:
+    """Opens the page as the arguments say."""
+    if len(sys.argv) not in (2, 3):
+        print("usage: /usr/bin/python3 bench/page.py PAGE [FOLDER]", file=sys.stderr)
+        return 64
+    page = Path(sys.argv[1]).resolve()
+    folder = Path(sys.argv[2]) if len(sys.argv) == 3 else None
+    times = [asyncio.run(run(page, folder if number == _RUNS - 1 else None)) for number in range(_RUNS)]
+    loaded, painted = ([one[which] for one in times] for which in (0, 1))
+    print(f"{page.stat().st_size / 1e6:.1f} MB: loaded after {min(loaded):.2f} to {max(loaded):.2f} s, painted after {min(painted):.2f} to "
+          f"{max(painted):.2f} s")
+    return 0
+
+
+if __name__ == "__main__":
+    sys.exit(main())
