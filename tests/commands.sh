@@ -170,6 +170,15 @@ noted "some exports have no type" 0 part.so part.so "$some"
 noted "no export has a type" 0 bare.so bare.so "$all"
 noted "each library has its note" 0 bare.so part.so "$all" "$some"
 noted "a no has its note, too" 1 part.so whole.so "$some"
+gcc -c -fPIC -o lost.o typed.c
+gcc -shared -o lost.so lost.o
+lost="the debug information has no types for the exports"
+noted "types that are lost" 1 whole.so lost.so \
+    "abi: lost.so: $lost: only names, versions, kinds and the sizes of objects were compared; compile with -g to compare types" \
+    "abi: lost.so: $lost, but that of whole.so has: whether their types broke cannot be told"
+echo '__asm__(".globl bare\nbare: ret");' | gcc -shared -fPIC -o sizeless.so -x c -
+noted "no export has a size" 0 sizeless.so sizeless.so \
+    "abi: sizeless.so: none of its exports has a size: names, versions and kinds were compared, and types only where an export without a size has one"
 
 # ---- rule files
 

@@ -95,9 +95,10 @@ answers() {
     "$program" "$@" >got 2>errors || ended=$?
     [ "$ended" -eq "$status" ] || { head -n 20 got >&2 && fail "$name: status $ended, not $status"; }
     case "$ended $* " in
-    [2346]" "*) grep -q '^abi: ' errors || fail "$name: nothing tells what is wrong" ;;
+    [2346]" "* | "64 "*) grep -q '^abi: ' errors || fail "$name: nothing tells what is wrong" ;;
     [01]*" check "*) ! grep -v '^abi: ' errors >&2 || fail "$name: it wrote something else than notes to standard error" ;;
     "5 layout "*) [ "$(grep -c '^abi: ' errors)" -eq 1 ] || fail "$name: no note says which tags are near" ;;
+    "5 "*) [ "$(grep -c '^abi: ' errors)" -eq 1 ] || fail "$name: no note says what is not proved" ;;
     *) [ ! -s errors ] || fail "$name: it wrote to standard error" ;;
     esac
 }
