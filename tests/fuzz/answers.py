@@ -90,7 +90,7 @@ def is_text(command: str, status: int, answer: Answer) -> bool:
 
 def are_sentences(status: int, errors: bytes, command: str) -> bool:
     """Whether what is told on standard error may stand beside the status: one sentence where an input is unreadable or memory is
-    out, notes beside the answers of `check`, and nothing else."""
+    out, a sentence on a certificate that is refused, notes beside the answers of `check` and `verify`, and nothing else."""
     found = lines(errors)
     if found is None or not all(line.startswith(b"abi: ") for line in found):
         return False
@@ -98,7 +98,9 @@ def are_sentences(status: int, errors: bytes, command: str) -> bool:
         return len(found) == 1
     if status == NO_MEMORY:
         return len(found) <= 1
-    return not found or command == "check"
+    if status == REFUSED:
+        return len(found) >= 1
+    return not found or command in ("check", "verify")
 
 
 def complaint(command: str, answer: Answer) -> str | None:

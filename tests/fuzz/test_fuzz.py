@@ -19,7 +19,7 @@ GOOD = [
     ("check", Answer(4, b"", b"abi: out of memory\n")),
     ("check", Answer(4, b"", b"")),
     ("verify", Answer(0, b"accepted\n", b"")),
-    ("verify", Answer(5, b"refused 72 Bindings 3\n", b"")),
+    ("verify", Answer(5, b"refused 72 Bindings 3\n", b"abi: c: the certificate does not prove that b may replace a\n")),
     ("exports", Answer(0, b"5 f FUNC 34 params rdi,stack+0:16 result rax+rdx\n6 v OBJECT 4 is struct\n7 w FUNC 0 untyped\n", b"")),
     ("entries", Answer(0, b"12 0 11\n", b"")),
 ]
