@@ -1,7 +1,8 @@
 // Numbers of variable length, as DWARF writes them.
 ghost use Rattle.std.specs.Prelude.{◌≡◌, ◌+◌, ◌-◌, ◌^◌, ◌<◌, ◌≤◌, ◌-ℤ◌, pos, length, take, drop, position, if◌then◌else◌, nat_lt, Some, None, IfSome};
 ghost use Rattle.abi_base.specs.Numbers.{number_of};
-ghost use Rattle.abi_base.specs.Leb.{is_last as the_last, leb_length, low_digits, signed_sum, sleb_at, uleb_at};
+ghost use Rattle.abi_base.specs.Leb.{leb_length, low_digits, signed_sum, sleb_at, uleb_at};
+ghost use Rattle.abi_base.specs.Leb as spec;
 
 // A byte from this one on has another one after it. The low seven bits of a byte are a digit.
 const MORE: u8 = 0x80;
@@ -33,7 +34,7 @@ fn ten_from(bytes: &[u8], at: usize) -> &[u8]
 }
 
 fn last_in(front: &[u8]) -> Option<usize>
-    ensures found { result ≡ position the_last front.now }
+    ensures found { result ≡ position spec.is_last front.now }
     ensures inside { IfSome result (λ k. k < length front.now) }
 {
     front.iter().position(|b| *b < MORE)

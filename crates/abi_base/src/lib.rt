@@ -3,6 +3,7 @@
 #![tactic(auto)]
 
 pub mod dwarf;
+mod effort;
 mod fault;
 mod inputs;
 pub mod laws;
@@ -16,6 +17,7 @@ mod sink;
 mod tables;
 mod take;
 
+pub use effort::Effort;
 pub use fault::{Failed, Fault, FaultKind, NoMemory, Refusal, WriteFailed};
 pub use inputs::{Inputs, read_whole};
 pub use leb::{sleb, uleb};

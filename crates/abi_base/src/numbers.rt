@@ -1,7 +1,8 @@
 // Numbers and texts in bytes.
 ghost use Rattle.std.specs.Prelude.{◌≡◌, ◌+◌, ◌<◌, ◌≤◌, length, position, IfSome};
 ghost use Rattle.std.specs.Option.{option_copied};
-ghost use Rattle.abi_base.specs.Numbers.{number, number_at, text_at as the_text_at, is_zero};
+ghost use Rattle.abi_base.specs.Numbers.{number, number_at, is_zero};
+ghost use Rattle.abi_base.specs.Numbers as spec;
 
 use byteorder::{ByteOrder, LittleEndian};
 
@@ -96,7 +97,7 @@ fn first_zero(rest: &[u8]) -> Option<usize>
 /// "String Table"). None exactly where no 0 byte stands from the place on, as at a place outside.
 #[tactic(auto, using(crate::proofs::ReadNumbers::slices), unfolding(crate::specs::Numbers::text_at))]
 pub fn text_at(table: &[u8], at: u64) -> Option<&[u8]>
-    ensures found { option_copied result ≡ the_text_at table.now at }
+    ensures found { option_copied result ≡ spec.text_at table.now at }
     ensures inside { IfSome result (λ t. at + length t.now < length table.now) }
 {
     let at = at as usize;

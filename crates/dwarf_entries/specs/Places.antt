@@ -1,18 +1,17 @@
 -- Maps from numbers to the first place of each.
-use Rattle.std.specs.Prelude.{◌≡◌, ℕ, Option, nat_eq, position}
-use Rattle.std.specs.HashMap.{HashMap, get}
-use Rattle.std.specs.declared.hash.FoldHasher.{FoldHasher}
-use Rattle.std.specs.declared.hash.BuildHasherDefault.{BuildHasherDefault}
+use Rattle.std.specs.Prelude.{◌≡◌, ℕ, Option, position}
+use Rattle.std.specs.BTreeMap.{BTreeMap, get}
+use Rattle.std.specs.Ordering.{nat_cmp}
 use Rattle.dwarf_tree.specs.Trees.{PlainTree}
 use Rattle.dwarf_entries.specs.Debug.{PlainDwarf}
 use Rattle.dwarf_entries.specs.Chains.{has_signature}
 use Rattle.dwarf_entries.specs.Addresses.{typed_of}
 
 abbrev pub Places : Type 0
-Places = HashMap ℕ ℕ (BuildHasherDefault FoldHasher)
+Places = BTreeMap ℕ ℕ
 
 abbrev pub place_under : Places → ℕ → Option ℕ
-place_under places number = get nat_eq places number
+place_under places number = get nat_cmp places number
 
 -- The map has under each signature the first unit with it.
 pub record HoldUnits (places : Places) (t : PlainTree) : Type 0 where

@@ -47,7 +47,7 @@ pub(crate) fn low_pc(source: &Source, e: usize) -> Result<Option<u64>, Fault>
 }
 
 // The list of ranges that a value gives.
-fn list_of(version: u16, value: Option<Value>) -> Option<ListAt>
+pub(crate) fn list_of(version: u16, value: Option<Value>) -> Option<ListAt>
     ensures { result ≡ spec.list_of version value }
 {
     match value {

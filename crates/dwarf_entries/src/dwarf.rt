@@ -15,6 +15,7 @@ use crate::addresses::{entry_address, is_declared_only, is_true, part};
 use crate::names::name;
 use crate::pass::own_fault;
 use crate::places::place_of;
+use crate::range_effort::spend_for_ranges;
 use crate::source::Source;
 use crate::typed::entries_by_address;
 use abi_base::{NoMemory, Refusal};
@@ -22,7 +23,7 @@ use dwarf_forms::{Sections, Value};
 use dwarf_tree::laws::children_stand_one_deeper;
 use dwarf_tree::read_tree;
 use std::alloc::Global;
-use std::collections::HashMap;
+use std::collections::BTreeMap;
 use std::marker::Model;
 
 /// The debug information of a file, in which no entry has a fault. Contracts see it as a `PlainDwarf`. A position counts the
@@ -31,7 +32,7 @@ use std::marker::Model;
 pub struct Dwarf<'a> {
     source: Source<'a>,
     // the first entry of each address
-    typed: HashMap<u64, usize>,
+    typed: BTreeMap<u64, usize>,
 }
 
 impl<'a> Model for Dwarf<'a> {
@@ -58,6 +59,7 @@ pub fn tree<'a>(alloc: Global, sections: Sections<'a>) -> Result<Dwarf<'a>, Refu
         Err(refused) => return Err(refused),
     };
     let source = Source::of(alloc, sections, entries)?;
+    spend_for_ranges(&source)?;
     match own_fault(&source) {
         Some(fault) => return Err(Refusal::Fault(fault)),
         None => {}

@@ -12,6 +12,7 @@ mod links;
 mod names;
 mod pass;
 mod places;
+mod range_effort;
 mod source;
 mod tags;
 mod typed;

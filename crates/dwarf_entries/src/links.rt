@@ -17,14 +17,14 @@ use abi_base::dwarf::{DW_AT_abstract_origin, DW_AT_specification};
 use dwarf_forms::Value;
 use dwarf_tree::Tree;
 use std::alloc::Global;
-use std::collections::HashMap;
+use std::collections::BTreeMap;
 use std::marker::Model;
 
 // A tree, with the first unit of each signature. Contracts see it as the tree.
 #[derive(Drop)]
 pub(crate) struct Links<'a> {
     tree: Tree<'a>,
-    signed: HashMap<u64, usize>,
+    signed: BTreeMap<u64, usize>,
 }
 
 impl<'a> Model for Links<'a> {
@@ -281,10 +281,10 @@ impl<'a> Links<'a> {
 }
 
 // The first unit of each signature.
-fn units_by_signature(alloc: Global, tree: &Tree<'_>) -> Result<HashMap<u64, usize>, NoMemory>
+fn units_by_signature(alloc: Global, tree: &Tree<'_>) -> Result<BTreeMap<u64, usize>, NoMemory>
     ensures { IfOk result (λ places. HoldUnits places tree.now) }
 {
-    let mut places = HashMap::new(alloc);
+    let mut places = BTreeMap::new(alloc);
     for unit in 0..tree.units_len() {
         let head = tree.head(unit);
         keep_first(&mut places, head.signature, unit)?;

@@ -5,12 +5,12 @@ ghost use Rattle.dwarf_entries.specs.Addresses.{is_some_number};
 ghost use Rattle.dwarf_entries.specs.Places.{place_under};
 
 use abi_base::NoMemory;
-use std::collections::HashMap;
+use std::collections::BTreeMap;
 
 // Puts a place under a number that has none yet, where there is a number. Mostly there is no number.
 #[inline(always)]
 pub(crate) fn keep_first(
-    places: &mut HashMap<u64, usize>,
+    places: &mut BTreeMap<u64, usize>,
     number: Option<u64>,
     place: usize,
 ) -> Result<(), NoMemory>
@@ -28,7 +28,7 @@ pub(crate) fn keep_first(
 }
 
 // The place under a number.
-pub(crate) fn place_of(places: &HashMap<u64, usize>, number: u64) -> Option<usize>
+pub(crate) fn place_of(places: &BTreeMap<u64, usize>, number: u64) -> Option<usize>
     ensures { result ≡ place_under places.now number }
 {
     places.get(&number).copied()

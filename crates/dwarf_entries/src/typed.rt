@@ -10,7 +10,7 @@ use crate::places::keep_first;
 use crate::source::Source;
 use abi_base::NoMemory;
 use std::alloc::Global;
-use std::collections::HashMap;
+use std::collections::BTreeMap;
 
 // Whether an entry's unit is written in assembler.
 #[tactic(auto, unfolding(crate::specs::UnitContext::told_of))]
@@ -40,10 +40,10 @@ fn typed_address(source: &Source, e: usize) -> Option<u64>
 pub(crate) fn entries_by_address(
     alloc: Global,
     source: &Source,
-) -> Result<HashMap<u64, usize>, NoMemory>
+) -> Result<BTreeMap<u64, usize>, NoMemory>
     ensures { IfOk result (λ places. HoldEntries places source.now) }
 {
-    let mut places = HashMap::new(alloc);
+    let mut places = BTreeMap::new(alloc);
     for e in 0..source.len() {
         let address = typed_address(source, e);
         keep_first(&mut places, address, e)?;

@@ -1,11 +1,14 @@
 -- What the reader of units returns, and what it keeps.
-use Rattle.std.specs.Prelude.{◌≡◌, ℕ, List, Option, Some, None, Result, Ok, Err, IfSome}
+use Rattle.std.specs.Prelude.{◌≡◌, ℕ, List, Option, Some, None, Result, Ok, Err, IfSome, nat_eq}
+use Rattle.std.specs.HashMap.{HashMap, get}
+use Rattle.std.specs.declared.rc.Rc.{Rc}
 use Rattle.abi_base.specs.declared.fault.Fault.{Fault}
 use Rattle.abi_base.specs.declared.fault.Refusal.{Refusal}
 use Rattle.abi_base.specs.declared.fault.Refusal.TheVariants as refusal
 use Rattle.abi_base.specs.Runs.{Run, ended, put_front}
+use Rattle.dwarf_forms.specs.declared.abbreviations.abbrev.Abbrev.{Abbrev}
 use Rattle.dwarf_forms.specs.abbreviations.Abbrevs.{table_run}
-use Rattle.dwarf_units.specs.declared.table.KeptTable.{KeptTable}
+use Rattle.dwarf_units.specs.declared.table.Tables.{Tables}
 use Rattle.dwarf_units.specs.declared.unit.Unit.{Unit}
 use Rattle.dwarf_units.specs.Plain.{plain_unit}
 use Rattle.dwarf_units.specs.Sequence.{unit_step}
@@ -24,9 +27,13 @@ IsUnit info abbrevs at (Err (refusal.Fault f)) = unit_step info abbrevs at ≡ E
 IsUnit info abbrevs at (Err refusal.NoMemory) = Prim.Unit {0}
 
 -- a table that was read, without a fault, at its place
-pub record IsTable (abbrevs : List ℕ) (kept : KeptTable) : Type 0 where
-  pub faultless : (table_run abbrevs kept.at).end ≡ None
-  pub items : kept.table.value ≡ (table_run abbrevs kept.at).items
+pub record IsTable (abbrevs : List ℕ) (at : ℕ) (table : List Abbrev) : Type 0 where
+  pub faultless : (table_run abbrevs at).end ≡ None
+  pub items : table ≡ (table_run abbrevs at).items
 
-abbrev pub IsKept : List ℕ → Option KeptTable → Type 0
-IsKept abbrevs last = IfSome last (λ kept. IsTable abbrevs kept)
+-- each table that is kept is the one at its place
+pub record AreTables {Z S : Type 0} (abbrevs : List ℕ) (kept : HashMap ℕ (Rc (List Abbrev) Z) S) : Type 0 where
+  pub each : (at : ℕ) → IfSome (get nat_eq kept at) (λ t. IsTable abbrevs at t.value)
+
+abbrev pub IsKept : List ℕ → Tables → Type 0
+IsKept abbrevs tables = IfSome tables.kept (AreTables abbrevs)

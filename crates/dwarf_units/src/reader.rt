@@ -11,7 +11,7 @@ ghost use Rattle.dwarf_units.specs.Units as spec;
 use crate::outline::Outline;
 use crate::tokens::{Token, token_in};
 use crate::unit::Unit;
-use abi_base::{Fault, FaultKind, Refusal};
+use abi_base::{Effort, Fault, FaultKind, Refusal};
 use dwarf_forms::laws::reading_moves_on_inside_the_unit;
 use std::alloc::Global;
 use std::marker::Model;
@@ -25,6 +25,8 @@ pub struct Entries<'u, 'a> {
     pub(crate) lists: Option<u32>,
     // Whether the entry of the unit's type was given.
     pub(crate) met: bool,
+    // How many more attributes may be passed.
+    pub(crate) effort: Effort,
 }
 
 impl<'u, 'a> Model for Entries<'u, 'a> {
@@ -127,13 +129,15 @@ impl<'u, 'a> Entries<'u, 'a> {
     /// The next entry, whose values are skipped, or none at the unit's end. It allocates only for the root. The faults are
     /// `Cut`, `AbbrevCode`, `Form` and `Supplementary` at an entry, `Tree` at the place where the tree of entries breaks,
     /// `Language` at the root, and at the end of a type unit `TypeOffset` at the unit. After a fault every later call returns
-    /// the same fault; after `NoMemory` the reader is as before, and the caller may call again.
+    /// the same fault; after `NoMemory` the reader is as before, and the caller may call again. It fails with
+    /// `NoMemory` also where the entries of the unit have more than 64 attributes for each byte of the unit.
     #[inline]
     pub fn next_outline(&mut self, alloc: Global) -> Result<Option<Outline<'u, 'a>>, Refusal>
         ensures { NextIs self.old result self.new }
     {
         match next_in(alloc, self.unit, self.at, self.lists, self.met) {
             Ok(Some(Following { entry, at, lists })) => {
+                self.effort.spend(entry.specs().len())?;
                 self.met = is_met(self.unit, self.met, &entry);
                 self.at = at;
                 self.lists = Some(lists);

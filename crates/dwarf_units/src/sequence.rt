@@ -7,7 +7,7 @@ ghost use Rattle.dwarf_units.specs.Plain.{plain_unit};
 use crate::constants::{LENGTH_SIZE, TYPE_OFFSET, TYPE_SIGNATURE, VERSION};
 use crate::header::{abbrevs_in, header_fault_in, is_type_in};
 use crate::partial::is_partial;
-use crate::table::{KeptTable, table_in};
+use crate::table::{Tables, table_in};
 use crate::unit::Unit;
 use abi_base::{Refusal, u16_in, u32_in, u64_in};
 use std::alloc::Global;
@@ -19,8 +19,8 @@ pub struct Units<'a> {
     pub(crate) info: &'a [u8],
     pub(crate) abbrevs: &'a [u8],
     pub(crate) at: usize,
-    // The table of the unit before.
-    pub(crate) last: Option<KeptTable>,
+    // The tables of the units before.
+    pub(crate) tables: Tables,
 }
 
 impl<'a> Model for Units<'a> {
@@ -36,7 +36,7 @@ impl<'a> Model for Units<'a> {
 
     ghost view = { λ r. units_from r.info.now r.abbrevs.now r.at };
 
-    ghost invariant = { λ r. (length r.info.now ≤ input_limit) × IsKept r.abbrevs.now r.last };
+    ghost invariant = { λ r. (length r.info.now ≤ input_limit) × IsKept r.abbrevs.now r.tables };
 }
 
 // The unit that begins at a place inside the section.
@@ -46,20 +46,20 @@ fn unit_in<'a>(
     info: &'a [u8],
     abbrevs: &[u8],
     at: usize,
-    last: &mut Option<KeptTable>,
+    tables: &mut Tables,
 ) -> Result<Unit<'a>, Refusal>
     requires before { at < length info.now }
     requires small { length info.now ≤ input_limit }
-    requires kept { IsKept abbrevs.now last.old }
+    requires kept { IsKept abbrevs.now tables.old }
     ensures read { IsUnit info.now abbrevs.now at result }
-    ensures keeps { IsKept abbrevs.now last.new }
+    ensures keeps { IsKept abbrevs.now tables.new }
 {
     match header_fault_in(info, at) {
         Some(fault) => return Err(Refusal::Fault(fault)),
         None => {}
     }
     let end = at as u64 + LENGTH_SIZE + u64::from(u32_in(info, at));
-    match table_in(alloc, abbrevs, abbrevs_in(info, at), last) {
+    match table_in(alloc, abbrevs, abbrevs_in(info, at), tables) {
         Ok(table) => {
             let is_type = is_type_in(info, at);
             let mut unit = Unit {
@@ -98,7 +98,7 @@ impl<'a> Units<'a> {
         if self.at >= self.info.len() {
             return Ok(None);
         }
-        match unit_in(alloc, self.info, self.abbrevs, self.at, &mut self.last) {
+        match unit_in(alloc, self.info, self.abbrevs, self.at, &mut self.tables) {
             Ok(unit) => {
                 self.at = unit.end as usize;
                 Ok(Some(unit))

@@ -81,6 +81,11 @@ impl SizedTable {
         Ok(SizedTable { table, sizes })
     }
 
+    /// How many bytes of `.debug_abbrev` the table has at least.
+    pub fn least_bytes(&self) -> usize {
+        self.table.least_bytes()
+    }
+
     /// The abbreviation of a code, or none exactly where the table has no such code.
     #[inline]
     pub fn find(&self, code: u64) -> Option<&Abbrev>

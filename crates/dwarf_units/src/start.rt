@@ -7,7 +7,9 @@ ghost use Rattle.dwarf_units.specs.Units.{entries_of};
 use crate::constants::{DWARF_4, HEADER_SIZE, HEADER_SIZE_4, TYPE_HEADER_SIZE};
 use crate::reader::Entries;
 use crate::sequence::Units;
+use crate::table::Tables;
 use crate::unit::Unit;
+use abi_base::Effort;
 use dwarf_forms::Sections;
 
 /// All units of `.debug_info`, in order, each with its abbreviations.
@@ -18,7 +20,7 @@ pub fn units<'a>(sections: &Sections<'a>) -> Units<'a>
         info: sections.info,
         abbrevs: sections.abbrev,
         at: 0,
-        last: None,
+        tables: Tables::of(sections.abbrev),
     }
 }
 
@@ -39,5 +41,6 @@ pub fn entries<'u, 'a>(unit: &'u Unit<'a>) -> Entries<'u, 'a>
         at: (unit.offset + header) as usize,
         lists: None,
         met: false,
+        effort: Effort::for_bytes(unit.end.saturating_sub(unit.offset) as usize),
     }
 }

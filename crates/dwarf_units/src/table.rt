@@ -2,43 +2,112 @@
 ghost use Rattle.std.specs.Prelude.{◌≡◌, IfOk};
 ghost use Rattle.abi_base.specs.Outcome.{Judges};
 ghost use Rattle.dwarf_forms.specs.abbreviations.Abbrevs.{table_run};
-ghost use Rattle.dwarf_units.specs.KeptTables.{IsKept};
+ghost use Rattle.dwarf_units.specs.KeptTables.{IsKept, IsTable};
 
 use crate::sizes::SizedTable;
-use abi_base::Refusal;
+use abi_base::{Effort, NoMemory, Refusal};
 use dwarf_forms::abbreviations::table;
 use std::alloc::Global;
+use std::collections::HashMap;
 use std::rc::Rc;
 
-/// A table, and its place in `.debug_abbrev`.
+// Tables that come to more bytes are not kept side by side. Those of few libraries do.
+const MOST_KEPT_BYTES: usize = 0x10_0000;
+
+/// The tables that were read, and how much more may be read.
 #[derive(Drop)]
-pub struct KeptTable {
-    pub at: u64,
-    pub table: Rc<SizedTable>,
+pub struct Tables {
+    // The tables that are kept, by their places in `.debug_abbrev`. None before the first one.
+    pub kept: Option<HashMap<u64, Rc<SizedTable>>>,
+    // How many more bytes of the section the kept tables may come to. They come to no more than the section has, and to no more
+    // than `MOST_KEPT_BYTES`, where there is more than one.
+    pub room: usize,
+    pub effort: Effort,
 }
 
-/// The table at a place: the table that was read last, if it is the one at this place. Else it is read, and kept.
+impl Tables {
+    /// No tables yet.
+    pub fn of(abbrevs: &[u8]) -> Tables
+        ensures { IsKept abbrevs.now result }
+    {
+        Tables {
+            kept: None,
+            room: 0,
+            effort: Effort::for_bytes(abbrevs.len()),
+        }
+    }
+}
+
+// Keeps a table beside the others, or alone where there is no room for it.
+#[tactic(auto, using(crate::proofs::TableLemmas::kept_none, crate::proofs::TableLemmas::kept_more))]
+fn keep(
+    alloc: Global,
+    abbrevs: &[u8],
+    at: u64,
+    table: Rc<SizedTable>,
+    tables: &mut Tables,
+) -> Result<(), NoMemory>
+    requires kept { IsKept abbrevs.now tables.old }
+    requires read { IsTable abbrevs.now at table.value }
+    ensures { IsKept abbrevs.now tables.new }
+{
+    let size = table.least_bytes();
+    if size > tables.room {
+        tables.kept = None;
+        tables.room = abbrevs.len().min(MOST_KEPT_BYTES);
+    }
+    tables.room = tables.room.saturating_sub(size);
+    match &mut tables.kept {
+        Some(kept) => {
+            kept.insert(at, table)?;
+        }
+        None => {
+            let mut kept = HashMap::new(alloc);
+            kept.insert(at, table)?;
+            tables.kept = Some(kept);
+        }
+    }
+    Ok(())
+}
+
+// Reads the table at a place, and keeps it.
+fn read_table(
+    alloc: Global,
+    abbrevs: &[u8],
+    at: u64,
+    tables: &mut Tables,
+) -> Result<Rc<SizedTable>, Refusal>
+    requires { IsKept abbrevs.now tables.old }
+    ensures judged { Judges result (table_run abbrevs.now at).end }
+    ensures read { IfOk result (λ t. t.value ≡ (table_run abbrevs.now at).items) }
+    ensures kept { IsKept abbrevs.now tables.new }
+{
+    let read = table(alloc, abbrevs, at)?;
+    tables.effort.spend(read.least_bytes())?;
+    let table = Rc::new(alloc, SizedTable::of(alloc, read)?)?;
+    keep(alloc, abbrevs, at, table.clone()?, tables)?;
+    Ok(table)
+}
+
+/// The table at a place: one that is kept, if it is the one at this place. Else it is read, and kept. It fails with `NoMemory`
+/// also where the tables that were read come to more than 64 times the bytes of the section.
 pub fn table_in(
     alloc: Global,
     abbrevs: &[u8],
     at: u64,
-    last: &mut Option<KeptTable>,
+    tables: &mut Tables,
 ) -> Result<Rc<SizedTable>, Refusal>
-    requires { IsKept abbrevs.now last.old }
+    requires { IsKept abbrevs.now tables.old }
     ensures judged { Judges result (table_run abbrevs.now at).end }
     ensures read { IfOk result (λ t. t.value ≡ (table_run abbrevs.now at).items) }
-    ensures kept { IsKept abbrevs.now last.new }
+    ensures kept { IsKept abbrevs.now tables.new }
 {
-    match last {
-        Some(kept) if kept.at == at => Ok(kept.table.clone()?),
-        _ => {
-            let read = table(alloc, abbrevs, at)?;
-            let table = Rc::new(alloc, SizedTable::of(alloc, read)?)?;
-            *last = Some(KeptTable {
-                at,
-                table: table.clone()?,
-            });
-            Ok(table)
-        }
+    let found = match &tables.kept {
+        Some(kept) => kept.get(&at),
+        None => None,
+    };
+    match found {
+        Some(table) => Ok(table.clone()?),
+        None => read_table(alloc, abbrevs, at, tables),
     }
 }

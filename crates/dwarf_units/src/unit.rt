@@ -22,7 +22,7 @@ pub struct Unit<'a> {
     pub signature: Option<u64>,
     /// The place of the entry of its type, or 0 where it is no type unit.
     pub type_entry: u64,
-    /// Its abbreviations. Consecutive units with the same table share it.
+    /// Its abbreviations. Units with the same table share it.
     pub table: Rc<SizedTable>,
     /// The whole of `.debug_info`.
     pub info: &'a [u8],

@@ -3,7 +3,6 @@
 #![tactic(auto)]
 
 pub mod constants;
-pub mod effort;
 pub mod file;
 pub mod sections;
 pub mod symbols;

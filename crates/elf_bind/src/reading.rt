@@ -9,10 +9,9 @@ ghost use Rattle.elf_bind.specs.Exports as spec;
 
 use crate::duplicates::duplicate_fault;
 use crate::exporting::export_of;
-use abi_base::{Fault, FaultKind, NoMemory, Refusal};
+use abi_base::{Effort, Fault, FaultKind, NoMemory, Refusal};
 use abi_types::Export;
 use elf::constants::SYM_SIZE;
-use elf::effort::Effort;
 use elf::symbols::Symbol;
 use elf::versions::Versions;
 use std::alloc::Global;
@@ -51,8 +50,8 @@ fn keep<'a>(
 ) -> Result<(), NoMemory>
     ensures { OnOk result (exports.new.items ≡ exports.old.items ++ export.entry ∷ []) }
 {
-    effort.spend(0, export.name)?;
-    effort.spend(0, export.version.unwrap_or(&[]))?;
+    effort.spend(export.name.len())?;
+    effort.spend(export.version.unwrap_or(&[]).len())?;
     Ok(exports.push(export)?)
 }
 

@@ -11,8 +11,7 @@ ghost use Rattle.elf_needs.specs.Plain.{IsNeed, plain_need, need_under};
 use crate::constants::{VERNAUX_SIZE, VERNEED_SIZE};
 use crate::kept::Need;
 use crate::records::{Record, entry_in, need_in};
-use abi_base::{Fault, FaultKind, NoMemory, Refusal};
-use elf::effort::Effort;
+use abi_base::{Effort, Fault, FaultKind, NoMemory, Refusal};
 use std::alloc::Global;
 use std::collections::HashMap;
 
@@ -35,7 +34,7 @@ fn keep_first<'a>(
 ) -> Result<(), NoMemory>
     ensures { OnOk result ((q : ℕ) → need_under by_index.new q ≡ option_or (need_under by_index.old q) (if nat_eq index q then Some (plain_need need.entry) else None)) }
 {
-    effort.spend(VERNAUX_SIZE, need.version)?;
+    effort.spend_named(VERNAUX_SIZE, need.version)?;
     if !by_index.contains_key(&index) {
         by_index.insert(index, need)?;
     }
@@ -81,7 +80,7 @@ fn keep_entries<'a>(
     ensures judged { Judges result (fault_if (has_bad_entry table.now strings.now need.now.number) kind.VersionNeed need.now.number) }
     ensures kept { OnOk result ((q : ℕ) → need_under by_index.new q ≡ option_or (need_under by_index.old q) (need_among (entries_of_need table.now strings.now need.now.number) q)) }
 {
-    effort.spend(VERNEED_SIZE, need.file)?;
+    effort.spend_named(VERNEED_SIZE, need.file)?;
     keep_each(by_index, table, strings, need, effort)
 }
 

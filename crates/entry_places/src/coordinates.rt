@@ -1,6 +1,6 @@
 // What entries say of where they are declared.
 ghost use Rattle.std.specs.Prelude.{◌≡◌, ◌<◌, length, IfSome};
-ghost use Rattle.entry_places.specs.Coordinates.{coordinates_of as the_coordinates};
+ghost use Rattle.entry_places.specs.Coordinates as spec;
 
 use crate::values::{if_given, number_of};
 use dwarf_tree::Tree;
@@ -23,7 +23,7 @@ pub(crate) struct Coordinates {
 // What the entry that begins at an offset says.
 #[tactic(auto, unfolding(crate::specs::Coordinates::coordinates_of))]
 pub(crate) fn coordinates_of(tree: &Tree<'_>, offset: u64) -> Option<Coordinates>
-    ensures said { result ≡ the_coordinates tree.now offset }
+    ensures said { result ≡ spec.coordinates_of tree.now offset }
     ensures inside { IfSome result (λ c. c.unit < length tree.now.units) }
 {
     tree.known();

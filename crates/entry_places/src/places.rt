@@ -1,7 +1,8 @@
 // The places of entries.
 ghost use Rattle.std.specs.Prelude.{◌≡◌, ◌<◌, length, IfOk};
 ghost use Rattle.std.specs.Option.{option_copied, option_map};
-ghost use Rattle.entry_places.specs.Coordinates.{directory_of, entries_in, file_of, if_sound, in_directory as the_name_inside, place_of as the_place, text_of};
+ghost use Rattle.entry_places.specs.Coordinates.{directory_of, entries_in, file_of, if_sound, text_of};
+ghost use Rattle.entry_places.specs.Coordinates as spec;
 ghost use Rattle.entry_places.specs.Plain.{debug_bytes, plain_place};
 
 use crate::coordinates::coordinates_of;
@@ -38,7 +39,7 @@ impl<'a> Model for EntryPlaces<'a> {
 
 // A name in a directory, where that is known.
 fn in_directory(alloc: Global, directory: Option<&[u8]>, name: Vec<u8>) -> Result<Vec<u8>, NoMemory>
-    ensures { IfOk result (λ file. file.items ≡ the_name_inside (option_copied directory.entry) name.items) }
+    ensures { IfOk result (λ file. file.items ≡ spec.in_directory (option_copied directory.entry) name.items) }
 {
     match directory {
         Some(directory) => join(alloc, directory, name.as_slice()),
@@ -119,7 +120,7 @@ impl<'a> EntryPlaces<'a> {
     /// says that directory.
     #[tactic(auto, unfolding(crate::specs::Coordinates::place_of))]
     pub fn place_of(&self, alloc: Global, offset: u64) -> Result<Option<DeclarationPlace>, NoMemory>
-        ensures { IfOk result (λ place. option_map plain_place place ≡ the_place self.now offset) }
+        ensures { IfOk result (λ place. option_map plain_place place ≡ spec.place_of self.now offset) }
     {
         let Some(said) = coordinates_of(&self.tree, offset) else {
             return Ok(None);

@@ -1,6 +1,7 @@
 // What the roots of units say of their files.
 ghost use Rattle.std.specs.Prelude.{◌≡◌, ◌<◌, length};
-ghost use Rattle.entry_places.specs.Coordinates.{line_program_of, of_root as the_root_says};
+ghost use Rattle.entry_places.specs.Coordinates.{line_program_of};
+ghost use Rattle.entry_places.specs.Coordinates as spec;
 
 use crate::values::section_offset;
 use dwarf_forms::Value;
@@ -15,7 +16,7 @@ pub(crate) const DW_AT_comp_dir: u64 = 0x1b;
 // The first value that the root of a unit has of an attribute.
 pub(crate) fn of_root(tree: &Tree<'_>, unit: usize, name: u64) -> Option<Value>
     requires { unit < length tree.now.units }
-    ensures { result ≡ the_root_says tree.now unit name }
+    ensures { result ≡ spec.of_root tree.now unit name }
 {
     tree.own(tree.root(unit), name)
 }

@@ -1,12 +1,13 @@
 // What values of attributes say.
 ghost use Rattle.std.specs.Prelude.{◌≡◌};
-ghost use Rattle.entry_places.specs.Coordinates.{if_given as the_given_one, number_of as the_number, section_offset_of};
+ghost use Rattle.entry_places.specs.Coordinates.{section_offset_of};
+ghost use Rattle.entry_places.specs.Coordinates as spec;
 
 use dwarf_forms::Value;
 
 // A constant that is not negative.
 pub(crate) fn number_of(value: Option<Value>) -> Option<u64>
-    ensures { result ≡ the_number value }
+    ensures { result ≡ spec.number_of value }
 {
     match value {
         Some(Value::Unsigned(number)) => Some(number),
@@ -27,7 +28,7 @@ pub(crate) fn section_offset(value: Option<Value>) -> Option<u64>
 
 // A line, which 0 does not give.
 pub(crate) fn if_given(line: u64) -> Option<u64>
-    ensures { result ≡ the_given_one line }
+    ensures { result ≡ spec.if_given line }
 {
     if line == 0 { None } else { Some(line) }
 }

@@ -18,7 +18,15 @@ pub struct Table {
     // The places of the abbreviations whose code is not that of their place, by their codes. Producers number from 1 on,
     // so it mostly stays empty and takes no memory.
     elsewhere: HashMap<u64, usize>,
+    // How many bytes of the section the abbreviations have at least.
+    bytes: usize,
 }
+
+// The bytes of an abbreviation without pairs are at least its code, its tag, the byte for children, and two that end the pairs.
+const LEAST_BYTES: usize = 5;
+
+// The bytes of a pair are at least those of its two numbers.
+const PAIR_BYTES: usize = 2;
 
 impl Model for Table {
     ghost use Rattle.std.specs.Prelude.{List};
@@ -64,7 +72,19 @@ fn at_kept_place<'a>(
     }
 }
 
+// How many bytes of the section an abbreviation has at least.
+fn least_bytes(made: &Abbrev) -> usize {
+    let pairs = made.specs.as_slice().len().saturating_mul(PAIR_BYTES);
+    pairs.saturating_add(LEAST_BYTES)
+}
+
 impl Table {
+    /// How many bytes of `.debug_abbrev` the abbreviations have at least: five each, and two for each pair. They take memory in
+    /// proportion.
+    pub fn least_bytes(&self) -> usize {
+        self.bytes
+    }
+
     // The table without abbreviations, which takes no memory yet.
     pub(crate) fn new(alloc: Global) -> Table
         ensures { result ≡ [] }
@@ -72,6 +92,7 @@ impl Table {
         Table {
             abbrevs: List::new(alloc),
             elsewhere: HashMap::new(alloc),
+            bytes: 0,
         }
     }
 
@@ -84,8 +105,12 @@ impl Table {
         if own_place(made.code) != place {
             self.elsewhere.insert(made.code, place)?;
         }
+        let size = least_bytes(&made);
         match self.abbrevs.push(made) {
-            Ok(()) => Ok(()),
+            Ok(()) => {
+                self.bytes = self.bytes.saturating_add(size);
+                Ok(())
+            }
             Err(refused) => {
                 // The map may lead to the place of the abbreviation that did not fit.
                 *self = Table::new(alloc);

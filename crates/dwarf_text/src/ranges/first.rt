@@ -6,7 +6,7 @@ ghost use Rattle.dwarf_text.specs.ranges.RangeLists.{first_start, list_run, pair
 use crate::Bases;
 use crate::ranges::entry::Source;
 use crate::ranges::lists::ListAt;
-use abi_base::{Fault, FaultKind, table_offset};
+use abi_base::{Effort, Fault, FaultKind, NoMemory, table_offset};
 use dwarf_forms::Sections;
 
 // The place of the list of a number. It counts from the start of the unit's part.
@@ -103,6 +103,65 @@ pub fn first_address(
             },
             place,
             bases.low,
+        ),
+    }
+}
+
+// Takes the effort for the entries from a place on up to the first range, of pairs or of a list.
+fn spend_entries(
+    source: &Source,
+    of_pairs: bool,
+    place: u64,
+    effort: &mut Effort,
+) -> Result<(), NoMemory> {
+    let mut at = place as usize;
+    'walk: loop {
+        let read = if of_pairs {
+            source.pair_entry(at, 0)
+        } else {
+            source.list_entry(at, 0)
+        };
+        match read {
+            Ok(Some(entry)) => {
+                effort.spend(entry.after - at)?;
+                if entry.start.is_some() {
+                    return Ok(());
+                }
+                at = entry.after;
+            }
+            _ => return Ok(()),
+        }
+    }
+}
+
+/// Takes the effort for the bytes of a list that `first_address` reads: those of its entries up to the first range. It fails where
+/// less is left. A list with a fault takes the effort for the entries before the fault.
+pub fn spend_first(
+    list: ListAt,
+    bases: &Bases,
+    sections: &Sections,
+    effort: &mut Effort,
+) -> Result<(), NoMemory> {
+    let lists = Source {
+        bytes: sections.rnglists,
+        addr: sections.addr,
+        addr_base: bases.addr,
+        entry: 0,
+    };
+    match list {
+        ListAt::Offset(place) => spend_entries(&lists, false, place, effort),
+        ListAt::Index(index) => match place_of(sections.rnglists, bases.rnglists, index) {
+            Some(place) => spend_entries(&lists, false, place, effort),
+            None => Ok(()),
+        },
+        ListAt::Pairs(place) => spend_entries(
+            &Source {
+                bytes: sections.ranges,
+                ..lists
+            },
+            true,
+            place,
+            effort,
         ),
     }
 }

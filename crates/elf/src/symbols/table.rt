@@ -12,11 +12,10 @@ ghost use Rattle.abi_base.specs.Elf.{sym_size};
 use crate::constants::{
     SHT_DYNSYM, ST_INFO, ST_NAME, ST_OTHER, ST_SHNDX, ST_SIZE, ST_VALUE, SYM_SIZE,
 };
-use crate::effort::Effort;
 use crate::file::ElfFile;
 use crate::symbols::strings::strings_for;
 use crate::symbols::symbol::Symbol;
-use abi_base::{Fault, FaultKind, INPUT_LIMIT, Refusal, text_at, u16_in, u32_in, u64_in};
+use abi_base::{Effort, Fault, FaultKind, INPUT_LIMIT, Refusal, text_at, u16_in, u32_in, u64_in};
 use std::alloc::Global;
 
 // The symbol of a number, or the fault of its name.
@@ -67,7 +66,7 @@ fn symbols_in<'a>(
     for number in 0..count {
         match symbol_in(table, strings, number) {
             Ok(symbol) => {
-                effort.spend(SYM_SIZE, symbol.name)?;
+                effort.spend_named(SYM_SIZE, symbol.name)?;
                 symbols.push(symbol)?;
             }
             Err(fault) => return Err(Refusal::Fault(fault)),

@@ -11,9 +11,8 @@ use crate::constants::{
     SHT_GNU_VERDEF, VD_AUX, VD_CNT, VD_NDX, VD_NEXT, VD_VERSION, VDA_NAME, VER_DEF_CURRENT,
     VERDAUX_SIZE, VERDEF_SIZE, VERSYM_HIDDEN,
 };
-use crate::effort::Effort;
 use crate::file::ElfFile;
-use abi_base::{Fault, FaultKind, INPUT_LIMIT, Refusal, text_at, u16_in, u32_in};
+use abi_base::{Effort, Fault, FaultKind, INPUT_LIMIT, Refusal, text_at, u16_in, u32_in};
 use std::alloc::Global;
 use std::collections::HashMap;
 
@@ -101,7 +100,7 @@ fn names_in<'a>(
         match definition_in(table, strings, count, number, at) {
             None => return Err(bad_definition(number)),
             Some(definition) => {
-                effort.spend(VERDEF_SIZE, definition.name)?;
+                effort.spend_named(VERDEF_SIZE, definition.name)?;
                 let stood = names.insert(definition.index, definition.name)?.is_some();
                 if stood {
                     return Err(bad_definition(number));
