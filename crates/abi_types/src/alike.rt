@@ -1,7 +1,8 @@
 // What makes parts alike: their sort, and their name where that sort has names.
 ghost use Rattle.std.specs.Prelude.{◌≡◌, map, count_by};
-ghost use Rattle.abi_types.specs.Parts.{plain_part, like, place_of as the_place_of};
-ghost use Rattle.abi_types.specs.Sorts.{sort_of as the_sort_of, name_of as the_name_of};
+ghost use Rattle.abi_types.specs.Parts.{plain_part, like};
+ghost use Rattle.abi_types.specs.Parts as parts_spec;
+ghost use Rattle.abi_types.specs.Sorts as sorts;
 
 use crate::index::Index;
 use crate::part::Part;
@@ -9,7 +10,7 @@ use crate::sort::Sort;
 
 /// The sort of a part.
 pub fn sort_of<Ix: Index>(part: &Part<Ix>) -> Sort
-    ensures { result ≡ the_sort_of (plain_part Ix.number_of part.now) }
+    ensures { result ≡ sorts.sort_of (plain_part Ix.number_of part.now) }
 {
     match part {
         Part::Member { .. } => Sort::Member,
@@ -23,7 +24,7 @@ pub fn sort_of<Ix: Index>(part: &Part<Ix>) -> Sort
 
 /// The name of a part, empty where its sort has none.
 pub fn name_of<'a, Ix: Index>(part: &Part<'a, Ix>) -> &'a [u8]
-    ensures { result.now ≡ the_name_of (plain_part Ix.number_of part.now) }
+    ensures { result.now ≡ sorts.name_of (plain_part Ix.number_of part.now) }
 {
     match part {
         Part::Member { name, .. } => *name,
@@ -66,7 +67,7 @@ pub fn place_of<Ix: Index, Jx: Index>(
     part: &Part<Jx>,
     k: usize,
 ) -> Option<usize>
-    ensures { result ≡ the_place_of (like (plain_part Jx.number_of part.now)) k (map (plain_part Ix.number_of) items.now) }
+    ensures { result ≡ parts_spec.place_of (like (plain_part Jx.number_of part.now)) k (map (plain_part Ix.number_of) items.now) }
 {
     let mut left = k;
     for i in 0..items.len() {

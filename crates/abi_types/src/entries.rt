@@ -1,6 +1,7 @@
 // The nodes of a graph by the entries that they stand for.
 ghost use Rattle.std.specs.Prelude.{◌≡◌, ◌≢◌, ◌<◌, All, IfOk, IfSome, IfNone, length};
-ghost use Rattle.abi_types.specs.Entries.{entry_at as the_entry_at, IsEntryOrder};
+ghost use Rattle.abi_types.specs.Entries.{IsEntryOrder};
+ghost use Rattle.abi_types.specs.Entries as spec;
 
 use crate::index::Index;
 use crate::numbers::numbers_below;
@@ -10,7 +11,7 @@ use std::alloc::Global;
 
 // The entry that the node of a number stands for, 0 past the last node.
 fn entry_at<Ix: Index>(nodes: &[Node<Ix>], number: usize) -> u64
-    ensures { result ≡ the_entry_at nodes.now number }
+    ensures { result ≡ spec.entry_at nodes.now number }
 {
     if number < nodes.len() {
         let node = &nodes[number];
@@ -34,8 +35,8 @@ pub fn entry_order_of<Ix: Index>(alloc: Global, nodes: &[Node<Ix>]) -> Result<Ve
 pub fn number_for<Ix: Index>(nodes: &[Node<Ix>], order: &[usize], entry: u64) -> Option<usize>
     requires { IsEntryOrder order.now nodes.now }
     ensures inside { IfSome result (λ number. number < length nodes.now) }
-    ensures some { IfSome result (λ number. the_entry_at nodes.now number ≡ entry) }
-    ensures none { IfNone result (All (λ number. the_entry_at nodes.now number ≢ entry) order.now) }
+    ensures some { IfSome result (λ number. spec.entry_at nodes.now number ≡ entry) }
+    ensures none { IfNone result (All (λ number. spec.entry_at nodes.now number ≢ entry) order.now) }
 {
     match order.binary_search_by_key(&entry, |number| entry_at(nodes, *number)) {
         Ok(k) => Some(order[k]),

@@ -2,7 +2,8 @@
 ghost use Rattle.std.specs.Prelude.{◌≡◌, ◌<◌, length, map, IfOk, IfSome};
 ghost use Rattle.std.specs.Option.{option_map};
 ghost use Rattle.abi_types.specs.Plain.{plain_label};
-ghost use Rattle.abi_types.specs.Graphs.{IsGraph, node_at, node_of, shaped, shaped_node as the_shaped_node, view_at};
+ghost use Rattle.abi_types.specs.Graphs.{IsGraph, node_at, node_of, shaped, view_at};
+ghost use Rattle.abi_types.specs.Graphs as spec;
 
 use crate::entries::{entry_order_of, number_for};
 use crate::index::Index;
@@ -37,7 +38,7 @@ impl<'a, Ix: Index> Model for Graph<'a, Ix> {
 
 // Puts a call into a node, where it is that of a function.
 fn put_call<'a, Ix: Index>(node: &mut Node<'a, Ix>, call: Call)
-    ensures { node.new ≡ the_shaped_node node.old call }
+    ensures { node.new ≡ spec.shaped_node node.old call }
 {
     match node.view.kind {
         Kind::Function => node.view.call = call,

@@ -3,7 +3,8 @@ ghost use Rattle.std.specs.Prelude.{◌≡◌, ◌≤◌, ◌-◌, false, true, 
 ghost use Rattle.std.specs.List.Sorted.{IsPartitionPoint};
 ghost use Rattle.std.specs.Ordering.{is_lt, is_le};
 ghost use Rattle.abi_types.specs.Plain.{plain_exports};
-ghost use Rattle.abi_types.specs.Names.{name_at as the_name_at, named_cmp, place_cmp, IsNameOrder, AreNamed};
+ghost use Rattle.abi_types.specs.Names.{named_cmp, place_cmp, IsNameOrder, AreNamed};
+ghost use Rattle.abi_types.specs.Names as spec;
 
 use crate::export::Export;
 use crate::numbers::numbers_below;
@@ -13,7 +14,7 @@ use std::cmp::Ordering;
 
 // The name of the export at a position, empty past the last one.
 fn name_at<'a>(exports: &[Export<'a>], k: usize) -> &'a [u8]
-    ensures { result.now ≡ the_name_at (plain_exports exports.now) k }
+    ensures { result.now ≡ spec.name_at (plain_exports exports.now) k }
 {
     if k < exports.len() {
         exports[k].name

@@ -2,7 +2,8 @@
 ghost use Rattle.std.specs.Prelude.{◌≡◌, ◌==◌, ◌<◌, [], ◌∷◌, length, map, slice_index_or, IfSome, IfOk};
 ghost use Rattle.abi_types.specs.Graphs.{no_part};
 ghost use Rattle.std.specs.Option.{ForSome};
-ghost use Rattle.abi_types.specs.Parts.{plain_part, like, place_of as the_place_of, like_before as the_like_before};
+ghost use Rattle.abi_types.specs.Parts.{plain_part, like};
+ghost use Rattle.abi_types.specs.Parts as spec;
 ghost use Rattle.abi_types.specs.Lookups.{IsLookup};
 
 use crate::alike::{count_like, place_of};
@@ -179,7 +180,7 @@ impl<'a, Ix: Index> Parts<'a, Ix> {
     /// The position of the part with the number `k`, counted from 0, among those that are like `part`: of its sort, and of its
     /// name where that sort has names.
     pub fn nth_like<'b, Jx: Index>(&self, part: &Part<'b, Jx>, k: usize) -> Option<usize>
-        ensures place { result ≡ the_place_of (like (plain_part Jx.number_of part.now)) k self.now }
+        ensures place { result ≡ spec.place_of (like (plain_part Jx.number_of part.now)) k self.now }
         ensures inside { IfSome result (λ i. i < length self.now) }
     {
         match self.lookup() {
@@ -191,7 +192,7 @@ impl<'a, Ix: Index> Parts<'a, Ix> {
     /// How many of the parts before the position `i` are like the part there.
     pub fn like_before(&self, i: usize) -> usize
         requires { i < length self.now }
-        ensures { result ≡ the_like_before self.now (slice_index_or self.now i no_part) i }
+        ensures { result ≡ spec.like_before self.now (slice_index_or self.now i no_part) i }
     {
         match self.lookup() {
             None => {

@@ -2,7 +2,8 @@
 ghost use Rattle.std.specs.Prelude.{◌≡◌, ◌++◌, OnOk, string_bytes};
 ghost use Rattle.std.specs.Option.{option_copied};
 ghost use Rattle.abi_types.specs.Plain.{plain_export};
-ghost use Rattle.abi_types.specs.Shown.{is_plain as the_byte_is_plain, label, shown, shown_byte, shown_version};
+ghost use Rattle.abi_types.specs.Shown.{label, shown, shown_byte, shown_version};
+ghost use Rattle.abi_types.specs.Shown as spec;
 
 use crate::Export;
 use std::alloc::{AllocError, Global};
@@ -14,7 +15,7 @@ const LAST_VISIBLE: u8 = b'~';
 
 // Whether a byte is printed as itself.
 fn is_plain(byte: u8) -> bool
-    ensures { result ≡ the_byte_is_plain byte }
+    ensures { result ≡ spec.is_plain byte }
 {
     FIRST_VISIBLE <= byte && byte <= LAST_VISIBLE && byte != b'\\'
 }

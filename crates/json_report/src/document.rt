@@ -1,6 +1,6 @@
 // Objects with one more member.
 ghost use Rattle.std.specs.Prelude.{◌≡◌, IfOk};
-ghost use Rattle.json_report.specs.Breaks.{with_member as the_object_with_it};
+ghost use Rattle.json_report.specs.Breaks as spec;
 
 use crate::strings::push;
 use abi_base::NoMemory;
@@ -15,7 +15,7 @@ pub fn with_member(
     name: &str,
     value: &[u8],
 ) -> Result<Vec<u8>, NoMemory>
-    ensures { IfOk result (λ text. text.items ≡ the_object_with_it opened.now name.now value.now) }
+    ensures { IfOk result (λ text. text.items ≡ spec.with_member opened.now name.now value.now) }
 {
     let mut text = Vec::from_slice(alloc, opened)?;
     push(&mut text, b",\n\"")?;

@@ -1,12 +1,12 @@
 // The plain names of rules.
 ghost use Rattle.std.specs.Prelude.{◌≡◌};
-ghost use Rattle.json_report.specs.Names.{rule_name as the_name};
+ghost use Rattle.json_report.specs.Names as spec;
 
 use abi_types::Rule;
 
 /// What a break of a rule is, in plain words.
 pub fn rule_name(rule: Rule) -> &'static str
-    ensures { result.now ≡ the_name rule }
+    ensures { result.now ≡ spec.rule_name rule }
 {
     match rule {
         Rule::LibrarySoname => "soname changed",

@@ -1,6 +1,7 @@
 // Strings of JSON.
 ghost use Rattle.std.specs.Prelude.{◌≡◌, ◌<◌, ◌++◌, flat_map, OnOk};
-ghost use Rattle.json_report.specs.Strings.{digit as the_digit, escaped, string_text};
+ghost use Rattle.json_report.specs.Strings.{escaped, string_text};
+ghost use Rattle.json_report.specs.Strings as spec;
 
 use abi_base::NoMemory;
 
@@ -15,7 +16,7 @@ pub(crate) fn push(text: &mut Vec<u8>, bytes: &[u8]) -> Result<(), NoMemory>
 // A hexadecimal digit.
 fn digit(number: u8) -> u8
     requires { number < 16 }
-    ensures { result ≡ the_digit number }
+    ensures { result ≡ spec.digit number }
 {
     if number < 10 {
         b'0' + number

@@ -5,6 +5,7 @@ pub mod copy;
 pub mod laws;
 mod library;
 mod listing;
+mod room;
 mod typing;
 
 pub use library::read_library;

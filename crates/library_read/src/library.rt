@@ -11,6 +11,7 @@ ghost use Rattle.library_read.specs.Libraries.{library_of, uncalled_graph_of};
 
 use crate::laws::readable_files_are_libraries;
 use crate::listing::{Listing, read_listing};
+use crate::room::ask_room;
 use crate::typing::{Typed, with_types};
 use abi_base::{NoMemory, Refusal};
 use abi_types::{Index, Library};
@@ -34,6 +35,7 @@ fn library_with<'a, Ix: Index>(
 {
     readable_files_are_libraries();
     let Typed { exports, graph } = typed;
+    ask_room(bytes.len(), &graph)?;
     let calls = call_shapes(alloc, &graph)?;
     let graph = graph.with_calls(calls);
     Library::new(alloc, bytes, soname, exports, graph)
@@ -41,7 +43,8 @@ fn library_with<'a, Ix: Index>(
 
 /// The library that a file is. The fault is the first one of its header and sections, of its symbols, of its dynamic table, of
 /// its versions, of its exports, of its units and entries, and of the types that its exports reach. The library keeps names
-/// where they stand in the bytes, and nothing else of the debug information.
+/// where they stand in the bytes, and nothing else of the debug information. Types that have more parts or longer names than a
+/// file of its size may have count as no memory.
 pub fn read_library<'a, Ix: Index>(
     alloc: Global,
     bytes: &'a [u8],

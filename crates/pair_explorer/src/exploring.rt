@@ -8,6 +8,7 @@ ghost use Rattle.pair_explorer.specs.Scopes.{AreGraphs, HasNodes, IsScope};
 use crate::graph_pair::{GraphPair, add_partners, add_roots, is_marked};
 use crate::visits::{Visit, Visits};
 use abi_base::{List, NoMemory};
+use abi_types::{Graph, Index, NewIx, OldIx, View};
 use pair_rules::laws::steps_lead_to_nodes;
 use pair_rules::{Broken, Comparison, Steps};
 use std::alloc::Global;
@@ -35,6 +36,35 @@ fn most_visits(ground: &GraphPair) -> usize {
     types
         .saturating_mul(VISITS_A_TYPE)
         .saturating_add(VISITS_AT_LEAST)
+}
+
+// How many parts of types may be compared, for each part of the types of both libraries and beside that. Types that were built from
+// one source are compared in two ways at most.
+const PARTS_A_PART: usize = 16;
+
+const PARTS_AT_LEAST: usize = 65_536;
+
+// How many parts the types of a graph have, where each type counts its own.
+fn parts_of<Ix: Index>(graph: &Graph<Ix>) -> usize {
+    let mut parts: usize = 0;
+    for number in 0..graph.len() {
+        let ix = Ix::of(number);
+        parts = parts.saturating_add(graph.view(ix).parts_len());
+    }
+    parts
+}
+
+// How many parts may be compared between two graphs.
+fn most_parts(ground: &GraphPair) -> usize {
+    let parts = parts_of(ground.old).saturating_add(parts_of(ground.new));
+    parts
+        .saturating_mul(PARTS_A_PART)
+        .saturating_add(PARTS_AT_LEAST)
+}
+
+// How many parts two types have.
+fn parts_between(old: &View<OldIx>, new: &View<NewIx>) -> usize {
+    old.parts_len().saturating_add(new.parts_len())
 }
 
 // Adds the breaks of the visit of a number.
@@ -75,6 +105,7 @@ fn expand<L: Ledger>(
     let old = ground.old.view(visit.old);
     let new = ground.new.view(visit.new);
     let found = Comparison::of(alloc, old, new, steps)?;
+    explored.visits.take_parts(parts_between(old, new))?;
     add_breaks(&mut explored.breaks, number, found.breaks.as_slice())?;
     let matches = found.matches.as_slice();
     add_partners(ground, &mut explored.visits, number, visit, matches)
@@ -101,7 +132,7 @@ pub fn explore<L: Ledger>(
     ground.old_classes.known();
     ground.new_classes.known();
     let mut explored = Explored {
-        visits: Visits::new(alloc, most_visits(ground)),
+        visits: Visits::new(alloc, most_visits(ground), most_parts(ground)),
         breaks: List::new(alloc),
     };
     add_roots(ground, &mut explored.visits)?;

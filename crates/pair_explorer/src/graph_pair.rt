@@ -1,10 +1,11 @@
 // What an exploration goes by, and how one triple leads to others.
 ghost use Rattle.std.specs.Prelude.{◌≡◌, ◌<◌, length, false, Some, OnOk};
 ghost use Rattle.abi_types.specs.Graphs.{view_at};
-ghost use Rattle.pair_rules.specs.Comparisons.{matches as the_matches};
-ghost use Rattle.pair_rules.specs.Steps.{is_marked as the_node_is_marked};
+ghost use Rattle.pair_rules.specs.Comparisons as comparisons;
+ghost use Rattle.pair_rules.specs.Steps as steps;
 ghost use Rattle.pair_explorer.specs.Visits.{seen};
-ghost use Rattle.pair_explorer.specs.Adding.{entered, next_visit as the_next_visit, root_visit as the_root_visit};
+ghost use Rattle.pair_explorer.specs.Adding.{entered};
+ghost use Rattle.pair_explorer.specs.Adding as adding;
 ghost use Rattle.pair_explorer.specs.GraphPairs.{scope_of};
 ghost use Rattle.pair_explorer.specs.Scopes.{HasNodes, AreGraphs};
 
@@ -30,7 +31,7 @@ pub struct GraphPair<'x, 'o, 'n, 'og, 'oc, 'ng, 'nc> {
 
 /// Whether an old node is marked at a way.
 pub fn is_marked(ground: &GraphPair, node: OldIx, way: Way) -> bool
-    ensures { result ≡ the_node_is_marked (scope_of ground.now).task node way }
+    ensures { result ≡ steps.is_marked (scope_of ground.now).task node way }
 {
     let flags = match way {
         Way::Direct => ground.marks.direct.as_slice(),
@@ -47,7 +48,7 @@ pub fn is_marked(ground: &GraphPair, node: OldIx, way: Way) -> bool
 fn root_visit(ground: &GraphPair, k: usize) -> Visit
     requires inside { k < length ground.now.roots.now }
     requires nodes { HasNodes (scope_of ground.now) }
-    ensures { Some result ≡ the_root_visit (scope_of ground.now) k }
+    ensures { Some result ≡ adding.root_visit (scope_of ground.now) k }
 {
     let root = ground.roots[k];
     Visit {
@@ -63,7 +64,7 @@ fn root_visit(ground: &GraphPair, k: usize) -> Visit
 /// Adds the visits of the roots.
 pub fn add_roots(ground: &GraphPair, visits: &mut Visits) -> Result<(), NoMemory>
     requires { HasNodes (scope_of ground.now) }
-    ensures { OnOk result (visits.new ≡ entered (the_root_visit (scope_of ground.now)) (length ground.now.roots.now) visits.old) }
+    ensures { OnOk result (visits.new ≡ entered (adding.root_visit (scope_of ground.now)) (length ground.now.roots.now) visits.old) }
 {
     for k in 0..ground.roots.len() {
         let visit = root_visit(ground, k);
@@ -82,12 +83,12 @@ fn next_visit(
 ) -> Option<Visit>
     requires nodes { HasNodes (scope_of ground.now) }
     requires graphs { AreGraphs (scope_of ground.now) }
-    requires unmarked { the_node_is_marked (scope_of ground.now).task visit.now.old visit.now.way ≡ false }
+    requires unmarked { steps.is_marked (scope_of ground.now).task visit.now.old visit.now.way ≡ false }
     requires old { visit.now.old < length ground.now.old.now }
     requires new { visit.now.new < length ground.now.new.now }
-    requires matches { matches.now ≡ the_matches (view_at ground.now.old.now visit.now.old) (view_at ground.now.new.now visit.now.new) }
+    requires matches { matches.now ≡ comparisons.matches (view_at ground.now.old.now visit.now.old) (view_at ground.now.new.now visit.now.new) }
     requires inside { i < length (view_at ground.now.old.now visit.now.old).parts }
-    ensures { result ≡ the_next_visit (scope_of ground.now) number (seen visit.now) i }
+    ensures { result ≡ adding.next_visit (scope_of ground.now) number (seen visit.now) i }
 {
     steps_lead_to_nodes();
     let old = ground.old.view(visit.old);
@@ -122,11 +123,11 @@ pub fn add_partners(
 ) -> Result<(), NoMemory>
     requires nodes { HasNodes (scope_of ground.now) }
     requires graphs { AreGraphs (scope_of ground.now) }
-    requires unmarked { the_node_is_marked (scope_of ground.now).task visit.now.old visit.now.way ≡ false }
+    requires unmarked { steps.is_marked (scope_of ground.now).task visit.now.old visit.now.way ≡ false }
     requires old { visit.now.old < length ground.now.old.now }
     requires new { visit.now.new < length ground.now.new.now }
-    requires matches { matches.now ≡ the_matches (view_at ground.now.old.now visit.now.old) (view_at ground.now.new.now visit.now.new) }
-    ensures { OnOk result (visits.new ≡ entered (the_next_visit (scope_of ground.now) number (seen visit.now)) (length (view_at ground.now.old.now visit.now.old).parts) visits.old) }
+    requires matches { matches.now ≡ comparisons.matches (view_at ground.now.old.now visit.now.old) (view_at ground.now.new.now visit.now.new) }
+    ensures { OnOk result (visits.new ≡ entered (adding.next_visit (scope_of ground.now) number (seen visit.now)) (length (view_at ground.now.old.now visit.now.old).parts) visits.old) }
 {
     for i in 0..parts_len(ground, visit) {
         if let Some(next) = next_visit(ground, number, visit, matches, i) {

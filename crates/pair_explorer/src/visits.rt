@@ -52,6 +52,8 @@ pub struct Visits {
     parents: Vec<Parent>,
     // How many there may be.
     most: usize,
+    // How many parts of their types may still be compared.
+    parts: usize,
 }
 
 impl Model for Visits {
@@ -83,14 +85,15 @@ fn put(triples: &mut IndexSet<Triple>, triple: Triple) -> Result<bool, NoMemory>
 }
 
 impl Visits {
-    /// No visits, and room for so many. They take no memory yet.
-    pub(crate) fn new(alloc: Global, most: usize) -> Visits
+    /// No visits, and room for so many, which may compare so many parts. They take no memory yet.
+    pub(crate) fn new(alloc: Global, most: usize, parts: usize) -> Visits
         ensures { result ≡ [] }
     {
         Visits {
             triples: IndexSet::new(alloc),
             parents: Vec::new(alloc),
             most,
+            parts,
         }
     }
 
@@ -133,6 +136,17 @@ impl Visits {
         if put(&mut self.triples, visit.triple())? {
             self.parents.push(visit.parent)?;
         }
+        Ok(())
+    }
+
+    /// Takes so many parts that were compared. Where fewer may be, memory counts as run out.
+    pub(crate) fn take_parts(&mut self, parts: usize) -> Result<(), NoMemory>
+        ensures { self.new ≡ self.old }
+    {
+        if parts > self.parts {
+            return Err(NoMemory);
+        }
+        self.parts -= parts;
         Ok(())
     }
 }

@@ -1,8 +1,9 @@
 // Two types that are compared: what they break, and where they lead.
 ghost use Rattle.std.specs.Prelude.{◌≡◌, ◌<◌, ◌+◌, length, IfOk, IfSome};
-ghost use Rattle.pair_rules.specs.Comparisons.{matches as the_matches, compared_match};
-ghost use Rattle.pair_rules.specs.Steps.{next_of as the_next_of, triple_of as the_triple_of};
-ghost use Rattle.pair_rules.specs.TypeRules.{breaks as the_breaks};
+ghost use Rattle.pair_rules.specs.Comparisons.{compared_match};
+ghost use Rattle.pair_rules.specs.Comparisons as comparisons;
+ghost use Rattle.pair_rules.specs.Steps as steps_spec;
+ghost use Rattle.pair_rules.specs.TypeRules as type_rules;
 
 use crate::matching::{after, are_compared, match_of};
 use crate::rules::{Broken, breaks_by};
@@ -28,7 +29,7 @@ fn matches_of(
     old: &View<OldIx>,
     new: &View<NewIx>,
 ) -> Result<List<Option<usize>>, NoMemory>
-    ensures { IfOk result (λ list. list ≡ the_matches old.now new.now) }
+    ensures { IfOk result (λ list. list ≡ comparisons.matches old.now new.now) }
 {
     let mut list = List::new(alloc);
     if !are_compared(old, new) {
@@ -47,7 +48,7 @@ fn match_in(
     matches: &[Option<usize>],
     i: usize,
 ) -> Option<usize>
-    requires matches { matches.now ≡ the_matches old.now new.now }
+    requires matches { matches.now ≡ comparisons.matches old.now new.now }
     requires inside { i < length old.now.parts }
     ensures place { result ≡ compared_match old.now new.now i }
     ensures inside { IfSome result (λ j. j < length new.now.parts) }
@@ -60,7 +61,7 @@ fn match_in(
 
 // The triple of the nodes that two parts name, where both name one.
 fn triple_of(old: Option<OldIx>, new: Option<NewIx>, way: Way) -> Option<Triple>
-    ensures { result ≡ the_triple_of way old new }
+    ensures { result ≡ steps_spec.triple_of way old new }
 {
     match (old, new) {
         (Some(old), Some(new)) => Some(Triple { old, new, way }),
@@ -77,9 +78,9 @@ pub fn next_of(
     way: Way,
     i: usize,
 ) -> Option<Triple>
-    requires matches { matches.now ≡ the_matches old.now new.now }
+    requires matches { matches.now ≡ comparisons.matches old.now new.now }
     requires inside { i < length old.now.parts }
-    ensures { result ≡ the_next_of old.now new.now way i }
+    ensures { result ≡ steps_spec.next_of old.now new.now way i }
 {
     let part = old.part(i);
     match match_in(old, new, matches, i) {
@@ -96,8 +97,8 @@ impl Comparison {
         new: &View<NewIx>,
         steps: &mut Steps<L>,
     ) -> Result<Comparison, NoMemory>
-        ensures breaks { IfOk result (λ c. c.breaks ≡ the_breaks old.now new.now) }
-        ensures matches { IfOk result (λ c. c.matches ≡ the_matches old.now new.now) }
+        ensures breaks { IfOk result (λ c. c.breaks ≡ type_rules.breaks old.now new.now) }
+        ensures matches { IfOk result (λ c. c.matches ≡ comparisons.matches old.now new.now) }
         ensures step { steps.new ≡ steps.old + 1 }
     {
         steps.tick();
@@ -115,7 +116,7 @@ pub fn breaks<L: Ledger>(
     new: &View<NewIx>,
     steps: &mut Steps<L>,
 ) -> Result<List<Broken>, NoMemory>
-    ensures breaks { IfOk result (λ list. list ≡ the_breaks old.now new.now) }
+    ensures breaks { IfOk result (λ list. list ≡ type_rules.breaks old.now new.now) }
     ensures step { steps.new ≡ steps.old + 1 }
 {
     let comparison = Comparison::of(alloc, old, new, steps)?;

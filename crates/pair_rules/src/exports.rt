@@ -1,26 +1,27 @@
 // The rules of two exports that are bound to each other.
 ghost use Rattle.std.specs.Prelude.{◌≡◌};
 ghost use Rattle.abi_types.specs.Plain.{plain_export};
-ghost use Rattle.pair_rules.specs.ExportRules.{breaks_kind, breaks_size, breaks_type, export_breaks as the_export_breaks, is_function as the_kind_is_function, is_object as the_kind_is_object, kinds_agree as the_kinds_agree};
+ghost use Rattle.pair_rules.specs.ExportRules.{breaks_kind, breaks_size, breaks_type};
+ghost use Rattle.pair_rules.specs.ExportRules as spec;
 
 use abi_types::{Export, SymbolKind};
 
 // Whether a symbol is a function, also one that a resolver picks.
 fn is_function(kind: SymbolKind) -> bool
-    ensures { result ≡ the_kind_is_function kind }
+    ensures { result ≡ spec.is_function kind }
 {
     matches!(kind, SymbolKind::Func | SymbolKind::Ifunc)
 }
 
 // Whether a symbol is a data object, also a common block.
 fn is_object(kind: SymbolKind) -> bool
-    ensures { result ≡ the_kind_is_object kind }
+    ensures { result ≡ spec.is_object kind }
 {
     matches!(kind, SymbolKind::Object | SymbolKind::Common)
 }
 
 fn kinds_agree(old: SymbolKind, new: SymbolKind) -> bool
-    ensures { result ≡ the_kinds_agree old new }
+    ensures { result ≡ spec.kinds_agree old new }
 {
     match (old, new) {
         (SymbolKind::Tls, SymbolKind::Tls) => true,
@@ -33,7 +34,7 @@ fn kinds_agree(old: SymbolKind, new: SymbolKind) -> bool
 /// Whether two exports that are bound to each other break X4, that their kinds agree; X5, that the sizes of objects agree;
 /// and X6, that an export with a type has one still.
 pub fn export_breaks(old: &Export, new: &Export) -> [bool; 3]
-    ensures { result ≡ the_export_breaks (plain_export old.now) (plain_export new.now) }
+    ensures { result ≡ spec.export_breaks (plain_export old.now) (plain_export new.now) }
 {
     let both_objects = is_object(old.kind) && is_object(new.kind);
     [

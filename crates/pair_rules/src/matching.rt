@@ -1,18 +1,19 @@
 // Which part of a new type matches which part of an old one, and which pairs of parts lead further.
 ghost use Rattle.std.specs.Prelude.{◌≡◌, ◌<◌, length, slice_get, IfSome};
 ghost use Rattle.abi_types.specs.Parts.{plain_part};
-ghost use Rattle.pair_rules.specs.Matching.{match_of as the_match_of, number_of as the_number_of};
-ghost use Rattle.pair_rules.specs.TypeRules.{are_compared as the_types_are_compared};
-ghost use Rattle.pair_rules.specs.Partners.{partner_at as the_partner_at, partners};
-ghost use Rattle.pair_rules.specs.Same.{same_kind as the_same_kind};
-ghost use Rattle.pair_rules.specs.Ways.{after as the_way_after};
+ghost use Rattle.pair_rules.specs.Matching as matching;
+ghost use Rattle.pair_rules.specs.TypeRules as type_rules;
+ghost use Rattle.pair_rules.specs.Partners.{partners};
+ghost use Rattle.pair_rules.specs.Partners as partners_spec;
+ghost use Rattle.pair_rules.specs.Same as same;
+ghost use Rattle.pair_rules.specs.Ways as ways;
 
 use abi_types::{Index, Kind, NewIx, OldIx, Part, View, Way};
 
 /// How many parts before part `i` are like it: of its sort, and of its name where that sort has names.
 pub fn number_of<Ix: Index>(view: &View<Ix>, i: usize) -> usize
     requires { i < length view.now.parts }
-    ensures number { result ≡ the_number_of view.now i }
+    ensures number { result ≡ matching.number_of view.now i }
     ensures few { result < length view.now.parts }
 {
     view.parts.like_before(i)
@@ -22,7 +23,7 @@ pub fn number_of<Ix: Index>(view: &View<Ix>, i: usize) -> usize
 #[tactic(auto, unfolding(crate::specs::Matching::match_of))]
 pub fn match_of(old: &View<OldIx>, new: &View<NewIx>, i: usize) -> Option<usize>
     requires { i < length old.now.parts }
-    ensures place { result ≡ the_match_of old.now new.now i }
+    ensures place { result ≡ matching.match_of old.now new.now i }
     ensures inside { IfSome result (λ j. j < length new.now.parts) }
 {
     new.parts.nth_like(old.part(i), number_of(old, i))
@@ -30,14 +31,14 @@ pub fn match_of(old: &View<OldIx>, new: &View<NewIx>, i: usize) -> Option<usize>
 
 // Whether two kinds are one.
 pub(crate) fn same_kind(old: Kind, new: Kind) -> bool
-    ensures { result ≡ the_same_kind old new }
+    ensures { result ≡ same.same_kind old new }
 {
     old == new
 }
 
 // Whether both types are defined and of one kind.
 pub(crate) fn are_compared(old: &View<OldIx>, new: &View<NewIx>) -> bool
-    ensures { result ≡ the_types_are_compared old.now new.now }
+    ensures { result ≡ type_rules.are_compared old.now new.now }
 {
     same_kind(old.kind, new.kind) && !(old.declared_only || new.declared_only)
 }
@@ -47,7 +48,7 @@ pub(crate) fn are_compared(old: &View<OldIx>, new: &View<NewIx>) -> bool
 #[tactic(auto, unfolding(crate::specs::Partners::partner_at))]
 pub fn partner_at(old: &View<OldIx>, new: &View<NewIx>, i: usize) -> Option<(usize, usize)>
     requires { i < length old.now.parts }
-    ensures places { result ≡ the_partner_at old.now new.now i }
+    ensures places { result ≡ partners_spec.partner_at old.now new.now i }
     ensures inside { IfSome result (λ p. (p.0 < length old.now.parts) × (p.1 < length new.now.parts)) }
 {
     if !are_compared(old, new) {
@@ -83,7 +84,7 @@ pub fn partner(old: &View<OldIx>, new: &View<NewIx>, k: usize) -> Option<(usize,
 /// The way by which the type that a part names is reached, where the type of the part is reached by `way`: a target through
 /// its pointer, a result and a parameter by value from their call, and all else as what it lies in.
 pub fn after<Ix: Index>(way: Way, part: &Part<Ix>) -> Way
-    ensures { result ≡ the_way_after way (plain_part Ix.number_of part.now) }
+    ensures { result ≡ ways.after way (plain_part Ix.number_of part.now) }
 {
     match part {
         Part::Target { .. } => Way::Pointer,

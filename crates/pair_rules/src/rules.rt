@@ -1,13 +1,14 @@
 // The rules of two types.
 ghost use Rattle.std.specs.Prelude.{◌≡◌, ◌<◌, ◌+◌, ◌++◌, ◌↔◌, ℕ, true, [], List, Option, length, take, map, filter, slice_index_or, count_by, not, IsTrue, OnOk, IfOk};
 ghost use Rattle.std.specs.List.{range_with_len};
-ghost use Rattle.abi_types.specs.Forms.{has_elements as the_kind_has_elements};
+ghost use Rattle.abi_types.specs.Forms as forms;
 ghost use Rattle.abi_types.specs.Graphs.{part_at};
-ghost use Rattle.pair_rules.specs.Comparisons.{matches as the_matches};
-ghost use Rattle.pair_rules.specs.Matching.{match_of as the_match_of};
-ghost use Rattle.pair_rules.specs.Same.{same_group as the_same_group, same_place as the_same_place};
-ghost use Rattle.pair_rules.specs.TypeRules.{are_compared as the_types_are_compared, bit_at as the_bit_at, breaks as the_breaks, breaks_part as the_part_breaks, breaks_whole as the_whole_breaks, broken as the_broken, broken_at, has_alignment as the_kind_has_alignment, has_size as the_kind_has_size, in_bytes as the_value_in_bytes, param_moved as the_param_moved, params_of as the_params_of, rules_asked as the_rules_asked, speaks_of_parts as the_rule_speaks_of_parts, value_at as the_value_at, width_at as the_width_at};
-ghost use Rattle.pair_rules.specs.Keeping.{keeps_part as the_part_keeps, keeps_parts as the_parts_keep, keeps_whole as the_whole_keeps};
+ghost use Rattle.pair_rules.specs.Comparisons as comparisons;
+ghost use Rattle.pair_rules.specs.Matching as matching_spec;
+ghost use Rattle.pair_rules.specs.Same as same_spec;
+ghost use Rattle.pair_rules.specs.TypeRules.{broken_at};
+ghost use Rattle.pair_rules.specs.TypeRules as type_rules;
+ghost use Rattle.pair_rules.specs.Keeping as keeping;
 
 use crate::matching::{are_compared, match_of, number_of, same_kind};
 use abi_base::{List, NoMemory};
@@ -55,7 +56,7 @@ static PART_RULES: [Rule; 6] = [
 
 // The rules that compare two types, in order.
 fn rules_asked(old: &View<OldIx>, new: &View<NewIx>) -> &'static [Rule]
-    ensures { result.now ≡ the_rules_asked old.now new.now }
+    ensures { result.now ≡ type_rules.rules_asked old.now new.now }
 {
     if !same_kind(old.kind, new.kind) {
         return &KIND_RULES;
@@ -67,7 +68,7 @@ fn rules_asked(old: &View<OldIx>, new: &View<NewIx>) -> &'static [Rule]
 }
 
 fn speaks_of_parts(rule: Rule) -> bool
-    ensures { result ≡ the_rule_speaks_of_parts rule }
+    ensures { result ≡ type_rules.speaks_of_parts rule }
 {
     matches!(
         rule,
@@ -81,38 +82,38 @@ fn speaks_of_parts(rule: Rule) -> bool
 }
 
 fn has_size(kind: Kind) -> bool
-    ensures { result ≡ the_kind_has_size kind }
+    ensures { result ≡ type_rules.has_size kind }
 {
     !matches!(kind, Kind::Void | Kind::Pointer | Kind::Function)
 }
 
 fn has_alignment(kind: Kind) -> bool
-    ensures { result ≡ the_kind_has_alignment kind }
+    ensures { result ≡ type_rules.has_alignment kind }
 {
     !matches!(kind, Kind::Void | Kind::Function)
 }
 
 fn has_elements(kind: Kind) -> bool
-    ensures { result ≡ the_kind_has_elements kind }
+    ensures { result ≡ forms.has_elements kind }
 {
     matches!(kind, Kind::Array | Kind::Vector)
 }
 
 fn same_group(old: Group, new: Group) -> bool
-    ensures { result ≡ the_same_group old new }
+    ensures { result ≡ same_spec.same_group old new }
 {
     old == new
 }
 
 fn same_place(old: Place, new: Place) -> bool
-    ensures { result ≡ the_same_place old new }
+    ensures { result ≡ same_spec.same_place old new }
 {
     old == new
 }
 
 /// How many parameters a type has.
 pub fn params_of<Ix: Index>(view: &View<Ix>) -> usize
-    ensures { result ≡ the_params_of view.now }
+    ensures { result ≡ type_rules.params_of view.now }
 {
     let mut count = 0;
     'walk: for i in 0..view.parts_len() {
@@ -126,7 +127,7 @@ pub fn params_of<Ix: Index>(view: &View<Ix>) -> usize
 // Whether two types break a rule that speaks of them as a whole.
 #[tactic(auto, unfolding(crate::specs::TypeRules::breaks_whole))]
 fn breaks_whole(rule: Rule, old: &View<OldIx>, new: &View<NewIx>) -> bool
-    ensures { result ≡ the_whole_breaks rule old.now new.now }
+    ensures { result ≡ type_rules.breaks_whole rule old.now new.now }
 {
     match rule {
         Rule::KindOfType => !same_kind(old.kind, new.kind),
@@ -150,7 +151,7 @@ const VALUE_BYTES: u64 = 8;
 // A value in as many bytes.
 #[tactic(auto, unfolding(crate::specs::TypeRules::in_bytes))]
 fn in_bytes(size: u64, value: u64) -> u64
-    ensures { result ≡ the_value_in_bytes size value }
+    ensures { result ≡ type_rules.in_bytes size value }
 {
     if size < VALUE_BYTES {
         value % (1 << (BYTE_BITS * size))
@@ -162,7 +163,7 @@ fn in_bytes(size: u64, value: u64) -> u64
 /// The bit at which the member at a position stands, counted from the first bit of its type; 0 of what is no member.
 pub fn bit_at<Ix: Index>(view: &View<Ix>, j: usize) -> u64
     requires { j < length view.now.parts }
-    ensures { result ≡ the_bit_at view.now j }
+    ensures { result ≡ type_rules.bit_at view.now j }
 {
     match view.part(j) {
         Part::Member { bit, .. } => *bit,
@@ -173,7 +174,7 @@ pub fn bit_at<Ix: Index>(view: &View<Ix>, j: usize) -> u64
 /// The width in bits of the member at a position where it is a bit field, else 0.
 pub fn width_at<Ix: Index>(view: &View<Ix>, j: usize) -> u64
     requires { j < length view.now.parts }
-    ensures { result ≡ the_width_at view.now j }
+    ensures { result ≡ type_rules.width_at view.now j }
 {
     match view.part(j) {
         Part::Member { width, .. } => *width,
@@ -184,7 +185,7 @@ pub fn width_at<Ix: Index>(view: &View<Ix>, j: usize) -> u64
 /// The value of the enumerator at a position, in the bytes of its enumeration; 0 of what is no enumerator.
 pub fn value_at<Ix: Index>(view: &View<Ix>, j: usize) -> u64
     requires { j < length view.now.parts }
-    ensures { result ≡ the_value_at view.now j }
+    ensures { result ≡ type_rules.value_at view.now j }
 {
     match view.part(j) {
         Part::Enumerator { value, .. } => in_bytes(view.size, *value),
@@ -194,7 +195,7 @@ pub fn value_at<Ix: Index>(view: &View<Ix>, j: usize) -> u64
 
 // Whether the places of the results differ.
 fn outcome_moved(old: &View<OldIx>, new: &View<NewIx>) -> bool
-    ensures { result ≡ not (the_same_place old.now.call.outcome new.now.call.outcome) }
+    ensures { result ≡ not (same_spec.same_place old.now.call.outcome new.now.call.outcome) }
 {
     !same_place(old.call.outcome(), new.call.outcome())
 }
@@ -202,8 +203,8 @@ fn outcome_moved(old: &View<OldIx>, new: &View<NewIx>) -> bool
 // Whether the place of the old parameter at position `i` differs from that of its match, where both are there.
 fn param_moved(old: &View<OldIx>, new: &View<NewIx>, i: usize, found: Option<usize>) -> bool
     requires inside { i < length old.now.parts }
-    requires found { found ≡ the_match_of old.now new.now i }
-    ensures { result ≡ the_param_moved old.now new.now i }
+    requires found { found ≡ matching_spec.match_of old.now new.now i }
+    ensures { result ≡ type_rules.param_moved old.now new.now i }
 {
     if found.is_none() {
         return false;
@@ -225,8 +226,8 @@ fn breaks_part(
     found: Option<usize>,
 ) -> bool
     requires inside { i < length old.now.parts }
-    requires found { found ≡ the_match_of old.now new.now i }
-    ensures { result ≡ the_part_breaks rule old.now new.now i }
+    requires found { found ≡ matching_spec.match_of old.now new.now i }
+    ensures { result ≡ type_rules.breaks_part rule old.now new.now i }
 {
     match (rule, old.part(i)) {
         (Rule::MemberPresence, Part::Member { .. }) => found.is_none(),
@@ -257,8 +258,8 @@ fn push_parts(
     new: &View<NewIx>,
     matches: &[Option<usize>],
 ) -> Result<(), NoMemory>
-    requires { matches.now ≡ map (the_match_of old.now new.now) (range_with_len 0 (length old.now.parts)) }
-    ensures { OnOk result (list.new ≡ list.old ++ map (broken_at rule) (filter (the_part_breaks rule old.now new.now) (range_with_len 0 (length old.now.parts)))) }
+    requires { matches.now ≡ map (matching_spec.match_of old.now new.now) (range_with_len 0 (length old.now.parts)) }
+    ensures { OnOk result (list.new ≡ list.old ++ map (broken_at rule) (filter (type_rules.breaks_part rule old.now new.now) (range_with_len 0 (length old.now.parts)))) }
 {
     'walk: for (part, found) in matches.iter().enumerate() {
         if breaks_part(rule, old, new, part, *found) {
@@ -277,9 +278,9 @@ fn push_broken(
     new: &View<NewIx>,
     matches: &[Option<usize>],
 ) -> Result<(), NoMemory>
-    requires matches { matches.now ≡ the_matches old.now new.now }
-    requires asked { the_rule_speaks_of_parts rule ≡ true → the_types_are_compared old.now new.now ≡ true }
-    ensures { OnOk result (list.new ≡ list.old ++ the_broken old.now new.now rule) }
+    requires matches { matches.now ≡ comparisons.matches old.now new.now }
+    requires asked { type_rules.speaks_of_parts rule ≡ true → type_rules.are_compared old.now new.now ≡ true }
+    ensures { OnOk result (list.new ≡ list.old ++ type_rules.broken old.now new.now rule) }
 {
     if speaks_of_parts(rule) {
         return push_parts(list, rule, old, new, matches);
@@ -298,8 +299,8 @@ pub(crate) fn breaks_by(
     new: &View<NewIx>,
     matches: &[Option<usize>],
 ) -> Result<List<Broken>, NoMemory>
-    requires { matches.now ≡ the_matches old.now new.now }
-    ensures { IfOk result (λ list. list ≡ the_breaks old.now new.now) }
+    requires { matches.now ≡ comparisons.matches old.now new.now }
+    ensures { IfOk result (λ list. list ≡ type_rules.breaks old.now new.now) }
 {
     let mut list = List::new(alloc);
     'rules: for rule in rules_asked(old, new) {
@@ -311,7 +312,7 @@ pub(crate) fn breaks_by(
 // Whether two types break no rule that compares them as a whole.
 #[tactic(auto, unfolding(crate::specs::Keeping::keeps_whole))]
 fn keeps_whole(old: &View<OldIx>, new: &View<NewIx>) -> bool
-    ensures { result ≡ the_whole_keeps old.now new.now }
+    ensures { result ≡ keeping.keeps_whole old.now new.now }
 {
     rules_asked(old, new)
         .iter()
@@ -322,7 +323,7 @@ fn keeps_whole(old: &View<OldIx>, new: &View<NewIx>) -> bool
 #[tactic(auto, unfolding(crate::specs::Keeping::keeps_part))]
 fn keeps_part(old: &View<OldIx>, new: &View<NewIx>, i: usize) -> bool
     requires { i < length old.now.parts }
-    ensures { result ≡ the_part_keeps old.now new.now i }
+    ensures { result ≡ keeping.keeps_part old.now new.now i }
 {
     let found = match_of(old, new, i);
     PART_RULES
@@ -333,7 +334,7 @@ fn keeps_part(old: &View<OldIx>, new: &View<NewIx>, i: usize) -> bool
 // The same, at each part.
 #[tactic(auto, unfolding(crate::specs::Keeping::keeps_parts))]
 fn keeps_parts(old: &View<OldIx>, new: &View<NewIx>) -> bool
-    ensures { result ≡ the_parts_keep old.now new.now }
+    ensures { result ≡ keeping.keeps_parts old.now new.now }
 {
     'walk: for i in 0..old.parts_len() {
         if !keeps_part(old, new, i) {
@@ -345,7 +346,7 @@ fn keeps_parts(old: &View<OldIx>, new: &View<NewIx>) -> bool
 
 /// Whether two types break no rule. It takes no memory.
 pub fn holds(old: &View<OldIx>, new: &View<NewIx>) -> bool
-    ensures { IsTrue result ↔ (the_breaks old.now new.now ≡ []) }
+    ensures { IsTrue result ↔ (type_rules.breaks old.now new.now ≡ []) }
 {
     if !keeps_whole(old, new) {
         return false;

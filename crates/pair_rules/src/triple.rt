@@ -3,7 +3,7 @@ ghost use Rattle.std.specs.Prelude.{◌++◌};
 ghost use Rattle.std.proofs.Common.{rules};
 ghost use Rattle.std.specs.Hash as fed;
 ghost use Rattle.std.specs.Cmp.Rules.{hashing};
-ghost use Rattle.pair_rules.specs.Steps.{is_pointer as the_way_is_pointer};
+ghost use Rattle.pair_rules.specs.Steps as spec;
 
 use abi_types::{Index, NewIx, OldIx, Way};
 use std::hash::{Hash, Hasher};
@@ -28,7 +28,7 @@ impl Model for Triple {
 }
 
 impl Hash for Triple {
-    ghost hash_input = { λ x. fed.usize x.old ++ fed.usize x.new ++ fed.bool (the_way_is_pointer x.way) };
+    ghost hash_input = { λ x. fed.usize x.old ++ fed.usize x.new ++ fed.bool (spec.is_pointer x.way) };
 
     ghost respects_eq = { Prim.search (hashing, rules) };
 

@@ -7,6 +7,7 @@ use crate::argument::place_argument;
 use crate::found::{Found, room_for};
 use crate::kinds::is_function;
 use crate::outcome::{outcome, registers_of_result};
+use crate::walks::Walks;
 use abi_base::{List, NoMemory};
 use abi_types::{Call, CallShape, Graph, Index};
 use std::alloc::Global;
@@ -17,6 +18,7 @@ fn shape_with<Ix: Index>(
     graph: &Graph<Ix>,
     ix: Ix,
     found: &mut [Found],
+    walks: &mut Walks,
 ) -> Result<Call, NoMemory>
     requires inside { Ix.number_of ix < length graph.now }
     requires right { IsRight graph.now found.now }
@@ -28,6 +30,7 @@ fn shape_with<Ix: Index>(
     if !is_function(view.kind) {
         return Ok(Call::none());
     }
+    walks.take_all(graph, ix, found)?;
     let mut params = List::new(alloc);
     let outcome = outcome(graph, ix, found);
     let mut taken = registers_of_result(&outcome);
@@ -41,26 +44,29 @@ fn shape_with<Ix: Index>(
 }
 
 /// Where a call of the node's function puts its result and its arguments: nowhere if the node is no function. It fails only if
-/// memory runs out.
+/// memory runs out, and where the walks to leaves take more steps than 64 for each node and 65,536 beside.
 pub fn call_shape<Ix: Index>(alloc: Global, graph: &Graph<Ix>, ix: Ix) -> Result<Call, NoMemory>
     requires { Ix.number_of ix < length graph.now }
     ensures { IfOk result (λ shape. shape ≡ call_of graph.now (Ix.number_of ix)) }
 {
     let mut found = room_for(alloc, graph.len())?;
-    shape_with(alloc, graph, ix, found.as_mut_slice())
+    let mut walks = Walks::over(alloc, graph)?;
+    shape_with(alloc, graph, ix, found.as_mut_slice(), &mut walks)
 }
 
 /// The call shapes of all nodes, each at the number of its node. It computes the alignment and the classes of each type once for
-/// all calls. It fails only if memory runs out.
+/// all calls. It fails only if memory runs out, and where the walks to leaves take more steps than 64 for each node and 65,536
+/// beside.
 pub fn call_shapes<Ix: Index>(alloc: Global, graph: &Graph<Ix>) -> Result<List<Call>, NoMemory>
     ensures shapes { IfOk result (λ shapes. shapes ≡ calls_of graph.now) }
     ensures many { IfOk result (λ shapes. length shapes ≡ length graph.now) }
 {
     let mut room = room_for(alloc, graph.len())?;
     let found = room.as_mut_slice();
+    let mut walks = Walks::over(alloc, graph)?;
     let mut shapes = List::new(alloc);
     for i in 0..graph.len() {
-        let shape = shape_with(alloc, graph, Ix::of(i), found)?;
+        let shape = shape_with(alloc, graph, Ix::of(i), found, &mut walks)?;
         shapes.push(shape)?;
     }
     Ok(shapes)

@@ -21,6 +21,7 @@ mod registers;
 mod rows;
 mod sizes;
 mod touching;
+mod walks;
 
 pub use alignment::{align, size};
 pub use calling::{call_shape, call_shapes};

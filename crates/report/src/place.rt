@@ -1,7 +1,8 @@
 // The printed form of the place of an argument or a result.
 ghost use Rattle.std.specs.Prelude.{◌≡◌, ◌<◌, ◌≤◌, ◌++◌, length, take, OnOk, count_by, string_bytes};
 ghost use Rattle.std.specs.List.{list_any};
-ghost use Rattle.report.specs.Places.{begins_register as the_slot_begins, general_word as the_general_word, is_used as the_slot_is_used, place_text, plus_behind, register_text, registers_text, same_register as the_registers_are_one, slot_at, slot_text, vector_text};
+ghost use Rattle.report.specs.Places.{place_text, plus_behind, register_text, registers_text, slot_at, slot_text, vector_text};
+ghost use Rattle.report.specs.Places as spec;
 
 use abi_types::{Place, Slot};
 use std::alloc::{AllocError, Global};
@@ -9,7 +10,7 @@ use std::fmt::Write;
 
 // The general register of each number that a slot may name.
 fn general_word(number: u8) -> &'static str
-    ensures { result.now ≡ the_general_word number }
+    ensures { result.now ≡ spec.general_word number }
 {
     match number {
         0 => "rdi",
@@ -25,7 +26,7 @@ fn general_word(number: u8) -> &'static str
 
 // Whether an eightbyte is in a register.
 fn is_used(slot: Slot) -> bool
-    ensures { result ≡ the_slot_is_used slot }
+    ensures { result ≡ spec.is_used slot }
 {
     match slot {
         Slot::Unused => false,
@@ -35,7 +36,7 @@ fn is_used(slot: Slot) -> bool
 
 // Whether two eightbytes are in one register.
 fn same_register(a: Slot, b: Slot) -> bool
-    ensures { result ≡ the_registers_are_one a b }
+    ensures { result ≡ spec.same_register a b }
 {
     match (a, b) {
         (Slot::General(m), Slot::General(n)) => m == n,
@@ -50,7 +51,7 @@ fn same_register(a: Slot, b: Slot) -> bool
 
 // How many of the slots are in the register of a slot.
 fn eightbytes_in(slots: &[Slot], slot: Slot) -> usize
-    ensures { result ≡ count_by (the_registers_are_one slot) slots.now }
+    ensures { result ≡ count_by (spec.same_register slot) slots.now }
 {
     slots
         .iter()
@@ -60,14 +61,14 @@ fn eightbytes_in(slots: &[Slot], slot: Slot) -> usize
 
 // Whether some of the slots is in the register of a slot.
 fn is_in_some(slots: &[Slot], slot: Slot) -> bool
-    ensures { result ≡ list_any (the_registers_are_one slot) slots.now }
+    ensures { result ≡ list_any (spec.same_register slot) slots.now }
 {
     slots.iter().any(|other| same_register(slot, *other))
 }
 
 // Whether some of the slots is in a register.
 fn are_some_used(slots: &[Slot]) -> bool
-    ensures { result ≡ list_any the_slot_is_used slots.now }
+    ensures { result ≡ list_any spec.is_used slots.now }
 {
     slots.iter().any(|slot| is_used(*slot))
 }
@@ -99,7 +100,7 @@ fn push_register(text: &mut String, slots: &[Slot], slot: Slot) -> Result<(), Al
 // Whether slot `k` is the first one of its register.
 fn begins_register(slots: &[Slot], k: usize) -> bool
     requires { k < length slots.now }
-    ensures { result ≡ the_slot_begins slots.now k }
+    ensures { result ≡ spec.begins_register slots.now k }
 {
     is_used(slots[k]) && !is_in_some(&slots[..k], slots[k])
 }

@@ -1,7 +1,8 @@
 // The text of rows in each style.
 ghost use Rattle.std.specs.Prelude.{◌≡◌, ◌++◌, ◌-◌, length, take, replicate, OnOk, IfOk, flat_map, codes, decimal};
 ghost use Rattle.abi_types.specs.Kinds.{rule_word};
-ghost use Rattle.report.specs.Render.{all_rules, at_left, at_right, columns, count_line, line_end, counts_text as the_counts_text, lines_text as the_lines_text, number_line, path_behind, path_or_dash, row_line, rows_of_rule as the_rows_of_rule, same_rule, table_line, table_text as the_table_text};
+ghost use Rattle.report.specs.Render.{all_rules, at_left, at_right, columns, count_line, line_end, number_line, path_behind, path_or_dash, row_line, same_rule, table_line};
+ghost use Rattle.report.specs.Render as spec;
 
 use crate::row::Row;
 use abi_base::NoMemory;
@@ -112,7 +113,7 @@ fn push_table_line(text: &mut Vec<u8>, row: &Row) -> Result<(), NoMemory>
 
 /// A line for each row.
 pub fn lines_text(alloc: Global, rows: &[Row]) -> Result<Vec<u8>, NoMemory>
-    ensures { IfOk result (λ text. text.items ≡ the_lines_text rows.now) }
+    ensures { IfOk result (λ text. text.items ≡ spec.lines_text rows.now) }
 {
     let mut text = Vec::new(alloc);
     for row in rows {
@@ -123,7 +124,7 @@ pub fn lines_text(alloc: Global, rows: &[Row]) -> Result<Vec<u8>, NoMemory>
 
 /// A line for each row, in columns.
 pub fn table_text(alloc: Global, rows: &[Row]) -> Result<Vec<u8>, NoMemory>
-    ensures { IfOk result (λ text. text.items ≡ the_table_text rows.now) }
+    ensures { IfOk result (λ text. text.items ≡ spec.table_text rows.now) }
 {
     let mut text = Vec::new(alloc);
     for row in rows {
@@ -168,7 +169,7 @@ fn rules() -> &'static [Rule]
 
 // How many rows there are of a rule.
 fn rows_of_rule(rows: &[Row], rule: Rule) -> usize
-    ensures { result ≡ the_rows_of_rule rows.now rule }
+    ensures { result ≡ spec.rows_of_rule rows.now rule }
 {
     rows.iter().filter(|row| row.rule == rule).count()
 }
@@ -213,7 +214,7 @@ fn push_counts(alloc: Global, text: &mut Vec<u8>, rows: &[Row]) -> Result<(), No
 /// How many rows there are of each rule that has some, in the order of the rules, and how many in all.
 #[tactic(auto, unfolding(crate::specs::Render::counts_text))]
 pub fn counts_text(alloc: Global, rows: &[Row]) -> Result<Vec<u8>, NoMemory>
-    ensures { IfOk result (λ text. text.items ≡ the_counts_text rows.now) }
+    ensures { IfOk result (λ text. text.items ≡ spec.counts_text rows.now) }
 {
     let mut text = Vec::new(alloc);
     push_counts(alloc, &mut text, rows)?;

@@ -2,7 +2,7 @@
 ghost use Rattle.std.specs.Prelude.{◌≡◌, ◌<◌, ◌+◌, ◌∷◌, ◌++◌, [], length, OnOk, codes, decimal, string_bytes};
 ghost use Rattle.std.specs.List.{concat};
 ghost use Rattle.abi_types.specs.Parts.{plain_part};
-ghost use Rattle.abi_types.specs.Sorts.{name_of as the_name_of};
+ghost use Rattle.abi_types.specs.Sorts as spec;
 ghost use Rattle.report.specs.Steps.{numbered, part_name, step_text};
 
 use abi_types::{Index, Part, View, push_shown};
@@ -12,7 +12,7 @@ use std::fmt::Write;
 
 // The name of a part, or nothing.
 fn name_of<'a, Ix: Index>(part: &Part<'a, Ix>) -> &'a [u8]
-    ensures { result.now ≡ the_name_of (plain_part Ix.number_of part.now) }
+    ensures { result.now ≡ spec.name_of (plain_part Ix.number_of part.now) }
 {
     match part {
         Part::Member { name, .. } => name,

@@ -1,6 +1,7 @@
 // The words for kinds of types and groups of scalars.
 ghost use Rattle.std.specs.Prelude.{◌≡◌};
-ghost use Rattle.report.specs.Words.{kind_of_type, group_word as the_group_word, yes_or_no as the_answer};
+ghost use Rattle.report.specs.Words.{kind_of_type};
+ghost use Rattle.report.specs.Words as spec;
 
 use abi_types::{Group, Kind};
 
@@ -23,7 +24,7 @@ pub fn kind_word(kind: Kind) -> &'static str
 
 /// The word for a group of scalars.
 pub fn group_word(group: Group) -> &'static str
-    ensures { result.now ≡ the_group_word group }
+    ensures { result.now ≡ spec.group_word group }
 {
     match group {
         Group::Bool => "bool",
@@ -38,7 +39,7 @@ pub fn group_word(group: Group) -> &'static str
 
 /// `yes` or `no`.
 pub fn yes_or_no(answer: bool) -> &'static str
-    ensures { result.now ≡ the_answer answer }
+    ensures { result.now ≡ spec.yes_or_no answer }
 {
     if answer { "yes" } else { "no" }
 }

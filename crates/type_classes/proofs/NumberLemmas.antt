@@ -13,7 +13,7 @@ use Rattle.std.proofs.lemmas.Option.{same_Some, none-some}
 use Rattle.abi_types.specs.Types.{PlainNode, PlainLabel, PlainView}
 use Rattle.abi_types.specs.Graphs.{node_at, view_at}
 use Rattle.abi_types.specs.ClassLooks.{Look, shape_of}
-use Rattle.type_classes.specs.declared.shapes.Spelling.{Spelling}
+use Rattle.type_classes.specs.declared.spelling.Spelling.{Spelling}
 use Rattle.type_classes.specs.Numbered.{Numbers, same_numbers, same_spelling, number_in, AreOneSpelling, IsSpellingOf, IsNumbered}
 use Rattle.type_classes.specs.Splits.{number_at, stands_beside, HaveSameKeys}
 use Rattle.type_classes.proofs.SpellingLemmas.{own_look, AreTold, AreSpelledAlike, same_from_spelling, spelling_from_same}

@@ -9,7 +9,7 @@ use Rattle.std.specs.declared.hash.BuildHasherDefault.{BuildHasherDefault}
 use Rattle.abi_types.specs.Types.{PlainNode}
 use Rattle.abi_types.specs.Graphs.{node_at}
 use Rattle.abi_types.specs.ClassLooks.{Look, shape_of}
-use Rattle.type_classes.specs.declared.shapes.Spelling.{Spelling}
+use Rattle.type_classes.specs.declared.spelling.Spelling.{Spelling}
 use Rattle.type_classes.specs.Shapes.{spelled, letters_of}
 
 -- the spelling is that of what is seen

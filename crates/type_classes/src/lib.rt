@@ -10,6 +10,7 @@ mod refine;
 mod reps;
 mod same;
 mod shapes;
+mod spelling;
 mod split;
 
 pub use classes::{Classes, alike, alike_beside, plain};

@@ -3,7 +3,7 @@ ghost use Rattle.std.specs.Prelude.{◌≡◌, ◌<◌, ◌↔◌, IsTrue, lengt
 ghost use Rattle.abi_types.specs.Graphs.{node_at};
 ghost use Rattle.abi_types.specs.Parts.{plain_part};
 ghost use Rattle.abi_types.specs.Plain.{plain_label};
-ghost use Rattle.pair_rules.specs.Same.{same_place as the_places_are_same};
+ghost use Rattle.pair_rules.specs.Same as spec;
 ghost use Rattle.type_classes.specs.Same.{HaveSameHeads};
 
 use abi_types::{Call, Graph, Group, Index, Kind, Label, LabelKind, Part, Place, View};
@@ -40,7 +40,7 @@ fn same_label_kind(one: LabelKind, other: LabelKind) -> bool
 }
 
 fn same_place(one: Place, other: Place) -> bool
-    ensures { result ≡ the_places_are_same one other }
+    ensures { result ≡ spec.same_place one other }
 {
     one == other
 }

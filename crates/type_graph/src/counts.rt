@@ -21,8 +21,8 @@ use type_reach::{
     summary_by_number, types_at,
 };
 
-// What is left of a number, less `many`.
-fn taken(left: usize, many: usize) -> Result<usize, NoMemory>
+/// What is left of a number, less `many`.
+pub(crate) fn taken(left: usize, many: usize) -> Result<usize, NoMemory>
     ensures { IfOk result (λ rest. rest + many ≡ left) }
 {
     if left < many {

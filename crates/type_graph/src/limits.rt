@@ -23,3 +23,10 @@ pub(crate) const PARTS_AN_ENTRY: usize = 4;
 
 /// How many more it may have, however few entries it has.
 pub(crate) const PARTS_AT_LEAST: usize = 16_384;
+
+/// How many names a library's types may have for each type. A type has its own name and those of the typedefs that lead to it.
+pub(crate) const LABELS_A_TYPE: usize = 16;
+
+/// How many more they may have, however few types there are. A chain of 512 typedefs, the longest that there may be, has 131,328
+/// names.
+pub(crate) const LABELS_AT_LEAST: usize = 262_144;

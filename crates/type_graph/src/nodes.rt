@@ -9,8 +9,10 @@ ghost use Rattle.type_graph.specs.Nodes.{made_nodes};
 ghost use Rattle.type_graph.specs.Sharing.{first_node};
 ghost use Rattle.type_graph.specs.Sharing as sharing_spec;
 
+use crate::counts::taken;
 use crate::judged::JudgedTypes;
 use crate::labels::labels_of;
+use crate::limits::{LABELS_A_TYPE, LABELS_AT_LEAST};
 use crate::sharing::share_parts;
 use crate::views::view;
 use abi_base::{List, NoMemory};
@@ -57,6 +59,13 @@ fn node<'a, Ix: Index>(
     })
 }
 
+// How many labels so many types may have in all.
+fn most_labels(types: usize) -> usize {
+    types
+        .saturating_mul(LABELS_A_TYPE)
+        .saturating_add(LABELS_AT_LEAST)
+}
+
 // The nodes of void and of all that was found. A node whose core is another entry has no parts yet.
 fn first_nodes<'a, Ix: Index>(
     alloc: Global,
@@ -70,9 +79,12 @@ fn first_nodes<'a, Ix: Index>(
 {
     let mut nodes = List::of(Vec::with_capacity(alloc, types.found.len() + 1)?);
     nodes.push(node(alloc, types, None)?)?;
+    let mut left = most_labels(types.found.len());
     'found: for number in 0..types.found.len() {
         let e = types.found.at(number);
-        nodes.push(node(alloc, types, Some(e))?)?;
+        let made = node(alloc, types, Some(e))?;
+        left = taken(left, made.labels.as_slice().len())?;
+        nodes.push(made)?;
     }
     Ok(nodes)
 }

@@ -1,13 +1,14 @@
 // The structure of a tag.
 ghost use Rattle.std.specs.Prelude.{◌≡◌, ◌<◌, ℕ, length, IfSome, IfNone};
 ghost use Rattle.std.specs.Option.{option_map, ForSome};
-ghost use Rattle.type_print.specs.Structures.{has_layout as the_view_has_layout, is_structure as the_kind_is_structure, IsFirstTagged, IsUntagged};
+ghost use Rattle.type_print.specs.Structures.{IsFirstTagged, IsUntagged};
+ghost use Rattle.type_print.specs.Structures as spec;
 ghost use Rattle.type_print.specs.Searches.{earlier_of, found_of};
 
 use abi_types::{Graph, Index, Kind, View};
 
 fn is_structure(kind: Kind) -> bool
-    ensures { result ≡ the_kind_is_structure kind }
+    ensures { result ≡ spec.is_structure kind }
 {
     match kind {
         Kind::Structure => true,
@@ -17,7 +18,7 @@ fn is_structure(kind: Kind) -> bool
 
 // Whether the type is a structure that is defined, and has this tag.
 fn has_layout<Ix: Index>(view: &View<Ix>, tag: &[u8]) -> bool
-    ensures { result ≡ the_view_has_layout view.now tag.now }
+    ensures { result ≡ spec.has_layout view.now tag.now }
 {
     is_structure(view.kind) && !view.declared_only && view.tag == tag
 }

@@ -1,7 +1,8 @@
 // Rows of members that do not overlap and end inside: each bit stands in one of them.
 ghost use Rattle.std.specs.Prelude.{◌≡◌, ◌<◌, ◌≤◌, ◌+◌, ◌^◌, ◌++◌, List, IfOk, OnOk, length, drop, max};
 ghost use Rattle.type_print.specs.declared.extent.Extent.{Extent as Stand};
-ghost use Rattle.type_print.specs.Members.{member_at, row_of as the_row_of, AreInOrder};
+ghost use Rattle.type_print.specs.Members.{member_at, AreInOrder};
+ghost use Rattle.type_print.specs.Members as spec;
 ghost use Rattle.type_print.specs.Rows.{AreExactly, Fits, IsFittingRow, key_of};
 ghost use Rattle.type_print.specs.Sweeps.{gap_end, gap_row, next_bit, padding_rows, FitsFrom, IsSwept};
 
@@ -12,7 +13,7 @@ use std::alloc::Global;
 
 /// The row of a member.
 pub fn row_of(member: &Extent) -> LayoutRow
-    ensures { result ≡ the_row_of member.now }
+    ensures { result ≡ spec.row_of member.now }
 {
     LayoutRow::Member {
         part: member.part,

@@ -2,8 +2,8 @@
 ghost use Rattle.std.specs.Prelude.{◌≡◌, ◌<◌, ◌++◌, length, IfOk, OnOk, flat_map, string_bytes};
 ghost use Rattle.std.specs.List.{list_any};
 ghost use Rattle.abi_types.specs.Parts.{plain_part};
-ghost use Rattle.abi_types.specs.Sorts.{name_of as the_name_of};
-ghost use Rattle.type_print.specs.Rows.{is_clash as the_row_is_clash};
+ghost use Rattle.abi_types.specs.Sorts as sorts;
+ghost use Rattle.type_print.specs.Rows as rows_spec;
 ghost use Rattle.type_print.specs.Texts.{bits_text, head_line, layout_text, marked, name_at, numbered, row_line, AreInside, IsInside};
 
 use crate::row::LayoutRow;
@@ -14,7 +14,7 @@ use std::fmt::Write;
 
 // The name of a part, or nothing.
 fn name_of<'a, Ix: Index>(part: &Part<'a, Ix>) -> &'a [u8]
-    ensures { result.now ≡ the_name_of (plain_part Ix.number_of part.now) }
+    ensures { result.now ≡ sorts.name_of (plain_part Ix.number_of part.now) }
 {
     match part {
         Part::Member { name, .. } => name,
@@ -98,7 +98,7 @@ fn push_row<Ix: Index>(
 
 // Whether the row says that members overlap, or that one ends outside.
 fn is_clash(row: &LayoutRow) -> bool
-    ensures { result ≡ the_row_is_clash row.now }
+    ensures { result ≡ rows_spec.is_clash row.now }
 {
     match row {
         LayoutRow::Overlap { .. } => true,
@@ -109,7 +109,7 @@ fn is_clash(row: &LayoutRow) -> bool
 
 // Whether a row says so.
 fn has_clash(rows: &[LayoutRow]) -> bool
-    ensures { result ≡ list_any the_row_is_clash rows.now }
+    ensures { result ≡ list_any rows_spec.is_clash rows.now }
 {
     rows.iter().any(|row| is_clash(row))
 }

@@ -2,7 +2,8 @@
 ghost use Rattle.std.specs.Prelude.{◌≡◌, ◌==◌, ◌&&◌, ◌++◌, List, IfOk, length, map};
 ghost use Rattle.std.specs.List.Sorted.{IsPermutation, IsSorted};
 ghost use Rattle.type_print.specs.declared.extent.Extent.{Extent as Stand};
-ghost use Rattle.type_print.specs.Members.{extent_cmp, row_of as the_row_of, AreInOrder, AreNamed, AreNumbered};
+ghost use Rattle.type_print.specs.Members.{extent_cmp, AreInOrder, AreNamed, AreNumbered};
+ghost use Rattle.type_print.specs.Members as spec;
 ghost use Rattle.type_print.specs.Rows.{AreRows};
 
 use crate::extent::Extent;
@@ -27,7 +28,7 @@ fn clashing_rows(
     overlaps: &[LayoutRow],
     outsides: &[LayoutRow],
 ) -> Result<Vec<LayoutRow>, NoMemory>
-    ensures { IfOk result (λ rows. rows.items ≡ (map the_row_of members.now ++ overlaps.now) ++ outsides.now) }
+    ensures { IfOk result (λ rows. rows.items ≡ (map spec.row_of members.now ++ overlaps.now) ++ outsides.now) }
 {
     let mut rows = Vec::new(alloc);
     for member in members {

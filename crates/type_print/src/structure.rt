@@ -3,7 +3,8 @@ ghost use Rattle.std.specs.Prelude.{◌≡◌, ◌<◌, ◌≤◌, ◌^◌, ℕ,
 ghost use Rattle.abi_types.specs.Graphs.{part_at, to_of, view_at};
 ghost use Rattle.abi_types.specs.Parts.{plain_part};
 ghost use Rattle.type_print.specs.Laws.{CoverEachBitOnce, IsClean, NameClashes};
-ghost use Rattle.type_print.specs.Structures.{bits_at, bits_of as the_bits_of, extent_in, members_at, members_of as the_members_of, width_in, AreRowsAt};
+ghost use Rattle.type_print.specs.Structures.{bits_at, extent_in, members_at, width_in, AreRowsAt};
+ghost use Rattle.type_print.specs.Structures as spec;
 ghost use Rattle.type_print.specs.Texts.{AreInside};
 
 use crate::extent::Extent;
@@ -16,7 +17,7 @@ use std::alloc::Global;
 // The size of a type in bits.
 fn bits_of<Ix: Index>(view: &View<Ix>) -> u64
     requires { view.now.size ≤ 2 ^ 60 }
-    ensures { result ≡ the_bits_of view.now }
+    ensures { result ≡ spec.bits_of view.now }
 {
     8 * view.size
 }
@@ -60,7 +61,7 @@ fn members_of<Ix: Index>(
     view: &View<Ix>,
 ) -> Result<Vec<Extent>, NoMemory>
     requires { (k to : ℕ) → to_of (part_at view.now k) ≡ Some to → to < length graph.now }
-    ensures { IfOk result (λ members. members.items ≡ the_members_of graph.now view.now) }
+    ensures { IfOk result (λ members. members.items ≡ spec.members_of graph.now view.now) }
 {
     let mut members = Vec::new(alloc);
     for position in 0..view.parts_len() {

@@ -1,6 +1,7 @@
 // Which listeners hear the report.
 ghost use Rattle.std.specs.Prelude.{◌≡◌, [], List, map, filter, All, IfOk};
-ghost use Rattle.report.specs.styles.Wanted.{is_wanted as the_style_is_wanted, wanted_voices};
+ghost use Rattle.report.specs.styles.Wanted.{wanted_voices};
+ghost use Rattle.report.specs.styles.Wanted as spec;
 
 use crate::{Listener, Style};
 use abi_base::NoMemory;
@@ -23,7 +24,7 @@ pub enum ReportStyle {
 
 // Whether the caller wants a listener of the style.
 fn is_wanted(wanted: ReportStyle, style: Style) -> bool
-    ensures { result ≡ the_style_is_wanted wanted style }
+    ensures { result ≡ spec.is_wanted wanted style }
 {
     match (wanted, style) {
         (ReportStyle::Text, Style::Text) => true,
@@ -50,7 +51,7 @@ pub fn wanted_listeners(
 ) -> Result<Vec<Box<dyn Listener>>, NoMemory>
     requires { All (λ listener. heard listener ≡ []) listeners.items }
     ensures unheard { IfOk result (λ kept. All (λ listener. heard listener ≡ []) kept.items) }
-    ensures kept { IfOk result (λ kept. kept.items ≡ filter (λ listener. the_style_is_wanted wanted (voice listener).style) listeners.items) }
+    ensures kept { IfOk result (λ kept. kept.items ≡ filter (λ listener. spec.is_wanted wanted (voice listener).style) listeners.items) }
     ensures voices { IfOk result (λ kept. map voice kept.items ≡ wanted_voices wanted (map voice listeners.items)) }
 {
     let mut waiting = listeners;

@@ -1,4 +1,4 @@
--- The nodes before this one have the marks of those that stand for them.
+-- Each node before this one has the marks of its representative.
 use Rattle.pair_explorer.proofs.Scoped.{AreEvenBelow}
 use Rattle.pair_explorer.proofs.scopes.are_even.Given as goal
 

@@ -8,7 +8,7 @@ node-requires-in-found-clause-there g c = slice_get_contains c.args.types.now.fo
 
 pub found-preserved : goal.found-preserved
 found-preserved g c =
-    node-more c.args.types.now.dwarf.now c.args.types.now.found.now c.found.nodes c.push-in-found.new.self c.found.number c.at-e.result _ c.found.invariant c.at-e.ensures c.in_ok-node-2.ensures c.in_ok-push-2.ensures.ok
+    node-more c.args.types.now.dwarf.now c.args.types.now.found.now c.found.nodes c.push-in-found.new.self c.found.number c.at-e.result _ c.found.invariant c.at-e.ensures c.in_ok-made.ensures c.in_ok-push-2.ensures.ok
 
 pub returns : goal.returns
 returns g c = nodes-end c.args.types.now.dwarf.now c.args.types.now.found.now c.found.nodes c.found.number c.found.invariant (omega (arith, c.found-test.false, c.len-number-end.ensures))

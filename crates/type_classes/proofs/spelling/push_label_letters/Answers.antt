@@ -2,7 +2,7 @@
 use Rattle.abi_types.specs.Plain.{plain_label}
 use Rattle.type_classes.specs.Shapes.{letters_of_label}
 use Rattle.type_classes.proofs.ShapeLemmas.{letters_more_at, letters_all}
-use Rattle.type_classes.proofs.shapes.push_label_letters.Goals as goal
+use Rattle.type_classes.proofs.spelling.push_label_letters.Goals as goal
 
 pub labels-preserved : goal.labels-preserved
 labels-preserved c =

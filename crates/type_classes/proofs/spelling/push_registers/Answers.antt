@@ -2,7 +2,7 @@
 use Rattle.std.proofs.Common.{◌≡◌, ◌∙◌, ℕ, List, [], ◌∷◌, ◌++◌, length, get_or, ap, arith}
 use Rattle.abi_types.specs.declared.place.Slot.{Slot}
 use Rattle.type_classes.specs.Shapes.{spelled_list, spelled_slot, slot_number}
-use Rattle.type_classes.proofs.shapes.push_registers.Goals as goal
+use Rattle.type_classes.proofs.spelling.push_registers.Goals as goal
 
 -- a list of eight slots is spelled by the number of the slot at each place
 eight_slots : (xs : List Slot) (d : Slot) (n0 n1 n2 n3 n4 n5 n6 n7 : ℕ) → length xs ≡ 8

@@ -3,7 +3,7 @@ use Rattle.std.proofs.Common.{length}
 use Rattle.abi_types.specs.Plain.{plain_label}
 use Rattle.type_classes.specs.Shapes.{spelled_label}
 use Rattle.type_classes.proofs.ShapeLemmas.{list_more_map_at, list_all_map}
-use Rattle.type_classes.proofs.shapes.push_labels.Goals as goal
+use Rattle.type_classes.proofs.spelling.push_labels.Goals as goal
 
 pub labels-preserved : goal.labels-preserved
 labels-preserved c =

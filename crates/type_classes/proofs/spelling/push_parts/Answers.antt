@@ -3,7 +3,7 @@ use Rattle.std.proofs.Common.{length}
 use Rattle.abi_types.specs.Parts.{plain_part}
 use Rattle.type_classes.specs.Shapes.{spelled_part}
 use Rattle.type_classes.proofs.ShapeLemmas.{list_more_map, list_all_map}
-use Rattle.type_classes.proofs.shapes.push_parts.Goals as goal
+use Rattle.type_classes.proofs.spelling.push_parts.Goals as goal
 
 pub parts-preserved : goal.parts-preserved
 parts-preserved g c =

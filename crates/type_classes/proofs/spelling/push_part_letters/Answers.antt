@@ -3,7 +3,7 @@ use Rattle.std.proofs.Common.{ℕ, List, ◌++◌, ap, ◌∙◌}
 use Rattle.abi_types.specs.Parts.{plain_part}
 use Rattle.type_classes.specs.Shapes.{letters_of_part}
 use Rattle.type_classes.proofs.ShapeLemmas.{letters_more, letters_all}
-use Rattle.type_classes.proofs.shapes.push_part_letters.Goals as goal
+use Rattle.type_classes.proofs.spelling.push_part_letters.Goals as goal
 
 pub parts-preserved : goal.parts-preserved
 parts-preserved g c =

@@ -1,0 +1,83 @@
+// How much the types of a library may hold, where each type counts all that it is compared by. A small file may ask for very much:
+// each typedef of a structure is compared by all of its members, and names may share their bytes.
+use abi_base::NoMemory;
+use abi_types::{Graph, Index, Label, Part, View};
+
+// How many parts types may have for each byte of the file. A member takes some ten bytes and stands in three or four types.
+const PARTS_A_BYTE: usize = 2;
+
+// How many more they may have, however small the file is.
+const PARTS_AT_LEAST: usize = 65_536;
+
+// How many letters the names of types and parts may have, for each byte of the file.
+const LETTERS_A_BYTE: usize = 32;
+
+// How many more they may have, however small the file is.
+const LETTERS_AT_LEAST: usize = 1_048_576;
+
+// How many parts and letters are left.
+#[derive(Drop)]
+struct Room {
+    parts: usize,
+    letters: usize,
+}
+
+// What is left of a number, less `many`.
+fn taken(left: usize, many: usize) -> Result<usize, NoMemory> {
+    if many > left {
+        return Err(NoMemory);
+    }
+    Ok(left - many)
+}
+
+// How many letters the name of a part has.
+fn letters_of<Ix: Index>(part: &Part<Ix>) -> usize {
+    match part {
+        Part::Member { name, .. } | Part::Enumerator { name, .. } => name.len(),
+        Part::Target { .. } | Part::Element { .. } | Part::Outcome { .. } | Part::Param { .. } => 0,
+    }
+}
+
+impl Room {
+    // The room of the types of a file with so many bytes.
+    fn beside(bytes: usize) -> Room {
+        Room {
+            parts: bytes
+                .saturating_mul(PARTS_A_BYTE)
+                .saturating_add(PARTS_AT_LEAST),
+            letters: bytes
+                .saturating_mul(LETTERS_A_BYTE)
+                .saturating_add(LETTERS_AT_LEAST),
+        }
+    }
+
+    // Takes the room of a view. It fails where less is left.
+    fn take_view<Ix: Index>(&mut self, view: &View<Ix>) -> Result<(), NoMemory> {
+        let parts = view.parts.as_slice();
+        self.parts = taken(self.parts, parts.len())?;
+        self.letters = taken(self.letters, view.tag.len())?;
+        for part in parts {
+            self.letters = taken(self.letters, letters_of(part))?;
+        }
+        Ok(())
+    }
+
+    // Takes the room of labels. It fails where less is left.
+    fn take_labels(&mut self, labels: &[Label]) -> Result<(), NoMemory> {
+        for label in labels {
+            self.letters = taken(self.letters, label.name.len())?;
+        }
+        Ok(())
+    }
+}
+
+/// Fails where the types of a file with so many bytes have more parts, or longer names, than they may have.
+pub(crate) fn ask_room<Ix: Index>(bytes: usize, graph: &Graph<Ix>) -> Result<(), NoMemory> {
+    let mut room = Room::beside(bytes);
+    for number in 0..graph.len() {
+        let ix = Ix::of(number);
+        room.take_view(graph.view(ix))?;
+        room.take_labels(graph.labels(ix))?;
+    }
+    Ok(())
+}

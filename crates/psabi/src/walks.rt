@@ -1,0 +1,143 @@
+// How many steps the walks to the leaves of objects take. Types may hold one another many times over, so that few of them have
+// far more leaves than the file has bytes: steps are counted before they are taken.
+ghost use Rattle.std.specs.Prelude.{◌≡◌, ◌<◌, length};
+ghost use Rattle.psabi.specs.Found.{IsRight};
+
+use crate::found::{Found, found_at};
+use crate::kinds::is_aggregate;
+use crate::overlong_members::ends_past;
+use crate::sizes::OBJECT_LIMIT;
+use abi_base::NoMemory;
+use abi_types::{Graph, Index, Kind, View};
+use std::alloc::Global;
+
+/// How many steps the walks of a library may take for each of its nodes. An object in registers has at most 64 bytes, so that few
+/// types have more leaves, and few types are passed by value at all.
+const STEPS_A_NODE: u64 = 64;
+
+/// How many more they may take, however few nodes it has.
+const STEPS_AT_LEAST: u64 = 65_536;
+
+/// The steps that walks need, and the steps that are left.
+#[derive(Drop)]
+pub struct Walks {
+    // How many steps the walk over each node's object takes, 0 where they are not counted yet.
+    steps: Vec<u64>,
+    left: u64,
+}
+
+// How many steps the walk over the node's object takes, 0 if they are not counted yet.
+fn steps_at<Ix: Index>(ix: Ix, steps: &[u64]) -> u64 {
+    let number = ix.number();
+    if number < steps.len() {
+        return steps[number];
+    }
+    0
+}
+
+// Keeps how many steps the walk over the node's object takes, and returns it.
+fn keep_steps<Ix: Index>(ix: Ix, count: u64, steps: &mut [u64]) -> u64
+    ensures { result ≡ count }
+{
+    let number = ix.number();
+    if number < steps.len() {
+        steps[number] = count;
+    }
+    count
+}
+
+// How often the walk over an aggregate goes over each of its parts.
+fn times_each<Ix: Index>(view: &View<Ix>) -> u64 {
+    match view.kind {
+        Kind::Array => view.count,
+        _ => 1,
+    }
+}
+
+// How many steps the walk over the node's object takes: one, and those of all that stands inside it. It counts each type once,
+// and calls itself at most 513 deep, since no rank is above 512.
+fn steps_of<Ix: Index>(graph: &Graph<Ix>, ix: Ix, steps: &mut [u64]) -> u64
+    requires { Ix.number_of ix < length graph.now }
+{
+    graph.known();
+    let view = graph.view(ix);
+    if view.size == 0 || !is_aggregate(view.kind) {
+        return 1;
+    }
+    let counted = steps_at(ix, steps);
+    if counted != 0 {
+        return counted;
+    }
+    let mut inside: u64 = 0;
+    for k in 0..view.parts_len() {
+        if let Some(to) = view.part(k).inner() {
+            let inner = steps_of(graph, to, steps);
+            inside = inside.saturating_add(inner);
+        }
+    }
+    let all = inside.saturating_mul(times_each(view));
+    keep_steps(ix, all.saturating_add(1), steps)
+}
+
+impl Walks {
+    /// The walks over the objects of a graph, none of which is taken yet.
+    pub fn over<Ix: Index>(alloc: Global, graph: &Graph<Ix>) -> Result<Walks, NoMemory> {
+        let steps = Vec::from_elem(alloc, 0, graph.len())?;
+        let most = (graph.len() as u64).saturating_mul(STEPS_A_NODE);
+        Ok(Walks {
+            steps,
+            left: most.saturating_add(STEPS_AT_LEAST),
+        })
+    }
+
+    // Takes the steps of the walk over the node's object, if its classes need one and are not known. It fails where fewer steps
+    // are left.
+    fn take<Ix: Index>(
+        &mut self,
+        graph: &Graph<Ix>,
+        ix: Ix,
+        found: &mut [Found],
+    ) -> Result<(), NoMemory>
+        requires inside { Ix.number_of ix < length graph.now }
+        requires right { IsRight graph.now found.now }
+        ensures right { IsRight graph.now found.new }
+    {
+        let view = graph.view(ix);
+        if view.size > OBJECT_LIMIT || !is_aggregate(view.kind) {
+            return Ok(());
+        }
+        if found_at(ix, found).classes.is_some() {
+            return Ok(());
+        }
+        if ends_past(graph, ix, found) {
+            return Ok(());
+        }
+        let steps = steps_of(graph, ix, self.steps.as_mut_slice());
+        if steps > self.left {
+            return Err(NoMemory);
+        }
+        self.left -= steps;
+        Ok(())
+    }
+
+    /// Takes the steps of the walks over what a call of the node's function passes. It fails where fewer steps are left.
+    pub fn take_all<Ix: Index>(
+        &mut self,
+        graph: &Graph<Ix>,
+        ix: Ix,
+        found: &mut [Found],
+    ) -> Result<(), NoMemory>
+        requires inside { Ix.number_of ix < length graph.now }
+        requires right { IsRight graph.now found.now }
+        ensures right { IsRight graph.now found.new }
+    {
+        graph.known();
+        let view = graph.view(ix);
+        for k in 0..view.parts_len() {
+            if let Some(to) = view.part(k).to() {
+                self.take(graph, to, found)?;
+            }
+        }
+        Ok(())
+    }
+}
