@@ -46,10 +46,9 @@ unfolding Reads is_found
 searches r text source config known is bytes fit =
     rw (read_as_text text is) (by_reading (read bytes_config (chars text)) r.pattern.program.hir _ bytes fit (rw (source, config) at known))
 
-pub is_pattern-read : (r : Regex) (text : List ℕ) → regex_source r ≡ text → regex_config r ≡ bytes_config → IsReadFromSource r → is_utf8 text ≡ true → is_pattern text ≡ true
+pub is_pattern-read : (text : List ℕ) (hir : Hir) (names : Names) → Reads bytes_config text hir names → is_utf8 text ≡ true → is_pattern text ≡ true
 unfolding Reads is_pattern
-is_pattern-read r text source config known is =
-    rw (read_as_text text is) (well_by_reading (read bytes_config (chars text)) r.pattern.program.hir _ (rw (source, config) at known))
+is_pattern-read text hir names known is = rw (read_as_text text is) (well_by_reading (read bytes_config (chars text)) hir names known)
 
 too_deep : (o : Option (Nested Re × Names)) → (o ≡ None) ⊎ IfSome o (λ (re, _). nest_limit < re.depth) → nests_well o ≡ false
 too_deep None none = refl

@@ -1,11 +1,11 @@
--- The value of a property in the code.
+-- What bytes are compared with in the code.
 use Rattle.std.specs.Prelude.{ℕ, Bool, true, false, List}
 use Rattle.suppression_text.specs.declared.property.Value.{Value}
 use Rattle.suppression_text.specs.declared.property.Value.TheVariants.{Text, Pattern}
 
 -- its text
 abbrev pub value_text : Value → List ℕ
-value_text (Text bytes) = bytes.items
+value_text (Text bytes) = bytes.now
 value_text (Pattern text) = text
 
 abbrev pub is_pattern_value : Value → Bool

@@ -2,11 +2,12 @@
 ghost use Rattle.std.specs.Prelude.{◌≡◌, ◌<◌, ◌≤◌, ◌+◌, ◌++◌, [], length, count_by, IfOk, OnOk};
 ghost use Rattle.abi_base.specs.declared.fault.FaultKind.TheVariants as kind;
 ghost use Rattle.abi_base.specs.Outcome.{Judges};
-ghost use Rattle.suppression_text.specs.Keys.{section_named as the_section_named, key_named as the_key_named};
+ghost use Rattle.suppression_text.specs.Keys as keys;
 ghost use Rattle.suppression_text.specs.Lines.{is_feed};
 ghost use Rattle.suppression_text.specs.PlainLines.{plain_line};
 ghost use Rattle.suppression_text.specs.Rules.{plain_property, keyed, headed};
-ghost use Rattle.suppression_text.specs.Faults.{fault_at, line_at, last_of, has_brace as it_has_brace, text_fault as the_text_fault, checked_fault, key_fault, property_fault, head_fault, form_fault};
+ghost use Rattle.suppression_text.specs.Faults.{fault_at, line_at, last_of, checked_fault, key_fault, property_fault, head_fault, form_fault};
+ghost use Rattle.suppression_text.specs.Faults as faults;
 ghost use Rattle.suppression_text.specs.Steps.{with_properties, with_form};
 
 use crate::key::{Key, has_pattern, key_named, may_be, may_have, section_named};
@@ -49,7 +50,7 @@ fn fault_from(bytes: &[u8], at: usize) -> Fault
 
 /// What is wrong with a text as a whole: it is no UTF-8.
 pub fn text_fault(bytes: &[u8]) -> Option<Fault>
-    ensures { result ≡ the_text_fault bytes.now }
+    ensures { result ≡ faults.text_fault bytes.now }
 {
     match str::from_utf8(bytes) {
         Ok(_) => None,
@@ -58,7 +59,7 @@ pub fn text_fault(bytes: &[u8]) -> Option<Fault>
 }
 
 fn has_brace(value: &[u8]) -> bool
-    ensures { result ≡ it_has_brace value.now }
+    ensures { result ≡ faults.has_brace value.now }
 {
     value.iter().any(|byte| *byte == b'{')
 }
@@ -116,7 +117,7 @@ fn put_property(
     name: &[u8],
     value: &[u8],
 ) -> Result<(), Refusal>
-    ensures put { OnOk result (sections.new.items ≡ with_properties sections.old.items (last_of sections.old.items) (keyed (the_key_named name.now) value.now)) }
+    ensures put { OnOk result (sections.new.items ≡ with_properties sections.old.items (last_of sections.old.items) (keyed (keys.key_named name.now) value.now)) }
     ensures fault { Judges result (property_fault number (last_of sections.old.items) name.now value.now) }
 {
     if name.is_empty() || value.is_empty() || sections.is_empty() {
@@ -138,7 +139,7 @@ fn put_head(
     number: u64,
     name: &[u8],
 ) -> Result<(), Refusal>
-    ensures put { OnOk result (sections.new.items ≡ sections.old.items ++ headed number (the_section_named name.now) []) }
+    ensures put { OnOk result (sections.new.items ≡ sections.old.items ++ headed number (keys.section_named name.now) []) }
     ensures fault { Judges result (head_fault number name.now) }
 {
     match section_named(name) {

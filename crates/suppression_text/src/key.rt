@@ -1,7 +1,8 @@
 // Sections of a rule file and their properties, by name.
 ghost use Rattle.std.specs.Prelude.{◌≡◌};
 ghost use Rattle.std.specs.Str.{bytes_eq};
-ghost use Rattle.suppression_text.specs.Keys.{section_named as the_section_named, key_named as the_key_named, has_pattern as it_has_pattern, has_key, is_type_word as it_is_type_word, is_way_word as it_is_way_word, takes_value};
+ghost use Rattle.suppression_text.specs.Keys.{has_key, takes_value};
+ghost use Rattle.suppression_text.specs.Keys as spec;
 
 /// What a section of a rule file speaks of.
 #[derive(Clone, Copy, Debug, PartialEq, Eq)]
@@ -51,7 +52,7 @@ fn is_same(one: &[u8], other: &[u8]) -> bool
 /// The kind of the sections of a name.
 #[tactic(auto, unfolding(crate::specs::Keys::section_named))]
 pub fn section_named(name: &[u8]) -> Option<SectionKind>
-    ensures { result ≡ the_section_named name.now }
+    ensures { result ≡ spec.section_named name.now }
 {
     if is_same(name, b"suppress_function") {
         return Some(SectionKind::Functions);
@@ -68,7 +69,7 @@ pub fn section_named(name: &[u8]) -> Option<SectionKind>
 /// The property of a name.
 #[tactic(auto, unfolding(crate::specs::Keys::key_named))]
 pub fn key_named(name: &[u8]) -> Option<Key>
-    ensures { result ≡ the_key_named name.now }
+    ensures { result ≡ spec.key_named name.now }
 {
     if is_same(name, b"label") {
         return Some(Key::Label);
@@ -108,7 +109,7 @@ pub fn key_named(name: &[u8]) -> Option<Key>
 
 /// Whether the value of a property is a pattern.
 pub fn has_pattern(key: Key) -> bool
-    ensures { result ≡ it_has_pattern key }
+    ensures { result ≡ spec.has_pattern key }
 {
     match key {
         Key::NameRegexp
@@ -140,7 +141,7 @@ pub fn may_have(kind: SectionKind, key: Key) -> bool
 // Whether a kind of types has this word.
 #[tactic(auto, unfolding(crate::specs::Keys::is_type_word))]
 fn is_type_word(word: &[u8]) -> bool
-    ensures { result ≡ it_is_type_word word.now }
+    ensures { result ≡ spec.is_type_word word.now }
 {
     is_same(word, b"struct")
         || is_same(word, b"union")
@@ -152,7 +153,7 @@ fn is_type_word(word: &[u8]) -> bool
 // Whether a way has this word.
 #[tactic(auto, unfolding(crate::specs::Keys::is_way_word))]
 fn is_way_word(word: &[u8]) -> bool
-    ensures { result ≡ it_is_way_word word.now }
+    ensures { result ≡ spec.is_way_word word.now }
 {
     is_same(word, b"direct") || is_same(word, b"pointer")
 }

@@ -13,7 +13,7 @@ mod section;
 
 pub use abi_base::Refusal as RuleRefusal;
 pub use key::{Key, SectionKind};
-pub use property::{Property, Test};
+pub use property::{CompiledProperty, Property, Test};
 pub use reading::read_rules;
 pub use rules::Rules;
 pub use section::Section;

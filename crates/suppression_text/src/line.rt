@@ -1,7 +1,8 @@
 // The lines of a rule file, and what each one is.
 ghost use Rattle.std.specs.Prelude.{◌≡◌, ◌<◌, ◌≤◌, ◌-◌, ◌∷◌, [], length, take, drop, position, Some, None, MatchOption};
 ghost use Rattle.std.specs.Str.Lines.{lines, strip_carriage_return};
-ghost use Rattle.suppression_text.specs.Lines.{is_blank as it_is_blank, is_feed, is_equals, without_front as the_rest_without_front, without_end as the_rest_without_end, trimmed as the_trimmed, is_comment as it_is_comment, is_head as it_is_head, inside as the_inside, property_form, form_of};
+ghost use Rattle.suppression_text.specs.Lines.{is_feed, is_equals, property_form, form_of};
+ghost use Rattle.suppression_text.specs.Lines as spec;
 ghost use Rattle.suppression_text.specs.PlainLines.{plain_line};
 
 /// What a line is.
@@ -91,14 +92,14 @@ pub fn first_line(text: &[u8]) -> Option<FirstLine>
 
 // Whether a byte is a space or a tab.
 fn is_blank(byte: u8) -> bool
-    ensures { result ≡ it_is_blank byte }
+    ensures { result ≡ spec.is_blank byte }
 {
     byte == b' ' || byte == b'\t'
 }
 
 // A text without the blanks at its front.
 fn without_front(text: &[u8]) -> &[u8]
-    ensures { result.now ≡ the_rest_without_front text.now }
+    ensures { result.now ≡ spec.without_front text.now }
 {
     let mut at = 0;
     'blanks: while at < text.len() {
@@ -113,7 +114,7 @@ fn without_front(text: &[u8]) -> &[u8]
 
 // A text without the blanks at its end.
 fn without_end(text: &[u8]) -> &[u8]
-    ensures { result.now ≡ the_rest_without_end text.now }
+    ensures { result.now ≡ spec.without_end text.now }
 {
     let mut end = text.len();
     'blanks: while end > 0 {
@@ -128,21 +129,21 @@ fn without_end(text: &[u8]) -> &[u8]
 
 /// A text without the blanks at both its ends: spaces and tabs.
 pub fn trimmed(text: &[u8]) -> &[u8]
-    ensures { result.now ≡ the_trimmed text.now }
+    ensures { result.now ≡ spec.trimmed text.now }
 {
     without_end(without_front(text))
 }
 
 // Whether a line says nothing.
 fn is_comment(line: &[u8]) -> bool
-    ensures { result ≡ it_is_comment line.now }
+    ensures { result ≡ spec.is_comment line.now }
 {
     line.is_empty() || line[0] == b'#' || line[0] == b';'
 }
 
 // Whether a line begins a section.
 fn is_head(line: &[u8]) -> bool
-    ensures { result ≡ it_is_head line.now }
+    ensures { result ≡ spec.is_head line.now }
 {
     line.len() > 1 && line[0] == b'[' && line[line.len() - 1] == b']'
 }
@@ -150,7 +151,7 @@ fn is_head(line: &[u8]) -> bool
 // What stands between the first byte and the last one.
 fn inside(line: &[u8]) -> &[u8]
     requires { 1 < length line.now }
-    ensures { result.now ≡ the_inside line.now }
+    ensures { result.now ≡ spec.inside line.now }
 {
     before(from(line, 1), line.len() - 2)
 }

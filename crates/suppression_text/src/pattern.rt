@@ -1,15 +1,15 @@
-// Patterns: regular expressions over bytes, each compiled once.
-ghost use Rattle.std.specs.Prelude.{◌≡◌, Some, IfOk, IfSome, IfNone, true, false};
+// Patterns: regular expressions over bytes.
+ghost use Rattle.std.specs.Prelude.{◌≡◌, IfOk, IfSome, IfNone, true, false};
 ghost use Rattle.std.specs.Str.{is_utf8};
-ghost use Rattle.suppression_text.specs.Patterns.{read_in, is_pattern, is_found};
+ghost use Rattle.suppression_text.specs.Patterns as spec;
 
 use abi_base::NoMemory;
-use regex::Error;
 use regex::bytes::{Matcher, Regex};
+use regex_syntax::{Config, ErrorKind};
 use std::alloc::Global;
 use std::marker::Model;
 
-/// A pattern. Contracts see it as its text.
+/// A compiled pattern. Contracts see it as its text.
 #[derive(Drop)]
 pub struct Pattern {
     regex: Regex,
@@ -39,18 +39,45 @@ fn text_in(bytes: &[u8]) -> Option<&str>
     }
 }
 
+// The options under which `regex` reads a pattern over bytes.
+fn bytes_config() -> Config
+    ensures { result ≡ spec.bytes_config }
+{
+    let mut config = Config::default();
+    config.utf8 = false;
+    config
+}
+
+/// Whether the grammar of `regex` has a text, nested no deeper than `regex` takes. The text is not compiled.
+pub fn is_pattern(alloc: Global, text: &[u8]) -> Result<bool, NoMemory>
+    ensures { IfOk result (λ is. is ≡ spec.is_pattern text.now) }
+{
+    let Some(source) = text_in(text) else {
+        return Ok(false);
+    };
+    match regex_syntax::parse(alloc, source, &bytes_config()) {
+        Ok(parsed) => {
+            drop(parsed);
+            Ok(true)
+        }
+        Err(error) => match error.kind {
+            ErrorKind::OutOfMemory => Err(NoMemory),
+            _ => Ok(false),
+        },
+    }
+}
+
 impl Pattern {
-    /// The pattern that a text writes, `None` where the grammar of `regex` has none or where it nests too deep.
-    pub fn read(alloc: Global, text: &[u8]) -> Result<Option<Pattern>, NoMemory>
-        ensures pattern { IfOk result (λ found. IfSome found (λ pattern. (pattern ≡ text.now) × (is_pattern text.now ≡ true))) }
-        ensures none { IfOk result (λ found. IfNone found (is_pattern text.now ≡ false)) }
+    /// Compiles the pattern that a text writes. It fails where memory runs out, where the compiled pattern would pass the limit of
+    /// `regex`, and where the text is no pattern.
+    pub fn compile(alloc: Global, text: &[u8]) -> Result<Pattern, NoMemory>
+        ensures { IfOk result (λ pattern. pattern ≡ text.now) }
     {
         let Some(source) = text_in(text) else {
-            return Ok(None);
+            return Err(NoMemory);
         };
         match Regex::new(alloc, source) {
-            Ok(regex) => Ok(Some(Pattern { regex })),
-            Err(Error::Syntax(_)) => Ok(None),
+            Ok(regex) => Ok(Pattern { regex }),
             Err(_) => Err(NoMemory),
         }
     }
@@ -95,7 +122,7 @@ impl<'p> Model for Finder<'p> {
 impl<'p> Finder<'p> {
     /// Whether the pattern is found anywhere in bytes.
     pub fn finds(&mut self, bytes: &[u8]) -> bool
-        ensures found { result ≡ is_found self.old bytes.now }
+        ensures found { result ≡ spec.is_found self.old bytes.now }
         ensures same { self.new ≡ self.old }
     {
         self.matcher.is_match(bytes)

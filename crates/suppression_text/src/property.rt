@@ -1,64 +1,44 @@
 // The properties of sections, and what asks bytes for their values.
 ghost use Rattle.std.specs.Prelude.{◌≡◌, true, false, IfOk, IfSome, IfNone};
-ghost use Rattle.suppression_text.specs.Passing.{passes as they_pass, is_negated as it_is_negated};
+ghost use Rattle.suppression_text.specs.Passing as spec;
 ghost use Rattle.suppression_text.specs.Rules.{plain_property};
 ghost use Rattle.suppression_text.specs.Patterns.{is_no_pattern};
 
 use crate::key::{Key, has_pattern};
-use crate::pattern::{Finder, Pattern};
+use crate::pattern::{Finder, Pattern, is_pattern};
 use abi_base::NoMemory;
 use std::alloc::Global;
 use std::marker::Model;
-
-/// The value of a property.
-#[derive(Drop)]
-pub enum Value {
-    /// Bytes that others equal or not.
-    Text(Vec<u8>),
-    /// A pattern that is found in others or not.
-    Pattern(Pattern),
-}
 
 /// A property of a section. Contracts see it as its key and its value.
 #[derive(Drop)]
 pub struct Property {
     key: Key,
-    value: Value,
+    value: Vec<u8>,
 }
 
 impl Model for Property {
-    ghost use Rattle.suppression_text.specs.Rules.{PlainProperty};
+    ghost use Rattle.suppression_text.specs.Rules.{PlainProperty, plain_property};
 
     ghost Value = { PlainProperty };
 
-    ghost use Rattle.std.specs.Prelude.{◌≡◌};
-    ghost use Rattle.suppression_text.specs.Keys.{has_pattern as it_has_pattern};
-    ghost use Rattle.suppression_text.specs.Rules.{plain_property};
-    ghost use Rattle.suppression_text.specs.Values.{value_text, is_pattern_value};
-
-    ghost view = { λ p. plain_property p.key (value_text p.value) };
-
-    ghost invariant = { λ p. is_pattern_value p.value ≡ it_has_pattern p.key };
+    ghost view = { λ p. plain_property p.key p.value.items };
 }
 
 impl Property {
+    ghost use Rattle.suppression_text.specs.Keys as keys;
+
     /// The property with a value, `None` where the value is to be a pattern and is none.
     pub fn read(alloc: Global, key: Key, text: &[u8]) -> Result<Option<Property>, NoMemory>
         ensures value { IfOk result (λ read. IfSome read (λ property. property ≡ plain_property key text.now)) }
         ensures some { IfOk result (λ read. IfSome read (λ _. is_no_pattern key text.now ≡ false)) }
         ensures none { IfOk result (λ read. IfNone read (is_no_pattern key text.now ≡ true)) }
     {
-        if !has_pattern(key) {
-            let value = Value::Text(Vec::from_slice(alloc, text)?);
-            return Ok(Some(Property { key, value }));
+        if has_pattern(key) && !is_pattern(alloc, text)? {
+            return Ok(None);
         }
-        match Pattern::read(alloc, text)? {
-            None => Ok(None),
-            Some(pattern) => Ok(Some(Property {
-                key,
-                value: Value::Pattern(pattern),
-            })),
-        }
+        let value = Vec::from_slice(alloc, text)?;
+        Ok(Some(Property { key, value }))
     }
 
     /// Which property it is.
@@ -68,16 +48,68 @@ impl Property {
         self.key
     }
 
-    /// The bytes of its value: the text, or that of the pattern.
+    /// Whether its value is a pattern.
+    pub fn has_pattern(&self) -> bool
+        ensures { result ≡ keys.has_pattern self.now.key }
+    {
+        has_pattern(self.key)
+    }
+
+    /// The bytes of its value, which are the text of a pattern where it has one.
     pub fn value(&self) -> &[u8]
         ensures { result.now ≡ self.now.value }
     {
-        match &self.value {
-            Value::Text(bytes) => bytes.as_slice(),
-            Value::Pattern(pattern) => pattern.text(),
-        }
+        self.value.as_slice()
     }
 
+    /// The property with its pattern compiled. It fails where memory runs out, or where the compiled pattern would pass the limit
+    /// of `regex`.
+    pub fn compiled(&self, alloc: Global) -> Result<CompiledProperty<'_>, NoMemory>
+        ensures { IfOk result (λ compiled. compiled ≡ self.now) }
+    {
+        let key = self.key;
+        let text = self.value.as_slice();
+        let value = if has_pattern(key) {
+            Value::Pattern(Pattern::compile(alloc, text)?)
+        } else {
+            Value::Text(text)
+        };
+        Ok(CompiledProperty { key, value })
+    }
+}
+
+/// What bytes are compared with.
+#[derive(Drop)]
+pub enum Value<'r> {
+    /// Bytes that others equal or not.
+    Text(&'r [u8]),
+    /// A pattern that is found in others or not.
+    Pattern(Pattern),
+}
+
+/// A property whose pattern is compiled. Contracts see it as the property.
+#[derive(Drop)]
+pub struct CompiledProperty<'r> {
+    key: Key,
+    value: Value<'r>,
+}
+
+impl<'r> Model for CompiledProperty<'r> {
+    ghost use Rattle.suppression_text.specs.Rules.{PlainProperty};
+
+    ghost Value = { PlainProperty };
+
+    ghost use Rattle.std.specs.Prelude.{◌≡◌};
+    ghost use Rattle.suppression_text.specs.Keys as keys;
+    ghost use Rattle.suppression_text.specs.Rules.{plain_property};
+    ghost use Rattle.suppression_text.specs.Values.{value_text, is_pattern_value};
+
+    ghost view = { λ p. plain_property p.key (value_text p.value) };
+
+    ghost invariant = { λ p. is_pattern_value p.value ≡ keys.has_pattern p.key };
+}
+
+impl<'r> CompiledProperty<'r> {
     /// What asks bytes for its value.
     pub fn test(&self, alloc: Global) -> Result<Test<'_>, NoMemory>
         ensures { IfOk result (λ test. test ≡ self.now) }
@@ -86,7 +118,7 @@ impl Property {
         match &self.value {
             Value::Text(bytes) => Ok(Test {
                 key,
-                probe: Probe::Equal(bytes.as_slice()),
+                probe: Probe::Equal(*bytes),
             }),
             Value::Pattern(pattern) => Ok(Test {
                 key,
@@ -118,18 +150,18 @@ impl<'p> Model for Test<'p> {
     ghost Value = { PlainProperty };
 
     ghost use Rattle.std.specs.Prelude.{◌≡◌};
-    ghost use Rattle.suppression_text.specs.Keys.{has_pattern as it_has_pattern};
+    ghost use Rattle.suppression_text.specs.Keys as keys;
     ghost use Rattle.suppression_text.specs.Rules.{plain_property};
     ghost use Rattle.suppression_text.specs.Probes.{probe_text, is_pattern_probe};
 
     ghost view = { λ t. plain_property t.key (probe_text t.probe) };
 
-    ghost invariant = { λ t. is_pattern_probe t.probe ≡ it_has_pattern t.key };
+    ghost invariant = { λ t. is_pattern_probe t.probe ≡ keys.has_pattern t.key };
 }
 
 // Whether a pattern is not to be found.
 fn is_negated(key: Key) -> bool
-    ensures { result ≡ it_is_negated key }
+    ensures { result ≡ spec.is_negated key }
 {
     match key {
         Key::NameNotRegexp => true,
@@ -148,7 +180,7 @@ impl<'p> Test<'p> {
     /// Whether the bytes have what the property asks for.
     #[tactic(auto, unfolding(crate::specs::Passing::passes))]
     pub fn passes(&mut self, bytes: &[u8]) -> bool
-        ensures passes { result ≡ they_pass self.old.key self.old.value bytes.now }
+        ensures passes { result ≡ spec.passes self.old.key self.old.value bytes.now }
         ensures same { self.new ≡ self.old }
     {
         let negated = is_negated(self.key);

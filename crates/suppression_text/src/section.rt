@@ -1,9 +1,11 @@
 // The sections of a rule file.
 ghost use Rattle.std.specs.Prelude.{◌≡◌, ◌∷◌, ◌++◌, [], map, OnOk, OnErr};
 ghost use Rattle.abi_base.specs.Outcome.{first};
-ghost use Rattle.suppression_text.specs.Keys.{same_key, is_label as it_is_label};
+ghost use Rattle.suppression_text.specs.Keys.{same_key};
+ghost use Rattle.suppression_text.specs.Keys as keys;
 ghost use Rattle.std.specs.Option.{option_copied};
-ghost use Rattle.suppression_text.specs.Faults.{has as it_has, is_empty_rule, section_fault};
+ghost use Rattle.suppression_text.specs.Faults.{is_empty_rule, section_fault};
+ghost use Rattle.suppression_text.specs.Faults as faults;
 ghost use Rattle.suppression_text.specs.Rules.{value_in};
 
 use crate::key::{Key, SectionKind};
@@ -38,7 +40,7 @@ fn is_same(one: Key, other: Key) -> bool
 
 // Whether a property selects nothing.
 fn is_label(key: Key) -> bool
-    ensures { result ≡ it_is_label key }
+    ensures { result ≡ keys.is_label key }
 {
     match key {
         Key::Label => true,
@@ -76,7 +78,7 @@ impl Section {
 
     /// Whether it has a property.
     pub fn has(&self, key: Key) -> bool
-        ensures { result ≡ it_has key self.now }
+        ensures { result ≡ faults.has key self.now }
     {
         self.properties
             .iter()

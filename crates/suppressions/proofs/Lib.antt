@@ -3,3 +3,5 @@ mod MarkLemmas
 mod WayLemmas
 mod HandleLemmas
 mod HoldLemmas
+mod UnnamedLemmas
+mod FlagLemmas

@@ -1,15 +1,18 @@
 -- Nodes with equal labels have equal marks.
-use Rattle.std.proofs.Common.{◌≡◌, ◌<◌, ◌+◌, ℕ, Bool, false, List, [], ◌∷◌, ◌++◌, length, take, get_or, map, Option, refl, sym, ◌∙◌, ap}
+use Rattle.std.proofs.Common.{◌≡◌, ◌<◌, ◌+◌, ℕ, Bool, true, false, List, [], ◌∷◌, ◌++◌, length, take, get_or, map, refl, sym, ◌∙◌, ap}
 use Rattle.std.proofs.lemmas.List.{length-map, get_or-map, take_more, map-append}
 use Rattle.abi_types.specs.Types.{PlainNode, PlainLabel}
 use Rattle.abi_types.specs.Graphs.{node_at, void_node}
 use Rattle.abi_types.specs.declared.library.Marks.{Marks}
 use Rattle.abi_types.specs.declared.kind.Way.TheVariants.{Direct, Pointer}
-use Rattle.abi_types.specs.Exports.{PlainExport}
 use Rattle.abi_types.specs.Libraries.{PlainLibrary}
 use Rattle.suppression_text.specs.Rules.{PlainSection, PlainRules}
+use Rattle.suppressions.specs.declared.marking.Flags.{Flags}
+use Rattle.suppressions.specs.Flags.{AreFlags, AreEither}
+use Rattle.suppressions.specs.Names.{chosen}
+use Rattle.suppressions.proofs.FlagLemmas.{together-chosen, joined}
 use Rattle.suppressions.specs.Marks.{IsEven, AreEvenMarks, marks_of}
-use Rattle.suppressions.specs.Meaning.{drops, marks_names, is_dropped, is_marked}
+use Rattle.suppressions.specs.Meaning.{is_dropped, is_marked}
 
 abbrev pub marks_with : List ℕ → List Bool → List Bool → List Bool → Marks
 marks_with digest exports direct pointer = record { digest = digest; exports = exports; direct = direct; pointer = pointer }
@@ -39,13 +42,10 @@ flags_more f nodes i flags now labels flag lt was are is put =
     put ∙ ap (λ (bs : List Bool). bs ++ flag ∷ []) was ∙ ap (λ (b : Bool). map g (take i nodes) ++ b ∷ []) here
     ∙ sym (ap (map g) (take_more nodes i void_node lt) ∙ map-append g (take i nodes) (node_at nodes i ∷ []))
 
--- the flags of sections are those of the rules that have them
-pub marks_are : (rules : PlainRules) (old : PlainLibrary) (digest : List ℕ) (exports direct pointer : List Bool) (sections later : List PlainSection) (soname : Option (List ℕ)) (exported : List PlainExport) (nodes : List PlainNode)
-    → digest ≡ rules.digest → sections ≡ rules.sections → later ≡ rules.sections → soname ≡ old.soname → exported ≡ old.exports → nodes ≡ old.graph
-    → exports ≡ map (drops sections soname) exported
-    → direct ≡ map (λ (n : PlainNode). marks_names later soname Direct n.labels) nodes
-    → pointer ≡ map (λ (n : PlainNode). marks_names later soname Pointer n.labels) nodes
-    → marks_with digest exports direct pointer ≡ marks_of rules old
+-- the flags of the sections that ask names and of those that ask none come to the marks of the rules
+pub marks_are : (rules : PlainRules) (old : PlainLibrary) (digest : List ℕ) (sections : List PlainSection) (named others flags : Flags) → digest ≡ rules.digest → sections ≡ rules.sections
+    → AreFlags (chosen true sections) old named → AreFlags (chosen false sections) old others → AreEither named others flags → marks_with digest flags.exports flags.direct flags.pointer ≡ marks_of rules old
 unfolding marks_of is_dropped is_marked
-marks_are rules old digest exports direct pointer sections later soname exported nodes is_digest is_sections is_later is_soname is_exported is_nodes flags by_value by_pointer =
-    rw (flags, by_value, by_pointer, is_digest, is_sections, is_later, is_soname, is_exported, is_nodes) refl
+marks_are rules old digest sections named others flags is_digest is_sections is_named is_others is =
+    let all : AreFlags sections old flags = joined (chosen true sections) (chosen false sections) sections old named others flags (together-chosen sections) is_named is_others is in
+    rw (all.exports, all.direct, all.pointer, is_digest, is_sections) refl

@@ -1,5 +1,5 @@
 -- Names that were judged already.
-use Rattle.std.proofs.Common.{◌≡◌, ℕ, Bool, true, false, cond, List, Option, Some, None, refl, sym, ◌∙◌, ap, subst}
+use Rattle.std.proofs.Common.{◌≡◌, ℕ, Bool, true, false, cond, List, Option, Some, refl, sym, ◌∙◌, ap}
 use Rattle.std.specs.Prelude.{◌&&◌, ◌==◌}
 use Rattle.std.specs.Borrow.{Bor}
 use Rattle.std.specs.HashMap.{get_by}
@@ -11,7 +11,7 @@ use Rattle.abi_types.specs.declared.kind.LabelKind.TheVariants.{Structure, Union
 use Rattle.abi_types.specs.Types.{PlainLabel}
 use Rattle.suppression_text.specs.Rules.{PlainSection}
 use Rattle.suppressions.specs.declared.accessed_through.MarkedByWay.{MarkedByWay}
-use Rattle.suppressions.specs.Known.{Known, kind_number, known_of, name_ways, IsKnown}
+use Rattle.suppressions.specs.Known.{Known, kind_number, name_ways, IsKnown}
 
 abbrev key : LabelKind → List ℕ → ℕ × Bor (List ℕ)
 key kind name = (kind_number kind, record { ref_ptr = (0, 0); now = name })

@@ -1,6 +1,6 @@
 -- Rules that ask for no way.
-use Rattle.std.proofs.Common.{◌≡◌, ℕ, Bool, true, false, List, [], ◌∷◌, map, Option, refl, sym}
-use Rattle.std.specs.Prelude.{◌&&◌, ◌||◌, ◌==◌}
+use Rattle.std.proofs.Common.{◌≡◌, ℕ, Bool, true, false, List, [], ◌∷◌, map, Option, refl}
+use Rattle.std.specs.Prelude.{◌||◌}
 use Rattle.std.specs.List.{list_all, list_any}
 use Rattle.abi_types.specs.declared.kind.Way.TheVariants.{Direct, Pointer}
 use Rattle.abi_types.specs.Libraries.{PlainLibrary}
@@ -9,9 +9,9 @@ use Rattle.suppression_text.specs.declared.key.Key.{Key}
 use Rattle.suppression_text.specs.declared.key.Key.TheVariants.{Label, Name, NameRegexp, NameNotRegexp, SymbolName, SymbolNameRegexp, SymbolVersion, SymbolVersionRegexp, SonameRegexp, TypeKind, AccessedThrough}
 use Rattle.suppression_text.specs.Keys.{same_key}
 use Rattle.suppression_text.specs.Faults.{has}
-use Rattle.suppression_text.specs.Rules.{PlainProperty, PlainSection, PlainRules, plain_property}
-use Rattle.suppressions.specs.Subjects.{PlainSubject, asked, label_subject}
-use Rattle.suppressions.specs.Meaning.{property_holds, speaks_of, section_holds, marks_name, marks_names, is_marked}
+use Rattle.suppression_text.specs.Rules.{PlainProperty, PlainSection, PlainRules}
+use Rattle.suppressions.specs.Subjects.{asked, label_subject}
+use Rattle.suppressions.specs.Meaning.{property_holds, section_holds, marks_name, marks_names, is_marked}
 use Rattle.suppressions.specs.Marks.{AreAtBothWays, marks_of}
 use Rattle.suppressions.specs.Reasons.{HasNoWays}
 

@@ -1,5 +1,6 @@
 pub mod Subjects
 pub mod PlainSubjects
+pub mod Names
 pub mod Meaning
 pub mod Known
 pub mod Marks
@@ -7,3 +8,4 @@ pub mod Reasons
 pub mod Handles
 pub mod PlainHandles
 pub mod Holding
+pub mod Flags

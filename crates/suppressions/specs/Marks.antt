@@ -3,7 +3,6 @@ use Rattle.std.specs.Prelude.{◌≡◌, ◌<◌, ℕ, Bool, false, List, length
 use Rattle.abi_types.specs.declared.kind.Way.{Way}
 use Rattle.abi_types.specs.declared.kind.Way.TheVariants.{Direct, Pointer}
 use Rattle.abi_types.specs.declared.library.Marks.{Marks}
-use Rattle.abi_types.specs.Exports.{PlainExport}
 use Rattle.abi_types.specs.Types.{PlainNode}
 use Rattle.abi_types.specs.Graphs.{node_at}
 use Rattle.abi_types.specs.Libraries.{PlainLibrary}

@@ -1,5 +1,5 @@
 -- What the properties of a rule file speak of: an export, or a name of a type that is reached by a way.
-use Rattle.std.specs.Prelude.{◌==◌, ℕ, Bool, List, Option, Some, None, codes}
+use Rattle.std.specs.Prelude.{ℕ, List, [], Option, Some, None, codes}
 use Rattle.abi_types.specs.declared.export.SymbolKind.{SymbolKind}
 use Rattle.abi_types.specs.declared.export.SymbolKind.TheVariants.{NoType, Object, Func, Common, Tls, Ifunc}
 use Rattle.abi_types.specs.declared.kind.LabelKind.{LabelKind}
@@ -60,6 +60,10 @@ export_subject soname e = record {
   way = None;
 }
 
+-- of an export what others share: the sections that speak of it, and the soname
+abbrev pub kind_subject : Option (List ℕ) → SectionKind → PlainSubject
+kind_subject soname kind = record { kind = kind; name = []; symbol = None; version = None; soname = soname; type_kind = None; way = None }
+
 -- ---- types
 
 abbrev pub label_word : LabelKind → List ℕ
@@ -84,3 +88,9 @@ label_subject soname way l = record {
   type_kind = Some (label_word l.kind);
   way = Some (accessed_through_word way);
 }
+
+-- ---- without names
+
+-- what is left of it where no name is asked
+abbrev pub unnamed : PlainSubject → PlainSubject
+unnamed s = record s { name = []; symbol = None; version = None }

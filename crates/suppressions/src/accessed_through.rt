@@ -2,7 +2,9 @@
 ghost use Rattle.std.specs.Prelude.{◌≡◌, IfOk, OnOk, map};
 ghost use Rattle.std.specs.Option.{option_copied};
 ghost use Rattle.abi_types.specs.Plain.{plain_label};
-ghost use Rattle.suppressions.specs.Known.{kind_number as the_kind_number, known_of, name_ways, names_ways, IsKnown};
+ghost use Rattle.suppressions.specs.Names as spec;
+ghost use Rattle.suppressions.specs.Known.{known_of, name_ways, names_ways, IsKnown};
+ghost use Rattle.suppressions.specs.Known as known_spec;
 
 use crate::ready_section::ReadyRules;
 use crate::subject::Subject;
@@ -20,7 +22,7 @@ pub struct MarkedByWay {
 }
 
 fn kind_number(kind: LabelKind) -> u8
-    ensures { result ≡ the_kind_number kind }
+    ensures { result ≡ known_spec.kind_number kind }
 {
     match kind {
         LabelKind::Structure => 0,
@@ -48,6 +50,20 @@ fn known_name(known: &HashMap<(u8, &[u8]), MarkedByWay>, label: &Label) -> Optio
     known.get(&(kind_number(label.kind), label.name)).copied()
 }
 
+// The name by which sections judge a name: where they ask none, the kind suffices.
+fn judged_label<'x>(sections: &ReadyRules, label: &Label<'x>) -> Label<'x>
+    ensures { plain_label result ≡ spec.judged_label sections.now (plain_label label.now) }
+{
+    if sections.asks_names() {
+        *label
+    } else {
+        Label {
+            kind: label.kind,
+            name: &[],
+        }
+    }
+}
+
 // How sections mark a name, which is judged once.
 fn name_once<'x>(
     sections: &mut ReadyRules,
@@ -60,11 +76,12 @@ fn name_once<'x>(
     ensures same { sections.new ≡ sections.old }
     ensures known { OnOk result (IsKnown sections.old (option_copied soname.entry) known.new) }
 {
-    if let Some(ways) = known_name(known, label) {
+    let judged = judged_label(sections, label);
+    if let Some(ways) = known_name(known, &judged) {
         return Ok(ways);
     }
-    let ways = judge_name(sections, soname, label);
-    known.insert((kind_number(label.kind), label.name), ways)?;
+    let ways = judge_name(sections, soname, &judged);
+    known.insert((kind_number(judged.kind), judged.name), ways)?;
     Ok(ways)
 }
 

@@ -1,6 +1,7 @@
 // What sections are found by.
 ghost use Rattle.std.specs.Prelude.{◌≡◌};
-ghost use Rattle.suppressions.specs.Handles.{handle_cmp, handle_of as the_handle_of};
+ghost use Rattle.suppressions.specs.Handles.{handle_cmp};
+ghost use Rattle.suppressions.specs.Handles as spec;
 ghost use Rattle.suppressions.specs.PlainHandles.{plain_handle, class_of};
 
 use std::cmp::Ordering;
@@ -31,7 +32,7 @@ fn class(handle: Handle) -> u8
 impl<'x> Handle<'x> {
     /// The handle of a section.
     pub fn of(section: &'x Section) -> Handle<'x>
-        ensures { plain_handle result ≡ the_handle_of section.now }
+        ensures { plain_handle result ≡ spec.handle_of section.now }
     {
         if let Some(name) = section.value(Key::Name) {
             return Handle::Name(name);

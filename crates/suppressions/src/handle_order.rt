@@ -3,18 +3,19 @@ ghost use Rattle.std.specs.Prelude.{◌≡◌, ◌≤◌, ◌-◌, false, true, 
 ghost use Rattle.std.specs.List.{range_with_len};
 ghost use Rattle.std.specs.List.Sorted.{IsPartitionPoint};
 ghost use Rattle.std.specs.Ordering.{is_lt, is_le};
-ghost use Rattle.suppressions.specs.Handles.{handle_at as the_handle_at, handle_cmp, handles_of, place_cmp, IsHandleOrder, AreAt};
+ghost use Rattle.suppressions.specs.Handles.{handle_cmp, handles_of, place_cmp, IsHandleOrder, AreAt};
+ghost use Rattle.suppressions.specs.Handles as spec;
 ghost use Rattle.suppressions.specs.PlainHandles.{plain_handle, plain_handles};
 
+use crate::compiled::CompiledSection;
 use crate::handle::Handle;
 use abi_base::NoMemory;
 use std::alloc::Global;
 use std::cmp::Ordering;
-use suppression_text::Section;
 
 // The handle at a position, that of any section past the last one.
 fn handle_at<'x>(handles: &[Handle<'x>], k: usize) -> Handle<'x>
-    ensures { plain_handle result ≡ the_handle_at (plain_handles handles.now) k }
+    ensures { plain_handle result ≡ spec.handle_at (plain_handles handles.now) k }
 {
     if k < handles.len() {
         handles[k]
@@ -32,25 +33,28 @@ fn place_order(handles: &[Handle], a: usize, b: usize) -> Ordering
 
 // Whether the handle at a position stands before a handle.
 fn stands_before(handles: &[Handle], k: usize, handle: Handle) -> bool
-    ensures { result ≡ is_lt (handle_cmp (the_handle_at (plain_handles handles.now) k) (plain_handle handle.entry)) }
+    ensures { result ≡ is_lt (handle_cmp (spec.handle_at (plain_handles handles.now) k) (plain_handle handle.entry)) }
 {
     handle_at(handles, k).order(handle).is_lt()
 }
 
 // Whether the handle at a position does not stand behind a handle.
 fn stands_upto(handles: &[Handle], k: usize, handle: Handle) -> bool
-    ensures { result ≡ is_le (handle_cmp (the_handle_at (plain_handles handles.now) k) (plain_handle handle.entry)) }
+    ensures { result ≡ is_le (handle_cmp (spec.handle_at (plain_handles handles.now) k) (plain_handle handle.entry)) }
 {
     handle_at(handles, k).order(handle).is_le()
 }
 
 // The handles of sections.
-fn handles_in<'r>(alloc: Global, sections: &'r [Section]) -> Result<Vec<Handle<'r>>, NoMemory>
+fn handles_in<'r>(
+    alloc: Global,
+    sections: &[CompiledSection<'r>],
+) -> Result<Vec<Handle<'r>>, NoMemory>
     ensures { IfOk result (λ handles. plain_handles handles.items ≡ handles_of sections.now) }
 {
     let mut handles = Vec::with_capacity(alloc, sections.len())?;
     for section in sections {
-        handles.push(Handle::of(section))?;
+        handles.push(Handle::of(section.section()))?;
     }
     Ok(handles)
 }
@@ -79,7 +83,7 @@ fn places_of(alloc: Global, handles: &[Handle]) -> Result<Vec<usize>, NoMemory>
 fn count_before(handles: &[Handle], places: &[usize], handle: Handle) -> usize
     requires { IsHandleOrder places.now (plain_handles handles.now) }
     ensures inside { result ≤ length places.now }
-    ensures parts { IsPartitionPoint (λ k. is_lt (handle_cmp (the_handle_at (plain_handles handles.now) k) (plain_handle handle.entry)) ≡ true) (λ k. is_lt (handle_cmp (the_handle_at (plain_handles handles.now) k) (plain_handle handle.entry)) ≡ false) places.now result }
+    ensures parts { IsPartitionPoint (λ k. is_lt (handle_cmp (spec.handle_at (plain_handles handles.now) k) (plain_handle handle.entry)) ≡ true) (λ k. is_lt (handle_cmp (spec.handle_at (plain_handles handles.now) k) (plain_handle handle.entry)) ≡ false) places.now result }
 {
     places.partition_point(|k| stands_before(handles, *k, handle))
 }
@@ -88,7 +92,7 @@ fn count_before(handles: &[Handle], places: &[usize], handle: Handle) -> usize
 fn count_upto(handles: &[Handle], places: &[usize], handle: Handle) -> usize
     requires { IsHandleOrder places.now (plain_handles handles.now) }
     ensures inside { result ≤ length places.now }
-    ensures parts { IsPartitionPoint (λ k. is_le (handle_cmp (the_handle_at (plain_handles handles.now) k) (plain_handle handle.entry)) ≡ true) (λ k. is_le (handle_cmp (the_handle_at (plain_handles handles.now) k) (plain_handle handle.entry)) ≡ false) places.now result }
+    ensures parts { IsPartitionPoint (λ k. is_le (handle_cmp (spec.handle_at (plain_handles handles.now) k) (plain_handle handle.entry)) ≡ true) (λ k. is_le (handle_cmp (spec.handle_at (plain_handles handles.now) k) (plain_handle handle.entry)) ≡ false) places.now result }
 {
     places.partition_point(|k| stands_upto(handles, *k, handle))
 }
@@ -133,7 +137,7 @@ impl<'r> std::marker::Model for HandleOrder<'r> {
 
 impl<'r> HandleOrder<'r> {
     /// The order of sections.
-    pub fn of(alloc: Global, sections: &'r [Section]) -> Result<HandleOrder<'r>, NoMemory>
+    pub fn of(alloc: Global, sections: &[CompiledSection<'r>]) -> Result<HandleOrder<'r>, NoMemory>
         ensures { IfOk result (λ order. order ≡ handles_of sections.now) }
     {
         let handles = handles_in(alloc, sections)?;

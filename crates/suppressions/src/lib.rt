@@ -3,12 +3,14 @@
 #![tactic(auto)]
 
 mod accessed_through;
+mod block;
+pub mod compiled;
 mod handle;
 mod handle_order;
 pub mod laws;
 mod marking;
-mod ready_section;
-mod subject;
+pub mod ready_section;
+pub mod subject;
 
 pub use marking::{drops_export, drops_labels, marks};
 pub use suppression_text::{RuleRefusal, Rules, read_rules};

@@ -1,19 +1,47 @@
 // What a rule file says of exports, of types and of a library.
-ghost use Rattle.std.specs.Prelude.{◌≡◌, IfOk, map};
+ghost use Rattle.std.specs.Prelude.{◌≡◌, ◌||◌, IfOk, false, length, map};
 ghost use Rattle.std.specs.Option.{option_copied};
 ghost use Rattle.abi_types.specs.Plain.{plain_export, plain_exports, plain_label};
 ghost use Rattle.abi_types.specs.Types.{PlainNode};
+ghost use Rattle.suppressions.specs.Flags.{AreFlags, AreEither, AreOfOneSize, either as either_of};
 ghost use Rattle.suppressions.specs.Marks.{marks_of, AreEvenMarks};
-ghost use Rattle.suppressions.specs.Meaning.{drops, marks_names, is_dropped, is_marked};
+ghost use Rattle.suppressions.specs.Meaning.{drops, marks_names, is_dropped, is_marked, some_section_holds};
+ghost use Rattle.suppressions.specs.Subjects.{kind_subject};
+ghost use Rattle.suppression_text.specs.declared.key.SectionKind.TheVariants.{Functions, Variables};
+ghost use Rattle.suppressions.specs.Names.{chosen, some_ask};
 
 use crate::accessed_through::names_once;
+use crate::block::{block_end, check_limits};
+use crate::compiled::{CompiledSection, compiled};
 use crate::ready_section::ReadyRules;
-use crate::subject::Subject;
+use crate::subject::{Subject, section_of_symbol};
 use abi_base::{List, NoMemory};
 use abi_types::{Export, Graph, Index, Label, Library, Marks, OldIx, Way};
 use std::alloc::Global;
 use std::collections::HashMap;
-use suppression_text::Rules;
+use suppression_text::{Rules, Section, SectionKind};
+
+// Whether one of two is true.
+fn one_of(one: bool, other: bool) -> bool
+    ensures { result ≡ (one || other) }
+{
+    one || other
+}
+
+// Whether sections that ask names, or those that ask none, drop an export.
+fn chosen_drop(
+    alloc: Global,
+    sections: &[Section],
+    asking: bool,
+    soname: Option<&[u8]>,
+    export: &Export,
+) -> Result<bool, NoMemory>
+    ensures { IfOk result (λ drop. drop ≡ drops (chosen asking sections.now) (option_copied soname.entry) (plain_export export.now)) }
+{
+    let compiled = compiled(alloc, sections, asking)?;
+    let mut ready = ReadyRules::of(alloc, compiled.as_slice())?;
+    Ok(ready.some_holds(&Subject::of_export(soname, export)))
+}
 
 /// Whether a rule file drops an export of a library with a soname.
 #[tactic(auto, unfolding(crate::specs::Meaning::is_dropped))]
@@ -25,8 +53,9 @@ pub fn drops_export(
 ) -> Result<bool, NoMemory>
     ensures { IfOk result (λ drops. drops ≡ is_dropped rules.now (option_copied soname.entry) (plain_export export.now)) }
 {
-    let mut sections = ReadyRules::of(alloc, rules)?;
-    Ok(sections.some_holds(&Subject::of_export(soname, export)))
+    let named = chosen_drop(alloc, rules.sections(), true, soname, export)?;
+    let others = chosen_drop(alloc, rules.sections(), false, soname, export)?;
+    Ok(one_of(named, others))
 }
 
 // Whether sections mark a type with these names.
@@ -46,6 +75,20 @@ fn marks_labels(
     false
 }
 
+// Whether compiled sections mark a type with these names.
+fn compiled_mark(
+    alloc: Global,
+    compiled: &[CompiledSection],
+    soname: Option<&[u8]>,
+    labels: &[Label],
+    way: Way,
+) -> Result<bool, NoMemory>
+    ensures { IfOk result (λ mark. mark ≡ marks_names compiled.now (option_copied soname.entry) way (map plain_label labels.now)) }
+{
+    let mut ready = ReadyRules::of(alloc, compiled)?;
+    Ok(marks_labels(&mut ready, soname, labels, way))
+}
+
 /// Whether a rule file marks a type with these names, of a library with a soname, where it is reached by a way.
 #[tactic(auto, unfolding(crate::specs::Meaning::is_marked))]
 pub fn drops_labels(
@@ -57,8 +100,52 @@ pub fn drops_labels(
 ) -> Result<bool, NoMemory>
     ensures { IfOk result (λ drops. drops ≡ is_marked rules.now (option_copied soname.entry) (map plain_label labels.now) way) }
 {
-    let mut sections = ReadyRules::of(alloc, rules)?;
-    Ok(marks_labels(&mut sections, soname, labels, way))
+    let named = compiled(alloc, rules.sections(), true)?;
+    let others = compiled(alloc, rules.sections(), false)?;
+    let by_name = compiled_mark(alloc, named.as_slice(), soname, labels, way)?;
+    let by_kind = compiled_mark(alloc, others.as_slice(), soname, labels, way)?;
+    Ok(one_of(by_name, by_kind))
+}
+
+// Whether sections that ask no name drop an export: what they say of functions or of variables.
+fn kind_flag(
+    sections: &mut ReadyRules,
+    soname: Option<&[u8]>,
+    functions: bool,
+    variables: bool,
+    export: &Export,
+) -> bool
+    requires asks { some_ask sections.old ≡ false }
+    requires functions { functions ≡ some_section_holds sections.old (kind_subject (option_copied soname) Functions) }
+    requires variables { variables ≡ some_section_holds sections.old (kind_subject (option_copied soname) Variables) }
+    ensures drops { result ≡ drops sections.old (option_copied soname.entry) (plain_export export.now) }
+    ensures same { sections.new ≡ sections.old }
+{
+    match section_of_symbol(export.kind) {
+        SectionKind::Functions => functions,
+        SectionKind::Variables => variables,
+        SectionKind::Types => sections.some_holds(&Subject::of_export(soname, export)),
+    }
+}
+
+// For each export whether sections drop it that ask no name: one answer for those of a kind.
+fn kind_flags(
+    alloc: Global,
+    sections: &mut ReadyRules,
+    soname: Option<&[u8]>,
+    exports: &[Export],
+) -> Result<List<bool>, NoMemory>
+    requires { some_ask sections.old ≡ false }
+    ensures flags { IfOk result (λ flags. flags ≡ map (drops sections.old (option_copied soname.entry)) (plain_exports exports.now)) }
+    ensures same { sections.new ≡ sections.old }
+{
+    let functions = sections.some_holds(&Subject::of_kind(soname, SectionKind::Functions));
+    let variables = sections.some_holds(&Subject::of_kind(soname, SectionKind::Variables));
+    let mut flags = List::new(alloc);
+    for export in exports {
+        flags.push(kind_flag(sections, soname, functions, variables, export))?;
+    }
+    Ok(flags)
 }
 
 // For each export whether sections drop it.
@@ -71,6 +158,9 @@ fn export_flags(
     ensures flags { IfOk result (λ flags. flags ≡ map (drops sections.old (option_copied soname.entry)) (plain_exports exports.now)) }
     ensures same { sections.new ≡ sections.old }
 {
+    if !sections.asks_names() {
+        return kind_flags(alloc, sections, soname, exports);
+    }
     let mut flags = List::new(alloc);
     for export in exports {
         flags.push(sections.some_holds(&Subject::of_export(soname, export)))?;
@@ -106,6 +196,80 @@ fn node_flags(
     Ok(NodeFlags { direct, pointer })
 }
 
+/// Which exports of a library sections drop, and which of its nodes they mark, by the way by which these are reached.
+#[derive(Drop)]
+pub struct Flags {
+    exports: List<bool>,
+    direct: List<bool>,
+    pointer: List<bool>,
+}
+
+// The flags of sections that ask names, or of those that ask none.
+fn chosen_flags(
+    alloc: Global,
+    sections: &[Section],
+    asking: bool,
+    old: &Library<OldIx>,
+) -> Result<Flags, NoMemory>
+    ensures { IfOk result (AreFlags (chosen asking sections.now) old.now) }
+{
+    let compiled = compiled(alloc, sections, asking)?;
+    let mut ready = ReadyRules::of(alloc, compiled.as_slice())?;
+    let soname = old.soname();
+    let exports = export_flags(alloc, &mut ready, soname, old.exports())?;
+    let NodeFlags { direct, pointer } = node_flags(alloc, &mut ready, soname, old.graph())?;
+    Ok(Flags {
+        exports,
+        direct,
+        pointer,
+    })
+}
+
+// For each place whether it is marked in one of two lists.
+fn either(alloc: Global, one: &[bool], other: &[bool]) -> Result<List<bool>, NoMemory>
+    requires { length one.now ≡ length other.now }
+    ensures { IfOk result (λ flags. flags ≡ either_of one.now other.now) }
+{
+    let mut flags = List::new(alloc);
+    for i in 0..one.len() {
+        flags.push(one_of(one[i], other[i]))?;
+    }
+    Ok(flags)
+}
+
+// What is marked in one of two.
+fn either_flags(alloc: Global, one: &Flags, other: &Flags) -> Result<Flags, NoMemory>
+    requires { AreOfOneSize one.now other.now }
+    ensures { IfOk result (AreEither one.now other.now) }
+{
+    Ok(Flags {
+        exports: either(alloc, one.exports.as_slice(), other.exports.as_slice())?,
+        direct: either(alloc, one.direct.as_slice(), other.direct.as_slice())?,
+        pointer: either(alloc, one.pointer.as_slice(), other.pointer.as_slice())?,
+    })
+}
+
+// The flags of sections that ask names, or of those that ask none: block after block, so that the compiled patterns of one block
+// are in memory at a time.
+fn flags_of(
+    alloc: Global,
+    sections: &[Section],
+    asking: bool,
+    old: &Library<OldIx>,
+) -> Result<Flags, NoMemory>
+    ensures { IfOk result (AreFlags (chosen asking sections.now) old.now) }
+{
+    let mut end = block_end(sections, 0, asking);
+    let mut flags = chosen_flags(alloc, &sections[..end], asking, old)?;
+    'parts: while end < sections.len() {
+        let start = end;
+        end = block_end(sections, start, asking);
+        let more = chosen_flags(alloc, &sections[start..end], asking, old)?;
+        flags = either_flags(alloc, &flags, &more)?;
+    }
+    Ok(flags)
+}
+
 /// What a rule file says of a library: which exports it drops, and which nodes it marks, by the way by which they are reached.
 /// Nodes with equal labels are marked alike. It fails only when memory runs out.
 #[tactic(auto, unfolding(crate::specs::Marks::marks_of, crate::specs::Meaning::is_dropped, crate::specs::Meaning::is_marked))]
@@ -113,11 +277,16 @@ pub fn marks(alloc: Global, rules: &Rules, old: &Library<OldIx>) -> Result<Marks
     ensures marks { IfOk result (λ marks. marks ≡ marks_of rules.now old.now) }
     ensures even { IfOk result (AreEvenMarks old.now) }
 {
-    let mut sections = ReadyRules::of(alloc, rules)?;
-    let soname = old.soname();
-    let exports = export_flags(alloc, &mut sections, soname, old.exports())?;
-    let nodes = node_flags(alloc, &mut sections, soname, old.graph())?;
-    let NodeFlags { direct, pointer } = nodes;
+    let sections = rules.sections();
+    check_limits(sections, old.soname())?;
+    let named = flags_of(alloc, sections, true, old)?;
+    let others = flags_of(alloc, sections, false, old)?;
+    let flags = either_flags(alloc, &named, &others)?;
+    let Flags {
+        exports,
+        direct,
+        pointer,
+    } = flags;
     Ok(Marks {
         digest: rules.digest(),
         exports,

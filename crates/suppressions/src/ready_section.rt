@@ -1,18 +1,21 @@
-// Sections whose patterns are ready to be searched for.
+//! Sections whose patterns are ready to be searched for.
 ghost use Rattle.std.specs.Prelude.{◌≡◌, ◌<◌, All, length, IfOk};
 ghost use Rattle.std.specs.List.{list_all};
 ghost use Rattle.suppressions.specs.PlainHandles.{plain_handle};
 ghost use Rattle.suppressions.specs.PlainSubjects.{plain_subject};
+ghost use Rattle.suppressions.specs.Names as spec;
 ghost use Rattle.suppressions.specs.Holding.{one_section_holds, IsOneOfHandle};
-ghost use Rattle.suppressions.specs.Meaning.{property_holds, kind_place as the_kind_place, speaks_of as it_speaks_of, section_holds, some_section_holds};
+ghost use Rattle.suppressions.specs.Meaning.{property_holds, section_holds, some_section_holds};
+ghost use Rattle.suppressions.specs.Meaning as meaning;
 
+use crate::compiled::{CompiledSection, asks_names};
 use crate::handle::Handle;
 use crate::handle_order::HandleOrder;
 use crate::subject::Subject;
 use abi_base::NoMemory;
 use std::alloc::Global;
 use std::marker::Model;
-use suppression_text::{Key, Rules, Section, SectionKind, Test};
+use suppression_text::{CompiledProperty, Key, Section, SectionKind, Test};
 
 /// A section whose patterns are ready. Contracts see it as the section.
 #[derive(Drop)]
@@ -30,11 +33,14 @@ impl<'r> Model for ReadySection<'r> {
 }
 
 // The properties of a section, ready.
-fn tests_of<'r>(alloc: Global, section: &'r Section) -> Result<Vec<Test<'r>>, NoMemory>
-    ensures { IfOk result (λ tests. tests.items ≡ section.now.properties) }
+fn tests_of<'c>(
+    alloc: Global,
+    properties: &'c [CompiledProperty],
+) -> Result<Vec<Test<'c>>, NoMemory>
+    ensures { IfOk result (λ tests. tests.items ≡ properties.now) }
 {
-    let mut tests = Vec::new(alloc);
-    for property in section.properties() {
+    let mut tests = Vec::with_capacity(alloc, properties.len())?;
+    for property in properties {
         tests.push(property.test(alloc)?)?;
     }
     Ok(tests)
@@ -73,7 +79,7 @@ fn all_hold(tests: &mut [Test], subject: &Subject) -> bool
 
 // The place of a kind among the kinds of sections.
 fn kind_place(kind: SectionKind) -> u8
-    ensures { result ≡ the_kind_place kind }
+    ensures { result ≡ meaning.kind_place kind }
 {
     match kind {
         SectionKind::Functions => 0,
@@ -82,18 +88,22 @@ fn kind_place(kind: SectionKind) -> u8
     }
 }
 
-impl<'r> ReadySection<'r> {
+impl<'c> ReadySection<'c> {
     /// The section, ready.
-    pub fn of(alloc: Global, section: &'r Section) -> Result<ReadySection<'r>, NoMemory>
-        ensures { IfOk result (λ ready. ready ≡ section.now) }
+    pub fn of<'r>(
+        alloc: Global,
+        compiled: &'c CompiledSection<'r>,
+    ) -> Result<ReadySection<'c>, NoMemory>
+        ensures { IfOk result (λ ready. ready ≡ compiled.now) }
     {
-        let tests = tests_of(alloc, section)?;
+        let tests = tests_of(alloc, compiled.properties())?;
+        let section = compiled.section();
         Ok(ReadySection { section, tests })
     }
 
     // Whether it speaks of a subject.
     fn speaks_of(&self, subject: &Subject) -> bool
-        ensures { result ≡ it_speaks_of self.now (plain_subject subject.now) }
+        ensures { result ≡ meaning.speaks_of self.now (plain_subject subject.now) }
     {
         kind_place(self.section.kind()) == kind_place(subject.kind)
     }
@@ -111,15 +121,25 @@ impl<'r> ReadySection<'r> {
     }
 }
 
-// The sections of a rule file, ready.
-fn ready_sections<'r>(alloc: Global, rules: &'r Rules) -> Result<Vec<ReadySection<'r>>, NoMemory>
-    ensures { IfOk result (λ ready. ready.items ≡ rules.now.sections) }
+// Sections, ready.
+fn ready_sections<'c>(
+    alloc: Global,
+    compiled: &'c [CompiledSection],
+) -> Result<Vec<ReadySection<'c>>, NoMemory>
+    ensures { IfOk result (λ ready. ready.items ≡ compiled.now) }
 {
-    let mut ready = Vec::new(alloc);
-    for section in rules.sections() {
+    let mut ready = Vec::with_capacity(alloc, compiled.len())?;
+    for section in compiled {
         ready.push(ReadySection::of(alloc, section)?)?;
     }
     Ok(ready)
+}
+
+// Whether some sections ask names.
+fn some_ask(compiled: &[CompiledSection]) -> bool
+    ensures { result ≡ spec.some_ask compiled.now }
+{
+    compiled.iter().any(|section| asks_names(section.section()))
 }
 
 // Whether one of the sections with these numbers holds of a subject.
@@ -136,34 +156,48 @@ fn one_holds(sections: &mut [ReadySection], numbers: &[usize], subject: &Subject
     false
 }
 
-/// The sections of a rule file, ready, and found by the names that they ask for exactly: a name meets the sections that ask for
-/// it and those that ask for no name, not all others. Contracts see it as the list of the sections.
+/// Sections, ready, and found by the names that they ask for exactly: a name meets the sections that ask for it and those that
+/// ask for no name, not all others. Contracts see it as the list of the sections.
 #[derive(Drop)]
-pub struct ReadyRules<'r> {
-    sections: Vec<ReadySection<'r>>,
-    order: HandleOrder<'r>,
+pub struct ReadyRules<'c> {
+    sections: Vec<ReadySection<'c>>,
+    order: HandleOrder<'c>,
+    asks: bool,
 }
 
-impl<'r> Model for ReadyRules<'r> {
+impl<'c> Model for ReadyRules<'c> {
     ghost use Rattle.std.specs.Prelude.{◌≡◌, List};
     ghost use Rattle.suppression_text.specs.Rules.{PlainSection};
     ghost use Rattle.suppressions.specs.Handles.{handles_of};
+    ghost use Rattle.suppressions.specs.Names.{some_ask};
 
     ghost Value = { List PlainSection };
 
     ghost view = { λ r. r.sections.items };
 
-    ghost invariant = { λ r. r.order ≡ handles_of r.sections.items };
+    ghost invariant = { λ r. (r.order ≡ handles_of r.sections.items) × (r.asks ≡ some_ask r.sections.items) };
 }
 
-impl<'r> ReadyRules<'r> {
-    /// The sections of a rule file, ready.
-    pub fn of(alloc: Global, rules: &'r Rules) -> Result<ReadyRules<'r>, NoMemory>
-        ensures { IfOk result (λ ready. ready ≡ rules.now.sections) }
+impl<'c> ReadyRules<'c> {
+    /// The sections, ready.
+    pub fn of(alloc: Global, compiled: &'c [CompiledSection]) -> Result<ReadyRules<'c>, NoMemory>
+        ensures { IfOk result (λ ready. ready ≡ compiled.now) }
     {
-        let sections = ready_sections(alloc, rules)?;
-        let order = HandleOrder::of(alloc, rules.sections())?;
-        Ok(ReadyRules { sections, order })
+        let sections = ready_sections(alloc, compiled)?;
+        let order = HandleOrder::of(alloc, compiled)?;
+        let asks = some_ask(compiled);
+        Ok(ReadyRules {
+            sections,
+            order,
+            asks,
+        })
+    }
+
+    /// Whether some of them ask names.
+    pub fn asks_names(&self) -> bool
+        ensures { result ≡ spec.some_ask self.now }
+    {
+        self.asks
     }
 
     // Whether a section of a handle holds of a subject.

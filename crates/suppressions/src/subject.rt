@@ -1,8 +1,9 @@
-// What the properties of a rule file speak of.
+//! What the properties of a rule file speak of.
 ghost use Rattle.std.specs.Prelude.{◌≡◌};
 ghost use Rattle.std.specs.Option.{option_copied};
 ghost use Rattle.abi_types.specs.Plain.{plain_export, plain_label};
-ghost use Rattle.suppressions.specs.Subjects.{section_of_symbol as the_section_of_symbol, label_word as the_label_word, accessed_through_word as the_way_word, export_subject, label_subject};
+ghost use Rattle.suppressions.specs.Subjects.{export_subject, kind_subject, label_subject};
+ghost use Rattle.suppressions.specs.Subjects as subjects;
 
 use abi_types::{Export, Label, LabelKind, SymbolKind, Way};
 use suppression_text::{Key, SectionKind};
@@ -26,8 +27,9 @@ pub struct Subject<'x> {
     pub way: Option<&'x [u8]>,
 }
 
-fn section_of_symbol(kind: SymbolKind) -> SectionKind
-    ensures { result ≡ the_section_of_symbol kind }
+/// The kind of the sections that speak of exports of a kind.
+pub fn section_of_symbol(kind: SymbolKind) -> SectionKind
+    ensures { result ≡ subjects.section_of_symbol kind }
 {
     match kind {
         SymbolKind::Func | SymbolKind::Ifunc | SymbolKind::NoType => SectionKind::Functions,
@@ -36,7 +38,7 @@ fn section_of_symbol(kind: SymbolKind) -> SectionKind
 }
 
 fn label_word(kind: LabelKind) -> &'static [u8]
-    ensures { result.now ≡ the_label_word kind }
+    ensures { result.now ≡ subjects.label_word kind }
 {
     match kind {
         LabelKind::Structure => b"struct",
@@ -48,7 +50,7 @@ fn label_word(kind: LabelKind) -> &'static [u8]
 }
 
 fn accessed_through_word(way: Way) -> &'static [u8]
-    ensures { result.now ≡ the_way_word way }
+    ensures { result.now ≡ subjects.accessed_through_word way }
 {
     match way {
         Way::Direct => b"direct",
@@ -58,7 +60,6 @@ fn accessed_through_word(way: Way) -> &'static [u8]
 
 impl<'x> Subject<'x> {
     ghost use Rattle.suppressions.specs.PlainSubjects.{plain_subject};
-    ghost use Rattle.suppressions.specs.Subjects.{asked as the_asked};
 
     /// An export of a library with a soname.
     pub fn of_export(soname: Option<&'x [u8]>, export: &Export<'x>) -> Subject<'x>
@@ -69,6 +70,21 @@ impl<'x> Subject<'x> {
             name: export.declared,
             symbol: Some(export.name),
             version: export.version,
+            soname,
+            type_kind: None,
+            way: None,
+        }
+    }
+
+    /// What the exports of a library with a soname share that sections of a kind speak of: no name.
+    pub fn of_kind(soname: Option<&'x [u8]>, kind: SectionKind) -> Subject<'x>
+        ensures { plain_subject result ≡ kind_subject (option_copied soname.entry) kind }
+    {
+        Subject {
+            kind,
+            name: &[],
+            symbol: None,
+            version: None,
             soname,
             type_kind: None,
             way: None,
@@ -92,7 +108,7 @@ impl<'x> Subject<'x> {
 
     /// The bytes that a property asks, where there are any.
     pub fn asked(&self, key: Key) -> Option<&'x [u8]>
-        ensures { option_copied result ≡ the_asked (plain_subject self.now) key }
+        ensures { option_copied result ≡ subjects.asked (plain_subject self.now) key }
     {
         match key {
             Key::Label => None,

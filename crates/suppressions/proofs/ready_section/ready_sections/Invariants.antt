@@ -3,4 +3,4 @@ use Rattle.suppressions.proofs.ready_section.ready_sections.Given as goal
 
 -- the sections so far
 abbrev pub invariant-loop-section : goal.invariant-loop-section
-invariant-loop-section l = l.ready.items ≡ take l.section-index l.rules.sections
+invariant-loop-section l = l.ready.items ≡ take l.section-index l.compiled

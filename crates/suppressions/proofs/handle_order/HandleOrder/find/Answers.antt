@@ -1,4 +1,4 @@
-use Rattle.std.proofs.Common.{◌≡◌, ◌∙◌, List, sym, ap, subst}
+use Rattle.std.proofs.Common.{◌≡◌, ◌∙◌, List, ap, subst}
 use Rattle.suppressions.specs.Handles.{PlainHandle, AreAt}
 use Rattle.suppressions.specs.PlainHandles.{plain_handle, plain_handles}
 use Rattle.suppressions.proofs.handle_order.HandleOrder.find.Goals as goal

@@ -1,7 +1,6 @@
 use Rattle.std.proofs.Common.{◌∙◌, List, ap, subst}
 use Rattle.std.specs.Option.{option_copied}
 use Rattle.suppression_text.specs.Rules.{PlainSection}
-use Rattle.suppressions.specs.Handles.{any_handle}
 use Rattle.suppressions.specs.Holding.{IsOneOfHandle}
 use Rattle.suppressions.specs.PlainSubjects.{plain_subject}
 use Rattle.suppressions.proofs.HoldLemmas.{with_symbol, without_symbol}

@@ -1,0 +1,9 @@
+use Rattle.std.proofs.Common.{◌≤◌, ◌-◌, length}
+use Rattle.suppressions.proofs.block.block_end.Given as goal
+
+-- the block so far
+abbrev pub invariant-sections : goal.invariant-sections
+invariant-sections l = (l.fn.start ≤ l.end) × (l.end ≤ length l.sections)
+
+abbrev pub decreases-sections : goal.decreases-sections
+decreases-sections l = length l.sections - l.end
