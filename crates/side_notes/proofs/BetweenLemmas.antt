@@ -1,5 +1,5 @@
 -- Notes that are there where an input has no fault.
-use Rattle.std.proofs.Common.{◌≡◌, List, [], Option, Some, None, ◌∙◌, sym}
+use Rattle.std.proofs.Common.{◌≡◌, List, [], Option, Some, None}
 use Rattle.std.specs.Prelude.{if◌then◌else◌, is_none}
 use Rattle.abi_base.specs.declared.fault.Fault.{Fault}
 use Rattle.type_notes.specs.declared.note.Note.{Note}

@@ -1,7 +1,11 @@
-pub mod AddedLemmas
-pub mod BetweenLemmas
-pub mod LineLemmas
-pub mod Marked
-pub mod Spreading
-pub mod ThreadLemmas
-pub mod VersionLemmas
+mod AddedLemmas
+mod AffectedLemmas
+mod BetweenLemmas
+mod IdleLemmas
+mod LineLemmas
+mod Marked
+mod OldExportLemmas
+mod StemLemmas
+mod SuccessorLemmas
+mod TypeLemmas
+mod VersionLemmas

@@ -1,5 +1,5 @@
 -- What a rule file leaves out of a library is as comparisons need it.
-use Rattle.std.proofs.Common.{ℕ, List, Result, Ok, Err}
+use Rattle.std.proofs.Common.{Result, Ok, Err}
 use Rattle.std.specs.Prelude.{IfOk}
 use Rattle.abi_types.specs.Libraries.{PlainLibrary}
 use Rattle.abi_types.specs.declared.kind.Way.TheVariants.{Direct, Pointer}

@@ -1,5 +1,5 @@
 -- The exports of a new library that the old one does not have.
-use Rattle.std.specs.Prelude.{ℕ, Bool, not, if◌then◌else◌, List, [], ◌∷◌, flat_map, filter, map}
+use Rattle.std.specs.Prelude.{Bool, not, if◌then◌else◌, List, [], ◌∷◌, filter, map}
 use Rattle.std.specs.List.{list_any}
 use Rattle.abi_types.specs.Exports.{PlainExport}
 use Rattle.abi_types.specs.Shown.{label}

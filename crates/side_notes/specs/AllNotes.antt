@@ -1,8 +1,55 @@
--- All notes on two libraries.
-use Rattle.std.specs.Prelude.{◌≡◌, List, ◌++◌}
+-- All notes on two libraries, from their bytes and those of a rule file.
+use Rattle.std.specs.Prelude.{◌≡◌, ℕ, Bool, true, false, is_none, List, [], ◌++◌}
+use Rattle.abi_types.specs.declared.library.Marks.{Marks}
+use Rattle.abi_types.specs.Libraries.{PlainLibrary}
+use Rattle.cert_check.specs.Compatible.{sides}
+use Rattle.dwarf_entries.specs.Debug.{PlainDwarf}
+use Rattle.library_read.specs.Debug.{debug_of}
+use Rattle.library_read.specs.Faults.{library_fault}
+use Rattle.library_read.specs.Libraries.{library_of}
+use Rattle.suppression_text.specs.Faults.{rule_fault}
+use Rattle.suppression_text.specs.Rules.{rules_of}
+use Rattle.suppressions.specs.Marks.{marks_of}
+use Rattle.type_notes.specs.NotedPairs.{AreNotes, PlainPair}
 use Rattle.type_notes.specs.declared.note.Note.{Note}
+use Rattle.side_notes.specs.Affected.{AreAffected}
+use Rattle.side_notes.specs.Between.{notes_of}
 
--- these notes come last
-pub record EndsWith (notes last : List Note) : Type 0 where
+-- two libraries with marks, and the entries of both
+abbrev pub noted_by : PlainLibrary → PlainLibrary → Marks → PlainDwarf → PlainDwarf → PlainPair
+noted_by old new marks old_dwarf new_dwarf = record { sides = sides old new marks; old_dwarf = old_dwarf; new_dwarf = new_dwarf }
+
+-- the same, with the entries of the debug information in these bytes
+abbrev pub noted_with : PlainLibrary → PlainLibrary → Marks → List ℕ → List ℕ → PlainPair
+noted_with old new marks old_bytes new_bytes = noted_by old new marks (debug_of old_bytes) (debug_of new_bytes)
+
+-- the notes on types, and those on the exports that lead to types which break a rule
+pub record AreTypeNotes (p : PlainPair) (notes : List Note) : Type 0 where
+  pub on_types : List Note
+  pub on_exports : List Note
+  pub types : AreNotes p on_types
+  pub affected : AreAffected p.sides on_exports
+  pub are : notes ≡ on_types ++ on_exports
+
+-- they are such notes, or there are none
+abbrev pub AreWhere : Bool → (List Note → Type 0) → List Note → Type 0
+AreWhere true Are notes = Are notes
+AreWhere false Are notes = notes ≡ []
+
+-- those of two libraries that were read, by a rule file; none where it has a fault
+abbrev pub AreWithBoth : PlainLibrary → PlainLibrary → List ℕ → List ℕ → List ℕ → List Note → Type 0
+AreWithBoth old new old_bytes new_bytes rules = AreWhere (is_none (rule_fault rules)) (AreTypeNotes (noted_with old new (marks_of (rules_of rules) old) old_bytes new_bytes))
+
+-- those of an old library and the bytes of both; none where those of the new one have a fault
+abbrev pub AreWithOld : PlainLibrary → List ℕ → List ℕ → List ℕ → List Note → Type 0
+AreWithOld old old_bytes new_bytes rules = AreWhere (is_none (library_fault new_bytes)) (AreWithBoth old (library_of new_bytes) old_bytes new_bytes rules)
+
+-- those of two files and a rule file; none where one of them has a fault
+abbrev pub AreOfFiles : List ℕ → List ℕ → List ℕ → List Note → Type 0
+AreOfFiles old new rules = AreWhere (is_none (library_fault old)) (AreWithOld (library_of old) old new rules)
+
+-- those, and then the notes on exports alone
+pub record AreAllNotes (old new rules : List ℕ) (notes : List Note) : Type 0 where
   pub before : List Note
-  pub is : notes ≡ before ++ last
+  pub are_types : AreOfFiles old new rules before
+  pub are : notes ≡ before ++ notes_of old new rules

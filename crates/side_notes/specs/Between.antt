@@ -5,20 +5,25 @@ use Rattle.abi_types.specs.Libraries.{PlainLibrary}
 use Rattle.library_read.specs.Faults.{library_fault}
 use Rattle.library_read.specs.Libraries.{library_of}
 use Rattle.suppression_text.specs.Faults.{rule_fault}
-use Rattle.suppression_text.specs.Rules.{rules_of}
+use Rattle.suppression_text.specs.Rules.{PlainRules, rules_of}
 use Rattle.suppressions.specs.Marks.{marks_of}
 use Rattle.type_notes.specs.declared.note.Note.{Note}
 use Rattle.side_notes.specs.Added.{added_notes}
-use Rattle.side_notes.specs.Threads.{thread_notes}
+use Rattle.side_notes.specs.Idle.{idle_notes}
+use Rattle.side_notes.specs.OldExports.{old_export_notes}
 use Rattle.side_notes.specs.Versions.{version_notes}
 
--- on the exports that are new, on the versions that are new, and on objects of threads
+-- on the exports that are new, on the versions that are new, and on the old exports that are compared
 unfoldable pub export_notes : PlainLibrary → PlainLibrary → Marks → List Note
-export_notes old new marks = (added_notes old.exports new.exports ++ version_notes old.exports new.exports) ++ thread_notes marks.exports old.exports new.exports
+export_notes old new marks = (added_notes old.exports new.exports ++ version_notes old.exports new.exports) ++ old_export_notes marks.exports old.exports new.exports
+
+-- those that rules do not drop, and then those on the sections that hold of nothing
+abbrev pub notes_by : PlainLibrary → PlainLibrary → PlainRules → List Note
+notes_by old new rules = export_notes old new (marks_of rules old) ++ idle_notes rules old
 
 -- those of two libraries, by a rule file; none where it has a fault
 abbrev pub notes_with_both : PlainLibrary → PlainLibrary → List ℕ → List Note
-notes_with_both old new rules = if is_none (rule_fault rules) then export_notes old new (marks_of (rules_of rules) old) else []
+notes_with_both old new rules = if is_none (rule_fault rules) then notes_by old new (rules_of rules) else []
 
 -- those of an old library and the bytes of a new one; none where these have a fault
 abbrev pub notes_with_old : PlainLibrary → List ℕ → List ℕ → List Note

@@ -1,9 +1,13 @@
 pub mod Added
+pub mod Affected
 pub mod AllNotes
-pub mod Arrows
 pub mod Between
 pub mod Bound
+pub mod Idle
 pub mod Made
 pub mod NoteTexts
+pub mod OldExports
+pub mod Stems
+pub mod Successors
 pub mod Threads
 pub mod Versions

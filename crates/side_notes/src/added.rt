@@ -6,7 +6,8 @@ ghost use Rattle.abi_types.specs.declared.export.Export.{Export as AnyExport};
 ghost use Rattle.abi_types.specs.Plain.{plain_export, plain_exports};
 ghost use Rattle.elf_bind.specs.Binding.{has_version as has_name_and_version};
 ghost use Rattle.elf_bind.specs.Named.{passes_at};
-ghost use Rattle.side_notes.specs.Added.{added_notes, has_export as the_library_has, notes_if_added};
+ghost use Rattle.side_notes.specs.Added.{added_notes, notes_if_added};
+ghost use Rattle.side_notes.specs.Added as spec;
 
 use crate::making::{label_of, note_on};
 use abi_base::{List, NoMemory};
@@ -41,9 +42,9 @@ fn is_among(exports: &[Export], places: &[usize], name: &[u8], version: Option<&
         .any(|place| is_version_at(exports, *place, name, version))
 }
 
-// Whether an old library has an export of the name and the version of a new one. It takes the time of two binary searches.
-fn has_export(old: &Library<OldIx>, export: &Export) -> bool
-    ensures { result ≡ the_library_has old.now.exports (plain_export export.now) }
+/// Whether an old library has an export of the name and the version of a new one. It takes the time of two binary searches.
+pub fn has_export(old: &Library<OldIx>, export: &Export) -> bool
+    ensures { result ≡ spec.has_export old.now.exports (plain_export export.now) }
 {
     let places = old.exports_named(export.name);
     is_among(old.exports(), places, export.name, export.version)

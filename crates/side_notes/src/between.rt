@@ -1,21 +1,23 @@
 // The notes on two libraries, from their bytes and those of a rule file.
 ghost use Rattle.std.specs.Prelude.{◌≡◌, ◌≤◌, length, IfOk};
 ghost use Rattle.abi_base.specs.Limits.{input_limit};
-ghost use Rattle.side_notes.specs.Between.{export_notes as the_export_notes, notes_of, notes_with_both, notes_with_old};
+ghost use Rattle.side_notes.specs.Between.{notes_by, notes_of, notes_with_both, notes_with_old};
+ghost use Rattle.side_notes.specs.Between as spec;
 
 use crate::added::push_added;
-use crate::threads::push_thread_objects;
+use crate::idle::push_idle_sections;
+use crate::old_exports::push_old_exports;
 use crate::versions::push_versions;
 use abi_base::{List, NoMemory, Refusal};
 use abi_types::{Library, Marks, NewIx, OldIx};
 use library_read::read_library;
 use std::alloc::Global;
-use suppression_text::read_rules;
+use suppression_text::{Rules, read_rules};
 use suppressions::marks;
 use type_notes::Note;
 
 /// The notes on the exports of two libraries, of the old one of which some are dropped: on those that are new, on the versions that
-/// are new, and on objects of threads.
+/// are new, on objects of threads whose sizes differ, and on likely successors of exports that are gone.
 #[tactic(auto, unfolding(crate::specs::Between::export_notes))]
 pub fn export_notes(
     alloc: Global,
@@ -23,12 +25,27 @@ pub fn export_notes(
     new: &Library<NewIx>,
     marks: &Marks,
 ) -> Result<List<Note>, NoMemory>
-    ensures { IfOk result (λ notes. notes ≡ the_export_notes old.now new.now marks.now) }
+    ensures { IfOk result (λ notes. notes ≡ spec.export_notes old.now new.now marks.now) }
 {
     let mut notes = List::new(alloc);
     push_added(alloc, &mut notes, old, new)?;
     push_versions(alloc, &mut notes, old, new)?;
-    push_thread_objects(alloc, &mut notes, old, new, marks)?;
+    push_old_exports(alloc, &mut notes, old, new, marks)?;
+    Ok(notes)
+}
+
+// The notes on two libraries, and on the sections of a rule file that hold of nothing.
+fn by_rules(
+    alloc: Global,
+    old: &Library<OldIx>,
+    new: &Library<NewIx>,
+    rules: &Rules,
+) -> Result<List<Note>, NoMemory>
+    ensures { IfOk result (λ notes. notes ≡ notes_by old.now new.now rules.now) }
+{
+    let marks = marks(alloc, rules, old)?;
+    let mut notes = export_notes(alloc, old, new, &marks)?;
+    push_idle_sections(alloc, &mut notes, rules, old)?;
     Ok(notes)
 }
 
@@ -43,10 +60,7 @@ fn with_both(
     ensures { IfOk result (λ notes. notes ≡ notes_with_both old.now new.now rules.now) }
 {
     match read_rules(alloc, rules) {
-        Ok(rules) => {
-            let marks = marks(alloc, &rules, old)?;
-            export_notes(alloc, old, new, &marks)
-        }
+        Ok(rules) => by_rules(alloc, old, new, &rules),
         Err(Refusal::Fault(_)) => Ok(List::new(alloc)),
         Err(Refusal::NoMemory) => Err(NoMemory),
     }
@@ -70,7 +84,8 @@ fn with_old(
     }
 }
 
-/// The notes on two libraries, from their bytes and those of a rule file. Where one of them has a fault, there are none.
+/// The notes on two libraries, from their bytes and those of a rule file: on exports, and then on the sections of the rule file that
+/// hold of nothing in the old library. Where one of the files has a fault, there are none.
 #[tactic(auto, using(crate::proofs::BetweenLemmas::when_readable, crate::proofs::BetweenLemmas::when_faulty))]
 pub fn notes_between(
     alloc: Global,

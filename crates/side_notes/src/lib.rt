@@ -3,10 +3,14 @@
 #![tactic(auto)]
 
 pub mod added;
-pub mod arrows;
+pub mod affected;
 mod between;
+pub mod idle;
 mod lines;
 pub mod making;
+pub mod old_exports;
+pub mod stems;
+pub mod successors;
 pub mod threads;
 mod types;
 pub mod versions;

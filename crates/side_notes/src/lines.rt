@@ -1,6 +1,7 @@
 // Notes as lines, for people.
 ghost use Rattle.std.specs.Prelude.{◌≡◌, ◌++◌, ◌≤◌, IfOk, OnOk, count_by};
-ghost use Rattle.side_notes.specs.NoteTexts.{all_kinds, behind, change_sign_of, counted_to, first_lines, is_of, kind_text, line_end, line_front, line_if, line_start, note_line, note_text as the_note_text, rest_line, rest_words};
+ghost use Rattle.side_notes.specs.NoteTexts.{all_kinds, behind, change_sign_of, counted_to, first_lines, is_of, kind_text, line_end, line_front, line_if, line_start, note_line, rest_line, rest_words};
+ghost use Rattle.side_notes.specs.NoteTexts as spec;
 
 use abi_base::NoMemory;
 use std::alloc::Global;
@@ -191,7 +192,7 @@ fn push_kind(
 
 /// The notes as lines, one kind after another: the first ten of each kind, and how many more there are of it.
 pub fn note_text(alloc: Global, notes: &[Note]) -> Result<Vec<u8>, NoMemory>
-    ensures { IfOk result (λ text. text.items ≡ the_note_text notes.now) }
+    ensures { IfOk result (λ text. text.items ≡ spec.note_text notes.now) }
 {
     let kinds = kinds();
     let mut text = Vec::new(alloc);

@@ -2,7 +2,8 @@
 ghost use Rattle.std.specs.Prelude.{◌≡◌, IfOk, string_bytes};
 ghost use Rattle.abi_types.specs.Plain.{plain_export};
 ghost use Rattle.abi_types.specs.Shown.{label, shown};
-ghost use Rattle.side_notes.specs.Made.{note_on_export, sized as the_size};
+ghost use Rattle.side_notes.specs.Made.{note_on_export};
+ghost use Rattle.side_notes.specs.Made as spec;
 
 use abi_base::{List, NoMemory};
 use abi_types::{Export, push_label, push_shown};
@@ -49,7 +50,7 @@ pub fn note_on(alloc: Global, kind: NoteKind, export: List<u8>, was: List<u8>, i
 
 /// A size in words.
 pub fn sized(alloc: Global, size: u64) -> Result<List<u8>, NoMemory>
-    ensures { IfOk result (λ text. text ≡ the_size size) }
+    ensures { IfOk result (λ text. text ≡ spec.sized size) }
 {
     let text = format!(in alloc; "size {size}")?;
     Ok(bytes_of(text))

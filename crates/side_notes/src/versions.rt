@@ -5,7 +5,8 @@ ghost use Rattle.std.specs.Borrow.{Bor};
 ghost use Rattle.std.specs.Option.{option_copied};
 ghost use Rattle.std.specs.Str.{bytes_eq};
 ghost use Rattle.abi_types.specs.Plain.{plain_exports};
-ghost use Rattle.side_notes.specs.Versions.{kept_with, notes_if_new, version_notes, versions_of as the_versions_of};
+ghost use Rattle.side_notes.specs.Versions.{kept_with, notes_if_new, version_notes};
+ghost use Rattle.side_notes.specs.Versions as spec;
 
 use crate::making::{note_on, shown_name};
 use abi_base::{List, NoMemory};
@@ -26,7 +27,7 @@ fn put<'a>(kept: &mut IndexSet<&'a [u8]>, version: Option<&'a [u8]>) -> Result<(
 
 // The versions of exports, each once, in the order in which the exports first have them.
 fn versions_of<'a>(alloc: Global, exports: &[Export<'a>]) -> Result<IndexSet<&'a [u8]>, NoMemory>
-    ensures { IfOk result (λ kept. map (λ (v : Bor (List ℕ)). v.now) kept.keys ≡ the_versions_of (plain_exports exports.now)) }
+    ensures { IfOk result (λ kept. map (λ (v : Bor (List ℕ)). v.now) kept.keys ≡ spec.versions_of (plain_exports exports.now)) }
 {
     let mut kept = IndexSet::new(alloc);
     for export in exports {

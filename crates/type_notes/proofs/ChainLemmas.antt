@@ -1,13 +1,13 @@
 -- The way from a type to what it stands for, entry by entry.
 use Rattle.std.proofs.Common.{◌≡◌, ◌<◌, ◌≤◌, ◌+◌, ◌-◌, ◌∙◌, ℕ, suc, zero, Bool, true, false, Some, None, ap, sym, arith, refl}
-use Rattle.std.specs.Prelude.{◌||◌, ◌==◌}
+use Rattle.std.specs.Prelude.{◌&&◌, ◌||◌, ◌==◌}
 use Rattle.std.proofs.lemmas.Bool.Decides.{nat_tests}
 use Rattle.dwarf_tree.specs.Trees.{PlainTree}
 use Rattle.dwarf_entries.specs.Addresses.{tag_at}
 use Rattle.type_reach.specs.declared.role.Role.{Role}
 use Rattle.type_reach.specs.declared.role.Role.TheVariants as role
 use Rattle.type_reach.specs.References.{Type_, role_of, type_of}
-use Rattle.type_notes.specs.Chains.{behind, is_passed, led_on, and_led_on}
+use Rattle.type_notes.specs.Chains.{behind, is_passed, led_on, leads_further}
 
 one_less : (n k : ℕ) → k < n → n - k ≡ suc (n - (k + 1))
 one_less n k h = omega arith
@@ -45,35 +45,33 @@ pub passed_void : (t : PlainTree) (tag n k : ℕ) → k < n → is_passed t tag 
 unfolding is_passed
 passed_void t tag n k h = ap (λ (m : ℕ). is_passed t tag m None) (one_less n k h)
 
-passed_on : (t : PlainTree) (tag n k e : ℕ) → k < n → is_passed t tag (n - k) (Some e) ≡ and_led_on (role_of t e) (tag_at t e == tag || is_passed t tag (n - (k + 1)) (type_of t e))
+passed_on : (t : PlainTree) (tag n k e : ℕ) → k < n → is_passed t tag (n - k) (Some e) ≡ (leads_further (role_of t e) && (tag_at t e == tag || is_passed t tag (n - (k + 1)) (type_of t e)))
 unfolding is_passed
 passed_on t tag n k e h = ap (λ (m : ℕ). is_passed t tag m (Some e)) (one_less n k h)
 
-or_true : (b c : Bool) → b ≡ true → (b || c) ≡ true
-or_true true c h = refl
-or_true false c h = cc
+on_and : (a b c : Bool) → a ≡ true → b ≡ true → (a && (b || c)) ≡ true
+on_and true true c g h = refl
+on_and true false c g h = cc
+on_and false b c g h = cc
 
-or_false : (b c : Bool) → b ≡ false → (b || c) ≡ c
-or_false true c h = cc
-or_false false c h = refl
+on_only : (a b c : Bool) → a ≡ true → b ≡ false → (a && (b || c)) ≡ c
+on_only true true c g h = cc
+on_only true false c g h = refl
+on_only false b c g h = cc
 
-pub passed_here : (t : PlainTree) (tag n k e : ℕ) → k < n → role_of t e ≡ role.Wrapper → (tag_at t e == tag) ≡ true → is_passed t tag (n - k) (Some e) ≡ true
-passed_here t tag n k e h is same =
-    passed_on t tag n k e h ∙ ap (λ (r : Role). and_led_on r (tag_at t e == tag || is_passed t tag (n - (k + 1)) (type_of t e))) is
-    ∙ or_true (tag_at t e == tag) (is_passed t tag (n - (k + 1)) (type_of t e)) same
+not_on : (a b : Bool) → a ≡ false → (a && b) ≡ false
+not_on true b g = cc
+not_on false b g = refl
 
-pub passed_next : (t : PlainTree) (tag n k e : ℕ) → k < n → role_of t e ≡ role.Wrapper → (tag_at t e == tag) ≡ false → is_passed t tag (n - (k + 1)) (type_of t e) ≡ is_passed t tag (n - k) (Some e)
+pub passed_here : (t : PlainTree) (tag n k e : ℕ) → k < n → leads_further (role_of t e) ≡ true → (tag_at t e == tag) ≡ true → is_passed t tag (n - k) (Some e) ≡ true
+passed_here t tag n k e h is same = passed_on t tag n k e h ∙ on_and (leads_further (role_of t e)) (tag_at t e == tag) (is_passed t tag (n - (k + 1)) (type_of t e)) is same
+
+pub passed_next : (t : PlainTree) (tag n k e : ℕ) → k < n → leads_further (role_of t e) ≡ true → (tag_at t e == tag) ≡ false → is_passed t tag (n - (k + 1)) (type_of t e) ≡ is_passed t tag (n - k) (Some e)
 passed_next t tag n k e h is other =
-    sym (passed_on t tag n k e h ∙ ap (λ (r : Role). and_led_on r (tag_at t e == tag || is_passed t tag (n - (k + 1)) (type_of t e))) is
-    ∙ or_false (tag_at t e == tag) (is_passed t tag (n - (k + 1)) (type_of t e)) other)
+    sym (passed_on t tag n k e h ∙ on_only (leads_further (role_of t e)) (tag_at t e == tag) (is_passed t tag (n - (k + 1)) (type_of t e)) is other)
 
-and_led_on_last : (r : Role) (b : Bool) → (r ≡ role.Wrapper → ⊥) → and_led_on r b ≡ false
-and_led_on_last role.Wrapper b h = absurd (h refl)
-and_led_on_last _ b h = refl
-
-pub passed_last : (t : PlainTree) (tag n k e : ℕ) → k < n → (role_of t e ≡ role.Wrapper → ⊥) → is_passed t tag (n - k) (Some e) ≡ false
-passed_last t tag n k e h is =
-    passed_on t tag n k e h ∙ and_led_on_last (role_of t e) (tag_at t e == tag || is_passed t tag (n - (k + 1)) (type_of t e)) is
+pub passed_last : (t : PlainTree) (tag n k e : ℕ) → k < n → leads_further (role_of t e) ≡ false → is_passed t tag (n - k) (Some e) ≡ false
+passed_last t tag n k e h is = passed_on t tag n k e h ∙ not_on (leads_further (role_of t e)) (tag_at t e == tag || is_passed t tag (n - (k + 1)) (type_of t e)) is
 
 pub passed_end : (t : PlainTree) (tag n k : ℕ) (r : Type_) → n ≤ k → is_passed t tag (n - k) r ≡ false
 unfolding is_passed

@@ -1,7 +1,7 @@
--- A type does not differ from itself.
+-- Types and definitions do not differ from themselves.
 use Rattle.std.proofs.Common.{◌≡◌, ◌<◌, ◌∙◌, ℕ, zero, suc, Bool, true, false, List, [], ◌∷◌, ◌++◌, length, get_or, Option, Some, None, arith, refl}
-use Rattle.std.specs.Prelude.{◌&&◌, if◌then◌else◌, is_none, option_to_list, cond}
-use Rattle.std.specs.List.{flat_map}
+use Rattle.std.specs.Prelude.{◌&&◌, if◌then◌else◌, is_none, option_to_list, cond, map, max, slice_get}
+use Rattle.std.specs.List.{flat_map, range_with_len}
 use Rattle.std.specs.Option.{option_map}
 use Rattle.std.specs.Str.{bytes_eq}
 use Rattle.std.proofs.lemmas.Slice.Eq.{bytes_eq-Decides}
@@ -9,16 +9,21 @@ use Rattle.std.proofs.lemmas.List.{append-nil}
 use Rattle.abi_types.specs.Graphs.{node_at, view_at, no_part}
 use Rattle.abi_types.specs.Parts.{like, place_of}
 use Rattle.abi_types.specs.Types.{PlainPart, Member, Enumerator, Target, Element, Outcome, Param, PlainNode, PlainView}
+use Rattle.dwarf_tree.specs.Trees.{entry_of}
+use Rattle.dwarf_entries.specs.Addresses.{tag_at}
 use Rattle.dwarf_entries.specs.Debug.{PlainDwarf}
 use Rattle.type_reach.specs.References.{Type_, role_of}
 use Rattle.type_notes.specs.declared.note.NoteKind.{NoteKind}
+use Rattle.type_notes.specs.declared.note.NoteKind.TheVariants as note
 use Rattle.type_notes.specs.declared.difference.Difference.{Difference}
 use Rattle.type_notes.specs.declared.aspect.Aspect.{Aspect}
-use Rattle.type_notes.specs.Aspects.{aspects_between, kind_of}
-use Rattle.type_notes.specs.Between.{differences, entry_changes}
+use Rattle.type_notes.specs.Aspects.{aspects_between, kind_of, object_aspects}
+use Rattle.type_notes.specs.Between.{differences, entry_changes, object_entry_changes}
 use Rattle.type_notes.specs.Chains.{core_at}
+use Rattle.type_notes.specs.DefinedElsewhere.{definition_change, first_of, part_change, part_or_none}
+use Rattle.type_notes.specs.DefinitionTexts.{parts_of, size_text}
 use Rattle.type_notes.specs.Differences.{differing}
-use Rattle.type_notes.specs.Entries.{change, changes}
+use Rattle.type_notes.specs.Entries.{change, changes, object_changes}
 use Rattle.type_notes.specs.Packing.{packing_change, packing_text}
 use Rattle.type_notes.specs.Padding.{fills, padding_changes, part_changes, is_structure}
 use Rattle.type_notes.specs.Texts.{said}
@@ -41,10 +46,28 @@ unchanged : (d : PlainDwarf) (e : ℕ) (aspect : Aspect) → change (record { ol
 unfolding change
 unchanged d e aspect = not_differing (kind_of aspect) (said aspect d e)
 
+object_itself : (d : PlainDwarf) (r : Type_) → object_entry_changes d d r r ≡ []
+unfolding object_changes
+object_itself d None = refl
+object_itself d (Some e) = none_of (change (record { old_dwarf = d; new_dwarf = d; old = e; new = e })) (unchanged d e) (object_aspects (tag_at d.tree e) (tag_at d.tree e))
+
 entry_itself : (d : PlainDwarf) (r : Type_) → entry_changes d d r r ≡ []
 unfolding changes
 entry_itself d None = refl
 entry_itself d (Some e) = none_of (change (record { old_dwarf = d; new_dwarf = d; old = e; new = e })) (unchanged d e) (aspects_between (role_of d.tree e) (role_of d.tree e))
+
+-- ---- definitions
+
+first_of_none : {X : Type 0} (f : X → Option Difference) → ((x : X) → f x ≡ None) → (xs : List X) → first_of (map f xs) ≡ None
+first_of_none f none [] = refl
+first_of_none f none (x ∷ xs) = rw (none x) (first_of_none f none xs)
+
+pub definition_itself : (d : PlainDwarf) (e : ℕ) → definition_change d d e e ≡ None
+unfolding definition_change
+definition_itself d e =
+    rw (not_differing note.DefinedElsewhere (size_text d.tree e))
+    (first_of_none (part_change d d (parts_of d.tree e) (parts_of d.tree e)) (λ k. not_differing note.DefinedElsewhere (part_or_none d (slice_get (parts_of d.tree e) k)))
+    (range_with_len 0 (max (length (parts_of d.tree e)) (length (parts_of d.tree e)))))
 
 -- ---- members
 
@@ -100,5 +123,5 @@ packing_itself nodes i = not_differing _ (packing_text nodes i)
 pub itself : (d : PlainDwarf) (nodes : List PlainNode) (i : ℕ) → differences d d nodes nodes i i ≡ option_to_list (union_change (view_at nodes i) (view_at nodes i))
 unfolding differences
 itself d nodes i =
-    rw (entry_itself d (core_at d.tree (node_at nodes i).entry), members_itself nodes (view_at nodes i), names_itself (node_at nodes i), packing_itself nodes i)
+    rw (entry_itself d (core_at d.tree (node_at nodes i).entry), object_itself d (entry_of d.tree (node_at nodes i).entry), members_itself nodes (view_at nodes i), names_itself (node_at nodes i), packing_itself nodes i)
     (append-nil (option_to_list (union_change (view_at nodes i) (view_at nodes i)) ++ []) ∙ append-nil (option_to_list (union_change (view_at nodes i) (view_at nodes i))))

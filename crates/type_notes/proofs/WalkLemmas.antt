@@ -1,13 +1,17 @@
 -- Visits and the paths to them can be read, and notes are added visit by visit.
-use Rattle.std.proofs.Common.{◌≡◌, ◌<◌, ◌+◌, ◌∙◌, ℕ, zero, suc, List, [], ◌∷◌, ◌++◌, length, slice_get, map, Some, ap, sym, subst, arith, refl}
+use Rattle.std.proofs.Common.{◌≡◌, ◌<◌, ◌+◌, ◌∙◌, ℕ, zero, suc, Bool, true, false, List, [], ◌∷◌, ◌++◌, length, slice_get, map, Option, Some, None, ap, sym, subst, arith, refl}
+use Rattle.std.specs.Prelude.{◌||◌, nat_eq}
 use Rattle.std.specs.List.{flat_map, range_with_len}
+use Rattle.std.specs.HashSet.{contains}
 use Rattle.std.proofs.lemmas.List.{append-nil}
+use Rattle.std.proofs.lemmas.List.Folds.{list_any_more}
+use Rattle.std.proofs.lemmas.Option.{get_or_from_slice_get, slice_get_within}
 use Rattle.std.proofs.lemmas.Grind.{flat_map-append}
 use Rattle.abi_types.specs.Graphs.{IsGraph}
 use Rattle.type_classes.specs.Classes.{PlainClasses}
 use Rattle.pair_rules.specs.declared.rules.Broken.{Broken}
 use Rattle.pair_rules.specs.Paths.{Path, Then, From, PathLeadsTo}
-use Rattle.pair_rules.specs.Steps.{Triple}
+use Rattle.pair_rules.specs.Steps.{Triple, is_marked}
 use Rattle.pair_explorer.specs.declared.visits.Visit.{Visit}
 use Rattle.pair_explorer.specs.ByClass.{IsSound}
 use Rattle.pair_explorer.specs.Explorations.{IsExploration}
@@ -20,7 +24,9 @@ use Rattle.pair_compare.specs.reports.Findings.{export_of}
 use Rattle.pair_compare.specs.reports.PathTexts.{label_at, steps_text, IsWalk}
 use Rattle.type_notes.specs.declared.difference.Difference.{Difference}
 use Rattle.type_notes.specs.declared.note.Note.{Note}
-use Rattle.type_notes.specs.NotedPairs.{PlainPair, AreReadable, difference_note, noted_at, notes_at, notes_below}
+use Rattle.type_notes.specs.DefinedElsewhere.{definitions_behind}
+use Rattle.type_notes.proofs.RangeLemmas.{range_next}
+use Rattle.type_notes.specs.NotedPairs.{PlainPair, AreCompared, AreReadable, Numbers, definitions_at, difference_note, is_of, new_core, noted_at, notes_at, notes_below, old_core, was_compared}
 
 -- what the laws below say that is used here
 pub record WalkLaws : Type 0 where
@@ -70,19 +76,44 @@ noted s vs n export parts label steps found same is_label is_steps =
 
 -- ---- visit by visit
 
-range_more : (a n : ℕ) → range_with_len a (suc n) ≡ range_with_len a n ++ (a + n) ∷ []
-range_more a zero = ap (λ (k : ℕ). k ∷ []) (omega arith)
-range_more a (suc n) =
-    let e : a + 1 + n ≡ a + suc n = omega arith in
-    ap (λ (ks : List ℕ). a ∷ ks) (range_more (a + 1) n ∙ ap (λ (k : ℕ). range_with_len (a + 1) n ++ k ∷ []) e)
-
-range_next : (n : ℕ) → range_with_len 0 (n + 1) ≡ range_with_len 0 n ++ n ∷ []
-range_next n =
-    let e : n + 1 ≡ suc n = omega arith in
-    let z : 0 + n ≡ n = omega arith in
-    ap (range_with_len 0) e ∙ range_more 0 n ∙ ap (λ (k : ℕ). range_with_len 0 n ++ k ∷ []) z
-
 pub notes_more : (p : PlainPair) (vs : List Visit) (n : ℕ) → notes_below p vs (n + 1) ≡ notes_below p vs n ++ notes_at p vs n
 notes_more p vs n =
     ap (flat_map (notes_at p vs)) (range_next n) ∙ flat_map-append (notes_at p vs) (range_with_len 0 n) (n ∷ [])
     ∙ ap (λ (xs : List Note). notes_below p vs n ++ xs) (append-nil (notes_at p vs n))
+
+-- ---- the definitions that were compared
+
+-- the definitions of a visit join those of the visits before it
+pub compared_more : (p : PlainPair) (vs : List Visit) (n : ℕ) (v : Visit) (old new : Numbers) → slice_get vs n ≡ Some v → AreCompared p vs n old
+    → ((a : ℕ) → contains nat_eq new a ≡ (contains nat_eq old a || is_of a (definitions_at p v))) → AreCompared p vs (n + 1) new
+compared_more p vs n v old new at so_far adds = record {
+  each = λ a.
+      adds a ∙ ap (λ (b : Bool). b || is_of a (definitions_at p v)) (so_far.each a)
+      ∙ ap (λ (x : Visit). was_compared p vs n a || is_of a (definitions_at p x)) (sym (get_or_from_slice_get vs n v v at))
+      ∙ sym (list_any_more (λ x. is_of a (definitions_at p x)) vs n v (slice_get_within vs n v at));
+}
+
+or_none : (b : Bool) → b ≡ (b || false)
+or_none true = refl
+or_none false = refl
+
+marked_none : (p : PlainPair) (v : Visit) → is_marked (task_of p.sides) v.old v.way ≡ true → definitions_at p v ≡ None
+unfolding definitions_at
+marked_none p v marked = rw marked refl
+
+unmarked : (p : PlainPair) (v : Visit) → is_marked (task_of p.sides) v.old v.way ≡ false → definitions_at p v ≡ definitions_behind p.old_dwarf p.new_dwarf (old_core p v) (new_core p v)
+unfolding definitions_at
+unmarked p v free = rw free refl
+
+-- nothing is compared at a visit that is marked
+pub compared_marked : (p : PlainPair) (vs : List Visit) (n : ℕ) (v : Visit) (old : Numbers) → slice_get vs n ≡ Some v → AreCompared p vs n old
+    → is_marked (task_of p.sides) v.old v.way ≡ true → AreCompared p vs (n + 1) old
+compared_marked p vs n v old at so_far marked =
+    compared_more p vs n v old old at so_far (λ a. or_none (contains nat_eq old a) ∙ ap (λ (o : Option (ℕ × ℕ)). contains nat_eq old a || is_of a o) (sym (marked_none p v marked)))
+
+-- those of its types are compared at another one
+pub compared_free : (p : PlainPair) (vs : List Visit) (n : ℕ) (v : Visit) (old new : Numbers) (found : Option (ℕ × ℕ)) → slice_get vs n ≡ Some v → AreCompared p vs n old
+    → is_marked (task_of p.sides) v.old v.way ≡ false → found ≡ definitions_behind p.old_dwarf p.new_dwarf (old_core p v) (new_core p v)
+    → ((a : ℕ) → contains nat_eq new a ≡ (contains nat_eq old a || is_of a found)) → AreCompared p vs (n + 1) new
+compared_free p vs n v old new found at so_far free is adds =
+    compared_more p vs n v old new at so_far (λ a. adds a ∙ ap (λ (o : Option (ℕ × ℕ)). contains nat_eq old a || is_of a o) (is ∙ sym (unmarked p v free)))

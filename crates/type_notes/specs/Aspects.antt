@@ -1,12 +1,13 @@
 -- In which aspects two entries are compared that no rule judges.
-use Rattle.std.specs.Prelude.{Bool, if◌then◌else◌, List, [], ◌∷◌}
+use Rattle.std.specs.Prelude.{ℕ, Bool, ◌==◌, ◌&&◌, if◌then◌else◌, List, [], ◌∷◌}
+use Rattle.abi_base.specs.Dwarf.{dw_tag_variable}
 use Rattle.type_reach.specs.declared.role.Role.{Role}
 use Rattle.type_reach.specs.declared.role.Role.TheVariants as role
 use Rattle.type_reach.specs.contracts.role.RolePartialEq.TheImpl.{ghosts}
 use Rattle.type_notes.specs.declared.note.NoteKind.{NoteKind}
 use Rattle.type_notes.specs.declared.note.NoteKind.TheVariants as kind
 use Rattle.type_notes.specs.declared.aspect.Aspect.{Aspect}
-use Rattle.type_notes.specs.declared.aspect.Aspect.TheVariants.{Dimensions, Prototyped, CallingConvention, AddressClass, NoReturn, ParameterNames, Endianity, Sign, Const, Volatile, Restrict, Atomic}
+use Rattle.type_notes.specs.declared.aspect.Aspect.TheVariants.{Dimensions, Prototyped, CallingConvention, AddressClass, NoReturn, ParameterNames, Endianity, Sign, Const, Volatile, Restrict, Atomic, ConstObject, VolatileObject}
 
 -- the kind of notes on an aspect
 abbrev pub kind_of : Aspect → NoteKind
@@ -22,6 +23,8 @@ kind_of Const = kind.Qualifiers
 kind_of Volatile = kind.Qualifiers
 kind_of Restrict = kind.Qualifiers
 kind_of Atomic = kind.Qualifiers
+kind_of ConstObject = kind.ObjectQualifiers
+kind_of VolatileObject = kind.ObjectQualifiers
 
 -- the test of roles that the code derives
 abbrev pub same_role : Role → Role → Bool
@@ -39,3 +42,7 @@ aspects_of _ = []
 -- those of two entries of one role; entries of two roles have none
 abbrev pub aspects_between : Role → Role → List Aspect
 aspects_between old new = if same_role old new then aspects_of old else []
+
+-- those of two objects, by the tags of the entries (DWARF 5, section 4.1 "Data Object Entries"); other entries have none
+abbrev pub object_aspects : ℕ → ℕ → List Aspect
+object_aspects old new = if old == dw_tag_variable && new == dw_tag_variable then ConstObject ∷ VolatileObject ∷ [] else []

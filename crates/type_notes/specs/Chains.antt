@@ -1,6 +1,6 @@
 -- The entries on the way from a type to what it stands for: typedefs (DWARF 5, section 5.4 "Typedef Entries"), qualified types
 -- (section 5.3 "Type Modifier Entries"), variables, and types that name a type unit by its signature.
-use Rattle.std.specs.Prelude.{ℕ, zero, suc, ◌+◌, ◌==◌, ◌||◌, Bool, false, Some, None}
+use Rattle.std.specs.Prelude.{ℕ, zero, suc, ◌+◌, ◌==◌, ◌&&◌, ◌||◌, Bool, true, false, Some, None}
 use Rattle.abi_base.specs.Limits.{depth_limit}
 use Rattle.dwarf_tree.specs.Trees.{PlainTree, entry_of}
 use Rattle.dwarf_entries.specs.Addresses.{tag_at}
@@ -24,17 +24,18 @@ behind t (suc n) (Some e) = led_on (role_of t e) e (behind t n (type_of t e))
 abbrev pub core_at : PlainTree → ℕ → Type_
 core_at t offset = behind t (depth_limit + 1) (entry_of t offset)
 
--- it holds, where the entry leads on
-abbrev pub and_led_on : Role → Bool → Bool
-and_led_on role.Wrapper holds = holds
-and_led_on _ holds = false
+-- an entry leads on to what has its qualifiers: an array is `const` where its elements are
+abbrev pub leads_further : Role → Bool
+leads_further role.Wrapper = true
+leads_further role.Array = true
+leads_further _ = false
 
--- an entry with a tag stands on the way, among so many entries
+-- an entry with a tag stands on the way, or on that of the elements of an array, among so many entries
 unfoldable pub is_passed : PlainTree → ℕ → ℕ → Type_ → Bool
 is_passed t tag zero r = false
 is_passed t tag (suc n) None = false
-is_passed t tag (suc n) (Some e) = and_led_on (role_of t e) (tag_at t e == tag || is_passed t tag n (type_of t e))
+is_passed t tag (suc n) (Some e) = leads_further (role_of t e) && (tag_at t e == tag || is_passed t tag n (type_of t e))
 
--- the type of an entry has the qualifier of a tag
+-- the type of an entry has the qualifier of a tag, or its elements have it where it is an array
 abbrev pub has_qualifier : PlainTree → ℕ → ℕ → Bool
 has_qualifier t tag e = is_passed t tag (depth_limit + 1) (type_of t e)

@@ -1,12 +1,13 @@
 -- What differs between two entries.
 use Rattle.std.specs.Prelude.{ℕ, ◌<◌, List, Option, length, option_to_list}
 use Rattle.std.specs.List.{flat_map}
+use Rattle.dwarf_entries.specs.Addresses.{tag_at}
 use Rattle.dwarf_entries.specs.Debug.{PlainDwarf}
 use Rattle.type_reach.specs.References.{role_of}
 use Rattle.type_notes.specs.declared.aspect.Aspect.{Aspect}
 use Rattle.type_notes.specs.declared.difference.Difference.{Difference}
 use Rattle.type_notes.specs.declared.entries.EntryPair.{EntryPair}
-use Rattle.type_notes.specs.Aspects.{aspects_between, kind_of}
+use Rattle.type_notes.specs.Aspects.{aspects_between, kind_of, object_aspects}
 use Rattle.type_notes.specs.Differences.{differing}
 use Rattle.type_notes.specs.Texts.{said}
 
@@ -29,6 +30,14 @@ pub record AreThere (p : PlainEntries) : Type 0 where
 unfoldable pub change : PlainEntries → Aspect → Option Difference
 change p aspect = differing (kind_of aspect) (said aspect p.old_dwarf p.old) (said aspect p.new_dwarf p.new)
 
--- those of all aspects, in order
+-- those of aspects, in order
+abbrev pub changes_in : PlainEntries → List Aspect → List Difference
+changes_in p aspects = flat_map (λ aspect. option_to_list (change p aspect)) aspects
+
+-- those of two entries that stand for types
 unfoldable pub changes : PlainEntries → List Difference
-changes p = flat_map (λ aspect. option_to_list (change p aspect)) (aspects_between (role_of p.old_dwarf.tree p.old) (role_of p.new_dwarf.tree p.new))
+changes p = changes_in p (aspects_between (role_of p.old_dwarf.tree p.old) (role_of p.new_dwarf.tree p.new))
+
+-- those of two entries that stand for objects
+unfoldable pub object_changes : PlainEntries → List Difference
+object_changes p = changes_in p (object_aspects (tag_at p.old_dwarf.tree p.old) (tag_at p.new_dwarf.tree p.new))

@@ -1,6 +1,8 @@
 pub mod Aspects
 pub mod Between
 pub mod Chains
+pub mod DefinedElsewhere
+pub mod DefinitionTexts
 pub mod Differences
 pub mod Entries
 pub mod NotedPairs

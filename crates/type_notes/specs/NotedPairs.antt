@@ -1,7 +1,12 @@
 -- The notes on two libraries.
-use Rattle.std.specs.Prelude.{◌≡◌, ◌<◌, ℕ, if◌then◌else◌, List, [], length, map, Option, Some, None, slice_get}
-use Rattle.std.specs.List.{flat_map, range_with_len}
+use Rattle.std.specs.Prelude.{◌≡◌, ◌<◌, ℕ, ◌==◌, Bool, false, if◌then◌else◌, List, [], ◌++◌, length, map, nat_eq, take, Option, Some, None, option_to_list, slice_get}
+use Rattle.std.specs.List.{flat_map, list_any, range_with_len}
+use Rattle.std.specs.HashSet.{HashSet, contains}
+use Rattle.std.specs.declared.hash.FoldHasher.{FoldHasher}
+use Rattle.std.specs.declared.hash.BuildHasherDefault.{BuildHasherDefault}
+use Rattle.abi_types.specs.Graphs.{node_at}
 use Rattle.dwarf_entries.specs.Debug.{PlainDwarf}
+use Rattle.type_reach.specs.References.{Type_}
 use Rattle.type_classes.specs.Classes.{PlainClasses, rep_of}
 use Rattle.pair_rules.specs.declared.rules.Broken.{Broken}
 use Rattle.pair_rules.specs.Steps.{is_marked}
@@ -18,6 +23,8 @@ use Rattle.type_notes.specs.declared.difference.Difference.{Difference}
 use Rattle.type_notes.specs.declared.note.Note.{Note}
 use Rattle.type_notes.specs.declared.noted_pair.NotedPair.{NotedPair}
 use Rattle.type_notes.specs.Between.{differences}
+use Rattle.type_notes.specs.Chains.{core_at}
+use Rattle.type_notes.specs.DefinedElsewhere.{definition_change, definitions_behind}
 
 -- two libraries and marks, and the entries of both
 pub record PlainPair : Type 0 where
@@ -42,9 +49,39 @@ noted_at s visits n d = difference_note (label_at s.old (export_of (path_at visi
 abbrev pub differences_of : PlainPair → Visit → List Difference
 differences_of p v = differences p.old_dwarf p.new_dwarf p.sides.old.graph p.sides.new.graph v.old v.new
 
+-- the entries behind the types of a visit
+abbrev pub old_core : PlainPair → Visit → Type_
+old_core p v = core_at p.old_dwarf.tree (node_at p.sides.old.graph v.old).entry
+
+abbrev pub new_core : PlainPair → Visit → Type_
+new_core p v = core_at p.new_dwarf.tree (node_at p.sides.new.graph v.new).entry
+
+-- the definitions that are compared at a visit, where one of its types at least is only declared
+unfoldable pub definitions_at : PlainPair → Visit → Option (ℕ × ℕ)
+definitions_at p v =
+    if is_marked (task_of p.sides) v.old v.way then None else definitions_behind p.old_dwarf p.new_dwarf (old_core p v) (new_core p v)
+
+abbrev pub is_of : ℕ → Option (ℕ × ℕ) → Bool
+is_of a None = false
+is_of a (Some definitions) = definitions.0 == a
+
+-- an old definition is compared at one of the first visits
+abbrev pub was_compared : PlainPair → List Visit → ℕ → ℕ → Bool
+was_compared p visits n a = list_any (λ v. is_of a (definitions_at p v)) (take n visits)
+
+-- what differs between two definitions, unless the old one is among some
+abbrev pub change_unless : (ℕ → Bool) → PlainPair → Option (ℕ × ℕ) → List Difference
+change_unless among p None = []
+change_unless among p (Some (a, b)) = if among a then [] else option_to_list (definition_change p.old_dwarf p.new_dwarf a b)
+
+-- what differs between the definitions that are compared at the visit of a number, where no earlier one compares the old definition
+abbrev pub definition_changes : PlainPair → List Visit → ℕ → Visit → List Difference
+definition_changes p visits n v = change_unless (was_compared p visits n) p (definitions_at p v)
+
 abbrev pub notes_from : PlainPair → List Visit → ℕ → Option Visit → List Note
 notes_from p visits n None = []
-notes_from p visits n (Some v) = if is_marked (task_of p.sides) v.old v.way then [] else map (noted_at p.sides visits n) (differences_of p v)
+notes_from p visits n (Some v) =
+    if is_marked (task_of p.sides) v.old v.way then [] else map (noted_at p.sides visits n) (differences_of p v ++ definition_changes p visits n v)
 
 -- The notes of the visit of a number. The types of a triple whose old node is marked at its way have none.
 unfoldable pub notes_at : PlainPair → List Visit → ℕ → List Note
@@ -86,3 +123,12 @@ pub record IsReadable (s : Sides) (visits : List Visit) (n : ℕ) : Type 0 where
 pub record AreReadable (s : Sides) (visits : List Visit) : Type 0 where
   pub earlier : AreEarlier visits
   pub each : (n : ℕ) → n < length visits → IsReadable s visits n
+
+-- ---- the definitions that were compared
+
+abbrev pub Numbers : Type 0
+Numbers = HashSet ℕ (BuildHasherDefault FoldHasher)
+
+-- the set has the old definitions that are compared at the first visits
+pub record AreCompared (p : PlainPair) (visits : List Visit) (n : ℕ) (compared : Numbers) : Type 0 where
+  pub each : (a : ℕ) → contains nat_eq compared a ≡ was_compared p visits n a

@@ -13,7 +13,7 @@ use Rattle.dwarf_entries.specs.FlagsAndBlocks.{flag_value_along}
 use Rattle.type_reach.specs.References.{Type_, body_of, tagged_children, type_of}
 use Rattle.type_reach.specs.Values.{counted_to, natural_of, number_at}
 use Rattle.type_notes.specs.declared.aspect.Aspect.{Aspect}
-use Rattle.type_notes.specs.declared.aspect.Aspect.TheVariants.{Dimensions, Prototyped, CallingConvention, AddressClass, NoReturn, ParameterNames, Endianity, Sign, Const, Volatile, Restrict, Atomic}
+use Rattle.type_notes.specs.declared.aspect.Aspect.TheVariants.{Dimensions, Prototyped, CallingConvention, AddressClass, NoReturn, ParameterNames, Endianity, Sign, Const, Volatile, Restrict, Atomic, ConstObject, VolatileObject}
 use Rattle.type_notes.specs.Chains.{behind, has_qualifier}
 
 abbrev pub none : List ℕ
@@ -106,3 +106,5 @@ said Const d e = word_if (has_qualifier d.tree dw_tag_const_type e) (codes "cons
 said Volatile d e = word_if (has_qualifier d.tree dw_tag_volatile_type e) (codes "volatile")
 said Restrict d e = word_if (has_qualifier d.tree dw_tag_restrict_type e) (codes "restrict")
 said Atomic d e = word_if (has_qualifier d.tree dw_tag_atomic_type e) (codes "atomic")
+said ConstObject d e = word_if (has_qualifier d.tree dw_tag_const_type e) (codes "const")
+said VolatileObject d e = word_if (has_qualifier d.tree dw_tag_volatile_type e) (codes "volatile")

@@ -1,8 +1,9 @@
 // What entries say beside what rules compare.
 ghost use Rattle.std.specs.Prelude.{◌≡◌};
-ghost use Rattle.type_notes.specs.Aspects.{aspects_between as the_aspects_between, aspects_of as the_aspects_of, kind_of as the_kind_of};
+ghost use Rattle.type_notes.specs.Aspects as spec;
 
 use crate::note::NoteKind;
+use abi_base::dwarf::DW_TAG_variable;
 use type_reach::Role;
 
 /// What an entry says that no rule compares.
@@ -32,11 +33,15 @@ pub enum Aspect {
     Restrict,
     /// Whether it points to what is `_Atomic`.
     Atomic,
+    /// Whether an object is `const`.
+    ConstObject,
+    /// Whether an object is `volatile`.
+    VolatileObject,
 }
 
 // The kind of notes on an aspect.
 pub(crate) fn kind_of(aspect: Aspect) -> NoteKind
-    ensures { result ≡ the_kind_of aspect }
+    ensures { result ≡ spec.kind_of aspect }
 {
     match aspect {
         Aspect::Dimensions => NoteKind::ArrayDimensions,
@@ -50,12 +55,13 @@ pub(crate) fn kind_of(aspect: Aspect) -> NoteKind
         Aspect::Const | Aspect::Volatile | Aspect::Restrict | Aspect::Atomic => {
             NoteKind::Qualifiers
         }
+        Aspect::ConstObject | Aspect::VolatileObject => NoteKind::ObjectQualifiers,
     }
 }
 
 // The aspects of an entry of a role, in order.
 fn aspects_of(role: Role) -> &'static [Aspect]
-    ensures { result.now ≡ the_aspects_of role }
+    ensures { result.now ≡ spec.aspects_of role }
 {
     match role {
         Role::Array => &[Aspect::Dimensions],
@@ -81,7 +87,18 @@ fn aspects_of(role: Role) -> &'static [Aspect]
 
 // The aspects in which two entries are compared, in order.
 pub(crate) fn aspects_between(old: Role, new: Role) -> &'static [Aspect]
-    ensures { result.now ≡ the_aspects_between old new }
+    ensures { result.now ≡ spec.aspects_between old new }
 {
     if old == new { aspects_of(old) } else { &[] }
+}
+
+// The aspects in which the entries of two objects are compared, by their tags, in order.
+pub(crate) fn object_aspects(old: u64, new: u64) -> &'static [Aspect]
+    ensures { result.now ≡ spec.object_aspects old new }
+{
+    if old == DW_TAG_variable && new == DW_TAG_variable {
+        &[Aspect::ConstObject, Aspect::VolatileObject]
+    } else {
+        &[]
+    }
 }

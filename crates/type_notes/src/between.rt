@@ -1,12 +1,13 @@
 // What differs between two types.
 ghost use Rattle.std.specs.Prelude.{◌≡◌, ◌++◌, OnOk};
-ghost use Rattle.type_notes.specs.Between.{differences, entry_changes, node_changes, view_changes};
-ghost use Rattle.type_notes.specs.Chains.{core_at as the_core_at};
+ghost use Rattle.dwarf_tree.specs.Trees.{entry_of};
+ghost use Rattle.type_notes.specs.Between.{differences, entry_changes, node_changes, object_entry_changes, view_changes};
+ghost use Rattle.type_notes.specs.Chains as chains;
 ghost use Rattle.type_notes.specs.TypePairs.{AreNodes, new_node, new_nodes, new_view, old_node, old_nodes, old_view};
 
 use crate::chain::core_at;
 use crate::difference::{Difference, push_found};
-use crate::entries::{EntryPair, push_changes};
+use crate::entries::{EntryPair, push_changes, push_object_changes};
 use crate::packing::packing_change;
 use crate::padding::push_padding_changes;
 use crate::type_names::name_change;
@@ -31,7 +32,7 @@ fn push_entry_changes(
     types: &TypePair,
 ) -> Result<(), NoMemory>
     requires { AreNodes types.now }
-    ensures { OnOk result (list.new ≡ list.old ++ entry_changes dwarfs.now.old.now dwarfs.now.new.now (the_core_at dwarfs.now.old.now.tree (old_node types.now).entry) (the_core_at dwarfs.now.new.now.tree (new_node types.now).entry)) }
+    ensures { OnOk result (list.new ≡ list.old ++ entry_changes dwarfs.now.old.now dwarfs.now.new.now (chains.core_at dwarfs.now.old.now.tree (old_node types.now).entry) (chains.core_at dwarfs.now.new.now.tree (new_node types.now).entry)) }
 {
     let old = core_at(dwarfs.old, types.old_graph.entry_of(types.old));
     let new = core_at(dwarfs.new, types.new_graph.entry_of(types.new));
@@ -44,6 +45,32 @@ fn push_entry_changes(
                 new,
             };
             push_changes(alloc, list, &pair)
+        }
+        _ => Ok(()),
+    }
+}
+
+// Adds what differs between two entries as objects, where both are there.
+fn push_object_entry_changes(
+    alloc: Global,
+    list: &mut List<Difference>,
+    dwarfs: &DwarfPair,
+    types: &TypePair,
+) -> Result<(), NoMemory>
+    requires { AreNodes types.now }
+    ensures { OnOk result (list.new ≡ list.old ++ object_entry_changes dwarfs.now.old.now dwarfs.now.new.now (entry_of dwarfs.now.old.now.tree (old_node types.now).entry) (entry_of dwarfs.now.new.now.tree (new_node types.now).entry)) }
+{
+    let old = dwarfs.old.find(types.old_graph.entry_of(types.old));
+    let new = dwarfs.new.find(types.new_graph.entry_of(types.new));
+    match (old, new) {
+        (Some(old), Some(new)) => {
+            let pair = EntryPair {
+                old_dwarf: dwarfs.old,
+                new_dwarf: dwarfs.new,
+                old,
+                new,
+            };
+            push_object_changes(alloc, list, &pair)
         }
         _ => Ok(()),
     }
@@ -77,8 +104,9 @@ fn push_node_changes(
     push_found(list, packing_change(alloc, types)?)
 }
 
-/// Adds what differs between two types and is not judged: what the entries behind them say, in order of aspects; that one is a
-/// union without members; the new members that stand in the padding of the old type; the names; and whether one alone is packed.
+/// Adds what differs between two types and is not judged: what the entries behind them say, in order of aspects; that one alone of
+/// two objects is `const` or `volatile`; that one is a union without members; the new members that stand in the padding of the old
+/// type; the names; and whether one alone is packed.
 #[tactic(auto, unfolding(crate::specs::Between::differences))]
 pub fn push_differences(
     alloc: Global,
@@ -90,6 +118,7 @@ pub fn push_differences(
     ensures { OnOk result (list.new ≡ list.old ++ differences dwarfs.now.old.now dwarfs.now.new.now (old_nodes types.now) (new_nodes types.now) types.now.old types.now.new) }
 {
     push_entry_changes(alloc, list, dwarfs, types)?;
+    push_object_entry_changes(alloc, list, dwarfs, types)?;
     push_view_changes(alloc, list, types)?;
     push_node_changes(alloc, list, types)
 }

@@ -2,18 +2,18 @@
 ghost use Rattle.std.specs.Prelude.{◌≡◌, ◌<◌, ◌+◌, length, Some, IfSome};
 ghost use Rattle.abi_base.specs.Limits.{depth_limit};
 ghost use Rattle.type_reach.specs.References as references;
-ghost use Rattle.type_notes.specs.Chains.{behind as the_type_behind, core_at as the_core_at, is_passed as the_tag_is_passed, has_qualifier as the_qualifier_is_there};
+ghost use Rattle.type_notes.specs.Chains as spec;
 
 use dwarf_entries::Dwarf;
 use type_reach::{Role, role_of, type_of};
 
 // So many entries stand on the way from a type to what it stands for, at most: a step by value more than a library may have.
-const ENTRIES: usize = 513;
+pub(crate) const ENTRIES: usize = 513;
 
 // The type behind typedefs, qualifiers, variables and signatures.
 fn behind(dwarf: &Dwarf, from: Option<usize>) -> Option<usize>
     requires { IfSome from (λ e. e < length dwarf.now.tree.entries) }
-    ensures found { result ≡ the_type_behind dwarf.now.tree (depth_limit + 1) from }
+    ensures found { result ≡ spec.behind dwarf.now.tree (depth_limit + 1) from }
     ensures inside { IfSome result (λ e. e < length dwarf.now.tree.entries) }
 {
     let mut at = from;
@@ -31,7 +31,7 @@ fn behind(dwarf: &Dwarf, from: Option<usize>) -> Option<usize>
 
 // The entry that the type at an offset stands for.
 pub(crate) fn core_at(dwarf: &Dwarf, offset: u64) -> Option<usize>
-    ensures found { result ≡ the_core_at dwarf.now.tree offset }
+    ensures found { result ≡ spec.core_at dwarf.now.tree offset }
     ensures inside { IfSome result (λ e. e < length dwarf.now.tree.entries) }
 {
     behind(dwarf, dwarf.find(offset))
@@ -40,40 +40,47 @@ pub(crate) fn core_at(dwarf: &Dwarf, offset: u64) -> Option<usize>
 // The entry that the type of an entry stands for.
 pub(crate) fn core_of_type(dwarf: &Dwarf, e: usize) -> Option<usize>
     requires { e < length dwarf.now.tree.entries }
-    ensures found { result ≡ the_type_behind dwarf.now.tree (depth_limit + 1) (references.type_of dwarf.now.tree e) }
+    ensures found { result ≡ spec.behind dwarf.now.tree (depth_limit + 1) (references.type_of dwarf.now.tree e) }
     ensures inside { IfSome result (λ e. e < length dwarf.now.tree.entries) }
 {
     behind(dwarf, type_of(dwarf, e))
 }
 
-// Whether an entry with a tag stands on the way from a type to what it stands for.
+// Whether an entry of a role leads on to what has its qualifiers.
+fn leads_further(role: Role) -> bool
+    ensures { result ≡ spec.leads_further role }
+{
+    matches!(role, Role::Wrapper | Role::Array)
+}
+
+// Whether an entry with a tag stands on the way from a type to what it stands for, or to the elements of that array.
 fn is_passed(dwarf: &Dwarf, from: Option<usize>, tag: u64) -> bool
     requires { IfSome from (λ e. e < length dwarf.now.tree.entries) }
-    ensures { result ≡ the_tag_is_passed dwarf.now.tree tag (depth_limit + 1) from }
+    ensures { result ≡ spec.is_passed dwarf.now.tree tag (depth_limit + 1) from }
 {
     let mut at = from;
     'chain: for passed in 0..ENTRIES {
         match at {
             None => return false,
-            Some(e) => match role_of(dwarf, e) {
-                Role::Wrapper => {
-                    let here = dwarf.tag(e);
-                    if here == tag {
-                        return true;
-                    }
-                    at = type_of(dwarf, e);
+            Some(e) => {
+                if !leads_further(role_of(dwarf, e)) {
+                    return false;
                 }
-                _ => return false,
-            },
+                let here = dwarf.tag(e);
+                if here == tag {
+                    return true;
+                }
+                at = type_of(dwarf, e);
+            }
         }
     }
     false
 }
 
-// Whether the type of an entry has a qualifier, by its tag.
+// Whether the type of an entry has a qualifier, by its tag, or its elements have it where it is an array.
 pub(crate) fn has_qualifier(dwarf: &Dwarf, e: usize, tag: u64) -> bool
     requires { e < length dwarf.now.tree.entries }
-    ensures { result ≡ the_qualifier_is_there dwarf.now.tree tag e }
+    ensures { result ≡ spec.has_qualifier dwarf.now.tree tag e }
 {
     is_passed(dwarf, type_of(dwarf, e), tag)
 }

@@ -1,6 +1,6 @@
 // What differs between two types.
 ghost use Rattle.std.specs.Prelude.{◌≡◌, ◌++◌, option_to_list, OnOk};
-ghost use Rattle.type_notes.specs.Differences.{differing as the_differing};
+ghost use Rattle.type_notes.specs.Differences as spec;
 
 use crate::note::NoteKind;
 use abi_base::{List, NoMemory};
@@ -31,7 +31,7 @@ pub(crate) fn difference_of(kind: NoteKind, was: Vec<u8>, is: Vec<u8>) -> Differ
 
 // The difference of two texts, where they differ.
 pub(crate) fn differing(kind: NoteKind, was: Vec<u8>, is: Vec<u8>) -> Option<Difference>
-    ensures { result ≡ the_differing kind was.items is.items }
+    ensures { result ≡ spec.differing kind was.items is.items }
 {
     if was.as_slice() == is.as_slice() {
         return None;

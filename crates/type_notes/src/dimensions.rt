@@ -1,7 +1,8 @@
 // The dimensions of arrays.
 ghost use Rattle.std.specs.Prelude.{◌≡◌, ◌<◌, ◌++◌, length, All, IfOk, OnOk, string_bytes};
 ghost use Rattle.std.specs.List.{flat_map};
-ghost use Rattle.type_notes.specs.Texts.{dimension_of as the_dimension, dimension_text, dimensions_text as the_text};
+ghost use Rattle.type_notes.specs.Texts.{dimension_text};
+ghost use Rattle.type_notes.specs.Texts as spec;
 
 use abi_base::NoMemory;
 use abi_base::dwarf::{DW_AT_count, DW_AT_upper_bound, DW_TAG_subrange_type};
@@ -14,7 +15,7 @@ use type_reach::{counted_to, natural_of};
 #[tactic(auto, unfolding(crate::specs::Texts::dimension_of))]
 fn dimension_of(dwarf: &Dwarf, subrange: usize) -> Option<u64>
     requires { subrange < length dwarf.now.tree.entries }
-    ensures { result ≡ the_dimension dwarf.now.tree subrange }
+    ensures { result ≡ spec.dimension_of dwarf.now.tree subrange }
 {
     match natural_of(dwarf.attr(subrange, DW_AT_count)) {
         Some(count) => Some(count),
@@ -35,7 +36,7 @@ fn push_dimension(text: &mut String, dimension: Option<u64>) -> Result<(), Alloc
 // Appends dimensions, in order.
 fn push_dimensions(text: &mut String, dwarf: &Dwarf, subranges: &[usize]) -> Result<(), AllocError>
     requires { All (λ s. s < length dwarf.now.tree.entries) subranges.now }
-    ensures { OnOk result (string_bytes text.new ≡ string_bytes text.old ++ flat_map (λ s. dimension_text (the_dimension dwarf.now.tree s)) subranges.now) }
+    ensures { OnOk result (string_bytes text.new ≡ string_bytes text.old ++ flat_map (λ s. dimension_text (spec.dimension_of dwarf.now.tree s)) subranges.now) }
 {
     for k in 0..subranges.len() {
         let subrange = subranges[k];
@@ -48,7 +49,7 @@ fn push_dimensions(text: &mut String, dwarf: &Dwarf, subranges: &[usize]) -> Res
 #[tactic(auto, unfolding(crate::specs::Texts::dimensions_text, type_reach::specs::References::tagged_children))]
 pub(crate) fn dimensions_text(alloc: Global, dwarf: &Dwarf, e: usize) -> Result<String, NoMemory>
     requires { e < length dwarf.now.tree.entries }
-    ensures { IfOk result (λ text. string_bytes text ≡ the_text dwarf.now.tree e) }
+    ensures { IfOk result (λ text. string_bytes text ≡ spec.dimensions_text dwarf.now.tree e) }
 {
     let subranges = dwarf.tagged(alloc, e, DW_TAG_subrange_type)?;
     let mut text = String::new(alloc);

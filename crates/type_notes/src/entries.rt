@@ -1,8 +1,9 @@
 // What differs between two entries.
 ghost use Rattle.std.specs.Prelude.{◌≡◌, ◌<◌, ◌++◌, IfOk, OnOk};
-ghost use Rattle.type_notes.specs.Entries.{AreThere, change as the_change, changes, plain};
+ghost use Rattle.type_notes.specs.Entries.{AreThere, changes, changes_in, object_changes, plain};
+ghost use Rattle.type_notes.specs.Entries as spec;
 
-use crate::aspect::{Aspect, aspects_between, kind_of};
+use crate::aspect::{Aspect, aspects_between, kind_of, object_aspects};
 use crate::difference::{Difference, differing, push_found};
 use crate::said::said;
 use abi_base::{List, NoMemory};
@@ -25,11 +26,27 @@ pub struct EntryPair<'x, 'o, 'n> {
 #[tactic(auto, unfolding(crate::specs::Entries::change))]
 fn change(alloc: Global, aspect: Aspect, pair: &EntryPair) -> Result<Option<Difference>, NoMemory>
     requires { AreThere (plain pair.now) }
-    ensures { IfOk result (λ found. found ≡ the_change (plain pair.now) aspect) }
+    ensures { IfOk result (λ found. found ≡ spec.change (plain pair.now) aspect) }
 {
     let was = said(alloc, aspect, pair.old_dwarf, pair.old)?;
     let is = said(alloc, aspect, pair.new_dwarf, pair.new)?;
     Ok(differing(kind_of(aspect), was, is))
+}
+
+// Adds what differs between two entries in aspects, in order.
+fn push_changes_in(
+    alloc: Global,
+    list: &mut List<Difference>,
+    pair: &EntryPair,
+    aspects: &[Aspect],
+) -> Result<(), NoMemory>
+    requires { AreThere (plain pair.now) }
+    ensures { OnOk result (list.new ≡ list.old ++ changes_in (plain pair.now) aspects.now) }
+{
+    for aspect in aspects {
+        push_found(list, change(alloc, *aspect, pair)?)?;
+    }
+    Ok(())
 }
 
 /// Adds what differs between two entries that stand for types, in order of aspects: of entries of one role each text that is
@@ -45,9 +62,20 @@ pub fn push_changes(
 {
     let old = role_of(pair.old_dwarf, pair.old);
     let new = role_of(pair.new_dwarf, pair.new);
-    let aspects = aspects_between(old, new);
-    for aspect in aspects {
-        push_found(list, change(alloc, *aspect, pair)?)?;
-    }
-    Ok(())
+    push_changes_in(alloc, list, pair, aspects_between(old, new))
+}
+
+/// Adds what differs between two entries that stand for objects, in order of aspects: that one alone is `const`, or `volatile`.
+#[tactic(auto, unfolding(crate::specs::Entries::object_changes))]
+pub(crate) fn push_object_changes(
+    alloc: Global,
+    list: &mut List<Difference>,
+    pair: &EntryPair,
+) -> Result<(), NoMemory>
+    requires { AreThere (plain pair.now) }
+    ensures { OnOk result (list.new ≡ list.old ++ object_changes (plain pair.now)) }
+{
+    let old = pair.old_dwarf.tag(pair.old);
+    let new = pair.new_dwarf.tag(pair.new);
+    push_changes_in(alloc, list, pair, object_aspects(old, new))
 }

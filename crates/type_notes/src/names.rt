@@ -2,7 +2,8 @@
 ghost use Rattle.std.specs.Prelude.{◌≡◌, ◌<◌, ◌++◌, length, All, IfOk, OnOk, string_bytes};
 ghost use Rattle.std.specs.List.{flat_map};
 ghost use Rattle.std.specs.Option.{option_copied};
-ghost use Rattle.type_notes.specs.Texts.{name_text, named_behind, names_text as the_text};
+ghost use Rattle.type_notes.specs.Texts.{name_text, named_behind};
+ghost use Rattle.type_notes.specs.Texts as spec;
 
 use crate::rest::rest_of;
 use abi_base::NoMemory;
@@ -13,7 +14,11 @@ use std::alloc::{AllocError, Global};
 use type_reach::body_of;
 
 // Appends a name, or that there is none.
-fn push_name(alloc: Global, text: &mut String, name: Option<&[u8]>) -> Result<(), AllocError>
+pub(crate) fn push_name(
+    alloc: Global,
+    text: &mut String,
+    name: Option<&[u8]>,
+) -> Result<(), AllocError>
     ensures { OnOk result (string_bytes text.new ≡ string_bytes text.old ++ name_text (option_copied name.entry)) }
 {
     match name {
@@ -57,7 +62,7 @@ fn push_all(
 #[tactic(auto, unfolding(crate::specs::Texts::names_text, type_reach::specs::References::tagged_children))]
 pub(crate) fn names_text(alloc: Global, dwarf: &Dwarf, e: usize) -> Result<Vec<u8>, NoMemory>
     requires { e < length dwarf.now.tree.entries }
-    ensures { IfOk result (λ text. text.items ≡ the_text dwarf.now e) }
+    ensures { IfOk result (λ text. text.items ≡ spec.names_text dwarf.now e) }
 {
     let parameters = dwarf.tagged(alloc, body_of(dwarf, e), DW_TAG_formal_parameter)?;
     let mut text = String::new(alloc);

@@ -1,7 +1,7 @@
 // Structures in which a member does not stand at its natural alignment.
 ghost use Rattle.std.specs.Prelude.{◌≡◌, ◌<◌, length, IfOk};
 ghost use Rattle.abi_types.specs.Graphs.{part_at, view_at};
-ghost use Rattle.type_notes.specs.Packing.{is_off as the_bit_is_off, is_packed as the_type_is_packed, packing_change as the_change, packing_text as the_text, stands_off as the_member_stands_off};
+ghost use Rattle.type_notes.specs.Packing as spec;
 ghost use Rattle.type_notes.specs.TypePairs.{AreNodes, new_nodes, old_nodes};
 
 use crate::difference::{Difference, differing};
@@ -14,7 +14,7 @@ use std::alloc::Global;
 
 // Whether a bit is not one at which an object of an alignment may begin.
 fn is_off(bit: u64, align: u64) -> bool
-    ensures { result ≡ the_bit_is_off bit align }
+    ensures { result ≡ spec.is_off bit align }
 {
     if align == 0 {
         return false;
@@ -26,7 +26,7 @@ fn is_off(bit: u64, align: u64) -> bool
 fn stands_off<Ix: Index>(graph: &Graph<Ix>, ix: Ix, k: usize) -> bool
     requires node { Ix.number_of ix < length graph.now }
     requires part { k < length (view_at graph.now (Ix.number_of ix)).parts }
-    ensures { result ≡ the_member_stands_off graph.now (part_at (view_at graph.now (Ix.number_of ix)) k) }
+    ensures { result ≡ spec.stands_off graph.now (part_at (view_at graph.now (Ix.number_of ix)) k) }
 {
     graph.known();
     let view = graph.view(ix);
@@ -45,7 +45,7 @@ fn stands_off<Ix: Index>(graph: &Graph<Ix>, ix: Ix, k: usize) -> bool
 #[tactic(auto, using(crate::proofs::AnyLemmas::any_more, crate::proofs::AnyLemmas::any_all, crate::proofs::AnyLemmas::any_at))]
 fn is_packed<Ix: Index>(graph: &Graph<Ix>, ix: Ix) -> bool
     requires { Ix.number_of ix < length graph.now }
-    ensures { result ≡ the_type_is_packed graph.now (Ix.number_of ix) }
+    ensures { result ≡ spec.is_packed graph.now (Ix.number_of ix) }
 {
     for k in 0..graph.view(ix).parts_len() {
         if stands_off(graph, ix, k) {
@@ -58,7 +58,7 @@ fn is_packed<Ix: Index>(graph: &Graph<Ix>, ix: Ix) -> bool
 // Whether a type is packed, as a text.
 fn packing_text<Ix: Index>(alloc: Global, graph: &Graph<Ix>, ix: Ix) -> Result<Vec<u8>, NoMemory>
     requires { Ix.number_of ix < length graph.now }
-    ensures { IfOk result (λ text. text.items ≡ the_text graph.now (Ix.number_of ix)) }
+    ensures { IfOk result (λ text. text.items ≡ spec.packing_text graph.now (Ix.number_of ix)) }
 {
     let word = if is_packed(graph, ix) {
         "packed"
@@ -72,7 +72,7 @@ fn packing_text<Ix: Index>(alloc: Global, graph: &Graph<Ix>, ix: Ix) -> Result<V
 #[tactic(auto, unfolding(crate::specs::Packing::packing_change))]
 pub(crate) fn packing_change(alloc: Global, pair: &TypePair) -> Result<Option<Difference>, NoMemory>
     requires { AreNodes pair.now }
-    ensures { IfOk result (λ found. found ≡ the_change (old_nodes pair.now) (new_nodes pair.now) pair.now.old pair.now.new) }
+    ensures { IfOk result (λ found. found ≡ spec.packing_change (old_nodes pair.now) (new_nodes pair.now) pair.now.old pair.now.new) }
 {
     let was = packing_text(alloc, pair.old_graph, pair.old)?;
     let is = packing_text(alloc, pair.new_graph, pair.new)?;

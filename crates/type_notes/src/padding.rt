@@ -3,7 +3,8 @@ ghost use Rattle.std.specs.Prelude.{◌≡◌, ◌<◌, ◌++◌, length, IfOk, 
 ghost use Rattle.std.specs.List.{flat_map};
 ghost use Rattle.abi_types.specs.Graphs.{part_at, view_at};
 ghost use Rattle.abi_types.specs.Parts.{plain_part};
-ghost use Rattle.type_notes.specs.Padding.{bits_in, bits_of, fills as the_member_fills, is_free as the_bits_are_free, lies_inside as the_bits_lie_inside, member_change as the_change, member_text as the_text, padding_changes, part_changes as the_part_changes, is_structure as the_type_is_a_structure, share as the_bits_are_shared};
+ghost use Rattle.type_notes.specs.Padding.{bits_in, bits_of, padding_changes};
+ghost use Rattle.type_notes.specs.Padding as spec;
 ghost use Rattle.type_notes.specs.TypePairs.{AreNodes, new_nodes, new_view, old_nodes, old_view};
 
 use crate::difference::{Difference, difference_of};
@@ -23,7 +24,7 @@ pub struct Bits {
 
 // Whether some bit is one of both.
 fn share(one: Bits, other: Bits) -> bool
-    ensures { result ≡ the_bits_are_shared one other }
+    ensures { result ≡ spec.share one other }
 {
     one.from.max(other.from) < one.to.min(other.to)
 }
@@ -63,7 +64,7 @@ fn bits_at<Ix: Index>(graph: &Graph<Ix>, ix: Ix, k: usize) -> Bits
 #[tactic(auto, using(crate::proofs::AnyLemmas::any_more, crate::proofs::AnyLemmas::any_all, crate::proofs::AnyLemmas::any_at))]
 fn is_free<Ix: Index>(graph: &Graph<Ix>, ix: Ix, bits: Bits) -> bool
     requires { Ix.number_of ix < length graph.now }
-    ensures { result ≡ the_bits_are_free graph.now (view_at graph.now (Ix.number_of ix)) bits }
+    ensures { result ≡ spec.is_free graph.now (view_at graph.now (Ix.number_of ix)) bits }
 {
     for k in 0..graph.view(ix).parts_len() {
         if share(bits, bits_at(graph, ix, k)) {
@@ -75,7 +76,7 @@ fn is_free<Ix: Index>(graph: &Graph<Ix>, ix: Ix, bits: Bits) -> bool
 
 // Whether there are bits, all below the end of a size in bytes.
 fn lies_inside(bits: Bits, size: u64) -> bool
-    ensures { result ≡ the_bits_lie_inside bits size }
+    ensures { result ≡ spec.lies_inside bits size }
 {
     bits.from < bits.to && bits.to <= size as u128 * 8
 }
@@ -85,7 +86,7 @@ fn lies_inside(bits: Bits, size: u64) -> bool
 fn fills(pair: &TypePair, k: usize) -> bool
     requires nodes { AreNodes pair.now }
     requires part { k < length (new_view pair.now).parts }
-    ensures { result ≡ the_member_fills (old_nodes pair.now) (new_nodes pair.now) (old_view pair.now) (part_at (new_view pair.now) k) }
+    ensures { result ≡ spec.fills (old_nodes pair.now) (new_nodes pair.now) (old_view pair.now) (part_at (new_view pair.now) k) }
 {
     let old = pair.old_graph.view(pair.old);
     let new = pair.new_graph.view(pair.new);
@@ -98,7 +99,7 @@ fn fills(pair: &TypePair, k: usize) -> bool
 
 // A member by its name and its first bit.
 fn member_text<Ix: Index>(alloc: Global, part: &Part<Ix>) -> Result<String, AllocError>
-    ensures { IfOk result (λ text. string_bytes text ≡ the_text (plain_part Ix.number_of part.now)) }
+    ensures { IfOk result (λ text. string_bytes text ≡ spec.member_text (plain_part Ix.number_of part.now)) }
 {
     let mut text = String::new(alloc);
     match part {
@@ -114,7 +115,7 @@ fn member_text<Ix: Index>(alloc: Global, part: &Part<Ix>) -> Result<String, Allo
 
 // What is said of a member that stands where none was.
 fn member_change<Ix: Index>(alloc: Global, part: &Part<Ix>) -> Result<Difference, NoMemory>
-    ensures { IfOk result (λ found. found ≡ the_change (plain_part Ix.number_of part.now)) }
+    ensures { IfOk result (λ found. found ≡ spec.member_change (plain_part Ix.number_of part.now)) }
 {
     let was = Vec::from_slice(alloc, b"none")?;
     let is = member_text(alloc, part)?;
@@ -131,7 +132,7 @@ fn push_part_changes(
 ) -> Result<(), NoMemory>
     requires nodes { AreNodes pair.now }
     requires part { k < length (new_view pair.now).parts }
-    ensures { OnOk result (list.new ≡ list.old ++ the_part_changes (old_nodes pair.now) (new_nodes pair.now) (old_view pair.now) (part_at (new_view pair.now) k)) }
+    ensures { OnOk result (list.new ≡ list.old ++ spec.part_changes (old_nodes pair.now) (new_nodes pair.now) (old_view pair.now) (part_at (new_view pair.now) k)) }
 {
     if !fills(pair, k) {
         return Ok(());
@@ -147,7 +148,7 @@ fn push_member_changes(
     pair: &TypePair,
 ) -> Result<(), NoMemory>
     requires { AreNodes pair.now }
-    ensures { OnOk result (list.new ≡ list.old ++ flat_map (the_part_changes (old_nodes pair.now) (new_nodes pair.now) (old_view pair.now)) (new_view pair.now).parts) }
+    ensures { OnOk result (list.new ≡ list.old ++ flat_map (spec.part_changes (old_nodes pair.now) (new_nodes pair.now) (old_view pair.now)) (new_view pair.now).parts) }
 {
     for k in 0..pair.new_graph.view(pair.new).parts_len() {
         push_part_changes(alloc, list, pair, k)?;
@@ -157,7 +158,7 @@ fn push_member_changes(
 
 // Whether a type is a structure.
 fn is_structure<Ix: Index>(view: &View<Ix>) -> bool
-    ensures { result ≡ the_type_is_a_structure view.now }
+    ensures { result ≡ spec.is_structure view.now }
 {
     matches!(view.kind, Kind::Structure)
 }

@@ -1,8 +1,8 @@
 // What entries say in each aspect, as texts.
 ghost use Rattle.std.specs.Prelude.{◌≡◌, ◌<◌, length, IfOk};
 ghost use Rattle.type_notes.specs.declared.aspect.Aspect.TheVariants as aspect_of;
-ghost use Rattle.type_notes.specs.Chains.{has_qualifier as the_qualifier_is_there};
-ghost use Rattle.type_notes.specs.Texts.{constant_text as the_constant, number_text as the_number, said as the_text, sign_word as the_sign_word, word_if as the_word_if};
+ghost use Rattle.type_notes.specs.Chains as chains;
+ghost use Rattle.type_notes.specs.Texts as texts_spec;
 
 use crate::aspect::Aspect;
 use crate::chain::has_qualifier;
@@ -23,7 +23,7 @@ use type_reach::natural_of;
 
 // A word where something holds.
 fn word_if(alloc: Global, holds: bool, word: &str) -> Result<Vec<u8>, NoMemory>
-    ensures { IfOk result (λ text. text.items ≡ the_word_if holds word.now) }
+    ensures { IfOk result (λ text. text.items ≡ texts_spec.word_if holds word.now) }
 {
     let word = if holds { word } else { "none" };
     Ok(Vec::from_slice(alloc, word.as_bytes())?)
@@ -31,7 +31,7 @@ fn word_if(alloc: Global, holds: bool, word: &str) -> Result<Vec<u8>, NoMemory>
 
 // A number, or that there is none.
 fn number_text(alloc: Global, number: Option<u64>) -> Result<Vec<u8>, NoMemory>
-    ensures { IfOk result (λ text. text.items ≡ the_number number) }
+    ensures { IfOk result (λ text. text.items ≡ texts_spec.number_text number) }
 {
     match number {
         None => Ok(Vec::from_slice(alloc, b"none")?),
@@ -45,7 +45,7 @@ fn number_text(alloc: Global, number: Option<u64>) -> Result<Vec<u8>, NoMemory>
 // The constant that an entry has of an attribute.
 fn constant_text(alloc: Global, dwarf: &Dwarf, e: usize, name: u64) -> Result<Vec<u8>, NoMemory>
     requires { e < length dwarf.now.tree.entries }
-    ensures { IfOk result (λ text. text.items ≡ the_constant dwarf.now.tree e name) }
+    ensures { IfOk result (λ text. text.items ≡ texts_spec.constant_text dwarf.now.tree e name) }
 {
     number_text(alloc, natural_of(dwarf.attr(e, name)))
 }
@@ -54,7 +54,7 @@ fn constant_text(alloc: Global, dwarf: &Dwarf, e: usize, name: u64) -> Result<Ve
 #[tactic(auto, unfolding(crate::specs::Texts::said))]
 fn dimensions(alloc: Global, dwarf: &Dwarf, e: usize) -> Result<Vec<u8>, NoMemory>
     requires { e < length dwarf.now.tree.entries }
-    ensures { IfOk result (λ text. text.items ≡ the_text aspect_of.Dimensions dwarf.now e) }
+    ensures { IfOk result (λ text. text.items ≡ texts_spec.said aspect_of.Dimensions dwarf.now e) }
 {
     let text = dimensions_text(alloc, dwarf, e)?;
     Ok(text.into_bytes())
@@ -62,7 +62,7 @@ fn dimensions(alloc: Global, dwarf: &Dwarf, e: usize) -> Result<Vec<u8>, NoMemor
 
 // The word for whether numbers have a sign.
 fn sign_word(sign: bool) -> &'static str
-    ensures { result.now ≡ the_sign_word sign }
+    ensures { result.now ≡ texts_spec.sign_word sign }
 {
     if sign { "signed" } else { "unsigned" }
 }
@@ -71,13 +71,13 @@ fn sign_word(sign: bool) -> &'static str
 #[tactic(auto, unfolding(crate::specs::Texts::said))]
 fn sign(alloc: Global, dwarf: &Dwarf, e: usize) -> Result<Vec<u8>, NoMemory>
     requires { e < length dwarf.now.tree.entries }
-    ensures { IfOk result (λ text. text.items ≡ the_text aspect_of.Sign dwarf.now e) }
+    ensures { IfOk result (λ text. text.items ≡ texts_spec.said aspect_of.Sign dwarf.now e) }
 {
     let word = sign_word(has_sign(alloc, dwarf, e)?);
     Ok(Vec::from_slice(alloc, word.as_bytes())?)
 }
 
-// A qualifier of what a pointer points to, by its tag.
+// A qualifier of what a pointer points to or an object is, by its tag.
 fn qualifier(
     alloc: Global,
     dwarf: &Dwarf,
@@ -86,7 +86,7 @@ fn qualifier(
     word: &str,
 ) -> Result<Vec<u8>, NoMemory>
     requires { e < length dwarf.now.tree.entries }
-    ensures { IfOk result (λ text. text.items ≡ the_word_if (the_qualifier_is_there dwarf.now.tree tag e) word.now) }
+    ensures { IfOk result (λ text. text.items ≡ texts_spec.word_if (chains.has_qualifier dwarf.now.tree tag e) word.now) }
 {
     word_if(alloc, has_qualifier(dwarf, e, tag), word)
 }
@@ -100,7 +100,7 @@ pub(crate) fn said(
     e: usize,
 ) -> Result<Vec<u8>, NoMemory>
     requires { e < length dwarf.now.tree.entries }
-    ensures { IfOk result (λ text. text.items ≡ the_text aspect dwarf.now e) }
+    ensures { IfOk result (λ text. text.items ≡ texts_spec.said aspect dwarf.now e) }
 {
     match aspect {
         Aspect::Dimensions => dimensions(alloc, dwarf, e),
@@ -117,8 +117,12 @@ pub(crate) fn said(
         Aspect::ParameterNames => names_text(alloc, dwarf, e),
         Aspect::Endianity => constant_text(alloc, dwarf, e, DW_AT_endianity),
         Aspect::Sign => sign(alloc, dwarf, e),
-        Aspect::Const => qualifier(alloc, dwarf, e, DW_TAG_const_type, "const"),
-        Aspect::Volatile => qualifier(alloc, dwarf, e, DW_TAG_volatile_type, "volatile"),
+        Aspect::Const | Aspect::ConstObject => {
+            qualifier(alloc, dwarf, e, DW_TAG_const_type, "const")
+        }
+        Aspect::Volatile | Aspect::VolatileObject => {
+            qualifier(alloc, dwarf, e, DW_TAG_volatile_type, "volatile")
+        }
         Aspect::Restrict => qualifier(alloc, dwarf, e, DW_TAG_restrict_type, "restrict"),
         Aspect::Atomic => qualifier(alloc, dwarf, e, DW_TAG_atomic_type, "atomic"),
     }

@@ -3,7 +3,7 @@ ghost use Rattle.std.specs.Prelude.{◌≡◌, ◌<◌, length, All, IfOk};
 ghost use Rattle.std.specs.List.{list_any};
 ghost use Rattle.abi_base.specs.Dwarf.{dw_at_const_value};
 ghost use Rattle.dwarf_entries.specs.Chains.{attribute_along};
-ghost use Rattle.type_notes.specs.Texts.{has_negative as an_enumerator_is_negative, has_sign as the_enumeration_has_a_sign, is_negative as the_value_is_negative, is_signed_encoding as the_encoding_is_signed};
+ghost use Rattle.type_notes.specs.Texts as spec;
 
 use crate::chain::core_of_type;
 use abi_base::NoMemory;
@@ -17,7 +17,7 @@ use type_reach::number_at;
 
 // Whether a value is a negative constant.
 fn is_negative(value: Option<Value>) -> bool
-    ensures { result ≡ the_value_is_negative value }
+    ensures { result ≡ spec.is_negative value }
 {
     match value {
         Some(Value::Signed(number)) => number < 0,
@@ -26,8 +26,8 @@ fn is_negative(value: Option<Value>) -> bool
 }
 
 // Whether numbers of an encoding have a sign.
-fn is_signed_encoding(encoding: u64) -> bool
-    ensures { result ≡ the_encoding_is_signed encoding }
+pub(crate) fn is_signed_encoding(encoding: u64) -> bool
+    ensures { result ≡ spec.is_signed_encoding encoding }
 {
     encoding == DW_ATE_signed || encoding == DW_ATE_signed_char
 }
@@ -36,7 +36,7 @@ fn is_signed_encoding(encoding: u64) -> bool
 #[tactic(auto, using(crate::proofs::AnyLemmas::any_more, crate::proofs::AnyLemmas::any_all, crate::proofs::AnyLemmas::any_at))]
 fn is_some_negative(dwarf: &Dwarf, enumerators: &[usize]) -> bool
     requires { All (λ c. c < length dwarf.now.tree.entries) enumerators.now }
-    ensures { result ≡ list_any (λ c. the_value_is_negative (attribute_along dwarf.now.tree c dw_at_const_value)) enumerators.now }
+    ensures { result ≡ list_any (λ c. spec.is_negative (attribute_along dwarf.now.tree c dw_at_const_value)) enumerators.now }
 {
     for k in 0..enumerators.len() {
         let enumerator = enumerators[k];
@@ -51,7 +51,7 @@ fn is_some_negative(dwarf: &Dwarf, enumerators: &[usize]) -> bool
 #[tactic(auto, unfolding(type_reach::specs::References::tagged_children))]
 fn has_negative(alloc: Global, dwarf: &Dwarf, e: usize) -> Result<bool, NoMemory>
     requires { e < length dwarf.now.tree.entries }
-    ensures { IfOk result (λ negative. negative ≡ an_enumerator_is_negative dwarf.now.tree e) }
+    ensures { IfOk result (λ negative. negative ≡ spec.has_negative dwarf.now.tree e) }
 {
     let enumerators = dwarf.tagged(alloc, e, DW_TAG_enumerator)?;
     Ok(is_some_negative(dwarf, enumerators.as_slice()))
@@ -61,7 +61,7 @@ fn has_negative(alloc: Global, dwarf: &Dwarf, e: usize) -> Result<bool, NoMemory
 #[tactic(auto, unfolding(crate::specs::Texts::has_sign))]
 pub(crate) fn has_sign(alloc: Global, dwarf: &Dwarf, e: usize) -> Result<bool, NoMemory>
     requires { e < length dwarf.now.tree.entries }
-    ensures { IfOk result (λ sign. sign ≡ the_enumeration_has_a_sign dwarf.now.tree e) }
+    ensures { IfOk result (λ sign. sign ≡ spec.has_sign dwarf.now.tree e) }
 {
     match core_of_type(dwarf, e) {
         Some(base) => Ok(is_signed_encoding(number_at(dwarf, base, DW_AT_encoding))),

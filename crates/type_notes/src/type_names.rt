@@ -2,7 +2,8 @@
 ghost use Rattle.std.specs.Prelude.{◌≡◌, ◌++◌, map, IfOk, OnOk, string_bytes};
 ghost use Rattle.std.specs.List.{flat_map};
 ghost use Rattle.abi_types.specs.Plain.{plain_label};
-ghost use Rattle.type_notes.specs.TypeNames.{keyword as the_keyword, label_behind, labels_text, name_change as the_change};
+ghost use Rattle.type_notes.specs.TypeNames.{label_behind, labels_text};
+ghost use Rattle.type_notes.specs.TypeNames as spec;
 ghost use Rattle.type_notes.specs.TypePairs.{AreNodes, new_node, old_node};
 
 use crate::difference::{Difference, differing};
@@ -15,7 +16,7 @@ use std::alloc::{AllocError, Global};
 
 // What stands before a name of a kind.
 fn keyword(kind: LabelKind) -> &'static str
-    ensures { result.now ≡ the_keyword kind }
+    ensures { result.now ≡ spec.keyword kind }
 {
     match kind {
         LabelKind::Structure => "struct ",
@@ -58,7 +59,7 @@ fn names_text(alloc: Global, labels: &[Label]) -> Result<Vec<u8>, NoMemory>
 #[tactic(auto, unfolding(crate::specs::TypeNames::name_change))]
 pub(crate) fn name_change(alloc: Global, pair: &TypePair) -> Result<Option<Difference>, NoMemory>
     requires { AreNodes pair.now }
-    ensures { IfOk result (λ found. found ≡ the_change (old_node pair.now) (new_node pair.now)) }
+    ensures { IfOk result (λ found. found ≡ spec.name_change (old_node pair.now) (new_node pair.now)) }
 {
     let was = names_text(alloc, pair.old_graph.labels(pair.old))?;
     let is = names_text(alloc, pair.new_graph.labels(pair.new))?;

@@ -1,6 +1,6 @@
 // Unions that have a size and no members.
 ghost use Rattle.std.specs.Prelude.{◌≡◌, IfOk, string_bytes};
-ghost use Rattle.type_notes.specs.Unions.{counts_text as the_counts, is_hollow as the_union_is_hollow, union_change as the_change, union_text as the_text};
+ghost use Rattle.type_notes.specs.Unions as spec;
 
 use crate::difference::{Difference, difference_of};
 use crate::note::NoteKind;
@@ -10,7 +10,7 @@ use std::alloc::{AllocError, Global};
 
 // Whether a type is a union that has a size and no members.
 fn is_hollow<Ix: Index>(view: &View<Ix>) -> bool
-    ensures { result ≡ the_union_is_hollow view.now }
+    ensures { result ≡ spec.is_hollow view.now }
 {
     match view.kind {
         Kind::Union => view.size > 0 && view.parts.is_empty(),
@@ -20,14 +20,14 @@ fn is_hollow<Ix: Index>(view: &View<Ix>) -> bool
 
 // A size, and how many members there are.
 fn counted(alloc: Global, size: u64, members: usize) -> Result<String, AllocError>
-    ensures { IfOk result (λ text. string_bytes text ≡ the_counts size members) }
+    ensures { IfOk result (λ text. string_bytes text ≡ spec.counts_text size members) }
 {
     format!(in alloc; "size {size}, members {members}")
 }
 
 // The size of a type, and how many members it has.
 fn union_text<Ix: Index>(alloc: Global, view: &View<Ix>) -> Result<String, AllocError>
-    ensures { IfOk result (λ text. string_bytes text ≡ the_text view.now) }
+    ensures { IfOk result (λ text. string_bytes text ≡ spec.union_text view.now) }
 {
     counted(alloc, view.size, view.parts_len())
 }
@@ -38,7 +38,7 @@ pub(crate) fn union_change(
     old: &View<OldIx>,
     new: &View<NewIx>,
 ) -> Result<Option<Difference>, NoMemory>
-    ensures { IfOk result (λ found. found ≡ the_change old.now new.now) }
+    ensures { IfOk result (λ found. found ≡ spec.union_change old.now new.now) }
 {
     if !is_hollow(old) && !is_hollow(new) {
         return Ok(None);

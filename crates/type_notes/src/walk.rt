@@ -1,14 +1,21 @@
 // The notes on all types that two libraries are compared in.
-ghost use Rattle.std.specs.Prelude.{◌≡◌, ◌<◌, ◌++◌, length, map, IfOk, OnOk};
+ghost use Rattle.std.specs.Prelude.{◌≡◌, ◌<◌, ◌+◌, ◌++◌, ◌||◌, ℕ, length, map, nat_eq, IfOk, IfSome, OnOk};
+ghost use Rattle.std.specs.HashSet.{contains};
 ghost use Rattle.pair_compare.specs.BoundPair.{IsBinding, sides_of};
 ghost use Rattle.pair_compare.specs.Marking.{AreMarksOf};
 ghost use Rattle.pair_explorer.specs.Visits.{AreEarlier};
-ghost use Rattle.pair_rules.specs.Steps.{is_marked as the_node_is_marked};
+ghost use Rattle.pair_rules.specs.Steps as steps_spec;
 ghost use Rattle.cert_check.specs.Compatible.{task_of};
-ghost use Rattle.type_notes.specs.NotedPairs.{AreNotes, AreReadable, IsReadable, difference_note, differences_of, noted_at, noted_pair, notes_at, notes_below};
+ghost use Rattle.type_notes.specs.DefinedElsewhere.{AreOfBoth, definitions_behind};
+ghost use Rattle.type_notes.specs.DefinedElsewhere as elsewhere_spec;
+ghost use Rattle.type_notes.specs.NotedPairs.{AreCompared, AreNotes, AreReadable, IsReadable, change_unless, difference_note, differences_of, is_of, new_core, noted_at, noted_pair, notes_at, notes_below, old_core};
 
 use crate::between::{DwarfPair, push_differences};
-use crate::difference::Difference;
+use crate::chain::core_at;
+use crate::definitions::{DefinitionPair, definitions_of};
+use crate::difference::{Difference, push_found};
+use crate::elsewhere::{definition_change, definitions_by};
+use crate::entries::EntryPair;
 use crate::note::Note;
 use crate::noted_pair::NotedPair;
 use crate::type_pair::TypePair;
@@ -21,13 +28,14 @@ use pair_explorer::laws::{parents_spell_paths, paths_by_representatives};
 use pair_explorer::{Visit, Visits, route_to};
 use pair_rules::Steps;
 use std::alloc::Global;
+use std::collections::HashSet;
 use std::marker::Brand;
 use std::sync::ledger::{Blank, Ledger};
 use type_classes::plain;
 
 // Whether an old node is marked at a way.
 fn is_marked(ground: &NotedPair, node: OldIx, way: Way) -> bool
-    ensures { result ≡ the_node_is_marked (task_of (sides_of ground.now.pair)) node way }
+    ensures { result ≡ steps_spec.is_marked (task_of (sides_of ground.now.pair)) node way }
 {
     let flags = match way {
         Way::Direct => ground.pair.marks.direct.as_slice(),
@@ -94,6 +102,61 @@ fn differences_at(
     Ok(list)
 }
 
+// The definitions of the types of a visit, where one of them at least is only declared.
+fn definitions_of_types(
+    ground: &NotedPair,
+    definitions: &DefinitionPair,
+    visit: &Visit,
+) -> Option<(usize, usize)>
+    requires definitions { AreOfBoth ground.now.old_dwarf.now ground.now.new_dwarf.now definitions.now }
+    requires old { visit.now.old < length ground.now.pair.old.now.graph }
+    requires new { visit.now.new < length ground.now.pair.new.now.graph }
+    ensures found { result ≡ definitions_behind ground.now.old_dwarf.now ground.now.new_dwarf.now (old_core (noted_pair ground.now) visit.now) (new_core (noted_pair ground.now) visit.now) }
+    ensures old { IfSome result (λ found. found.0 < length ground.now.old_dwarf.now.tree.entries) }
+    ensures new { IfSome result (λ found. found.1 < length ground.now.new_dwarf.now.tree.entries) }
+{
+    let old = core_at(
+        ground.old_dwarf,
+        ground.pair.old.graph().entry_of(visit.old),
+    );
+    let new = core_at(
+        ground.new_dwarf,
+        ground.pair.new.graph().entry_of(visit.new),
+    );
+    match (old, new) {
+        (Some(old), Some(new)) => {
+            let pair = EntryPair {
+                old_dwarf: ground.old_dwarf,
+                new_dwarf: ground.new_dwarf,
+                old,
+                new,
+            };
+            definitions_by(&pair, definitions)
+        }
+        _ => None,
+    }
+}
+
+// What differs between two definitions.
+fn change_of(
+    alloc: Global,
+    ground: &NotedPair,
+    found: (usize, usize),
+) -> Result<Option<Difference>, NoMemory>
+    requires old { found.0 < length ground.now.old_dwarf.now.tree.entries }
+    requires new { found.1 < length ground.now.new_dwarf.now.tree.entries }
+    ensures { IfOk result (λ change. change ≡ elsewhere_spec.definition_change ground.now.old_dwarf.now ground.now.new_dwarf.now found.0 found.1) }
+{
+    let (old, new) = found;
+    let pair = EntryPair {
+        old_dwarf: ground.old_dwarf,
+        new_dwarf: ground.new_dwarf,
+        old,
+        new,
+    };
+    definition_change(alloc, &pair)
+}
+
 // Adds the notes of differences at the visit of a number, under the path to it.
 fn push_under_path(
     alloc: Global,
@@ -114,40 +177,107 @@ fn push_under_path(
     push_all(alloc, notes, export.as_str(), path.as_str(), found)
 }
 
+// Adds what differs between two definitions, where the old one was not compared before, and keeps that it is.
+fn push_definitions(
+    alloc: Global,
+    list: &mut List<Difference>,
+    compared: &mut HashSet<usize>,
+    ground: &NotedPair,
+    found: Option<(usize, usize)>,
+) -> Result<(), NoMemory>
+    requires old { IfSome found (λ found. found.0 < length ground.now.old_dwarf.now.tree.entries) }
+    requires new { IfSome found (λ found. found.1 < length ground.now.new_dwarf.now.tree.entries) }
+    ensures list { OnOk result (list.new ≡ list.old ++ change_unless (contains nat_eq compared.old) (noted_pair ground.now) found) }
+    ensures compared { OnOk result ((a : ℕ) → contains nat_eq compared.new a ≡ (contains nat_eq compared.old a || is_of a found)) }
+{
+    let found = match found {
+        Some(found) => found,
+        None => return Ok(()),
+    };
+    if !compared.insert(found.0)? {
+        return Ok(());
+    }
+    push_found(list, change_of(alloc, ground, found)?)
+}
+
+// What is walked over: the libraries with their definitions, and what was explored.
+#[derive(Clone, Copy)]
+struct Walk<'w, 'x, 'o, 'n, 'd, 'e> {
+    ground: &'w NotedPair<'x, 'o, 'n, 'd, 'e>,
+    definitions: &'w DefinitionPair<'w, 'd, 'e>,
+    visits: &'w Visits,
+}
+
 // Adds the notes of the visit of a number.
-#[tactic(auto, unfolding(crate::specs::NotedPairs::notes_at))]
+#[tactic(auto, unfolding(crate::specs::NotedPairs::notes_at, crate::specs::NotedPairs::definitions_at))]
 fn push_visit(
     alloc: Global,
     notes: &mut List<Note>,
-    ground: &NotedPair,
-    visits: &Visits,
+    compared: &mut HashSet<usize>,
+    walk: &Walk,
     number: usize,
 ) -> Result<(), NoMemory>
-    requires readable { IsReadable (sides_of ground.now.pair) visits.now number }
-    requires earlier { AreEarlier visits.now }
-    ensures { OnOk result (notes.new ≡ notes.old ++ notes_at (noted_pair ground.now) visits.now number) }
+    requires definitions { AreOfBoth walk.now.ground.now.old_dwarf.now walk.now.ground.now.new_dwarf.now walk.now.definitions.now }
+    requires readable { IsReadable (sides_of walk.now.ground.now.pair) walk.now.visits.now number }
+    requires earlier { AreEarlier walk.now.visits.now }
+    requires compared { AreCompared (noted_pair walk.now.ground.now) walk.now.visits.now number compared.old }
+    ensures notes { OnOk result (notes.new ≡ notes.old ++ notes_at (noted_pair walk.now.ground.now) walk.now.visits.now number) }
+    ensures compared { OnOk result (AreCompared (noted_pair walk.now.ground.now) walk.now.visits.now (number + 1) compared.new) }
 {
-    let visit = visits.visit(number);
-    if is_marked(ground, visit.old, visit.way) {
+    let visit = walk.visits.visit(number);
+    if is_marked(walk.ground, visit.old, visit.way) {
         return Ok(());
     }
-    let found = differences_at(alloc, ground, &visit)?;
+    let mut found = differences_at(alloc, walk.ground, &visit)?;
+    let defined = definitions_of_types(walk.ground, walk.definitions, &visit);
+    push_definitions(alloc, &mut found, compared, walk.ground, defined)?;
     if found.as_slice().is_empty() {
         return Ok(());
     }
-    push_under_path(alloc, notes, ground, (visits, number), found.as_slice())
+    push_under_path(
+        alloc,
+        notes,
+        walk.ground,
+        (walk.visits, number),
+        found.as_slice(),
+    )
 }
 
 // The notes of all visits, in their order.
-fn notes_along(alloc: Global, ground: &NotedPair, visits: &Visits) -> Result<List<Note>, NoMemory>
+fn notes_along(alloc: Global, walk: &Walk) -> Result<List<Note>, NoMemory>
+    requires definitions { AreOfBoth walk.now.ground.now.old_dwarf.now walk.now.ground.now.new_dwarf.now walk.now.definitions.now }
+    requires readable { AreReadable (sides_of walk.now.ground.now.pair) walk.now.visits.now }
+    ensures { IfOk result (λ notes. notes ≡ notes_below (noted_pair walk.now.ground.now) walk.now.visits.now (length walk.now.visits.now)) }
+{
+    let mut notes = List::new(alloc);
+    let mut compared = HashSet::new(alloc);
+    'visits: for number in 0..walk.visits.len() {
+        push_visit(alloc, &mut notes, &mut compared, walk, number)?;
+    }
+    Ok(notes)
+}
+
+// The notes of all visits, in their order, with the definitions of both libraries.
+fn notes_with_definitions(
+    alloc: Global,
+    ground: &NotedPair,
+    visits: &Visits,
+) -> Result<List<Note>, NoMemory>
     requires { AreReadable (sides_of ground.now.pair) visits.now }
     ensures { IfOk result (λ notes. notes ≡ notes_below (noted_pair ground.now) visits.now (length visits.now)) }
 {
-    let mut notes = List::new(alloc);
-    'visits: for number in 0..visits.len() {
-        push_visit(alloc, &mut notes, ground, visits, number)?;
-    }
-    Ok(notes)
+    let old = definitions_of(alloc, ground.old_dwarf)?;
+    let new = definitions_of(alloc, ground.new_dwarf)?;
+    let definitions = DefinitionPair {
+        old: &old,
+        new: &new,
+    };
+    let walk = Walk {
+        ground,
+        definitions: &definitions,
+        visits,
+    };
+    notes_along(alloc, &walk)
 }
 
 // The notes on two libraries, with a counter of steps.
@@ -174,7 +304,7 @@ fn counted_notes<L: Ledger>(
     let old_classes = plain(alloc, old_graph)?;
     let new_classes = plain(alloc, new_graph)?;
     let explored = explore_types(alloc, &ground.pair, &old_classes, &new_classes, &mut steps)?;
-    let notes = notes_along(alloc, ground, &explored.visits)?;
+    let notes = notes_with_definitions(alloc, ground, &explored.visits)?;
     Ok(notes)
 }
 

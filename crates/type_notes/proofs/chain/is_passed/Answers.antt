@@ -1,7 +1,7 @@
 -- Entry by entry.
 use Rattle.std.proofs.Common.{◌∙◌, ◌-◌, ◌+◌, sym, ap, eq-eqb}
 use Rattle.type_reach.specs.References.{Type_}
-use Rattle.type_notes.specs.Chains.{is_passed}
+use Rattle.type_notes.specs.Chains.{is_passed, leads_further}
 use Rattle.type_notes.proofs.ChainLemmas.{passed_void, passed_here, passed_next, passed_last, passed_end, other_tag}
 use Rattle.type_notes.proofs.chain.is_passed.Goals as goal
 
@@ -10,10 +10,16 @@ returns-in-None c =
     let t = c.args.dwarf.now.tree in
     sym (passed_void t c.args.tag 513 c.chain.passed c.chain-test.true) ∙ ap (λ (r : Type_). is_passed t c.args.tag (513 - c.chain.passed) r) (sym c.in-None.is) ∙ c.chain.invariant.same
 
+pub returns-then-not-leads_further : goal.returns-then-not-leads_further
+returns-then-not-leads_further c =
+    let t = c.args.dwarf.now.tree in
+    sym (passed_last t c.args.tag 513 c.chain.passed c.in-Some.e c.chain-test.true (sym (ap leads_further c.role_of.ensures) ∙ sym c.leads_further.ensures ∙ c.if-not-leads_further.true))
+    ∙ ap (λ (r : Type_). is_passed t c.args.tag (513 - c.chain.passed) r) (sym c.in-Some.is) ∙ c.chain.invariant.same
+
 pub returns-then-here-tag : goal.returns-then-here-tag
 returns-then-here-tag c =
     let t = c.args.dwarf.now.tree in
-    sym (passed_here t c.args.tag 513 c.chain.passed c.in-Some.e c.chain-test.true (sym c.in-Wrapper.ensures) (eq-eqb _ _ (sym c.tag-here.ensures ∙ c.if-here-tag.true)))
+    sym (passed_here t c.args.tag 513 c.chain.passed c.in-Some.e c.chain-test.true (sym (ap leads_further c.role_of.ensures) ∙ sym c.leads_further.ensures ∙ c.if-not-leads_further.false) (eq-eqb _ _ (sym c.tag-here.ensures ∙ c.if-here-tag.true)))
     ∙ ap (λ (r : Type_). is_passed t c.args.tag (513 - c.chain.passed) r) (sym c.in-Some.is) ∙ c.chain.invariant.same
 
 pub chain-preserved : goal.chain-preserved
@@ -23,15 +29,9 @@ chain-preserved c =
       inside = c.type_of-at.ensures.inside;
       same =
           ap (λ (r : Type_). is_passed t c.args.tag (513 - (c.chain.passed + 1)) r) c.type_of-at.ensures.found
-          ∙ passed_next t c.args.tag 513 c.chain.passed c.in-Some.e c.chain-test.true (sym c.in-Wrapper.ensures) (other_tag _ _ (λ h. c.if-here-tag.false (c.tag-here.ensures ∙ h)))
+          ∙ passed_next t c.args.tag 513 c.chain.passed c.in-Some.e c.chain-test.true (sym (ap leads_further c.role_of.ensures) ∙ sym c.leads_further.ensures ∙ c.if-not-leads_further.false) (other_tag _ _ (λ h. c.if-here-tag.false (c.tag-here.ensures ∙ h)))
           ∙ ap (λ (r : Type_). is_passed t c.args.tag (513 - c.chain.passed) r) (sym c.in-Some.is) ∙ c.chain.invariant.same;
     }
-
-pub returns-in_default : goal.returns-in_default
-returns-in_default c =
-    let t = c.args.dwarf.now.tree in
-    sym (passed_last t c.args.tag 513 c.chain.passed c.in-Some.e c.chain-test.true (λ h. c.in_default.not-Wrapper (c.role_of.ensures ∙ h)))
-    ∙ ap (λ (r : Type_). is_passed t c.args.tag (513 - c.chain.passed) r) (sym c.in-Some.is) ∙ c.chain.invariant.same
 
 pub returns : goal.returns
 returns c = sym (passed_end c.args.dwarf.now.tree c.args.tag 513 c.chain.passed c.chain.at c.chain-test.false) ∙ c.chain.invariant.same

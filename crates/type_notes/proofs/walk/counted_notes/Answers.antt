@@ -5,8 +5,8 @@ use Rattle.pair_compare.specs.BoundPair.{sides_of}
 use Rattle.type_notes.proofs.WalkLemmas.{readable}
 use Rattle.type_notes.proofs.walk.counted_notes.Goals as goal
 
-pub notes_along-requires : goal.notes_along-requires
-notes_along-requires g c =
+pub notes_with_definitions-requires : goal.notes_with_definitions-requires
+notes_with_definitions-requires g c =
     readable (record {
       walks = c.paths_end_where_they_lead.ensures.walks;
       comes = c.paths_by_representatives.ensures.comes;

@@ -1,0 +1,33 @@
+-- Names of types that were seen already, in a set.
+use Rattle.std.specs.Prelude.{◌≡◌, ◌==◌, ◌&&◌, ℕ, Bool, true, List}
+use Rattle.std.specs.Borrow.{Bor}
+use Rattle.std.specs.List.{list_any}
+use Rattle.std.specs.Str.{bytes_eq}
+use Rattle.std.specs.HashSet.{HashSet, contains_by}
+use Rattle.std.specs.declared.hash.FoldHasher.{FoldHasher}
+use Rattle.std.specs.declared.hash.BuildHasherDefault.{BuildHasherDefault}
+use Rattle.abi_types.specs.declared.kind.LabelKind.{LabelKind}
+use Rattle.abi_types.specs.declared.kind.LabelKind.TheVariants.{Structure, Union, Enumeration, Typedef, Builtin}
+use Rattle.abi_types.specs.Types.{PlainLabel}
+
+abbrev pub kind_number : LabelKind → ℕ
+kind_number Structure = 0
+kind_number Union = 1
+kind_number Enumeration = 2
+kind_number Typedef = 3
+kind_number Builtin = 4
+
+-- a set of names, with the numbers of their kinds
+abbrev pub Seen : Type 0
+Seen = HashSet (ℕ × Bor (List ℕ)) (BuildHasherDefault FoldHasher)
+
+abbrev pub is_seen : Seen → PlainLabel → Bool
+is_seen seen l = contains_by (λ k. kind_number l.kind == k.0 && bytes_eq l.name k.1.now) seen
+
+-- a test that passes a name of the set passes one of these
+abbrev pub AreSeen : Seen → List PlainLabel → Type 0
+AreSeen seen names = (l : PlainLabel) → is_seen seen l ≡ true → (test : PlainLabel → Bool) → test l ≡ true → list_any test names ≡ true
+
+-- a test passes one of these names exactly where it passes one of those
+abbrev pub AreAlike : List PlainLabel → List PlainLabel → Type 0
+AreAlike names labels = (test : PlainLabel → Bool) → list_any test names ≡ list_any test labels

@@ -1,0 +1,76 @@
+// The names of types, each once.
+ghost use Rattle.std.specs.Prelude.{◌≡◌, ◌∷◌, ◌++◌, [], map, IfOk, OnOk};
+ghost use Rattle.abi_types.specs.Plain.{plain_label};
+ghost use Rattle.idle_sections.specs.Idle.{all_labels};
+ghost use Rattle.idle_sections.specs.Names as spec;
+ghost use Rattle.idle_sections.specs.Names.{is_seen, AreAlike, AreSeen};
+
+use abi_base::NoMemory;
+use abi_types::{Graph, Index, Label, LabelKind, OldIx};
+use std::alloc::Global;
+use std::collections::HashSet;
+
+fn kind_number(kind: LabelKind) -> u8
+    ensures { result ≡ spec.kind_number kind }
+{
+    match kind {
+        LabelKind::Structure => 0,
+        LabelKind::Union => 1,
+        LabelKind::Enumeration => 2,
+        LabelKind::Typedef => 3,
+        LabelKind::Builtin => 4,
+    }
+}
+
+// Whether a name was seen.
+fn was_seen(seen: &HashSet<(u8, &[u8])>, label: &Label) -> bool
+    ensures { result ≡ is_seen seen.now (plain_label label.now) }
+{
+    seen.contains(&(kind_number(label.kind), label.name))
+}
+
+// Puts a name last, unless it was seen.
+fn push_once<'x>(
+    seen: &mut HashSet<(u8, &'x [u8])>,
+    names: &mut Vec<Label<'x>>,
+    label: &Label<'x>,
+) -> Result<(), NoMemory>
+    requires { AreSeen seen.old (map plain_label names.old.items) }
+    ensures seen { OnOk result (AreSeen seen.new (map plain_label names.new.items)) }
+    ensures alike { OnOk result (AreAlike (map plain_label names.new.items) (map plain_label names.old.items ++ plain_label label.now ∷ [])) }
+{
+    if was_seen(seen, label) {
+        return Ok(());
+    }
+    seen.insert((kind_number(label.kind), label.name))?;
+    names.push(*label)?;
+    Ok(())
+}
+
+// Puts names last, those that were not seen.
+fn push_names<'x>(
+    seen: &mut HashSet<(u8, &'x [u8])>,
+    names: &mut Vec<Label<'x>>,
+    labels: &[Label<'x>],
+) -> Result<(), NoMemory>
+    requires { AreSeen seen.old (map plain_label names.old.items) }
+    ensures seen { OnOk result (AreSeen seen.new (map plain_label names.new.items)) }
+    ensures alike { OnOk result (AreAlike (map plain_label names.new.items) (map plain_label names.old.items ++ map plain_label labels.now)) }
+{
+    for label in labels {
+        push_once(seen, names, label)?;
+    }
+    Ok(())
+}
+
+/// The names of the types of a graph, each once.
+pub fn names_of<'x>(alloc: Global, graph: &Graph<'x, OldIx>) -> Result<Vec<Label<'x>>, NoMemory>
+    ensures { IfOk result (λ names. AreAlike (map plain_label names.items) (all_labels graph.now)) }
+{
+    let mut seen = HashSet::new(alloc);
+    let mut names = Vec::new(alloc);
+    for i in 0..graph.len() {
+        push_names(&mut seen, &mut names, graph.labels(OldIx::of(i)))?;
+    }
+    Ok(names)
+}

@@ -1,0 +1,6 @@
+mod Drawn
+mod Listed
+mod Numbered
+mod Reached
+mod Spreading
+mod Stepped

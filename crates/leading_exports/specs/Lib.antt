@@ -1,0 +1,5 @@
+pub mod Arrows
+pub mod Drawing
+pub mod Leading
+pub mod Numbers
+pub mod Walks

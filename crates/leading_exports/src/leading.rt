@@ -1,0 +1,102 @@
+// The exports that lead to two types.
+ghost use Rattle.std.specs.Prelude.{◌≡◌, ◌<◌, length, filter, map, slice_get, Some, IfOk, ℕ, List};
+ghost use Rattle.pair_rules.specs.Steps.{PlainRoot};
+ghost use Rattle.pair_explorer.specs.GraphPairs.{scope_of};
+ghost use Rattle.pair_explorer.specs.Scopes.{HasNodes};
+ghost use Rattle.leading_exports.specs.Drawing.{all_arrows};
+ghost use Rattle.leading_exports.specs.Leading.{AreLeading};
+ghost use Rattle.leading_exports.specs.Leading as spec;
+ghost use Rattle.leading_exports.specs.Walks.{IsWalk};
+
+use crate::arrows::{Arrow, mark_leading};
+use crate::walk::{Walk, is_marked};
+use abi_base::{Effort, List, NoMemory};
+use abi_types::{Index, NewIx, OldIx, Way};
+use pair_explorer::laws::what_is_visited_has_a_visit;
+use pair_explorer::{GraphPair, Root, Visit};
+use pair_rules::Triple;
+use pair_rules::laws::steps_lead_to_nodes;
+use std::alloc::Global;
+
+// Whether a visit is of two types, and its old node is unmarked at its way.
+fn is_of_pair(ground: &GraphPair, old: OldIx, new: NewIx, visit: &Visit) -> bool
+    ensures { result ≡ spec.is_of_pair (scope_of ground.now) old new visit.now }
+{
+    visit.old.number() == old.number()
+        && visit.new.number() == new.number()
+        && !is_marked(ground, visit.old, visit.way)
+}
+
+// A mark for each visit that is of two types.
+fn marks_of(alloc: Global, walk: &Walk, old: OldIx, new: NewIx) -> Result<Vec<bool>, NoMemory>
+    ensures { IfOk result (λ marks. marks.items ≡ map (spec.is_of_pair (scope_of walk.now.ground.now) old new) walk.now.visits.now) }
+{
+    let mut marks = Vec::new(alloc);
+    'visits: for number in 0..walk.visits.len() {
+        let visit = walk.visits.visit(number);
+        marks.push(is_of_pair(walk.ground, old, new, &visit))?;
+    }
+    Ok(marks)
+}
+
+// Whether what a root leads to is marked.
+#[tactic(auto, unfolding(crate::specs::Leading::is_lead))]
+fn is_lead(walk: &Walk, marks: &[bool], root: &Root) -> bool
+    requires nodes { HasNodes (scope_of walk.now.ground.now) }
+    requires old { root.now.old < length walk.now.ground.now.old.now }
+    requires new { root.now.new < length walk.now.ground.now.new.now }
+    ensures { result ≡ spec.is_lead (scope_of walk.now.ground.now) walk.now.numbers.now.entries marks.now root.now }
+{
+    let triple = Triple {
+        old: walk.ground.old_classes.rep(root.old),
+        new: walk.ground.new_classes.rep(root.new),
+        way: Way::Direct,
+    };
+    match walk.numbers.get(&triple) {
+        None => false,
+        Some(number) => match marks.get(*number) {
+            None => false,
+            Some(mark) => *mark,
+        },
+    }
+}
+
+// The exports of the roots that lead to what is marked.
+fn leads_of(alloc: Global, walk: &Walk, marks: &[bool]) -> Result<List<u32>, NoMemory>
+    requires { HasNodes (scope_of walk.now.ground.now) }
+    ensures { IfOk result (λ exports. exports ≡ map (λ (root : PlainRoot). root.export) (filter (spec.is_lead (scope_of walk.now.ground.now) walk.now.numbers.now.entries marks.now) walk.now.ground.now.roots.now)) }
+{
+    let mut exports = List::new(alloc);
+    let roots = walk.ground.roots;
+    'roots: for k in 0..roots.len() {
+        let root = roots[k];
+        if is_lead(walk, marks, &root) {
+            exports.push(root.export)?;
+        }
+    }
+    Ok(exports)
+}
+
+/// The exports that lead to two types, in ascending order, by the arrows that `arrows_of` told. It takes the effort for as many
+/// bytes as there are visits and arrows, and that for the arrows again for each pass over them but the last; where less is left,
+/// memory counts as run out.
+pub fn exports_to(
+    alloc: Global,
+    walk: &Walk,
+    arrows: &[Arrow],
+    pair: (OldIx, NewIx),
+    effort: &mut Effort,
+) -> Result<List<u32>, NoMemory>
+    requires walk { IsWalk (scope_of walk.now.ground.now) walk.now.visits.now walk.now.numbers.now.entries }
+    requires arrows { arrows.now ≡ all_arrows (scope_of walk.now.ground.now) walk.now.visits.now walk.now.numbers.now.entries }
+    ensures { IfOk result (AreLeading (scope_of walk.now.ground.now) pair.0 pair.1) }
+{
+    what_is_visited_has_a_visit();
+    steps_lead_to_nodes();
+    let (old, new) = pair;
+    effort.spend(walk.visits.len())?;
+    effort.spend(arrows.len())?;
+    let mut marks = marks_of(alloc, walk, old, new)?;
+    mark_leading(arrows, marks.as_mut_slice(), effort)?;
+    leads_of(alloc, walk, marks.as_slice())
+}

@@ -1,0 +1,31 @@
+// An exploration that was made, and what it went by.
+ghost use Rattle.std.specs.Prelude.{◌≡◌};
+ghost use Rattle.pair_rules.specs.Steps as steps;
+ghost use Rattle.pair_explorer.specs.GraphPairs.{scope_of};
+
+use abi_types::{Index, OldIx, Way};
+use indexmap::IndexMap;
+use pair_explorer::{GraphPair, Visits};
+use pair_rules::Triple;
+
+/// What was explored, the visits that were made, and the numbers of these, as `numbers_of` tells them.
+#[derive(Clone, Copy)]
+pub struct Walk<'x, 'o, 'n, 'og, 'oc, 'ng, 'nc> {
+    pub ground: &'x GraphPair<'x, 'o, 'n, 'og, 'oc, 'ng, 'nc>,
+    pub visits: &'x Visits,
+    pub numbers: &'x IndexMap<Triple, usize>,
+}
+
+/// Whether an old node is marked at a way.
+pub(crate) fn is_marked(ground: &GraphPair, node: OldIx, way: Way) -> bool
+    ensures { result ≡ steps.is_marked (scope_of ground.now).task node way }
+{
+    let flags = match way {
+        Way::Direct => ground.marks.direct.as_slice(),
+        Way::Pointer => ground.marks.pointer.as_slice(),
+    };
+    match flags.get(node.number()) {
+        Some(mark) => *mark,
+        None => false,
+    }
+}

@@ -1,0 +1,194 @@
+-- Visits with breaks, and the notes at their rows, one after another.
+use Rattle.std.proofs.Common.{◌≡◌, ◌<◌, ◌+◌, ℕ, Bool, true, false, not, cond, List, [], ◌∷◌, ◌++◌, length, map, take, get_or, slice_get, Some, None, refl, sym, ◌∙◌, ap, subst, inl, inr, arith}
+use Rattle.std.specs.Prelude.{Contains, flat_map}
+use Rattle.std.specs.List.{list_any}
+use Rattle.std.proofs.lemmas.Bool.{cases_Bool}
+use Rattle.std.proofs.lemmas.Grind.{flat_map-append}
+use Rattle.std.proofs.lemmas.List.{append-nil, map_push, take_more}
+use Rattle.std.proofs.lemmas.List.Elements.{Contains-push_cases}
+use Rattle.abi_base.specs.Lists.{firsts, firsts_after, with_first}
+use Rattle.abi_types.specs.Graphs.{IsGraph}
+use Rattle.abi_types.specs.Types.{PlainNode}
+use Rattle.abi_types.specs.Libraries.{PlainLibrary}
+use Rattle.abi_types.specs.declared.rule.Rule.TheVariants.{LibrarySoname}
+use Rattle.pair_rules.specs.declared.rules.Broken.{Broken}
+use Rattle.pair_rules.specs.Paths.{Path, From, Then, PathLeadsTo}
+use Rattle.pair_rules.specs.Steps.{PlainRoot, Task, Triple}
+use Rattle.pair_explorer.specs.declared.visits.Visit.{Visit}
+use Rattle.pair_explorer.specs.ByClass.{IsSound}
+use Rattle.pair_explorer.specs.Explorations.{IsExploration}
+use Rattle.pair_explorer.specs.Routes.{followed, path_at, path_of}
+use Rattle.pair_explorer.specs.Scopes.{Scope, rep, scope, LeadsByRep}
+use Rattle.pair_compare.specs.Explored.{scope_of}
+use Rattle.pair_compare.specs.reports.TypeFindings.{IsCoarse}
+use Rattle.type_classes.specs.Classes.{AreCoarsest, PlainClasses}
+use Rattle.pair_explorer.specs.Visits.{seen, Along, AreEarlier}
+use Rattle.cert_check.specs.Compatible.{Sides, task_of, typed_roots}
+use Rattle.pair_compare.specs.reports.Findings.{export_of}
+use Rattle.pair_compare.specs.reports.PathTexts.{IsWalk, label_at, steps_text}
+use Rattle.type_notes.specs.declared.note.Note.{Note}
+use Rattle.side_notes.specs.Affected.{AddsRow, AreRowNotes, AreSpelled, LeadToRow, as_row, note_beside, notes_by, pair_at, row_notes, row_text, same_pair, same_types}
+
+-- ---- the visits with breaks, each two types once
+
+firsts_after-more : {X : Type 0} (same : X → X → Bool) (kept xs : List X) (x : X) → firsts_after same kept (xs ++ x ∷ []) ≡ with_first same (firsts_after same kept xs) x
+unfolding firsts_after
+firsts_after-more same kept [] x = refl
+firsts_after-more same kept (y ∷ xs) x = firsts_after-more same (with_first same kept y) xs x
+
+list_any-map : {X Y : Type 0} (p : Y → Bool) (f : X → Y) (xs : List X) → list_any (λ x. p (f x)) xs ≡ list_any p (map f xs)
+list_any-map p f [] = refl
+list_any-map p f (x ∷ xs) = elim (cases_Bool (p (f x))) [
+  | inl here ↦ rw here refl
+  | inr other ↦ rw other (list_any-map p f xs)
+]
+
+from_not : (b : Bool) → not b ≡ true → b ≡ false
+from_not true e = absurd cc
+from_not false e = refl
+
+from_not_not : (b : Bool) → not b ≡ false → b ≡ true
+from_not_not true e = refl
+from_not_not false e = absurd cc
+
+-- what an index out of a list of breaks gives past its end
+abbrev no_break : ℕ × Broken
+no_break = (0, record { rule = LibrarySoname; part = 0 })
+
+abbrev number_of : ℕ × Broken → ℕ
+number_of p = p.0
+
+module _ (visits : List Visit) where
+  -- what is kept of the first breaks, and the types of that
+  pub record IsTelling (breaks : List (ℕ × Broken)) (i : ℕ) (pairs : List (ℕ × ℕ)) (kept : List ℕ) : Type 0 where
+    pub are : kept ≡ firsts (same_types visits) (map number_of (take i breaks))
+    pub typed : pairs ≡ map (pair_at visits) kept
+
+  take_none : (breaks : List (ℕ × Broken)) → map number_of (take 0 breaks) ≡ []
+  take_none [] = refl
+  take_none (p ∷ breaks) = refl
+
+  pub IsTelling-none : (breaks : List (ℕ × Broken)) (pairs : List (ℕ × ℕ)) (kept : List ℕ) → pairs ≡ [] → kept ≡ [] → IsTelling breaks 0 pairs kept
+  unfolding firsts_after
+  IsTelling-none breaks pairs kept no_pairs none = rw (no_pairs, none) (record { are = sym (ap (firsts (same_types visits)) (take_none breaks)); typed = refl })
+
+  module _ (breaks : List (ℕ × Broken)) (i : ℕ) (pairs : List (ℕ × ℕ)) (kept : List ℕ) (pair : ℕ × ℕ) (was : IsTelling breaks i pairs kept) (inside : i < length breaks) (is : pair ≡ pair_at visits (get_or breaks i no_break).0) where
+    n : ℕ
+    n = (get_or breaks i no_break).0
+
+    -- the types are among those of what is kept exactly where something kept has them
+    any_pair : list_any (same_pair pair) pairs ≡ list_any (same_types visits n) kept
+    unfolding n
+    any_pair =
+        ap (list_any (same_pair pair)) was.typed ∙ ap (λ (p : ℕ × ℕ). list_any (same_pair p) (map (pair_at visits) kept)) is
+        ∙ sym (list_any-map (same_pair (pair_at visits n)) (pair_at visits) kept)
+
+    grown : firsts (same_types visits) (map number_of (take (i + 1) breaks)) ≡ with_first (same_types visits) kept n
+    unfolding n
+    grown =
+        ap (λ (ps : List (ℕ × Broken)). firsts (same_types visits) (map number_of ps)) (take_more breaks i no_break inside)
+        ∙ ap (firsts (same_types visits)) (map_push number_of (take i breaks) (get_or breaks i no_break))
+        ∙ firsts_after-more (same_types visits) [] (map number_of (take i breaks)) n ∙ ap (λ (xs : List ℕ). with_first (same_types visits) xs n) (sym was.are)
+
+    pub IsTelling-more : (more : List (ℕ × ℕ)) (added : Bool) → added ≡ not (list_any (same_pair pair) pairs) → added ≡ true → more ≡ cond (list_any (same_pair pair) pairs) pairs (pairs ++ pair ∷ [])
+        → IsTelling breaks (i + 1) more (kept ++ (get_or breaks i no_break).0 ∷ [])
+    unfolding n
+    IsTelling-more more added is_added holds inserted =
+        let new : list_any (same_pair pair) pairs ≡ false = from_not (list_any (same_pair pair) pairs) (sym is_added ∙ holds) in
+        let pushed : more ≡ pairs ++ pair ∷ [] = inserted ∙ ap (λ b. cond b pairs (pairs ++ pair ∷ [])) new in
+        let other = sym any_pair ∙ new in
+        record {
+          are = sym (grown ∙ ap (λ b. cond b kept (kept ++ n ∷ [])) other);
+          typed = pushed ∙ ap (λ (ps : List (ℕ × ℕ)). ps ++ pair ∷ []) was.typed ∙ ap (λ (p : ℕ × ℕ). map (pair_at visits) kept ++ p ∷ []) is ∙ sym (map_push (pair_at visits) kept n);
+        }
+
+    pub IsTelling-still : (more : List (ℕ × ℕ)) (added : Bool) → added ≡ not (list_any (same_pair pair) pairs) → added ≡ false → more ≡ cond (list_any (same_pair pair) pairs) pairs (pairs ++ pair ∷ []) → IsTelling breaks (i + 1) more kept
+    unfolding n
+    IsTelling-still more added is_added fails inserted =
+        let there : list_any (same_pair pair) pairs ≡ true = from_not_not (list_any (same_pair pair) pairs) (sym is_added ∙ fails) in
+        let still : more ≡ pairs = inserted ∙ ap (λ b. cond b pairs (pairs ++ pair ∷ [])) there in
+        let same = sym any_pair ∙ there in
+        record { are = sym (grown ∙ ap (λ b. cond b kept (kept ++ n ∷ [])) same); typed = still ∙ was.typed }
+
+-- ---- the notes at one row
+
+export_of-followed : (path : Path) (parts : List ℕ) → export_of (followed path parts) ≡ export_of path
+export_of-followed path [] = refl
+export_of-followed path (part ∷ parts) = export_of-followed (Then path part) parts
+
+-- the text that the code makes is that of the row
+pub row_made : (l : PlainLibrary) (export : ℕ) (parts label steps text made : List ℕ) → label ≡ label_at l export → steps ≡ steps_text l (path_of export parts) → text ≡ [] → made ≡ text ++ as_row label steps
+    → made ≡ row_text l (path_of export parts)
+row_made l export parts label steps text made is_label is_steps empty is =
+    let own : label ≡ label_at l (export_of (path_of export parts)) = is_label ∙ ap (label_at l) (sym (export_of-followed (From export) parts)) in
+    is ∙ ap (λ (t : List ℕ). t ++ as_row label steps) empty ∙ ap (λ (x : List ℕ). as_row x steps) own ∙ ap (as_row (label_at l (export_of (path_of export parts)))) is_steps
+
+pub row_there : (l : PlainLibrary) (visits : List Visit) (n export : ℕ) (parts text exports : List ℕ) (v : Visit) → slice_get visits n ≡ Some v → path_of export parts ≡ path_at visits n
+    → text ≡ row_text l (path_of export parts) → flat_map (note_beside l export text) exports ≡ row_notes l visits (n, exports)
+unfolding row_notes
+row_there l visits n export parts text exports v at same is =
+    let own : export ≡ export_of (path_at visits n) = sym (export_of-followed (From export) parts) ∙ ap export_of same in
+    let row : text ≡ row_text l (path_at visits n) = is ∙ ap (row_text l) same in
+    ap (λ (e : ℕ). flat_map (note_beside l e text) exports) own ∙ ap (λ (t : List ℕ). flat_map (note_beside l (export_of (path_at visits n)) t) exports) row
+    ∙ sym (ap (notes_by l (path_at visits n) exports) at)
+
+pub row_missing : (l : PlainLibrary) (visits : List Visit) (n : ℕ) (exports : List ℕ) → slice_get visits n ≡ None → row_notes l visits (n, exports) ≡ []
+unfolding row_notes
+row_missing l visits n exports none = ap (notes_by l (path_at visits n) exports) none
+
+-- ---- row by row
+
+pub AreRowNotes-none : (l : PlainLibrary) (scope : Scope) (visits : List Visit) (numbers : List ℕ) (notes : List Note) → numbers ≡ [] → notes ≡ [] → AreRowNotes l scope visits numbers notes
+AreRowNotes-none l scope visits numbers notes no_numbers none = record { rows = []; numbered = sym no_numbers; led = λ row there. nothing row there; are = none }
+  where
+    nothing : (row : ℕ × List ℕ) → Contains [] row → LeadToRow scope visits row
+    nothing row (k, lt, is) = absurd (omega (arith, lt))
+
+pub AreRowNotes-more : (l : PlainLibrary) (scope : Scope) (visits : List Visit) (numbers : List ℕ) (notes more : List Note) (k d : ℕ) → k < length numbers → AreRowNotes l scope visits (take k numbers) notes
+    → AddsRow l scope visits (get_or numbers k d) notes more → AreRowNotes l scope visits (take (k + 1) numbers) more
+AreRowNotes-more l scope visits numbers notes more k d lt were adds =
+    let n : ℕ = get_or numbers k d in
+    let row : ℕ × List ℕ = (n, adds.exports) in
+    record {
+      rows = were.rows ++ row ∷ [];
+      numbered = map_push (λ (r : ℕ × List ℕ). r.0) were.rows row ∙ ap (λ (ns : List ℕ). ns ++ n ∷ []) were.numbered ∙ sym (take_more numbers k d lt);
+      led = λ other there. elim (Contains-push_cases were.rows row other there) [
+        | inl before ↦ were.led other before
+        | inr last ↦ subst (LeadToRow scope visits) last adds.led
+      ];
+      are = adds.are ∙ ap (λ (ns : List Note). ns ++ row_notes l visits row) were.are
+          ∙ sym (flat_map-append (row_notes l visits) were.rows (row ∷ []) ∙ ap (λ (ns : List Note). flat_map (row_notes l visits) were.rows ++ ns) (append-nil (row_notes l visits row)));
+    }
+
+-- ---- what can be spelled
+
+-- what the laws below say that is used here
+pub record WalkLaws : Type 0 where
+  pub walks : (s : Sides) (path : Path) (x : Triple) → IsGraph s.old.graph → IsGraph s.new.graph → PathLeadsTo (task_of s) path x → IsWalk s.old path
+  pub comes : (s : Scope) (path : Path) (z : Triple) → IsSound s → LeadsByRep s path z → (x : Triple) × PathLeadsTo s.task path x × (rep s x ≡ z)
+  pub along : (visits : List Visit) (n : ℕ) (v : Visit) → AreEarlier visits → slice_get visits n ≡ Some v → Along visits n (path_at visits n)
+  pub one : (visits : List Visit) (n : ℕ) (p q : Path) → Along visits n p → Along visits n q → p ≡ q
+
+pub spelled : WalkLaws → (s : Sides) (scope : Scope) (visits : List Visit) (breaks : List (ℕ × Broken)) → IsGraph s.old.graph → IsGraph s.new.graph → scope.task ≡ task_of s → IsSound scope
+    → IsExploration scope visits breaks → AreSpelled s.old visits
+spelled laws s scope visits breaks old_graph new_graph task sound e = record {
+  earlier = e.earlier;
+  walks = λ n v at.
+      let reached = e.reached n v at in
+      let same : reached.0 ≡ path_at visits n = laws.one visits n reached.0 (path_at visits n) reached.1 (laws.along visits n v e.earlier at) in
+      let comes = laws.comes scope reached.0 (seen v) sound reached.2 in
+      let leads : PathLeadsTo (task_of s) reached.0 comes.0 = subst (λ (t : Task). PathLeadsTo t reached.0 comes.0) task comes.1 in
+      subst (λ (p : Path). IsWalk s.old p) same (laws.walks s reached.0 comes.0 old_graph new_graph leads);
+}
+
+-- ---- what is explored
+
+-- graphs, roots and classes that are those of two libraries
+pub coarse_of : (s : Sides) (old_nodes new_nodes : List PlainNode) (roots : List PlainRoot) (old new : PlainClasses) → old_nodes ≡ s.old.graph → new_nodes ≡ s.new.graph → roots ≡ typed_roots s
+    → IsSound (scope_of s old new) → IsGraph s.old.graph → IsGraph s.new.graph → AreCoarsest old → AreCoarsest new → IsCoarse (scope old_nodes new_nodes roots s.marks old new)
+coarse_of s old_nodes new_nodes roots old new is_old is_new are sound old_graph new_graph old_coarsest new_coarsest =
+    let same : scope_of s old new ≡ scope old_nodes new_nodes roots s.marks old new =
+    ap (λ (ns : List PlainNode). scope ns s.new.graph (typed_roots s) s.marks old new) (sym is_old)
+    ∙ ap (λ (ns : List PlainNode). scope old_nodes ns (typed_roots s) s.marks old new) (sym is_new)
+    ∙ ap (λ (rs : List PlainRoot). scope old_nodes new_nodes rs s.marks old new) (sym are) in
+    subst IsCoarse same (record { sound = sound; graphs = record { old = old_graph; new = new_graph }; old = old_coarsest; new = new_coarsest })

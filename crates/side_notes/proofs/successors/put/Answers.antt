@@ -1,0 +1,10 @@
+-- A stem keeps the place that it has.
+use Rattle.side_notes.proofs.SuccessorLemmas.{absent, first_kept, kept_before}
+use Rattle.side_notes.proofs.successors.put.Goals as goal
+
+pub returns-then-contains_key : goal.returns-then-contains_key
+returns-then-contains_key c = kept_before c.args.kin.now c.args.stem.now c.args.place c.contains_key.result c.contains_key.ensures c.if-contains_key.true
+
+pub returns : goal.returns
+returns c =
+    first_kept c.args.kin.now c.insert.new.self c.args.stem.now c.args.place (absent _ c.contains_key.result c.contains_key.ensures c.if-contains_key.false) c.in_ok-insert.ensures.updates.0

@@ -1,0 +1,324 @@
+// The exports that lead to two types which break a rule, beside the one that the row on these names.
+ghost use Rattle.std.specs.Prelude.{◌≡◌, ◌<◌, ◌++◌, length, codes, flat_map, string_bytes, IfOk, OnOk};
+ghost use Rattle.pair_explorer.specs.Explorations.{IsExploration};
+ghost use Rattle.pair_explorer.specs.GraphPairs.{scope_of};
+ghost use Rattle.pair_explorer.specs.Routes.{path_of};
+ghost use Rattle.pair_explorer.specs.Scopes.{IsScope};
+ghost use Rattle.cert_check.specs.Compatible.{task_of};
+ghost use Rattle.leading_exports.specs.Drawing.{all_arrows};
+ghost use Rattle.leading_exports.specs.Walks.{IsWalk};
+ghost use Rattle.pair_compare.specs.BoundPair.{IsBinding, sides_of};
+ghost use Rattle.pair_compare.specs.Marking.{AreMarksOf};
+ghost use Rattle.pair_compare.specs.reports.PathTexts as path_texts;
+ghost use Rattle.pair_compare.specs.reports.TypeFindings.{IsCoarse};
+ghost use Rattle.side_notes.specs.Affected.{AddsRow, AreAffected, AreRowNotes, AreSpelled, as_row, note_beside, row_notes};
+ghost use Rattle.side_notes.specs.Affected as spec;
+ghost use Rattle.side_notes.specs.NoteTexts.{behind};
+
+use crate::making::bytes_of;
+use abi_base::{Effort, List, NoMemory};
+use abi_types::{Index, Library, NewIx, OldIx};
+use indexmap::IndexSet;
+use leading_exports::{Arrow, Walk, arrows_of, exports_to, numbers_of};
+use pair_compare::laws::typed_pairs_can_be_explored;
+use pair_compare::reports::laws::paths_end_where_they_lead;
+use pair_compare::reports::{label_at, steps_text};
+use pair_compare::{BoundPair, roots};
+use pair_explorer::laws::{parents_spell_paths, paths_by_representatives};
+use pair_explorer::{Explored, GraphPair, Route, Visits, explore, route_to};
+use pair_rules::Steps;
+use std::alloc::Global;
+use std::marker::Brand;
+use std::sync::ledger::{Blank, Ledger};
+use type_classes::{alike, alike_beside};
+use type_notes::{Note, NoteKind};
+
+// ---- two types that break a rule
+
+// The types of the visit of a number.
+fn pair_at(visits: &Visits, number: usize) -> (usize, usize)
+    ensures { result ≡ spec.pair_at visits.now number }
+{
+    match visits.get(number) {
+        None => (0, 0),
+        Some(visit) => (visit.old.number(), visit.new.number()),
+    }
+}
+
+// The numbers of the visits with breaks, of each two types the first.
+fn first_visits(alloc: Global, explored: &Explored) -> Result<List<usize>, NoMemory>
+    ensures { IfOk result (λ numbers. numbers ≡ spec.first_visits explored.now.visits explored.now.breaks) }
+{
+    let mut pairs: IndexSet<(usize, usize)> = IndexSet::new(alloc);
+    let mut numbers = List::new(alloc);
+    let breaks = explored.breaks.as_slice();
+    for found in breaks {
+        let (_, is_new) = pairs.insert_full(pair_at(&explored.visits, found.0))?;
+        if is_new {
+            numbers.push(found.0)?;
+        }
+    }
+    Ok(numbers)
+}
+
+// ---- one row
+
+// The old library, an exploration of its types beside those of a new one, and the arrows between its visits.
+#[derive(Clone, Copy)]
+struct Ground<'x, 'l, 'o, 'n, 'og, 'oc, 'ng, 'nc> {
+    library: &'x Library<'l, OldIx>,
+    walk: &'x Walk<'x, 'o, 'n, 'og, 'oc, 'ng, 'nc>,
+    arrows: &'x [Arrow],
+}
+
+// Appends the steps of a path behind a label, where there are steps.
+fn push_steps(text: &mut String, steps: &str) -> Result<(), NoMemory>
+    ensures { OnOk result (string_bytes text.new ≡ string_bytes text.old ++ behind (codes " ") steps.now) }
+{
+    if steps.as_bytes().is_empty() {
+        return Ok(());
+    }
+    text.push_str(" ")?;
+    text.push_str(steps)?;
+    Ok(())
+}
+
+// Appends as which row something is meant: by the label of its export, and the steps of its path.
+fn push_row_text(text: &mut String, label: &str, steps: &str) -> Result<(), NoMemory>
+    ensures { OnOk result (string_bytes text.new ≡ string_bytes text.old ++ as_row label.now steps.now) }
+{
+    text.push_str("as ")?;
+    text.push_str(label)?;
+    push_steps(text, steps)
+}
+
+// As which row the types at the end of a path are meant.
+fn row_text(alloc: Global, library: &Library<OldIx>, route: &Route) -> Result<List<u8>, NoMemory>
+    requires { path_texts.IsWalk library.now (path_of route.now.export route.now.parts) }
+    ensures { IfOk result (λ text. text ≡ spec.row_text library.now (path_of route.now.export route.now.parts)) }
+{
+    let label = label_at(alloc, library, route.export)?;
+    let steps = steps_text(alloc, library, route)?;
+    let mut text = String::new(alloc);
+    push_row_text(&mut text, label.as_str(), steps.as_str())?;
+    Ok(bytes_of(text))
+}
+
+// A row on types, by the position of its export and its text.
+#[derive(Clone, Copy)]
+struct TypeRow<'x, 'o> {
+    library: &'x Library<'o, OldIx>,
+    export: u32,
+    text: &'x [u8],
+}
+
+// Adds the note on an export that leads to the types of a row, where it is not the row's own.
+fn push_beside(
+    alloc: Global,
+    notes: &mut List<Note>,
+    row: &TypeRow,
+    export: u32,
+) -> Result<(), NoMemory>
+    ensures { OnOk result (notes.new ≡ notes.old ++ note_beside row.now.library.now row.now.export row.now.text.now export) }
+{
+    if export == row.export {
+        return Ok(());
+    }
+    let label = label_at(alloc, row.library, export)?;
+    let path = List::copy_of(alloc, row.text)?;
+    notes.push(Note {
+        kind: NoteKind::AffectedExport,
+        export: bytes_of(label),
+        path,
+        was: List::new(alloc),
+        is: List::new(alloc),
+    })
+}
+
+// Adds the notes on the exports that lead to the types of a row.
+fn push_others(
+    alloc: Global,
+    notes: &mut List<Note>,
+    row: &TypeRow,
+    exports: &[u32],
+) -> Result<(), NoMemory>
+    ensures { OnOk result (notes.new ≡ notes.old ++ flat_map (note_beside row.now.library.now row.now.export row.now.text.now) exports.now) }
+{
+    for export in exports {
+        push_beside(alloc, notes, row, *export)?;
+    }
+    Ok(())
+}
+
+// Adds the notes on exports at the row of the visit of a number.
+fn push_at(
+    alloc: Global,
+    notes: &mut List<Note>,
+    ground: &Ground,
+    number: usize,
+    exports: &[u32],
+) -> Result<(), NoMemory>
+    requires { AreSpelled ground.now.library.now ground.now.walk.now.visits.now }
+    ensures { OnOk result (notes.new ≡ notes.old ++ row_notes ground.now.library.now ground.now.walk.now.visits.now (number, exports.now)) }
+{
+    parents_spell_paths();
+    let Some(_visit) = ground.walk.visits.get(number) else {
+        return Ok(());
+    };
+    let route = route_to(alloc, ground.walk.visits, number)?;
+    let text = row_text(alloc, ground.library, &route)?;
+    let row = TypeRow {
+        library: ground.library,
+        export: route.export,
+        text: text.as_slice(),
+    };
+    push_others(alloc, notes, &row, exports)
+}
+
+// ---- all rows
+
+// Adds the notes at the row of the visit of a number.
+fn push_row(
+    alloc: Global,
+    notes: &mut List<Note>,
+    ground: &Ground,
+    number: usize,
+    effort: &mut Effort,
+) -> Result<(), NoMemory>
+    requires spelled { AreSpelled ground.now.library.now ground.now.walk.now.visits.now }
+    requires walk { IsWalk (scope_of ground.now.walk.now.ground.now) ground.now.walk.now.visits.now ground.now.walk.now.numbers.now.entries }
+    requires arrows { ground.now.arrows.now ≡ all_arrows (scope_of ground.now.walk.now.ground.now) ground.now.walk.now.visits.now ground.now.walk.now.numbers.now.entries }
+    ensures { OnOk result (AddsRow ground.now.library.now (scope_of ground.now.walk.now.ground.now) ground.now.walk.now.visits.now number notes.old notes.new) }
+{
+    let (old, new) = pair_at(ground.walk.visits, number);
+    let pair = (OldIx::of(old), NewIx::of(new));
+    let exports = exports_to(alloc, ground.walk, ground.arrows, pair, effort)?;
+    push_at(alloc, notes, ground, number, exports.as_slice())
+}
+
+// A 64th of the steps that may be taken: each visit at each row is one, and each arrow that is followed.
+const EFFORT: usize = 1 << 24;
+
+// How many notes there may be.
+const MOST_NOTES: usize = 1 << 20;
+
+// Fails where there are more notes than there may be.
+fn are_few(notes: &[Note]) -> Result<(), NoMemory> {
+    if notes.len() > MOST_NOTES {
+        return Err(NoMemory);
+    }
+    Ok(())
+}
+
+// The notes at the rows of the visits with these numbers. Where it takes too many steps, or there are too many notes, memory counts
+// as run out.
+fn rows_of(alloc: Global, ground: &Ground, numbers: &[usize]) -> Result<List<Note>, NoMemory>
+    requires spelled { AreSpelled ground.now.library.now ground.now.walk.now.visits.now }
+    requires walk { IsWalk (scope_of ground.now.walk.now.ground.now) ground.now.walk.now.visits.now ground.now.walk.now.numbers.now.entries }
+    requires arrows { ground.now.arrows.now ≡ all_arrows (scope_of ground.now.walk.now.ground.now) ground.now.walk.now.visits.now ground.now.walk.now.numbers.now.entries }
+    ensures { IfOk result (AreRowNotes ground.now.library.now (scope_of ground.now.walk.now.ground.now) ground.now.walk.now.visits.now numbers.now) }
+{
+    let mut effort = Effort::for_bytes(EFFORT);
+    let mut notes = List::new(alloc);
+    'rows: for k in 0..numbers.len() {
+        push_row(alloc, &mut notes, ground, numbers[k], &mut effort)?;
+        are_few(notes.as_slice())?;
+    }
+    Ok(notes)
+}
+
+// ---- two libraries
+
+// The notes at the rows of what was explored, with a counter of steps.
+fn with_explored<L: Ledger>(
+    alloc: Global,
+    library: &Library<OldIx>,
+    graphs: &GraphPair,
+    explored: &Explored,
+    steps: &mut Steps<L>,
+) -> Result<List<Note>, NoMemory>
+    requires spelled { AreSpelled library.now explored.now.visits }
+    requires scope { IsScope (scope_of graphs.now) }
+    requires explored { IsExploration (scope_of graphs.now) explored.now.visits explored.now.breaks }
+    ensures { IfOk result (AreRowNotes library.now (scope_of graphs.now) explored.now.visits (spec.first_visits explored.now.visits explored.now.breaks)) }
+{
+    let numbers = numbers_of(alloc, &explored.visits)?;
+    let walk = Walk {
+        ground: graphs,
+        visits: &explored.visits,
+        numbers: &numbers,
+    };
+    let arrows = arrows_of(alloc, &walk, steps)?;
+    let rows = first_visits(alloc, explored)?;
+    let ground = Ground {
+        library,
+        walk: &walk,
+        arrows: arrows.as_slice(),
+    };
+    rows_of(alloc, &ground, rows.as_slice())
+}
+
+// The notes on two libraries, by graphs, roots and classes that are theirs.
+fn with_graphs<L: Ledger>(
+    alloc: Global,
+    pair: &BoundPair,
+    graphs: &GraphPair,
+    steps: &mut Steps<L>,
+) -> Result<List<Note>, NoMemory>
+    requires task { (scope_of graphs.now).task ≡ task_of (sides_of pair.now) }
+    requires coarse { IsCoarse (scope_of graphs.now) }
+    ensures { IfOk result (AreAffected (sides_of pair.now)) }
+{
+    paths_end_where_they_lead();
+    paths_by_representatives();
+    parents_spell_paths();
+    pair.old.graph().known();
+    pair.new.graph().known();
+    let explored = explore(alloc, graphs, steps)?;
+    with_explored(alloc, pair.old, graphs, &explored, steps)
+}
+
+// The notes on two libraries, with a counter of steps.
+fn counted_notes<L: Ledger>(
+    alloc: Global,
+    blank: Blank,
+    pair: &BoundPair,
+) -> Result<List<Note>, NoMemory>
+    requires name { blank.name ≡ L.name }
+    requires parts { blank.parts ≡ L.parts }
+    requires some { 0 < blank.parts }
+    requires bound { IsBinding pair.now }
+    requires marks { AreMarksOf pair.now.old.now pair.now.marks.now }
+    ensures { IfOk result (AreAffected (sides_of pair.now)) }
+{
+    typed_pairs_can_be_explored();
+    let mut steps = Steps::<L>::new(blank);
+    let old_classes = alike(alloc, pair.old.graph())?;
+    let new_classes = alike_beside(alloc, pair.new.graph(), &old_classes)?;
+    let roots = roots(alloc, pair)?;
+    pair.old.graph().known();
+    pair.new.graph().known();
+    old_classes.known();
+    new_classes.known();
+    let graphs = GraphPair {
+        old: pair.old.graph(),
+        new: pair.new.graph(),
+        roots: roots.as_slice(),
+        marks: pair.marks,
+        old_classes: &old_classes,
+        new_classes: &new_classes,
+    };
+    with_graphs(alloc, pair, &graphs, &mut steps)
+}
+
+/// The notes on the exports that lead to types which break a rule: at each two types that do, a note on each export that is compared
+/// and leads to them, but for the one whose row the report has. The note names the export, and the row by its export and its path.
+/// It takes the time of an exploration, and for each two such types that of a pass over what was explored. Where that is too much,
+/// or the notes are too many, memory counts as run out.
+pub fn affected_exports(alloc: Global, pair: &BoundPair) -> Result<List<Note>, NoMemory>
+    requires bound { IsBinding pair.now }
+    requires marks { AreMarksOf pair.now.old.now pair.now.marks.now }
+    ensures { IfOk result (AreAffected (sides_of pair.now)) }
+{
+    counted_notes::<Brand>(alloc, Blank::new(1), pair)
+}

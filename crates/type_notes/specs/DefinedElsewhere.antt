@@ -1,0 +1,123 @@
+-- Structures, unions and enumerations that one unit only declares, and another unit of the same library defines (DWARF 5, section
+-- 2.13.1 "Non-Defining Declarations and Completions").
+use Rattle.std.specs.Prelude.{◌≡◌, ℕ, ◌==◌, Bool, false, not, ◌&&◌, ◌||◌, if◌then◌else◌, List, [], ◌∷◌, length, map, flat_map, find, max, Option, Some, None, slice_get}
+use Rattle.std.specs.Borrow.{Bor}
+use Rattle.std.specs.HashMap.{HashMap, get_by}
+use Rattle.std.specs.List.{range_with_len}
+use Rattle.std.specs.Option.{option_or}
+use Rattle.std.specs.Str.{bytes_eq}
+use Rattle.std.specs.declared.hash.FoldHasher.{FoldHasher}
+use Rattle.std.specs.declared.hash.BuildHasherDefault.{BuildHasherDefault}
+use Rattle.abi_base.specs.Dwarf.{dw_tag_compile_unit, dw_tag_partial_unit, dw_tag_type_unit, dw_tag_structure_type, dw_tag_union_type, dw_tag_enumeration_type}
+use Rattle.dwarf_tree.specs.Trees.{PlainTree}
+use Rattle.dwarf_entries.specs.Addresses.{is_declared_only, tag_at}
+use Rattle.dwarf_entries.specs.Chains.{name_of}
+use Rattle.dwarf_entries.specs.Debug.{PlainDwarf}
+use Rattle.type_reach.specs.References.{Type_, tagged_children}
+use Rattle.type_notes.specs.declared.definitions.Definitions.{Definitions}
+use Rattle.type_notes.specs.declared.definitions.DefinitionPair.{DefinitionPair}
+use Rattle.type_notes.specs.declared.difference.Difference.{Difference}
+use Rattle.type_notes.specs.declared.note.NoteKind.TheVariants as note
+use Rattle.type_notes.specs.Differences.{differing}
+use Rattle.type_notes.specs.DefinitionTexts.{part_text, parts_of, size_text}
+use Rattle.type_notes.specs.Texts.{none}
+
+-- ---- the definition of a name
+
+-- the root of a unit (sections 3.1.1 "Full and Partial Compilation Unit Entries" and 3.1.4 "Type Unit Entries")
+abbrev pub is_unit_tag : ℕ → Bool
+is_unit_tag tag = tag == dw_tag_compile_unit || (tag == dw_tag_partial_unit || tag == dw_tag_type_unit)
+
+-- the entries of a tag at the top of a unit, where the entry is the root of one
+unfoldable pub at_top_of : PlainTree → ℕ → ℕ → List ℕ
+at_top_of t tag root = if is_unit_tag (tag_at t root) then tagged_children t root tag else []
+
+-- the entries of a tag at the top of the units, in their order, among the first entries
+abbrev pub tops_below : PlainTree → ℕ → ℕ → List ℕ
+tops_below t tag n = flat_map (at_top_of t tag) (range_with_len 0 n)
+
+-- those of the whole library
+abbrev pub tops_of : PlainTree → ℕ → List ℕ
+tops_of t tag = tops_below t tag (length t.entries)
+
+abbrev pub has_name : List ℕ → Option (List ℕ) → Bool
+has_name name (Some said) = bytes_eq said name
+has_name name None = false
+
+-- an entry is no declaration, and has the name
+unfoldable pub defines : PlainDwarf → List ℕ → ℕ → Bool
+defines d name e = not (is_declared_only d.tree e) && has_name name (name_of d e)
+
+-- the definition of a tag and a name: the first entry with both that is no declaration, at the top of a unit
+unfoldable pub definition_of : PlainDwarf → ℕ → List ℕ → Option ℕ
+definition_of d tag name = find (defines d name) (tops_of d.tree tag)
+
+abbrev pub has_definitions : ℕ → Bool
+has_definitions tag = tag == dw_tag_structure_type || (tag == dw_tag_union_type || tag == dw_tag_enumeration_type)
+
+abbrev pub definition_named : PlainDwarf → ℕ → Option (List ℕ) → Option ℕ
+definition_named d tag (Some name) = if has_definitions tag then definition_of d tag name else None
+definition_named d tag None = None
+
+-- what defines the type of an entry: the entry itself, or where it is a declaration the definition of its tag and its name
+unfoldable pub defined_by : PlainDwarf → ℕ → Option ℕ
+defined_by d e = if is_declared_only d.tree e then definition_named d (tag_at d.tree e) (name_of d e) else Some e
+
+-- ---- two definitions
+
+-- the item of a list at a place, as a text
+abbrev pub part_or_none : PlainDwarf → Option ℕ → List ℕ
+part_or_none d None = none
+part_or_none d (Some m) = part_text d m
+
+abbrev pub part_change : PlainDwarf → PlainDwarf → List ℕ → List ℕ → ℕ → Option Difference
+part_change d e ms ns k = differing note.DefinedElsewhere (part_or_none d (slice_get ms k)) (part_or_none e (slice_get ns k))
+
+-- the first difference
+abbrev pub first_of : List (Option Difference) → Option Difference
+first_of [] = None
+first_of (None ∷ others) = first_of others
+first_of (Some found ∷ others) = Some found
+
+abbrev pub part_changes_from : PlainDwarf → PlainDwarf → List ℕ → List ℕ → List ℕ → Option Difference
+part_changes_from d e ms ns places = first_of (map (part_change d e ms ns) places)
+
+-- the first place at which the texts of two lists of members or enumerators differ, up to the end of the longer one
+abbrev pub first_part_change : PlainDwarf → PlainDwarf → List ℕ → List ℕ → Option Difference
+first_part_change d e ms ns = part_changes_from d e ms ns (range_with_len 0 (max (length ms) (length ns)))
+
+-- the sizes of two definitions, where they differ, or else the first members or enumerators that do
+unfoldable pub definition_change : PlainDwarf → PlainDwarf → ℕ → ℕ → Option Difference
+definition_change d e a b =
+    option_or (differing note.DefinedElsewhere (size_text d.tree a) (size_text e.tree b)) (first_part_change d e (parts_of d.tree a) (parts_of e.tree b))
+
+abbrev pub both : Option ℕ → Option ℕ → Option (ℕ × ℕ)
+both (Some a) (Some b) = Some (a, b)
+both a b = None
+
+-- the definitions of two types, where one of the entries at least is a declaration
+unfoldable pub definitions_by : PlainDwarf → PlainDwarf → ℕ → ℕ → Option (ℕ × ℕ)
+definitions_by d e a b = if is_declared_only d.tree a || is_declared_only e.tree b then both (defined_by d a) (defined_by e b) else None
+
+abbrev pub definitions_behind : PlainDwarf → PlainDwarf → Type_ → Type_ → Option (ℕ × ℕ)
+definitions_behind d e (Some a) (Some b) = definitions_by d e a b
+definitions_behind d e a b = None
+
+-- ---- maps from names to definitions
+
+abbrev pub Named : Type 0
+Named = HashMap (Bor (List ℕ)) ℕ (BuildHasherDefault FoldHasher)
+
+abbrev pub place_under : Named → List ℕ → Option ℕ
+place_under places name = get_by (λ k. bytes_eq name k.now) places
+
+-- the maps have the definition of each name
+pub record AreDefinitions (d : PlainDwarf) (m : Definitions) : Type 0 where
+  pub structures : (name : List ℕ) → place_under m.structures name ≡ definition_of d dw_tag_structure_type name
+  pub unions : (name : List ℕ) → place_under m.unions name ≡ definition_of d dw_tag_union_type name
+  pub enumerations : (name : List ℕ) → place_under m.enumerations name ≡ definition_of d dw_tag_enumeration_type name
+
+-- those of both libraries
+pub record AreOfBoth (d e : PlainDwarf) (p : DefinitionPair) : Type 0 where
+  pub old : AreDefinitions d p.old.now
+  pub new : AreDefinitions e p.new.now
