@@ -3,10 +3,11 @@ ghost use Rattle.std.specs.Prelude.{◌≤◌, length};
 ghost use Rattle.abi_base.specs.Limits.{input_limit};
 
 use crate::notes::bytes_of;
-use abi_base::{List, NoMemory};
+use abi_base::{List, NoMemory, Remark, SizedExports};
 use abi_top::{Ended, Input, Outcome};
 use explain::name_of;
 use side_notes::{all_notes, note_text};
+use std::alloc::{AllocError, Global};
 use std::env;
 use std::rt::{Env, Files};
 use type_notes::Note;
@@ -43,19 +44,40 @@ fn notes_of_inputs<R: Files + AllocGlobal>(
     all_notes(rt.alloc(), &old, &new, &rules)
 }
 
-/// The notes as lines, where `check` judged two libraries.
+// How many exports of a size above 0 have a type.
+fn typed(exports: SizedExports) -> usize {
+    exports.all.saturating_sub(exports.untyped)
+}
+
+// The line of counts: how many exports of a size above 0 each library has, and how many of these have a type.
+fn count_line(alloc: Global, remark: Remark) -> Result<String, AllocError> {
+    let old_typed = typed(remark.old);
+    let old_all = remark.old.all;
+    let new_typed = typed(remark.new);
+    let new_all = remark.new.all;
+    format!(in alloc;
+        "abi: note: exports with types: {old_typed} of {old_all} in OLD, {new_typed} of {new_all} in NEW\n"
+    )
+}
+
+/// The notes as lines, and last the line of counts, where `check` judged two libraries.
 pub(crate) fn text_beside<R: Files + AllocGlobal>(
     rt: &R,
     words: &[&str],
     ended: &Ended<'_>,
 ) -> Result<Vec<u8>, NoMemory> {
     let is_check = words.first().is_some_and(|word| *word == "check");
-    let Outcome::Judged(_, _) = ended.outcome else {
+    let Outcome::Judged(_, remark) = ended.outcome else {
         return Ok(Vec::new(rt.alloc()));
     };
     if !is_check {
         return Ok(Vec::new(rt.alloc()));
     }
     let notes = notes_of_inputs(rt, ended)?;
-    note_text(rt.alloc(), notes.as_slice())
+    let mut text = note_text(rt.alloc(), notes.as_slice())?;
+    if let Some(remark) = remark {
+        let line = count_line(rt.alloc(), remark)?;
+        text.extend_from_slice(line.as_bytes())?;
+    }
+    Ok(text)
 }

@@ -1,7 +1,9 @@
 // The document.
 ghost use Rattle.std.specs.Prelude.{◌≡◌, drop, IfOk};
-ghost use Rattle.abi_json.specs.Documents.{breaks_of as the_breaks, IsDocument};
+ghost use Rattle.abi_json.specs.Documents.{IsDocument};
+ghost use Rattle.abi_json.specs.Documents as spec;
 
+use crate::beside::side_notes_value;
 use crate::files::bytes_of;
 use crate::libraries::input_value;
 use crate::places::places_value;
@@ -19,6 +21,19 @@ const FORMAT: u64 = 1;
 
 // The line with which a report begins.
 const NO: &[u8] = b"no\n";
+
+/// How a run ended, and whether notes on what no rule judges are wanted beside it.
+#[derive(Clone, Copy)]
+pub(crate) struct Ending<'e> {
+    /// The words of the command line.
+    pub words: &'e [&'e str],
+    pub outcome: Outcome,
+    /// The names of the inputs.
+    pub files: &'e [File<'e>],
+    /// The text that `abi` prints, where the listener makes the breaks.
+    pub text: &'e [u8],
+    pub with_notes: bool,
+}
 
 // The answer in words.
 fn answer_word(outcome: Outcome) -> &'static str {
@@ -129,7 +144,7 @@ fn behind_answer(text: &[u8]) -> &[u8]
 
 // The array of the breaks.
 fn breaks_of<'t>(outcome: Outcome, text: &'t [u8]) -> &'t [u8]
-    ensures { result.now ≡ the_breaks outcome text.now }
+    ensures { result.now ≡ spec.breaks_of outcome text.now }
 {
     match outcome {
         Outcome::Judged(Verdict::No, _) => behind_answer(text),
@@ -166,15 +181,16 @@ fn text_of(alloc: Global, outcome: Outcome, text: &[u8]) -> Result<Value, AllocE
 }
 
 // All members but the breaks.
-fn head_of<R: Files + AllocGlobal>(
-    rt: &R,
-    words: &[&str],
-    outcome: Outcome,
-    files: &[File<'_>],
-    text: &[u8],
-) -> Result<Value, NoMemory> {
+fn head_of<R: Files + AllocGlobal>(rt: &R, ending: &Ending<'_>) -> Result<Value, NoMemory> {
     let alloc = rt.alloc();
     let mut head = Map::new(alloc);
+    let Ending {
+        words,
+        outcome,
+        files,
+        text,
+        ..
+    } = *ending;
     let command = words.first().copied().unwrap_or("");
     put(&mut head, alloc, "format", Value::from(FORMAT))?;
     put(
@@ -202,6 +218,12 @@ fn head_of<R: Files + AllocGlobal>(
     put(
         &mut head,
         alloc,
+        "side_notes",
+        side_notes_value(rt, ending)?,
+    )?;
+    put(
+        &mut head,
+        alloc,
         "places",
         all_places(rt, outcome, files, text)?,
     )?;
@@ -222,18 +244,15 @@ fn opened(object: &str) -> &[u8] {
 /// The document of a run: its head, and last the breaks as the listener made them.
 pub(crate) fn document_of<R: Files + AllocGlobal>(
     rt: &R,
-    words: &[&str],
-    outcome: Outcome,
-    files: &[File<'_>],
-    text: &[u8],
+    ending: &Ending<'_>,
 ) -> Result<Vec<u8>, NoMemory>
-    ensures { IfOk result (λ document. IsDocument outcome text.now document.items) }
+    ensures { IfOk result (λ document. IsDocument ending.now.outcome ending.now.text.now document.items) }
 {
-    let head = head_of(rt, words, outcome, files, text)?.to_string(rt.alloc())?;
+    let head = head_of(rt, ending)?.to_string(rt.alloc())?;
     with_member(
         rt.alloc(),
         opened(head.as_str()),
         "breaks",
-        breaks_of(outcome, text),
+        breaks_of(ending.outcome, ending.text),
     )
 }

@@ -2,6 +2,7 @@
 //! numbers.
 #![tactic(auto)]
 
+mod beside;
 mod document;
 mod files;
 mod libraries;
@@ -9,6 +10,7 @@ mod places;
 mod told;
 mod words;
 
+use crate::beside::are_wanted;
 use crate::told::told_of;
 use crate::words::words_of;
 use abi_base::{FileInputs, NoMemory, StdSink, write_all};
@@ -33,7 +35,7 @@ fn outcome_of_process<R: Files + Print + Env + AllocGlobal>(rt: &R) -> Outcome {
             Vec::new(rt.alloc())
         }
     };
-    outcome_of(rt, &arguments).unwrap_or(Outcome::NoMemory)
+    outcome_of(rt, &arguments, are_wanted(rt)).unwrap_or(Outcome::NoMemory)
 }
 
 // The arguments after the program's name.
@@ -49,10 +51,11 @@ fn arguments_of<R: Env + AllocGlobal>(rt: &R) -> io::Result<Vec<String>> {
 fn outcome_of<R: Files + Print + AllocGlobal>(
     rt: &R,
     arguments: &[String],
+    with_notes: bool,
 ) -> Result<Outcome, NoMemory> {
     let words = words_of(rt.alloc(), arguments)?;
     let mut inputs = FileInputs::new(rt);
-    let told = told_of(rt, &words, &mut inputs)?;
+    let told = told_of(rt, &words, &mut inputs, with_notes)?;
     let mut sink = StdSink::new(rt);
     match write_all(&mut sink, &told.document) {
         Ok(()) => Ok(told.outcome),

@@ -5,7 +5,7 @@ ghost use Rattle.abi_json.specs.Documents.{TellsBreaks};
 ghost use Rattle.abi_top.specs.Answer.{Call, call_of};
 ghost use Rattle.json_report.specs.Breaks.{json_voice};
 
-use crate::document::document_of;
+use crate::document::{Ending, document_of};
 use abi_base::{Inputs, NoMemory};
 use abi_top::run;
 use commands::{Outcome, Verdict};
@@ -36,11 +36,13 @@ fn add_alone(
     Ok(())
 }
 
-/// Runs the words over inputs with a listener that makes JSON of the breaks, and makes the document of the run.
+/// Runs the words over inputs with a listener that makes JSON of the breaks, and makes the document of the run, with notes on what no
+/// rule judges where they are wanted.
 pub(crate) fn told_of<R: Files + AllocGlobal, I: Inputs>(
     rt: &R,
     words: &[&str],
     inputs: &mut I,
+    with_notes: bool,
 ) -> Result<Told, NoMemory>
     // No: all inputs are readable, and the breaks of the document are the rows of the right report on the two libraries, or on what
     // the application uses of them, in their order.
@@ -53,6 +55,13 @@ pub(crate) fn told_of<R: Files + AllocGlobal, I: Inputs>(
     add_alone(&mut listeners, Box::new(alloc, JsonListener::new(alloc))?)?;
     let ended = run(alloc, words, inputs, &mut answer, listeners);
     let outcome = ended.outcome;
-    let document = document_of(rt, words, outcome, &ended.files, answer.held())?;
+    let ending = Ending {
+        words,
+        outcome,
+        files: &ended.files,
+        text: answer.held(),
+        with_notes,
+    };
+    let document = document_of(rt, &ending)?;
     Ok(Told { outcome, document })
 }

@@ -8,7 +8,7 @@ use Rattle.clap.specs.declared.error.kind.ErrorKind.TheVariants as kind
 use Rattle.cli_args.specs.Line.{PlainLine, line_app, line_in}
 use Rattle.cli_args.specs.ParsedArguments.{command_named, style_of}
 use Rattle.cli_args.specs.Trials.{trial_count_of}
-use Rattle.cli_args.specs.WrongWords.{NamesOne, PlainWrong, count_wanted, is_help_with_value, is_repeated, is_unknown_option, is_without_value, missing_value, needless_of, needless_value, or_needless, or_other, refused_by, refused_word, repeated_option, unknown_option, unknown_style, without_value, wrong_by, wrong_count, wrong_count_of, wrong_in, wrong_named, wrong_number, wrong_on, wrong_style, wrong_trial, wrong_value, wrong_with}
+use Rattle.cli_args.specs.WrongWords.{NamesOne, PlainWrong, count_wanted, is_help_with_value, is_repeated, is_unknown_option, is_without_value, missing_value, needless_of, needless_value, or_needless, or_other, refused_by, refused_word, repeated_option, unknown_option, unknown_style, without_value, wrong_by, wrong_count, wrong_count_of, wrong_in, wrong_named, wrong_number, wrong_style, wrong_trial, wrong_value, wrong_with}
 use Rattle.cli_args.specs.declared.judge.CommandName.{CommandName}
 use Rattle.cli_args.specs.declared.judge.CommandName.TheVariants.{Check, Verify, Entries, Exports, Trial, Migrate, Compose, Layout, App}
 use Rattle.cli_args.specs.declared.wrong.OptionName.{OptionName}

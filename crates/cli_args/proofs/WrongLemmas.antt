@@ -1,6 +1,6 @@
 -- Something is wrong with words exactly where they ask for nothing.
-use Rattle.std.proofs.Common.{◌≡◌, ◌≢◌, ◌<◌, ◌&&◌, ◌∙◌, ℕ, Bool, true, false, List, [], ◌∷◌, length, Ok, Option, Some, None, option_map, ap, sym, refl, arith, subst, true≢false}
-use Rattle.std.specs.Prelude.{◌==◌, ◌↔◌, IsSome, if◌then◌else◌, is_none, is_some, option_and_then}
+use Rattle.std.proofs.Common.{◌≡◌, ◌≢◌, ◌<◌, ◌∙◌, ℕ, Bool, true, false, List, [], ◌∷◌, length, Ok, Option, Some, None, option_map, ap, sym, refl, arith, true≢false}
+use Rattle.std.specs.Prelude.{◌==◌, ◌↔◌, IsSome, if◌then◌else◌, is_none, option_and_then}
 use Rattle.std.proofs.lemmas.Bool.Decides.{nat_tests}
 use Rattle.clap.specs.Words.{Kinds, Row, fault_of, found_of, matches_of, rows_of}
 use Rattle.clap.specs.declared.error.kind.ErrorKind.{ErrorKind}
@@ -9,11 +9,10 @@ use Rattle.clap.specs.declared.error.kind.ErrorKind.TheVariants as kind
 use Rattle.report.specs.declared.styles.report_option.ReportStyle.{ReportStyle}
 use Rattle.cli_args.specs.Line.{Finds, PlainLine, line_app, line_in}
 use Rattle.cli_args.specs.Trials.{trial_count_of}
-use Rattle.cli_args.specs.ParsedArguments.{PlainArguments, PlainRequest, app, app_of, arguments_by, check, check_of, command_named, compose_of, entries, exports, help, judged_by, layout_of, lone_word, migrate_of, request, request_of, request_on, request_or_usage, style_of, trial, usage, verify_of}
-use Rattle.cli_args.specs.WrongWords.{PlainWrong, needless_of, needless_option, or_needless, plain_wrong, refused_by, unknown_style, wrong_by, wrong_count_of, wrong_in, wrong_named, wrong_number, wrong_of, wrong_on, wrong_with}
+use Rattle.cli_args.specs.ParsedArguments.{PlainArguments, PlainRequest, app, app_of, arguments_by, check, check_of, command_named, compose_of, entries, exports, judged_by, layout_of, lone_word, migrate_of, request, request_of, request_on, request_or_usage, style_of, trial, usage, verify_of}
+use Rattle.cli_args.specs.WrongWords.{PlainWrong, needless_option, plain_wrong, refused_by, unknown_style, wrong_by, wrong_count_of, wrong_in, wrong_named, wrong_number, wrong_of, wrong_on, wrong_with}
 use Rattle.cli_args.specs.declared.judge.CommandName.{CommandName}
 use Rattle.cli_args.specs.declared.judge.CommandName.TheVariants.{Check, Verify, Entries, Exports, Trial, Migrate, Compose, Layout, App}
-use Rattle.cli_args.specs.declared.wrong.OptionName.{OptionName}
 use Rattle.cli_args.specs.declared.wrong.OptionName.TheVariants.{Rules, Report}
 use Rattle.cli_args.specs.declared.wrong.WrongWords.{WrongWords}
 

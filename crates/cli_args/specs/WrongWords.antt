@@ -1,5 +1,5 @@
 -- What is wrong with words that ask for nothing, and which word it is.
-use Rattle.std.specs.Prelude.{◌≡◌, ◌==◌, ◌&&◌, ◌||◌, ℕ, Bool, true, false, not, List, [], ◌∷◌, length, Contains, IfSome, Option, Some, None, codes, count_by, find, if◌then◌else◌, is_none, is_some, nat_eq, nat_lt}
+use Rattle.std.specs.Prelude.{◌==◌, ◌&&◌, ◌||◌, ℕ, Bool, true, false, not, List, [], ◌∷◌, length, Contains, IfSome, Option, Some, None, codes, count_by, find, if◌then◌else◌, is_none, is_some, nat_eq, nat_lt}
 use Rattle.std.specs.List.{starts_with}
 use Rattle.std.specs.Str.{bytes_eq}
 use Rattle.clap.specs.Words.{Kinds, fault_of, matches_of}

@@ -76,7 +76,7 @@ abbrev pub Tells : Outcome → List PlainFile → List (List ℕ) → Type 0
 Tells (Judged verdict remark) files notes = TellsJudged verdict remark files notes
 Tells (Unreadable which fault) files notes = OnName files which (λ path. IsOne notes (SaysFault path fault)) (notes ≡ [])
 Tells (ReadFault which) files notes = OnName files which (λ path. IsOne notes (λ note. (reason : List ℕ) × (note ≡ said_of path reason))) (notes ≡ [])
-Tells NoMemory files notes = notes ≡ codes "out of memory" ∷ []
+Tells NoMemory files notes = notes ≡ codes "out of memory, or past a limit (LIMITS in abi(1))" ∷ []
 Tells WriteFault files notes = notes ≡ codes "writing failed" ∷ []
 Tells Help files notes = notes ≡ []
 Tells Usage files notes = notes ≡ []

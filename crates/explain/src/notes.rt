@@ -247,7 +247,10 @@ pub fn notes_on(
         Outcome::Judged(verdict, remark) => on_verdict(alloc, verdict, remark, files),
         Outcome::Unreadable(which, fault) => on_fault(alloc, files, which, fault, bytes),
         Outcome::ReadFault(which) => on_failure(alloc, files, which, reason),
-        Outcome::NoMemory => one(alloc, String::from_str(alloc, "out of memory")?),
+        Outcome::NoMemory => one(
+            alloc,
+            String::from_str(alloc, "out of memory, or past a limit (LIMITS in abi(1))")?,
+        ),
         Outcome::WriteFault => one(alloc, String::from_str(alloc, "writing failed")?),
         Outcome::Help | Outcome::Usage => Ok(Vec::new(alloc)),
     }

@@ -146,9 +146,9 @@ pub said_yes : (imports : List PlainImport) (old new : PlainLibrary) (rules : Pl
 said_yes imports old new rules marks cert text are proved is =
     (subst (λ (m : Marks). IsCompatible (sides old new m)) are proved.compatible, is new ∙ ap (λ (m : Marks). uses_text (sides old new m)) are)
 
--- ---- imports that ask for the same
+-- ---- imports of one symbol
 
--- whether what is asked for binds to the export at a place
+-- whether the name and version that an import needs bind to the export at a place
 abbrev asks_for : Option (List ℕ) → List PlainExport → ℕ → List ℕ × Option PlainNeed → Bool
 asks_for soname old k wanted = is_at k (place_bound soname old (record { symbol = 0; name = wanted.0; need = wanted.1 }))
 
