@@ -1,7 +1,7 @@
 #!/usr/bin/env bash
 # Holds the documents of `abi-json` against their schema, and the places of types in them against the sources: of libraries by gcc
 # and clang, in DWARF 4 and 5, with a header in a folder of its own, with names from the folder of the compiler and with absolute
-# ones. Line programs that are damaged at random change neither the status nor the breaks.
+# ones. tests/python/test_damaged_lines.py damages line programs.
 #
 #   tests/documents.sh                  builds the program of this repository
 #   ABI_JSON=/path/of/abi_json tests/documents.sh    takes another one
@@ -11,7 +11,7 @@ tools="/usr/bin/python3 gcc readelf"
 crate=
 . "$(dirname "$0")/common.bash"
 
-for module in elftools jsonschema; do
+for module in jsonschema; do
     /usr/bin/python3 -c "import $module" 2>/dev/null && continue
     [ -n "${SKIP_MISSING_TOOLS:-}" ] || fail "there is no $module for /usr/bin/python3 (with SKIP_MISSING_TOOLS=1 nothing runs)"
     told "nothing ran, since there is no $module for /usr/bin/python3"

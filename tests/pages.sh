@@ -1,8 +1,8 @@
 #!/usr/bin/env bash
 # Runs each command of the pages word by word, and compares what it prints with what the page shows.
 #
-#   tests/pages.sh [PAGE..]            builds the program of this repository; takes all pages where none is named
-#   ABI=/path/of/abi tests/pages.sh    takes another one
+#   tests/pages.sh [PAGE..]            builds the programs of this repository; takes all pages where none is named
+#   ABI=/path/of/abi tests/pages.sh    takes another one, as ABI_JSON does for abi-json
 #   tests/pages.sh --print PAGE        prints a page with what its commands print in place
 #
 # The commands stand in blocks ```console, behind `$ `. A line `..` stands for any lines, and `9aa62e3a..` for a digest. `cat` of a
@@ -10,14 +10,16 @@
 # minute or two of processor time.
 set -eu
 title="pages"
-tools="gcc g++ abidiff objcopy strip make python3 bsdtar /usr/bin/python3"
+tools="gcc g++ abidiff objcopy strip make python3 bsdtar /usr/bin/python3 jq dask-scheduler dask-worker prlimit /usr/bin/time"
 crate=abi_cli
 print=
 [ "${1:-}" != --print ] || { print=--print && shift; }
-[ $# -gt 0 ] || set -- README.md docs/GUIDE.md docs/FAQ.md docs/RULE_FILES.md docs/LAYOUTS.md docs/PACKAGES.md
+[ $# -gt 0 ] || set -- README.md docs/GUIDE.md docs/FAQ.md docs/RULE_FILES.md docs/LAYOUTS.md docs/PACKAGES.md \
+    docs/REPORTS.md docs/APPLICATIONS.md docs/RELEASES.md
 pages=$*
 . "$(dirname "$0")/common.bash"
 
+program_of abi_json 64 "${ABI_JSON:-}"
 version=$(gcc -dumpfullversion)
 if [ "${version%.*}" != 12.2 ]; then
     why="gcc $version is not the one of the pages, 12.2"
@@ -30,7 +32,7 @@ set --
 for page in $pages; do
     set -- "$@" "$root/$page"
 done
-PYTHONPATH=$root/tests python3 -B -m pages $print "$work" "$program" "$@" >log || { cat log >&2 && fail "a page says something else"; }
+PYTHONPATH=$root/tests python3 -B -m pages $print "$work" "$program" "$found" "$@" >log || { cat log >&2 && fail "a page says something else"; }
 cat log
 [ -z "$print" ] || exit 0
 checks=$(awk '/ agree, / { agree += $2 } END { print agree + 0 }' log)

@@ -96,7 +96,7 @@ C
 gcc -shared -fPIC -o once.so once.c
 preload=$PWD/once.so says 3 "plain.so: reading failed" exports plain.so
 output=/dev/full says 6 "writing failed" exports plain.so
-limit=32768 says 4 "out of memory" trial 50000
+limit=32768 says 4 "out of memory, or past a limit (LIMITS in abi(1))" trial 50000
 truncate -s 268435457 long.so
 says 2 "long.so: it is longer than 256 MiB" exports long.so
 
@@ -391,6 +391,58 @@ printf '# name = a # b\n[suppress_type]\nname = a#b;c\n' >rules
 sed 's/int x, y/long x, y/' f.c | gcc -shared -fPIC -g -o other.so -x c -
 says 5 "certificate: the certificate does not prove that other.so may replace plain.so" verify plain.so other.so certificate
 says 5 "certificate: with certificate it does not prove that plain.so may replace plain.so" compose plain.so other.so plain.so certificate certificate
+
+# ---- what is seen and not judged
+
+# noted LINE OLD NEW: with ABI_NOTES=1, `check` must say this line.
+noted() {
+    local line=$1
+    shift
+    ABI_NOTES=1 run check "$@"
+    grep -Fqx "abi: note: $line" errors || fail "of $* it says: $(cat errors)"
+    passed "$line"
+}
+
+# unnoted KIND OLD NEW: and no line of this kind.
+unnoted() {
+    local kind=$1
+    shift
+    ABI_NOTES=1 run check "$@"
+    ! grep -q "^abi: note: $kind" errors || fail "of $* it says: $(cat errors)"
+    passed "no note: $kind, of $*"
+}
+
+echo 'V1 { global: *; };' >one.map
+echo 'V2 { global: *; };' >two.map
+for compiler in gcc clang; do
+    # built LIBRARY ARGUMENT..: of the source on standard input.
+    built() { "$compiler" -shared -fPIC -g -x c -o "$@" -; }
+    echo '__thread int current;' | built int.so
+    echo '__thread long current;' | built long.so
+    echo '__thread float current;' | built float.so
+    noted "thread-local object: current: was size 4, now size 8" int.so long.so
+    unnoted "thread-local object" int.so int.so
+    unnoted "thread-local object" int.so float.so
+
+    echo 'int open_file(int fd) { return fd; }' | built first.so -Wl,--version-script=one.map
+    echo 'int open_file(int fd) { return fd; }' | built second.so -Wl,--version-script=two.map
+    noted "likely successor: open_file@@V1: was open_file@@V1, now open_file@@V2" first.so second.so
+    unnoted "likely successor" first.so first.so
+    echo 'int open_1(int fd) { return fd; } int close_(int fd) { return fd; }' | built one.so
+    echo 'int open_2(int fd) { return fd; } int open_3(int fd) { return fd; } int shut(int fd) { return fd; }' | built two.so
+    noted "likely successor: open_1: was open_1, now open_2" one.so two.so
+    [ "$(grep -c "^abi: note: likely successor" errors)" -eq 1 ] || fail "another successor: $(cat errors)"
+
+    echo 'int first(int a) { return a; } int second(int a) { return a + 1; } int third(char *a) { return *a; }' | built narrow.so
+    echo 'int first(long a) { return a; } int second(long a) { return a + 1; } int third(char *a) { return *a; }' | built wide.so
+    noted "affected export: second as first param 1" narrow.so wide.so
+    ! grep -q "^abi: note: affected export: third" errors || fail "third is affected: $(cat errors)"
+    struct_users='int f(struct s *s) { return s->a; } int g(struct s s) { return s.a; } int h(struct s **s) { return (*s)->b; }'
+    echo "struct s { int a, b; }; $struct_users" | built small.so
+    echo "struct s { long a; int b; }; $struct_users" | built large.so
+    noted "affected export: f as g param 1" small.so large.so
+    noted "affected export: h as g param 1 / member a" small.so large.so
+done
 
 # ---- each sentence has its row
 

@@ -16,7 +16,7 @@ GOOD = [
     ("check", Answer(0, CERTIFICATE, b"abi: a note\n")),
     ("check", Answer(1, b"no\nX2 f: gone\nL7 f@@V param 1 / member \\x20#2: member y at bit 32, now 64\n", b"")),
     ("check", Answer(2, b"unreadable new 36 TooDeep 12\n", SENTENCE)),
-    ("check", Answer(4, b"", b"abi: out of memory\n")),
+    ("check", Answer(4, b"", b"abi: out of memory, or past a limit (LIMITS in abi(1))\n")),
     ("check", Answer(4, b"", b"")),
     ("verify", Answer(0, b"accepted\n", b"")),
     ("verify", Answer(5, b"refused 72 Bindings 3\n", b"abi: c: the certificate does not prove that b may replace a\n")),

@@ -1,7 +1,7 @@
 """Runs each command of the pages word by word, and holds what it prints against what the page shows.
 
-    python3 -m pages FOLDER PROGRAM PAGE..            compares, and prints a line for each page
-    python3 -m pages --print FOLDER PROGRAM PAGE      prints the page with what the commands print in place
+    python3 -m pages FOLDER ABI ABI_JSON PAGE..           compares, and prints a line for each page
+    python3 -m pages --print FOLDER ABI ABI_JSON PAGE     prints the page with what the commands print in place
 """
 
 from __future__ import annotations
@@ -9,6 +9,7 @@ from __future__ import annotations
 import sys
 from dataclasses import dataclass, field
 from pathlib import Path
+from typing import Mapping
 
 from pages.commands import Command, commands_of
 from pages.sessions import Session
@@ -36,11 +37,11 @@ class Outcome:
     printed: dict[int, tuple[Command, list[str]]] = field(default_factory=dict)
 
 
-def run_page(page: Path, folder: Path, program: Path) -> Outcome:
+def run_page(page: Path, folder: Path, programs: Mapping[str, Path]) -> Outcome:
     """Runs the commands of a page."""
     outcome = Outcome()
     lacks_files = False
-    with Session(folder / page.stem, ROOT, program) as session:
+    with Session(folder / page.stem, ROOT, programs) as session:
         for command in commands_of(page):
             begin = next((begin for begin in LEFT_OUT if command.text.startswith(begin)), None)
             if begin or lacks_files and "_*" in command.text:
@@ -77,10 +78,10 @@ def filled(page: Path, outcome: Outcome) -> str:
 def main(arguments: list[str]) -> int:
     """Runs the pages that are named."""
     prints = arguments[:1] == ["--print"]
-    folder, program, *pages = (Path(word).resolve() for word in arguments[prints:])
+    folder, abi, abi_json, *pages = (Path(word).resolve() for word in arguments[prints:])
     failed = False
     for page in pages:
-        outcome = run_page(page, folder, program)
+        outcome = run_page(page, folder, {"abi": abi, "abi-json": abi_json})
         if prints:
             sys.stdout.write(filled(page, outcome))
             continue

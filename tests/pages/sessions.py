@@ -7,25 +7,27 @@ import re
 import subprocess
 from pathlib import Path
 from types import TracebackType
-from typing import Optional
+from typing import Mapping, Optional
 
 _CAT = re.compile(r"^cat ([\w./-]+)$")
 _END = "-- the command ended --"
 
 
 class Session:
-    """The shell of a page. `abi` and the tools are on its PATH, and the folders of the repository that pages name are there."""
+    """The shell of a page. The programs and the tools are on its PATH, and the folders of the repository that pages name are there."""
 
-    def __init__(self, folder: Path, root: Path, program: Path) -> None:
+    def __init__(self, folder: Path, root: Path, named: Mapping[str, Path]) -> None:
         self.folder = folder
         programs = folder.parent / f"{folder.name}.programs"
         programs.mkdir()
-        (programs / "abi").symlink_to(program)
+        for name, program in named.items():
+            (programs / name).symlink_to(program)
         folder.mkdir()
         for name in ("tools", "examples"):
             (folder / name).symlink_to(root / name)
         environment = dict(os.environ, LC_ALL="C", PATH=f"{programs}:{root / 'tools'}:{os.environ['PATH']}")
-        environment.pop("ABI", None)
+        for name in ("ABI", "ABI_JSON"):
+            environment.pop(name, None)
         self.shell = subprocess.Popen(["bash", "--noprofile", "--norc"], cwd=folder, env=environment, text=True, errors="replace",
                                       stdin=subprocess.PIPE, stdout=subprocess.PIPE, stderr=subprocess.STDOUT)
 

@@ -11,11 +11,14 @@ from dataclasses import dataclass
 from pathlib import Path
 from typing import Any, Iterator
 
+import jsonschema
+import pytest
+
 from conftest import ROOT, Ended, done, run
 
 from abi_report.command import main
 from abi_tools.faults import run_tool
-from abi_tools.gates import Verdict
+from abi_tools.verdicts import Verdict
 
 REPORT = ROOT / "tools" / "abi-report"
 SCHEMA = ROOT / "docs" / "report.schema.json"
@@ -104,6 +107,18 @@ class Project:
         done("gcc", "-shared", "-fPIC", *(options or ("-g",)), "-Wl,-soname,libstream.so.1", "-Iinclude", "-o", library, "src/stream.c",
              folder=home)
         return library
+
+
+def stand_in(project: Project, monkeypatch: pytest.MonkeyPatch, **members: object) -> None:
+    """A program that prints a document with these members, in place of abi-json."""
+    made = project.folder / "made.json"
+    made.write_text(json.dumps({"format": 1, "command": "check", "fault": None, "untyped": None, "places": None, "text": None, "notes": [],
+                                "side_notes": None, "inputs": [], "answer": "no", "status": 1, **members}))
+    jsonschema.validate(json.loads(made.read_text()), json.loads(SCHEMA.read_text()))
+    program = project.folder / "stand_in"
+    program.write_text(f"#!/bin/sh\ncat '{made}'\nexit 1\n")
+    program.chmod(0o755)
+    monkeypatch.setenv("ABI_JSON", str(program))
 
 
 @dataclass(frozen=True)

@@ -54,6 +54,9 @@ def test_yes_and_no_are_those_of_abi(levels: dict[str, Path], tmp_path: Path) ->
     assert abi("verify", levels["full"], levels["full"], certificate).out == "accepted\n"
     ended = gate("--certificate", certificate, levels["full"], levels["next"])
     assert (ended.status, ended.out) == (1, abi("check", levels["full"], levels["next"]).out)
+    names = f"{levels['full']} {levels['next']}"
+    assert ended.errors.endswith(f"abi-gate: {levels['next']} may not replace {levels['full']}; see abi-report {names}\n")
+    assert run("sh", "-c", f"{TOOLS}/abi-report {names}").status == 1
     assert not certificate.exists()
 
 
@@ -61,8 +64,8 @@ def test_missing_types_are_told(levels: dict[str, Path]) -> None:
     full, one, none, following = (levels[name] for name in ("full", "one", "none", "next"))
     told(gate(none, none), "no types were compared", "no debug information")
     told(gate(one, one), "no types were compared", "-g1")
-    told(gate(full, none), "have none in the new one", "no debug information")
-    told(gate(full, one), "have none in the new one", "-g1")
+    told(gate(full, none), "are gone", "no debug information")
+    told(gate(full, one), "are gone", "-g1")
     told(gate(none, full), "no types were compared", "no debug information")
     told(gate(one, following), "-g1")
     told(gate(none, one), "no types were compared")
@@ -94,6 +97,22 @@ def test_parts_of_a_library_may_lack_types(tmp_path: Path) -> None:
     told(gate("--require-types", "34", level_one, level_one), "1 of 3 exports")
 
 
+FOLDED = "int first(int a) { return a * 3 + 7; }\nint second(int a) { return a * 3 + 8; }\nint third(int a) { return a; }\n"
+
+
+def test_equal_functions_that_gcc_folds_are_told(build: Build) -> None:
+    """The entry of a folded function has no address, so `abi` says X6; another break is a no all the same."""
+    mended = FOLDED.replace("+ 8", "+ 7")
+    old, new = build("old.so", FOLDED, "-g", "-O2"), build("new.so", mended, "-g", "-O2")
+    assert abi("check", old, new).out == "no\nX6 second: type gone\n"
+    told(gate(old, new), "the types of 1 export are gone: ", "new.so", "-fno-ipa-icf")
+    broken = gate(old, build("broken.so", mended.replace("third(int a)", "third(long a)"), "-g", "-O2"))
+    assert broken.status == 1 and "X6 second: type gone\n" in broken.out
+    assert gate(build("a.so", FOLDED, "-g", "-O2", "-fno-ipa-icf"), build("b.so", mended, "-g", "-O2", "-fno-ipa-icf")).status == 0
+    clang = [build(f"{name}.so", text, "-g", "-O2", compiler="clang") for name, text in (("c", FOLDED), ("d", mended))]
+    assert gate(*clang).status == 0
+
+
 def test_nothing_compared_is_told(build: Build, tmp_path: Path) -> None:
     empty = build("empty.so", "static int nothing;\n", "-g", "-nostdlib")
     told(gate(empty, empty), "nothing was compared")
@@ -115,7 +134,8 @@ def test_what_abi_refuses_is_told(build: Build, tmp_path: Path) -> None:
     cut = tmp_path / "cut.so"
     cut.write_bytes(whole.read_bytes()[:5000])
     told(gate(whole, cut), "cut.so")
-    told(gate(tmp_path / "missing.so", whole), "missing.so")
+    told(gate(tmp_path / "missing.so", whole), "missing.so", "abi-baseline LIBRARY FILE")
+    told(gate(whole, tmp_path / "missing.so"), "missing.so")
     told(gate(whole, build("other.so", OLD, "-g", "-gz=zlib")), "is compressed")
 
 

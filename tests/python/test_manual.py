@@ -8,7 +8,7 @@ from pathlib import Path
 
 import pytest
 
-from conftest import ROOT, abi, done, needs, run
+from conftest import ROOT, TOOLS, abi, done, needs, run
 
 from abi_manual.command import SHARE, made
 from abi_manual.sources import read_manual
@@ -40,7 +40,7 @@ def test_a_file_that_differs_is_told(tmp_path: Path) -> None:
     assert (ended.status, ended.out) == (1, f"{page} is not what tools/make-manual makes\n")
 
 
-@pytest.mark.parametrize("page", _PAGES)
+@pytest.mark.parametrize("page", [*_PAGES, *(f"man/man1/{name}.1" for name in read_manual().tools)])
 def test_pages_are_shown_without_a_warning(page: str) -> None:
     needs("groff")
     ended = run("groff", "-man", "-Tutf8", "-ww", SHARE / page)
@@ -55,6 +55,17 @@ def test_pages_name_all_commands_and_statuses(page: str) -> None:
     manual = read_manual()
     assert all(f"\\fB{command.name}\\fR" in text or f" {command.name}\\fR" in text for command in manual.commands)
     assert all(f"\n\\fB{status['number']}\\fR\n" in text for status in manual.source["status"])
+
+
+@pytest.mark.parametrize("name", read_manual().tools)
+def test_pages_of_tools_name_all_options_and_statuses(name: str) -> None:
+    text = (SHARE / f"man/man1/{name}.1").read_text().replace("\\-", "-")
+    printed = done(TOOLS / name, "--help")
+    options = set(re.findall(r"^  (?:-h, )?(--[a-z-]+)", printed, re.MULTILINE))
+    statuses = set(re.findall(r"^  (\d+)  |(?<=[:;] )(\d+) ", printed[printed.index("Exit status"):], re.MULTILINE))
+    assert "--help" in options and len(statuses) == 3
+    assert all(re.search(rf"^\\fB(-h, )?{option}\b", text, re.MULTILINE) for option in options)
+    assert all(f"\n\\fB{first or second}\\fR\n" in text for first, second in statuses)
 
 
 def completed(program: str, *words: str) -> list[str]:

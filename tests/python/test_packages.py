@@ -80,7 +80,7 @@ def test_a_yes_has_a_certificate_of_the_joined_libraries(old: tuple[Path, Path],
     kept = tmp_path / "certificates/libshapes.so.1.cert"
     assert (ended.status, ended.out.splitlines()) == (0, [
         "yes libshapes.so.1: 2 exports compared, 2 with types; exports with types: old 2 of 2, new 2 of 2; certificate " + str(kept),
-        "1 libraries: 1 yes"])
+        "1 library: 1 yes"])
     for side, name in (("old", "old"), ("new", "new")):
         assert tool("join-debug", tmp_path / f"{name}.stripped", tmp_path / f"{side}.joined", tmp_path / f"{name}.debug").status == 0
     assert abi("verify", tmp_path / "old.joined", tmp_path / "new.joined", kept).out == "accepted\n"
@@ -92,6 +92,45 @@ def test_a_no_has_the_report_of_abi(old: tuple[Path, Path], build: Build, tmp_pa
     assert ended.status == 1 and ended.out.startswith("no libshapes.so.1: "), ended
     report = tmp_path / "certificates/libshapes.so.1.report"
     assert report.read_text() == abi("check", tmp_path / "old.so", whole).out
+
+
+def test_a_no_may_keep_both_libraries(old: tuple[Path, Path], build: Build, tmp_path: Path) -> None:
+    """The line has the command that shows what broke, which runs; a later yes takes the libraries away."""
+    library, debug, _ = parted(build, tmp_path, CHANGED, "new", "libshapes.so.1")
+    (tmp_path / "abi.rules").write_text("[suppress_function]\nname = nothing\n")
+    new = deb(tmp_path, "new", {**library, "usr/share/doc/new/abi.rules": tmp_path / "abi.rules"}), deb(tmp_path, "new-dbgsym", debug)
+    kept = tmp_path / "a folder"
+    ended = packages(tmp_path, "--keep", kept, *old, "--", *new)
+    command = ended.out.splitlines()[0].partition("; see ")[2]
+    names = "".join(f" '{kept}/{name}libshapes.so.1{end}'" for name, end in (("", ".rules"), ("old/", ""), ("new/", "")))
+    assert ended.status == 1 and command == f"abi-report --rules{names}", ended
+    shown = run("sh", "-c", f"{TOOLS}/{command}")
+    assert shown.status == 1 and shown.out.startswith("no: "), shown
+    assert packages(tmp_path, "--keep", kept, *old, "--", *old).status == 0
+    assert [path for path in kept.rglob("*") if path.is_file()] == []
+
+
+def test_a_library_may_be_left_out(old: tuple[Path, Path], build: Build, tmp_path: Path) -> None:
+    other, _, _ = parted(build, tmp_path, CHANGED, "other", "libother.so.1")
+    packed = deb(tmp_path, "other", other)
+    sides = (*old, packed, "--", *old, packed)
+    assert packages(tmp_path, *sides).status == 2
+    ended = packages(tmp_path, "--leave-out", "libother.so.1", *sides)
+    assert ended.status == 0 and ended.out.splitlines()[0] == "left out libother.so.1", ended
+    assert ended.out.splitlines()[-1] == "2 libraries: 1 left out, 1 yes"
+    ended = packages(tmp_path, "--leave-out", "libother.so.1", "--leave-out", "libshapes.so.1", *sides)
+    assert ended.status == 2 and "all libraries are left out" in ended.errors
+    ended = packages(tmp_path, "--leave-out", "libother", *sides)
+    assert ended.status == 2 and ended.errors == "abi-packages: no library has the soname libother, which --leave-out names\n"
+
+
+def test_notes_are_those_of_abi(old: tuple[Path, Path], build: Build, tmp_path: Path, monkeypatch: pytest.MonkeyPatch) -> None:
+    library, debug, _ = parted(build, tmp_path, FIRST + "int added(void) { return 1; }\n", "new", "libshapes.so.1")
+    new = deb(tmp_path, "new", library), deb(tmp_path, "new-dbgsym", debug)
+    assert packages(tmp_path, *old, "--", *new).errors == ""
+    monkeypatch.setenv("ABI_NOTES", "1")
+    ended = packages(tmp_path, *old, "--", *new)
+    assert ended.status == 0 and "abi-packages: libshapes.so.1: note: export added: added\n" in ended.errors, ended
 
 
 def test_libraries_that_are_gone_or_new_have_a_line(old: tuple[Path, Path], build: Build, tmp_path: Path) -> None:
@@ -111,7 +150,7 @@ def test_without_debug_packages_it_cannot_be_told(old: tuple[Path, Path], build:
     for first, second in (((old[0],), (new,)), (old, (new,)), ((old[0],), (new, deb(tmp_path, "new-dbgsym", debug)))):
         ended = packages(tmp_path, *first, "--", *second)
         assert ended.status == 2 and ended.out.startswith("cannot tell libshapes.so.1: "), ended
-        assert "there is no debug file of usr/lib" in ended.out
+        assert "there is no debug file of usr/lib" in ended.out and "-dbgsym, -dbg or -debuginfo package of" in ended.out
     assert list((tmp_path / "certificates").iterdir()) == []
 
 

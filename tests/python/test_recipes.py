@@ -142,6 +142,8 @@ def test_meson(project: Path, tmp_path: Path) -> None:
     broken(project)
     ended = run("meson", "test", "-C", build, "-v", "abi")
     assert ended.status != 0 and BREAK in ended.out
+    done("meson", "compile", "-C", build, "keep-abi")
+    assert run("meson", "test", "-C", build, "abi").status == 0
 
 
 def test_cmake(project: Path, tmp_path: Path) -> None:
@@ -156,3 +158,8 @@ def test_cmake(project: Path, tmp_path: Path) -> None:
     done("cmake", "--build", build)
     ended = run("ctest", "--output-on-failure", folder=build)
     assert ended.status != 0 and BREAK in ended.out
+    shutil.rmtree(project / "abi")
+    ended = run("ctest", "--output-on-failure", folder=build)
+    assert ended.status != 0 and "abi-baseline LIBRARY FILE" in ended.out
+    done("cmake", "--build", build, "--target", "keep-abi")
+    assert run("ctest", folder=build).status == 0

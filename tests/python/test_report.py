@@ -5,13 +5,18 @@ from __future__ import annotations
 import json
 import re
 from pathlib import Path
+from typing import Any
 
 import jsonschema
 import pytest
 
 from conftest import abi, done, needs
-from report_support import HEADER, SCHEMA, SOURCE, Edit, Project, document, edits, report, script
+from report_support import HEADER, SCHEMA, SOURCE, Edit, Project, document, edits, report, script, stand_in
 
+from abi_report.blocks import merged
+from abi_report.entries import Entries
+from abi_report.records import Records
+from abi_report.ways import reached
 
 
 @pytest.fixture
@@ -48,10 +53,35 @@ def test_no_has_a_block_for_each_type_with_the_lines_of_the_source(project: Proj
     assert lines[0] == f"no: {new} may not replace {old}"
     stream = lines.index("struct stream  include/stream.h:5")
     block = lines[stream:lines.index("", stream)]
-    assert any(re.search(r"member avail: unsigned int -> (long unsigned int|unsigned long), 4 -> 8 bytes, at byte 8 +include/stream.h:7", line)
-               for line in block), block
+    avail = r"member avail: unsigned int -> (long unsigned int|unsigned long), 4 -> 8 bytes, at byte 8 +include/stream.h:7"
+    assert any(re.search(avail, line) for line in block), block
     assert "struct state  src/stream.c:3" in lines
     assert any("old_name: the symbol is gone; perhaps now old_name2" in line for line in lines), lines
+
+
+def test_members_that_only_moved_stand_behind_what_moved_them(project: Project) -> None:
+    old = project.build("old")
+    new = project.build("new", HEADER.replace("unsigned avail", "unsigned long avail"))
+    (block,) = [one for one in document(old, new)["report"]["types"] if one["title"] == "struct stream"]
+    parts = [change["part"] for change in block["changes"]]
+    assert parts.index("member avail") < parts.index("member limits"), parts
+    assert [change["rules"] for change in block["changes"]][-1] == ["L7"], block
+
+
+def test_places_of_both_libraries_are_below_folders_of_the_same_depth(project: Project) -> None:
+    """The new library has places in its header alone."""
+    old = project.build("old")
+    new = project.build("new", HEADER.replace("unsigned avail", "unsigned long avail"), SOURCE.replace("old_name", "old_name2"))
+    lines = report(old, new).out.splitlines()
+    assert "struct stream  include/stream.h:5" in lines, lines
+    assert any(line.endswith("it was defined at src/stream.c:9") for line in lines), lines
+
+
+def test_a_variable_has_the_place_of_its_declaration(project: Project) -> None:
+    header = "extern int table[%d];\n"
+    old, new = (project.build(name, header % count, f'#include "stream.h"\nint table[{count}];\n')
+                for name, count in (("old", 4), ("new", 6)))
+    assert "table  include/stream.h:1" in report(old, new).out.splitlines()
 
 
 def test_a_number_in_two_functions_has_one_block(project: Project) -> None:
@@ -82,7 +112,7 @@ def test_statuses_where_it_cannot_be_told(project: Project) -> None:
     bare = project.build("bare", HEADER, SOURCE, "-g0")
     text = project.folder / "text"
     text.write_text("no library\n")
-    for given, words in (((old, bare), "have none in the new one"), ((bare, bare), "no types were compared"),
+    for given, words in (((old, bare), "are gone"), ((bare, bare), "no types were compared"),
                          ((old, text), "ELF"), ((text, old), "ELF"), ((old, project.folder / "missing.so"), "missing.so")):
         ended = report(*given)
         assert ended.status == 2, (given, ended)
@@ -184,6 +214,205 @@ def test_jq_reads_the_document(project: Project) -> None:
     assert done("jq", ".report.types[].changes[].breaks[]", path).split() != []
 
 
+def test_each_break_has_both_types(project: Project) -> None:
+    old, new = changed(project)
+    found = document(old, new)
+    rows = {(one["rule"], one["path"]): one for one in found["breaks"]}
+    one = rows["L2", "param 1 / target / member avail"]
+    assert (one["old_type"]["name"], one["new_type"]["name"]) in (("unsigned int", "long unsigned int"), ("unsigned int", "unsigned long"))
+    state = rows["L2", "result / target"]
+    assert [(side["name"], Path(side["place"]["file"]).name, side["place"]["line"]) for side in (state["old_type"], state["new_type"])] == [
+        ("struct state", "stream.c", 3)] * 2
+    assert rows["X2", ""]["old_type"] is None
+
+
+# ---- notes on what no rule judges
+
+
+def one_break(rule: str, export: str, path: str, **members: object) -> dict[str, object]:
+    """A break of a document."""
+    steps = path.split(" / ") if path else []
+    return {"rule": rule, "name": "changed", "export": export, "steps": steps, "path": path, "detail": "size 8, now 16", "part": None,
+            "was": {"value": 8, "unit": "bytes"}, "is": {"value": 16, "unit": "bytes"}, "old_entry": None, "new_entry": None, **members}
+
+
+def one_note(kind: str, export: str | None, path: str | None = None, was: str | None = None, now: str | None = None) -> dict[str, object]:
+    """A note of a document."""
+    return {"kind": kind, "export": export, "path": path, "was": was, "is": now}
+
+
+@pytest.mark.parametrize(("others", "words"), [
+    (None, "reached by deflate, and perhaps by others"), ([], "reached by 1 export: deflate"),
+    (["inflate", "take"], "reached by 3 exports: deflate, inflate, take"),
+    ([f"f{k}" for k in range(42)],
+     "reached by 43 exports: deflate, f0, f1, f2, f3, f4, f5, f6, f7, f8, f9, f10 and 31 others"),
+])
+def test_notes_name_all_exports_that_reach_a_type(project: Project, monkeypatch: pytest.MonkeyPatch, others: list[str] | None,
+                                                  words: str) -> None:
+    old = project.build("old")
+    notes = None if others is None else [one_note("affected export", name, "as deflate param 1 / target") for name in others]
+    stand_in(project, monkeypatch, side_notes=notes, breaks=[one_break("L2", "deflate", "param 1 / target")])
+    lines = report(old, old).out.splitlines()
+    assert f"  {words}" in lines and "Notes" not in lines, lines
+    (block,) = document(old, old)["report"]["types"]
+    assert (block["exports"], block["all_exports"]) == (["deflate", *(others or [])], others is not None)
+
+
+def test_what_reaches_the_type_of_a_member_may_not_reach_the_structure(project: Project, monkeypatch: pytest.MonkeyPatch) -> None:
+    """Where the structure breaks a rule itself, all exports that reach it are known."""
+    old = project.build("old")
+    path = "param 1 / target / member avail"
+    records = Records(Entries(old))
+    deflate = records.export("deflate")
+    assert deflate is not None
+    (stream,) = {one.offset for one, steps in reached(records, deflate, 100) if steps == ("param 1", "target")}
+    breaks = [one_break("L2", "deflate", path),
+              one_break("L4", "deflate", "param 1 / target", old_entry=stream, new_entry=stream)]
+    notes = [one_note("affected export", name, f"as deflate {path}") for name in ("take", "inflate")]
+    for count, perhaps in ((1, ", and perhaps the type itself"), (2, "")):
+        stand_in(project, monkeypatch, breaks=breaks[:count], side_notes=notes)
+        lines = report(old, old).out.splitlines()
+        assert any(line.startswith("struct stream") for line in lines)
+        reaching = ["deflate", "inflate"] if perhaps else ["deflate"]
+        others = [name for name in ("take", "inflate") if name not in reaching]
+        told = " ".join(" ".join(lines).split())
+        assert f"reached by {len(reaching)} export" in told and f"{perhaps}: {', '.join(others)} by way of" in told, told
+        (block,) = document(old, old)["report"]["types"]
+        assert (block["exports"], block["member_exports"], block["all_exports"]) == (reaching, others, True)
+
+
+def test_a_note_counts_for_all_breaks_of_its_two_types(project: Project, monkeypatch: pytest.MonkeyPatch) -> None:
+    """Of each two types there are notes at the first break alone, and none belongs to a break of an export itself."""
+    old = project.build("old")
+    entries = {"old_entry": 1, "new_entry": 2}
+    breaks = [one_break("X5", "table", ""), one_break("L2", "table", "", **entries), one_break("L4", "take", "param 1", **entries),
+              one_break("L2", "give", "param 1")]
+    stand_in(project, monkeypatch, side_notes=[one_note("affected export", "inflate", "as table")], breaks=breaks)
+    told = document(old, old)["report"]
+    assert [one["exports"] for one in told["types"]] == [["table", "inflate", "take"]] * 2 + [["give"]], told
+    assert [one["exports"] for one in told["exports"]] == [["table"]], told
+
+
+def test_the_program_is_asked_for_notes_or_not(project: Project, monkeypatch: pytest.MonkeyPatch) -> None:
+    old = project.build("old")
+    stand_in(project, monkeypatch, breaks=[])
+    asked = project.folder / "asked"
+    program = project.folder / "stand_in"
+    program.write_text(program.read_text().replace("cat", f"echo $ABI_NOTES >>'{asked}'\ncat", 1))
+    monkeypatch.setenv("ABI_NOTES", "1")
+    for options in ((), ("--fast",), ("--quiet",)):
+        report(*options, old, old)
+    assert asked.read_text().split() == ["1", "0", "0"]
+
+
+def test_successors_of_notes_stand_in_place_of_a_search(project: Project, monkeypatch: pytest.MonkeyPatch) -> None:
+    old = project.build("old")
+    notes = [one_note("likely successor", "old_name", None, "old_name", "chosen_name")]
+    stand_in(project, monkeypatch, breaks=[one_break("X2", "old_name", "")], side_notes=notes)
+    monkeypatch.setenv("ABI", "/bin/false")
+    ended = report(old, old)
+    assert "perhaps now chosen_name; it was defined at stream.c:9" in ended.out and "Notes" not in ended.out, ended
+
+
+def test_notes_of_other_kinds_are_shown_with_the_places_of_their_exports(project: Project, monkeypatch: pytest.MonkeyPatch) -> None:
+    """But for those on names of two types that break a rule."""
+    old = project.build("old")
+    notes = [one_note("idle section", None, None, "line 3"), one_note("object qualifiers", "take", None, None, "const"),
+             one_note("defined elsewhere", "give", "param 1 / target", "4 bytes", "8 bytes"),
+             one_note("name of type", "take", "param 1", "a", "b"), one_note("name of type", "give", "param 1 / target", "a", "b"),
+             *(one_note("parameter name", f"f{k}", "param 1", "unsigned\\x20int", "b") for k in range(12))]
+    stand_in(project, monkeypatch, breaks=[one_break("L2", "take", "param 1")], notes=["a sentence"], side_notes=notes)
+    lines = report(old, old).out.splitlines()
+    start = lines.index("Notes")
+    assert lines[start + 1:start + 6] == [
+        "  a sentence", "  idle section: line 3", "  object qualifiers: take: const  defined at stream.c:7",
+        "  defined elsewhere: give param 1 / target: 4 bytes -> 8 bytes  defined at stream.c:8",
+        "  parameter name: f0 param 1: unsigned int -> b"]
+    assert "  parameter name: and 2 more" in lines, lines
+
+
+# ---- what changed, in order
+
+
+_POINTS = """\
+struct point { %s x, y; };
+struct box { struct point low, high; char name; };
+struct page { struct box box; struct point *mark; };
+enum kind { FIRST, %s LAST };
+struct box bounds(struct page *page, enum kind kind);
+"""
+_BOUNDS = '#include "stream.h"\nstruct box bounds(struct page *page, enum kind kind) { (void)kind; return page->box; }\n'
+
+
+def test_causes_stand_before_what_they_change(project: Project) -> None:
+    old = project.build("old", _POINTS % ("int", ""), _BOUNDS)
+    new = project.build("new", _POINTS % ("long", "MIDDLE,"), _BOUNDS)
+    types = document(old, new)["report"]["types"]
+    titles = [one["title"] for one in types]
+    assert set(titles[:2]) == {"struct point", "enum kind"}, titles
+    assert {one["title"]: one["because"] for one in types} == {
+        "struct point": [], "enum kind": [], "struct box": ["struct point"], "struct page": ["struct point"],
+        **{title: ["struct point"] for title in titles if "bounds" in title}}
+    lines = report(old, new).out.splitlines()
+    assert lines.count("  because struct point grew (include/stream.h:1)") == len(types) - 2, lines
+
+
+def test_a_type_that_changed_itself_and_holds_another_one_says_both(project: Project) -> None:
+    header = _POINTS % ("int", "")
+    old = project.build("old", header, _BOUNDS)
+    new = project.build("new", (_POINTS % ("long", "")).replace("char name", "long name"), _BOUNDS)
+    assert "  also because struct point grew (include/stream.h:1)" in report(old, new).out.splitlines()
+
+
+def test_members_and_enumerators_stand_in_the_order_of_their_declaration(project: Project) -> None:
+    old = project.build("old", _POINTS % ("int", ""), _BOUNDS)
+    new = project.build("new", _POINTS % ("long", "MIDDLE,"), _BOUNDS)
+    lines = {one["title"]: [f"{line['part']}: {line['text']}" for line in one["changes"]] for one in document(old, new)["report"]["types"]}
+    assert lines["enum kind"] == ["enumerator MIDDLE: added, 1", "enumerator LAST: 1 -> 2"]
+    assert [re.sub(r"^(.*): \w+ -> [\w ]+, ", r"\1: ", line) for line in lines["struct point"] if line.startswith("member")] == [
+        "member x: 4 -> 8 bytes, at byte 0", "member y: 4 -> 8 bytes, byte 4 -> 8"], lines
+    assert [line for line in lines["struct box"] if line.startswith("member")] == [
+        "member low: struct point, 8 -> 16 bytes, at byte 0", "member high: struct point, 8 -> 16 bytes, byte 8 -> 16",
+        "member name: char, 1 byte, byte 16 -> 32"], lines
+
+
+def test_names_are_merged_in_the_order_of_both() -> None:
+    assert merged(["a", "b", "c"], ["x", "a", "c", "y", "z"]) == ["x", "a", "b", "c", "y", "z"]
+    assert merged([], ["a", "b"]) == ["a", "b"] and merged(["a"], []) == ["a"]
+
+
+def test_a_function_has_the_line_of_its_header_where_a_caller_has_it(tmp_path: Path) -> None:
+    """gcc writes declarations of functions that optimized code calls."""
+    (tmp_path / "take.h").write_text("\nint take(int *number, int more);\nint give(int, int);\n")
+    (tmp_path / "take.c").write_text('#include "take.h"\nint take(int *number, int more) { return *number + more; }\n'
+                                     "int give(int a, int b) { return a + b; }\n")
+    (tmp_path / "call.c").write_text('#include "take.h"\nint call(int a, int b);\nint call(int a, int b) { return take(&b, a) + 1; }\n')
+    done("gcc", "-shared", "-fPIC", "-O2", "-g", "-o", "library.so", "take.c", "call.c", folder=tmp_path)
+    records = Records(Entries(tmp_path / "library.so"))
+    functions = {name: records.export(name) for name in ("take", "give")}
+    places = {name: records.place(entry) for name, entry in functions.items() if entry is not None}
+    assert {name: (Path(place.file).name, place.line, place.is_definition) for name, place in places.items() if place is not None} == {
+        "take": ("take.h", 2, False), "give": ("take.c", 3, True)}
+
+
+def test_places_say_which_source_they_are_of(project: Project) -> None:
+    old = project.build("old")
+    header = HEADER.replace("    unsigned avail", "    long added;\n    unsigned avail").replace("    struct limits limits;\n", "")
+    text = report(old, project.build("new", f"\n{header}")).out
+    assert "struct stream  include/stream.h:5, now include/stream.h:6" in text
+    assert "at byte 8  include/stream.h:8 (new)" in text and "at byte 12  include/stream.h:8 (old)" in text, text
+
+
+def test_sonames_and_rules_stand_at_the_head(project: Project) -> None:
+    old, new = changed(project)
+    lines = report(old, new).out.splitlines()
+    assert lines[2] == "Both have the soname libstream.so.1: programs that were built with the old library load the new one."
+    assert lines[3].startswith("Rules: X2 export gone, L2 size changed")
+    named = old.with_name("named.so")
+    done("gcc", "-shared", "-fPIC", "-g", "-Wl,-soname,libstream.so.2", "-Iinclude", "-o", named, "src/stream.c", folder=old.with_suffix(""))
+    assert "The old library has the soname libstream.so.1 and the new one the soname libstream.so.2" in report(old, named).out
+
+
 # A line of the report on some edits, before its places.
 _LINES = {
     "a member takes the place of reserved ones":
@@ -215,8 +444,20 @@ def test_documents_of_edits_agree_with_the_text_report_row_by_row(edit: Edit, tm
     named = [number for block in blocks_of(found) for number in block]
     assert sorted(named) == list(range(len(rows))), (rows, found["report"])
     text = report(old, new).out
+    records = Records(Entries(old))
     for one in found["breaks"]:
         assert re.search(rf"^  [XL0-9 ]*\b{one['rule']}\b", text, re.MULTILINE), (one, text)
+        assert is_found(records, one), one
+
+
+def is_found(records: Records, one: dict[str, Any]) -> bool:
+    """Whether the structure or union of a break is found from its export on, with as few steps."""
+    export, wanted = records.export(one["export"]), records.record(one["old_entry"])
+    if export is None or wanted is None:
+        return True
+    found = (len(steps) for entry, steps in reached(records, export, 1000)
+             if entry.offset == wanted.offset or (entry.tag, entry.name) == (wanted.tag, wanted.name))
+    return next(found, len(one["steps"]) + 1) <= len(one["steps"])
 
 
 def row_of(one: dict[str, str]) -> str:

@@ -2,7 +2,6 @@
 
 from __future__ import annotations
 
-import json
 import re
 from html.parser import HTMLParser
 from pathlib import Path
@@ -10,7 +9,7 @@ from pathlib import Path
 import pytest
 
 from conftest import done
-from report_support import HEADER, SOURCE, Project, report
+from report_support import HEADER, SOURCE, Project, document, report, stand_in
 
 # Two breaks for each structure.
 _STRUCTURES = 2500
@@ -73,13 +72,16 @@ def test_the_page_says_the_answer_and_which_line_to_look_at(project: Project) ->
     assert "struct stream" in page.text and "stream.h:7" in page.text
     assert "old_name2" in page.text
     assert [found for tag, found in page.found if tag == "title"] and "may not replace" in page.text
+    assert f"Files are below {old.with_suffix('')} ({old}) and {new.with_suffix('')} ({new})." in page.text
+    assert "X2 export gone L2 size changed L7 member moved Each two types are reported once" in page.text
+    assert "Both have the soname libstream.so.1" in page.text
 
 
 def test_a_yes_and_what_cannot_be_told_have_pages(project: Project) -> None:
     old = project.build("old")
     bare = project.build("bare", HEADER, SOURCE, "-g0")
     assert "may replace" in Tags(page_of(old, old, status=0)).text
-    assert "have none in the new one" in Tags(page_of(old, bare, status=2)).text
+    assert "are gone" in Tags(page_of(old, bare, status=2)).text
 
 
 def test_the_page_needs_no_other_file(project: Project) -> None:
@@ -135,15 +137,47 @@ def test_the_page_is_the_same_each_time(project: Project) -> None:
     assert page_of(old, new) == page_of(old, new)
 
 
+def test_parts_of_bars_stand_where_the_bytes_are(project: Project) -> None:
+    old = project.build("old")
+    page = page_of(old, project.build("new", HEADER.replace("int low, high", "long low, high")))
+    bars = re.findall(r'<div class="bar" style="width:([0-9.]+)%">(.*?)</div>', page)
+    assert [float(width) for width, _ in bars] == [50, 100, 80, 100], bars
+    cells = [[(name, float(left)) for left, name in re.findall(r"left:([0-9.]+)%;width:[0-9.]+%\">(\w*)", cells)] for _, cells in bars[2:]]
+    assert cells == [[("next", 0), ("avail", 25), ("limits", 37.5), ("", 62.5), ("state", 75)],
+                     [("next", 0), ("avail", 20), ("", 30), ("limits", 40), ("state", 80)]]
+
+
+def test_each_export_has_its_way_to_the_type(project: Project, monkeypatch: pytest.MonkeyPatch) -> None:
+    """The document says one of them. The others are looked for; of more exports than eight the later ones are named."""
+    old = project.build("old")
+    new = project.build("new", HEADER.replace("unsigned avail;", "unsigned avail; long more;"))
+    made = document(old, new)
+    (row,) = {f"as {one['export']} {one['path']}" for one in made["breaks"] if one["rule"] == "L2" and one["path"].endswith("target")}
+    others = [name for name in ("deflate", "inflate", "state_new") if name != row.split()[1]] + [f"f{k}" for k in range(9)]
+    notes = [{"kind": "affected export", "export": name, "path": row, "was": None, "is": None} for name in others]
+    stand_in(project, monkeypatch, breaks=made["breaks"], places=made["places"], side_notes=notes)
+    page = page_of(old, new)
+    for name in ("deflate", "inflate", "state_new"):
+        assert re.search(rf'The way from {name} to the type"><li><span class="code find">{name}</span><li><span class="code">param 1</span>'
+                         r'<li><span class="code">target</span></ol>', page), name
+    assert "12 exports:" in page and "<summary>and 4 others</summary>" in page
+    assert "perhaps others" not in page
+
+
+def test_boxes_name_what_made_them_change(project: Project) -> None:
+    old = project.build("old")
+    page = page_of(old, project.build("new", HEADER.replace("int low, high", "long low, high")))
+    number = re.search(r'<article class="block" id="(block-\d+)" aria-labelledby="title-\d+">\n<div class="head"><h3 id="title-\d+">'
+                       r'<code class="find">struct limits</code>', page)
+    assert number is not None
+    assert f'Because <a href="#{number[1]}"><code>struct limits</code></a> grew (include/stream.h:3).' in page
+    assert page.index("struct limits</code></h3>") < page.index("struct stream</code></h3>")
+
+
 def test_a_page_with_5000_rows(project: Project, monkeypatch: pytest.MonkeyPatch) -> None:
     """By a stand-in for the program, which prints a document of that many breaks."""
     old = project.build("old")
-    made = project.folder / "made.json"
-    made.write_text(json.dumps(many_breaks()))
-    stand_in = project.folder / "stand_in"
-    stand_in.write_text(f"#!/bin/sh\ncat '{made}'\nexit 1\n")
-    stand_in.chmod(0o755)
-    monkeypatch.setenv("ABI_JSON", str(stand_in))
+    stand_in(project, monkeypatch, **many_breaks())
     page = page_of(old, old)
     assert page.count("<article") == _STRUCTURES
     assert set(re.findall(r"struct s(\d+)", page)) == {str(k) for k in range(_STRUCTURES)}
@@ -153,9 +187,10 @@ def test_a_page_with_5000_rows(project: Project, monkeypatch: pytest.MonkeyPatch
 def many_breaks() -> dict[str, object]:
     """A document of two breaks for each structure, whose entries lie behind those of any library here."""
     rules = (("L2", "size", "size 16, now 24"), ("L4", "alignment", "alignment 4, now 8"))
-    breaks = [{"rule": rule, "name": name, "export": f"use{k}", "steps": ["param 1", "target"], "detail": detail,
-               "old_entry": _BEHIND + k, "new_entry": _BEHIND + k} for k in range(_STRUCTURES) for rule, name, detail in rules]
+    breaks = [{"rule": rule, "name": name, "export": f"use{k}", "steps": ["param 1", "target"], "path": "param 1 / target",
+               "detail": detail, "part": None, "was": None, "is": None, "old_entry": _BEHIND + k, "new_entry": _BEHIND + k}
+              for k in range(_STRUCTURES) for rule, name, detail in rules]
     side = {"types": {str(_BEHIND + k): f"struct s{k}" for k in range(_STRUCTURES)},
             "places": {str(_BEHIND + k): {"file": "made.h", "line": k + 1} for k in range(_STRUCTURES)}}
     both = {name: {"old": found, "new": found} for name, found in side.items()}
-    return {"format": 1, "answer": "no", "status": 1, "inputs": [], "breaks": breaks, **both}
+    return {"breaks": breaks, **both}

@@ -225,7 +225,7 @@ fn changed_enumerator(random: &mut Random, piece: &Piece) -> Piece {
     changed
 }
 
-// A part that names another type, of those that its sort may name.
+// The part with another type, one that its sort allows.
 fn with_another_type(random: &mut Random, piece: &Piece, number: u32) -> Piece {
     let mut changed = *piece;
     changed.to = match piece.sort {

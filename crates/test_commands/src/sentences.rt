@@ -297,7 +297,11 @@ fn an_outcome_has_its_notes(rt: HostRuntime) -> Result<(), Fail> {
         (Outcome::Unreadable(Input::Rules, fault), 0, ""),
         (Outcome::ReadFault(Input::Old), 1, "a.so: no such file"),
         (Outcome::ReadFault(Input::Library), 0, ""),
-        (Outcome::NoMemory, 1, "out of memory"),
+        (
+            Outcome::NoMemory,
+            1,
+            "out of memory, or past a limit (LIMITS in abi(1))",
+        ),
         (Outcome::WriteFault, 1, "writing failed"),
         (Outcome::Help, 0, ""),
         (Outcome::Usage, 0, ""),

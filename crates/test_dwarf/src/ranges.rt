@@ -1,7 +1,7 @@
 ghost use Rattle.std.specs.Prelude.{◌≤◌, length};
 ghost use Rattle.abi_base.specs.Limits.{input_limit};
 
-use abi_base::{Fault, FaultKind, INPUT_LIMIT};
+use abi_base::{Effort, Fault, FaultKind, INPUT_LIMIT};
 use dwarf_forms::Sections;
 use dwarf_text::Bases;
 use dwarf_text::ranges::*;
@@ -133,4 +133,56 @@ fn each_list_begins_where_its_first_range_does(rt: HostRuntime) {
         ENTRY,
     );
     assert_eq!(rt; without_bases, fault(FaultKind::Index));
+}
+
+// The effort for one byte.
+const EFFORT: usize = 64;
+
+// The place of a list, the bytes of its section, and how many of them stand before the end of its first range.
+#[derive(Drop)]
+struct ListRow<'a> {
+    list: ListAt,
+    bytes: &'a [u8],
+    want: usize,
+}
+
+fn row_of<'a>(list: ListAt, bytes: &'a [u8], want: usize) -> ListRow<'a> {
+    ListRow { list, bytes, want }
+}
+
+#[test]
+fn a_list_takes_the_effort_for_its_bytes_up_to_its_first_range(rt: HostRuntime) {
+    let base_and_pair = [5, 0, 0x40, 0, 0, 0, 0, 0, 0, 4, 8, 9, 4, 8, 9, 0];
+    let pairs_of_addresses = [
+        0xff, 0xff, 0xff, 0xff, 0xff, 0xff, 0xff, 0xff, 0, 0x20, 0, 0, 0, 0, 0, 0, 8, 0, 0, 0, 0,
+        0, 0, 0, 0x10, 0, 0, 0, 0, 0, 0, 0,
+    ];
+    let rows = [
+        row_of(ListAt::Offset(0), &[4, 8, 0x10, 0], 3),
+        row_of(ListAt::Offset(0), &base_and_pair, 12),
+        row_of(ListAt::Offset(9), &base_and_pair, 3),
+        row_of(ListAt::Offset(0), &[1, 1, 8], 2),
+        row_of(ListAt::Offset(0), &[0], 0),
+        row_of(ListAt::Index(1), &[8, 0, 0, 0, 9, 0, 0], 0),
+        row_of(ListAt::Pairs(0), &pairs_of_addresses, 32),
+        row_of(ListAt::Pairs(0), &[0; 16], 0),
+    ];
+    for row in &rows {
+        assert!(rt; row.bytes.len() <= INPUT_LIMIT);
+        let mut effort = Effort::for_bytes(1);
+        let spent = spend_first(row.list, &BASES, &sections(row.bytes), &mut effort);
+        assert!(rt; spent.is_ok(), "at {:?} of {:?}", row.list, row.bytes);
+        let rest = effort.spend(EFFORT.saturating_sub(row.want));
+        assert!(rt; rest.is_ok(), "at {:?} of {:?}", row.list, row.bytes);
+        let more = effort.spend(1);
+        assert!(rt; more.is_err(), "at {:?} of {:?}", row.list, row.bytes);
+    }
+    let mut no_effort = Effort::for_bytes(0);
+    let refused = spend_first(
+        ListAt::Offset(0),
+        &BASES,
+        &sections(&base_and_pair),
+        &mut no_effort,
+    );
+    assert!(rt; refused.is_err());
 }

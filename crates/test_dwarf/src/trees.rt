@@ -21,8 +21,11 @@ const INFO: &[u8] = b"\x20\x00\x00\x00\x05\x00\x01\x08\x00\x00\x00\x00\x01\x0c\
 \x1b\x00\x00\x00\x05\x00\x02\x08\x00\x00\x00\x00\x11\x22\x33\x44\x55\x66\x77\x88\x19\x00\x00\x00\
 \x05\x04\x01c\x00\x01\x00";
 
-// The number of entries of a made file, each with as many attributes. Stored values would take this number squared.
+// The number of entries of a made file.
 const MANY: usize = 400;
+
+// The number of attributes that each of them has. Stored values would take 24,000 places.
+const ATTRIBUTES: usize = 60;
 
 // Sections of these bytes.
 fn sections<'a>(info: &'a [u8], abbrevs: &'a [u8]) -> Sections<'a>
@@ -154,7 +157,7 @@ fn children_of_a_tag_are_listed(rt: HostRuntime) -> Result<(), Fail> {
 // the second one, each of them one byte.
 fn many(alloc: Global, pair: &[u8]) -> Result<(Vec<u8>, Vec<u8>), AllocError> {
     let mut abbrevs = b"\x01\x11\x01\x13\x0b\x00\x00\x02\x0d\x00".to_vec(alloc)?;
-    for _ in 0..MANY {
+    for _ in 0..ATTRIBUTES {
         abbrevs.extend_from_slice(pair)?;
     }
     abbrevs.extend_from_slice(b"\x00\x00\x00")?;

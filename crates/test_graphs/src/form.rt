@@ -2,20 +2,21 @@
 ghost use Rattle.std.specs.Prelude.{◌≡◌, ◌↔◌, false, true, [], map, IsTrue, IfSome};
 ghost use Rattle.std.specs.List.{list_all};
 ghost use Rattle.abi_types.specs.Parts.{plain_part};
-ghost use Rattle.abi_types.specs.Forms.{has_tag as the_kind_has_tag, has_elements as the_kind_has_elements, is_scalar, is_function, size_of_kind as the_size_of_kind, is_member as the_part_is_member, is_enumerator as the_part_is_enumerator, is_param as the_part_is_param, is_one_target as they_are_one_target, is_one_element as they_are_one_element, are_of_function as they_are_of_function, parts_fit as they_fit, no_call, HasForm};
+ghost use Rattle.abi_types.specs.Forms.{is_scalar, is_function, is_one_target as they_are_one_target, is_one_element as they_are_one_element, are_of_function as they_are_of_function, parts_fit as they_fit, no_call, HasForm};
+ghost use Rattle.abi_types.specs.Forms as spec;
 
 use abi_types::{Call, Group, Index, Kind, Part, Place, View};
 
 // Whether the types of a kind have tags.
 fn has_tag(kind: Kind) -> bool
-    ensures { result ≡ the_kind_has_tag kind }
+    ensures { result ≡ spec.has_tag kind }
 {
     matches!(kind, Kind::Enumeration | Kind::Structure | Kind::Union)
 }
 
 /// Whether the types of a kind hold elements of one type.
 pub fn has_elements(kind: Kind) -> bool
-    ensures { result ≡ the_kind_has_elements kind }
+    ensures { result ≡ spec.has_elements kind }
 {
     matches!(kind, Kind::Array | Kind::Vector)
 }
@@ -25,7 +26,7 @@ const POINTER_SIZE: u64 = 8;
 
 // The size that all types of a kind have, where they have one.
 fn size_of_kind(kind: Kind) -> Option<u64>
-    ensures { result ≡ the_size_of_kind kind }
+    ensures { result ≡ spec.size_of_kind kind }
 {
     match kind {
         Kind::Void | Kind::Function => Some(0),
@@ -35,7 +36,7 @@ fn size_of_kind(kind: Kind) -> Option<u64>
 }
 
 fn is_member<Ix: Index>(part: &Part<Ix>) -> bool
-    ensures { result ≡ the_part_is_member (plain_part Ix.number_of part.now) }
+    ensures { result ≡ spec.is_member (plain_part Ix.number_of part.now) }
 {
     match part {
         Part::Member { .. } => true,
@@ -44,7 +45,7 @@ fn is_member<Ix: Index>(part: &Part<Ix>) -> bool
 }
 
 fn is_enumerator<Ix: Index>(part: &Part<Ix>) -> bool
-    ensures { result ≡ the_part_is_enumerator (plain_part Ix.number_of part.now) }
+    ensures { result ≡ spec.is_enumerator (plain_part Ix.number_of part.now) }
 {
     match part {
         Part::Enumerator { .. } => true,
@@ -54,7 +55,7 @@ fn is_enumerator<Ix: Index>(part: &Part<Ix>) -> bool
 
 /// Whether the part is a parameter.
 pub fn is_param<Ix: Index>(part: &Part<Ix>) -> bool
-    ensures { result ≡ the_part_is_param (plain_part Ix.number_of part.now) }
+    ensures { result ≡ spec.is_param (plain_part Ix.number_of part.now) }
 {
     match part {
         Part::Param { .. } => true,
@@ -63,19 +64,19 @@ pub fn is_param<Ix: Index>(part: &Part<Ix>) -> bool
 }
 
 fn are_members<Ix: Index>(parts: &[Part<Ix>]) -> bool
-    ensures { result ≡ list_all the_part_is_member (map (plain_part Ix.number_of) parts.now) }
+    ensures { result ≡ list_all spec.is_member (map (plain_part Ix.number_of) parts.now) }
 {
     parts.iter().all(|part| is_member(part))
 }
 
 fn are_enumerators<Ix: Index>(parts: &[Part<Ix>]) -> bool
-    ensures { result ≡ list_all the_part_is_enumerator (map (plain_part Ix.number_of) parts.now) }
+    ensures { result ≡ list_all spec.is_enumerator (map (plain_part Ix.number_of) parts.now) }
 {
     parts.iter().all(|part| is_enumerator(part))
 }
 
 fn are_params<Ix: Index>(parts: &[Part<Ix>]) -> bool
-    ensures { result ≡ list_all the_part_is_param (map (plain_part Ix.number_of) parts.now) }
+    ensures { result ≡ list_all spec.is_param (map (plain_part Ix.number_of) parts.now) }
 {
     parts.iter().all(|part| is_param(part))
 }
@@ -134,7 +135,7 @@ fn is_no_call(call: &Call) -> bool
 
 // Whether only a type whose kind has tags has one, or is declared only.
 fn tag_fits<Ix: Index>(view: &View<Ix>) -> bool
-    ensures { IsTrue result ↔ (the_kind_has_tag view.now.kind ≡ false → (view.now.tag ≡ []) × (view.now.declared_only ≡ false)) }
+    ensures { IsTrue result ↔ (spec.has_tag view.now.kind ≡ false → (view.now.tag ≡ []) × (view.now.declared_only ≡ false)) }
 {
     if has_tag(view.kind) {
         return true;
@@ -147,7 +148,7 @@ fn tag_fits<Ix: Index>(view: &View<Ix>) -> bool
 
 // Whether the size is that of the kind, where the kind has one.
 fn size_fits<Ix: Index>(view: &View<Ix>) -> bool
-    ensures { IsTrue result ↔ IfSome (the_size_of_kind view.now.kind) (λ size. view.now.size ≡ size) }
+    ensures { IsTrue result ↔ IfSome (spec.size_of_kind view.now.kind) (λ size. view.now.size ≡ size) }
 {
     match size_of_kind(view.kind) {
         Some(size) => view.size == size,
@@ -167,7 +168,7 @@ fn group_fits<Ix: Index>(view: &View<Ix>) -> bool
 
 // Whether only an array or a vector has a count.
 fn count_fits<Ix: Index>(view: &View<Ix>) -> bool
-    ensures { IsTrue result ↔ (the_kind_has_elements view.now.kind ≡ false → view.now.count ≡ 0) }
+    ensures { IsTrue result ↔ (spec.has_elements view.now.kind ≡ false → view.now.count ≡ 0) }
 {
     if has_elements(view.kind) {
         return true;

@@ -2,7 +2,8 @@
 ghost use Rattle.std.specs.Prelude.{◌≡◌, ◌≤◌, ◌↔◌, ◌-◌, ◌*◌, ℕ, ◌^◌, min, length, IsTrue};
 ghost use Rattle.abi_types.specs.Parts.{plain_part};
 ghost use Rattle.abi_types.specs.Limits.{room_limit};
-ghost use Rattle.abi_types.specs.Graphs.{node_at, view_at, part_at, room_of as the_room_of, rooms, KeepsBits, KeepsLimits, IsWhole};
+ghost use Rattle.abi_types.specs.Graphs.{node_at, view_at, part_at, rooms, KeepsBits, KeepsLimits, IsWhole};
+ghost use Rattle.abi_types.specs.Graphs as spec;
 
 use crate::form::has_elements;
 use abi_types::{Index, Node, Part, View};
@@ -59,7 +60,7 @@ fn keep_bits<Ix: Index>(view: &View<Ix>) -> bool
 
 // The room that a part takes among arguments, cut at the greatest number of 64 bits.
 fn room_of<Ix: Index>(nodes: &[Node<Ix>], part: &Part<Ix>) -> u64
-    ensures { result ≡ min (the_room_of nodes.now (plain_part Ix.number_of part.now)) (2 ^ 64 - 1) }
+    ensures { result ≡ min (spec.room_of nodes.now (plain_part Ix.number_of part.now)) (2 ^ 64 - 1) }
 {
     match part {
         Part::Param { to } => size_at(nodes, *to).saturating_add(ALIGN_ROOM),

@@ -2,7 +2,7 @@
 ghost use Rattle.std.specs.Prelude.{◌≡◌, ◌<◌, ◌≤◌, ◌↔◌, ℕ, length, map, count_by, All, IsSome, IsTrue, IfOk};
 ghost use Rattle.abi_base.specs.Limits.{depth_limit};
 ghost use Rattle.abi_types.specs.Exports.{PlainExport};
-ghost use Rattle.abi_types.specs.Forms.{is_param as the_part_is_param};
+ghost use Rattle.abi_types.specs.Forms as spec;
 ghost use Rattle.abi_types.specs.Graphs.{IsGraph, node_at, view_at, node_of};
 ghost use Rattle.abi_types.specs.Libraries.{AreNumbered, HasPlaces, IsLibrary};
 ghost use Rattle.abi_types.specs.Parts.{plain_part};
@@ -126,7 +126,7 @@ pub fn is_graph<Ix: Index>(alloc: Global, nodes: &[Node<Ix>]) -> Result<bool, No
 
 // How many of the parts are parameters.
 fn count_params<Ix: Index>(parts: &[Part<Ix>]) -> usize
-    ensures { result ≡ count_by the_part_is_param (map (plain_part Ix.number_of) parts.now) }
+    ensures { result ≡ count_by spec.is_param (map (plain_part Ix.number_of) parts.now) }
 {
     parts.iter().filter(|part| is_param(part)).count()
 }

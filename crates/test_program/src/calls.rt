@@ -50,7 +50,7 @@ fn shown(alloc: Global, bytes: Option<&[u8]>) -> Result<String, AllocError> {
     Ok(text)
 }
 
-// Each line: what is asked, by a name or by the number of a section | the bytes.
+// Each line: a section by its name, or a name by its number | the bytes, or - where there are none.
 const LOOKUPS: &str = "\
 section .comment|first
 section .dynstr|/f/data/

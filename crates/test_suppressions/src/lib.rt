@@ -2,6 +2,8 @@
 #![tactic(auto)]
 
 #[cfg(test)]
+mod idle;
+#[cfg(test)]
 mod marking;
 #[cfg(test)]
 mod rows;

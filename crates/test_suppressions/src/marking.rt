@@ -74,7 +74,7 @@ builtin:int
 struct:priv
 ";
 
-const SONAME: Option<&'static [u8]> = Some(b"lib.so.1");
+pub(crate) const SONAME: Option<&'static [u8]> = Some(b"lib.so.1");
 
 fn symbol_kind(word: &str) -> SymbolKind {
     match word {
@@ -175,7 +175,7 @@ fn graph_of(rt: &impl Abort, alloc: Global) -> Result<Graph<'static, OldIx>, NoM
     }
 }
 
-fn library(
+pub(crate) fn library(
     rt: &impl Abort,
     alloc: Global,
     soname: Option<&'static [u8]>,
@@ -186,7 +186,7 @@ fn library(
     Library::new(alloc, b"", soname, exports, graph)
 }
 
-fn rules_in(rt: &impl Abort, alloc: Global, text: &str) -> Rules {
+pub(crate) fn rules_in(rt: &impl Abort, alloc: Global, text: &str) -> Rules {
     match read_rules(alloc, text.as_bytes()) {
         Ok(rules) => rules,
         Err(_) => panic!(rt; "no rules"),

@@ -1,0 +1,160 @@
+#!/usr/bin/env bash
+# What `abi check` says of what no rule judges, on small C libraries that gcc and clang build: objects whose qualifiers change,
+# structures that one unit only declares and another one defines, dimensions of open arrays, members in padding, unions without
+# members, and functions of the old style.
+#
+#   tests/notes.sh                    builds the program of this repository
+#   ABI=/path/of/abi tests/notes.sh   takes another one
+set -eu
+title="notes"
+tools="gcc sed grep"
+crate=abi_cli
+. "$(dirname "$0")/common.bash"
+
+# Kinds of builds.
+builds="gcc -gdwarf-5
+gcc -gdwarf-4
+gcc -gdwarf-5 -fdebug-types-section"
+if there clang; then
+    ran=clang
+    builds="$builds
+clang -gdwarf-5
+clang -gdwarf-4"
+fi
+
+# Objects and functions, and structures that this unit only declares.
+cat >outer.c <<'END'
+int count = 1;
+int row[2] = { 1, 2 };
+int seen = 1;
+struct pair { int left, right; } both = { 1, 2 };
+int at(int (*table)[3], int i) { return (*table)[i]; }
+struct inner;
+int of_inner(struct inner *inner) { return inner != 0; }
+union either;
+int of_either(union either *either) { return either != 0; }
+enum color;
+int of_color(enum color *color) { return color != 0; }
+END
+
+# A structure that a second unit declares: its definition has one note, at the shorter path.
+cat >again.c <<'END'
+struct inner;
+int of_inner_again(struct inner **inner) { return inner != 0; }
+END
+
+# The structures of this unit are reached from no export.
+cat >inner.c <<'END'
+struct other { int a; };
+union either { int whole; char bytes[4]; };
+enum color { RED, GREEN };
+struct inner { int first; struct other *second; unsigned third : 3, fourth : 4; };
+__attribute__((visibility("hidden"))) int use(struct inner *inner, union either *either, enum color color) {
+    return inner->first + inner->fourth + either->whole + (color == GREEN);
+}
+void local(void) {
+    struct inner { char none; } here = { 0 };
+    (void)here;
+}
+END
+
+# units SIDE EDIT EDIT: the two units of a side, edited.
+units() {
+    sed "$2" outer.c >"$1_outer.c"
+    sed "$3" inner.c >"$1_inner.c"
+}
+
+# built SIDE: the library of its units, by the compiler and the options in `build`.
+built() {
+    $build -O0 -fPIC -shared -o "$1.so" "$1_outer.c" again.c "$1_inner.c" 2>warnings || fail "$build refuses the units of $1"
+}
+
+# said NAME: what is said of the two sides must be what the file `want` holds, by each kind of build.
+said() {
+    while read -r build; do
+        built old
+        built new
+        ABI_NOTES=1 "$program" check old.so new.so >answer 2>errors || fail "$1, $build: the answer is no yes"
+        sed -n '/^abi: note: exports with types: /d; s/^abi: note: //p' errors >got
+        same "$1, $build"
+        passed "$1, $build"
+    done <<<"$builds"
+}
+
+# notes NAME EDIT EDIT: the same, of the units before and after an edit of each.
+notes() {
+    units old "" ""
+    units new "$2" "$3"
+    said "$1"
+}
+
+# backward NAME EDIT EDIT: the same, of the units after the edits and before them.
+backward() {
+    units old "$2" "$3"
+    units new "" ""
+    said "$1"
+}
+
+: >want
+notes "nothing changes" "" ""
+
+echo "object qualifiers: count: was none, now const" >want
+notes "an object becomes const" "s/^int count/const &/" ""
+echo "object qualifiers: count: was const, now none" >want
+backward "an object stops being const" "s/^int count/const &/" ""
+echo "object qualifiers: seen: was none, now volatile" >want
+notes "an object becomes volatile" "s/^int seen/volatile &/" ""
+echo "object qualifiers: row: was none, now const" >want
+notes "an array becomes const" "s/^int row/const &/" ""
+echo "object qualifiers: both: was none, now const" >want
+notes "a structure becomes const" "s/^struct pair/const &/" ""
+echo "qualifiers: at param 1: was none, now const" >want
+notes "the elements behind a pointer become const" "s/int (\*table)/const &/" ""
+
+echo "defined elsewhere: of_inner param 1 / target: was size 24, now size 32" >want
+notes "a structure grows that another unit defines" "" "s/unsigned third/long more; &/"
+echo "defined elsewhere: of_inner param 1 / target: was member first at byte 0: 4-byte signed integer, now member first at byte 0: 4-byte float" >want
+notes "a member gets another type" "" "s/int first/float first/"
+echo "defined elsewhere: of_inner param 1 / target: was member second at byte 8: pointer to struct other, now member second at byte 8: pointer to union either" >want
+notes "a pointer gets another target" "" "s/struct other \*second/union either *second/"
+echo "defined elsewhere: of_either param 1 / target: was member bytes at byte 0: array [4] of 1-byte signed integer, now member bytes at byte 0: array [3] of 1-byte signed integer" >want
+notes "an array has other dimensions" "" "s/bytes\[4\]/bytes[3]/"
+echo "defined elsewhere: of_color param 1 / target: was enumerator GREEN 1, now enumerator GREEN 7" >want
+notes "an enumerator has another value" "" "s/GREEN }/GREEN = 7 }/"
+echo "defined elsewhere: of_color param 1 / target: was none, now enumerator BLUE 2" >want
+notes "an enumerator is added" "" "s/GREEN }/GREEN, BLUE }/"
+: >want
+notes "a structure that nothing declares alone changes" "" "s/int a;/long a;/"
+notes "a structure inside a function changes" "" "s/char none/long none/"
+# ---- one source against another
+
+# sources NAME COMPILERS OLD NEW: what is said of the libraries of two sources must be what the file `want` holds, by each kind of
+# build with one of the compilers.
+sources() {
+    while read -r build; do
+        case " $2 " in *" ${build%% *} "*) ;; *) continue ;; esac
+        echo "$3" | $build -w -O0 -fPIC -shared -o old.so -x c - || fail "$build refuses the old source of $1"
+        echo "$4" | $build -w -O0 -fPIC -shared -o new.so -x c - || fail "$build refuses the new source of $1"
+        ABI_NOTES=1 "$program" check old.so new.so >answer 2>errors || fail "$1, $build: the answer is no yes"
+        sed -n '/^abi: note: exports with types: /d; s/^abi: note: //p' errors >got
+        same "$1, $build"
+        passed "$1, $build"
+    done <<<"$builds"
+}
+
+echo 'array dimensions: last param 1 / target / member name / target: was [][16], now [][32]' >want
+sources "an inner dimension of an open array" "gcc clang" \
+    'struct names { int count; char (*name)[][16]; }; int last(struct names *names) { return names->count; }' \
+    'struct names { int count; char (*name)[][32]; }; int last(struct names *names) { return names->count; }'
+echo 'member in padding: f param 1 / target: was none, now member c at bit 8' >want
+sources "a member takes the place of padding" "gcc clang" \
+    'struct p { char a; int b; }; int f(struct p *p) { return p->b; }' \
+    'struct p { char a; char c; int b; }; int f(struct p *p) { return p->b + p->c; }'
+echo 'union without members: g param 1: was size 8, members 0, now size 8, members 0' >want
+sources "a transparent union, whose members gcc leaves out" gcc \
+    'typedef union { int *i; unsigned *u; } any __attribute__((transparent_union)); int g(any a) { return *a.i; }' \
+    'typedef union { int *i; long *u; } any __attribute__((transparent_union)); int g(any a) { return *a.i; }'
+echo 'prototype: h: was prototyped, now none' >want
+sources "a function of the old style" "gcc clang" 'int h(int a) { return a; }' 'int h(a) int a; { return a; }'
+
+finished
