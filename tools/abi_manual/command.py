@@ -10,8 +10,12 @@ from abi_tools.arguments import Arguments
 from abi_manual.completions import completion
 from abi_manual.manual_pages import abi_page, json_page
 from abi_manual.sources import read_manual
+from abi_manual.tool_pages import tool_page
 
-_DESCRIPTION = "Makes the manual pages and completions of share/ from tools/abi_manual/commands.toml."
+_DESCRIPTION = """\
+Makes the manual pages and completions of share/ from tools/abi_manual/commands.toml, and those of the tools in Python also from what
+they print with --help.
+"""
 _STATUSES = "Exit status: 0 written, or with --check all files are as they should be; 1 not; 64 wrong arguments."
 SHARE = Path(__file__).resolve().parents[2] / "share"
 
@@ -23,6 +27,7 @@ def made() -> dict[str, str]:
         "man/man1/abi.1": abi_page(manual), "man/man1/abi-json.1": json_page(manual),
         "bash-completion/completions/abi": completion(manual, "abi"),
         "bash-completion/completions/abi-json": completion(manual, "abi-json", ("report",)),
+        **{f"man/man1/{name}.1": tool_page(manual, name) for name in manual.tools},
     }
 
 

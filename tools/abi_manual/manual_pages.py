@@ -19,14 +19,16 @@ def abi_page(manual: Manual) -> str:
     """The page abi(1)."""
     source = manual.source
     lines = [
-        *_head("abi", source["brief"], source["date"]),
+        *head("abi", source["brief"], source["date"]),
         *_synopsis("abi", [command.usage for command in manual.commands]),
-        ".SH DESCRIPTION", *_paragraphs(source["description"]),
+        ".SH DESCRIPTION", *paragraphs(source["description"]),
         ".SH COMMANDS", *_commands(manual.commands),
-        ".SH OPTIONS", *_sentences(_OPTIONS),
+        ".SH OPTIONS", *sentences(_OPTIONS),
         *_options(manual, ()),
-        *_statuses(manual), *_examples(source["example"]),
-        ".SH SEE ALSO", ".BR abi\\-json (1),", ".BR abidiff (1),", ".BR readelf (1),", ".BR pahole (1)",
+        *_statuses(manual),
+        ".SH LIMITS", *paragraphs(source["limits"]),
+        *_examples(source["example"]),
+        ".SH SEE ALSO", ".BR abi\\-json (1),", ".BR abi\\-gate (1),", ".BR abi\\-packages (1),", ".BR abi\\-report (1),", ".BR abidiff (1),", ".BR readelf (1),", ".BR pahole (1)",
     ]
     return "\n".join(lines) + "\n"
 
@@ -36,9 +38,9 @@ def json_page(manual: Manual) -> str:
     source = manual.source
     commands = [_without(command) for command in manual.commands]
     lines = [
-        *_head("abi-json", "does what abi does, and prints one JSON document", source["date"]),
+        *head("abi-json", "does what abi does, and prints one JSON document", source["date"]),
         *_synopsis("abi-json", [command.usage for command in commands]),
-        ".SH DESCRIPTION", *_paragraphs(source["document"]),
+        ".SH DESCRIPTION", *paragraphs(source["document"]),
         ".SH OPTIONS", *_options(manual, _CHOSEN_BY_JSON),
         *_statuses(manual), *_examples(source["json_example"]),
         ".SH SEE ALSO", ".BR abi (1),", ".BR jq (1)",
@@ -52,9 +54,10 @@ def _without(command: Command) -> Command:
     return Command(command.name, options, command.files, command.words, command.text)
 
 
-def _head(name: str, brief: str, date: str) -> list[str]:
-    return ['.\\" Made by tools/make-manual from tools/abi_manual/commands.toml.',
-            f'.TH {_plain(name.upper())} 1 "{date}" "abi" "User Commands"', ".SH NAME", f"{_plain(name)} \\- {_plain(brief)}"]
+def head(name: str, brief: str, date: str, source: str = "tools/abi_manual/commands.toml") -> list[str]:
+    """How a page begins."""
+    return [f'.\\" Made by tools/make-manual from {source}.',
+            f'.TH {plain(name.upper())} 1 "{date}" "abi" "User Commands"', ".SH NAME", f"{plain(name)} \\- {plain(brief)}"]
 
 
 def _synopsis(name: str, usages: Iterable[str]) -> Iterator[str]:
@@ -62,23 +65,24 @@ def _synopsis(name: str, usages: Iterable[str]) -> Iterator[str]:
     yield ".nf"
     for usage in usages:
         command, _, rest = usage.partition(" ")
-        yield f"\\fB{_plain(name)} {_plain(command)}\\fR {_words(rest)}".rstrip()
+        yield f"\\fB{plain(name)} {plain(command)}\\fR {words(rest)}".rstrip()
     yield ".fi"
 
 
-def _words(usage: str) -> str:
+def words(usage: str) -> str:
     """The words of a usage line: those in capitals stand for something."""
-    return re.sub(r"\b([A-Z][A-Z0-9]*)\b", r"\\fI\1\\fR", _plain(usage))
+    return re.sub(r"\b([A-Z][A-Z0-9_]*)\b", r"\\fI\1\\fR", plain(usage))
 
 
-def _paragraphs(text: str) -> Iterator[str]:
+def paragraphs(text: str) -> Iterator[str]:
+    """A text of paragraphs."""
     for number, paragraph in enumerate(text.strip().split("\n\n")):
         if number:
             yield ".PP"
-        yield from _sentences(paragraph)
+        yield from sentences(paragraph)
 
 
-def _sentences(text: str) -> Iterator[str]:
+def sentences(text: str) -> Iterator[str]:
     """The text with a line for each sentence, since roff sets the blank behind one itself."""
     for sentence in re.split(r"(?<=[.:]) (?=[A-Z`])", text.strip()):
         for line in textwrap.wrap(_marked(sentence), _WIDTH, break_long_words=False, break_on_hyphens=False):
@@ -90,14 +94,14 @@ def _marked(text: str) -> str:
     parts = []
     at = 0
     for found in _MARKED.finditer(text):
-        parts.append(_plain(text[at:found.start()]))
+        parts.append(plain(text[at:found.start()]))
         font, word = ("B", found[1]) if found[1] is not None else ("I", found[2])
-        parts.append(f"\\f{font}{_plain(word)}\\fR")
+        parts.append(f"\\f{font}{plain(word)}\\fR")
         at = found.end()
-    return "".join(parts) + _plain(text[at:])
+    return "".join(parts) + plain(text[at:])
 
 
-def _plain(text: str) -> str:
+def plain(text: str) -> str:
     """A text in which no character means something to roff."""
     return text.replace("\\", "\\e").replace("-", "\\-").replace("'", "\\(aq").replace("^", "\\(ha").replace("~", "\\(ti")
 
@@ -110,8 +114,8 @@ def _commands(commands: Iterable[Command]) -> Iterator[str]:
     for command in commands:
         yield ".TP"
         name, _, rest = command.usage.partition(" ")
-        yield f"\\fB{_plain(name)}\\fR {_words(rest)}".rstrip()
-        yield from _sentences(command.text)
+        yield f"\\fB{plain(name)}\\fR {words(rest)}".rstrip()
+        yield from sentences(command.text)
 
 
 def _options(manual: Manual, left_out: Iterable[str]) -> Iterator[str]:
@@ -119,8 +123,8 @@ def _options(manual: Manual, left_out: Iterable[str]) -> Iterator[str]:
         if option.name not in left_out:
             value = "STYLE" if option.choices else option.value
             yield ".TP"
-            yield f"\\fB\\-\\-{_plain(option.name)}\\fR \\fI{value}\\fR"
-            yield from _sentences(option.text)
+            yield f"\\fB\\-\\-{plain(option.name)}\\fR \\fI{value}\\fR"
+            yield from sentences(option.text)
     yield ".TP"
     yield "\\fB\\-h\\fR, \\fB\\-\\-help\\fR"
     yield "Prints the usage."
@@ -131,7 +135,7 @@ def _statuses(manual: Manual) -> Iterator[str]:
     for status in manual.source["status"]:
         yield ".TP"
         yield f"\\fB{status['number']}\\fR"
-        yield from _sentences(status["text"])
+        yield from sentences(status["text"])
     yield ".PP"
     yield "With 2, 3, 4 and 6 a sentence on standard error says what is wrong."
 
@@ -141,5 +145,5 @@ def _examples(examples: Iterable[dict[str, str]]) -> Iterator[str]:
     for number, example in enumerate(examples):
         if number:
             yield ".PP"
-        yield from _sentences(example["text"])
-        yield from (".PP", ".nf", ".RS 4", _guarded(_plain(example["line"])), ".RE", ".fi")
+        yield from sentences(example["text"])
+        yield from (".PP", ".nf", ".RS 4", _guarded(plain(example["line"])), ".RE", ".fi")

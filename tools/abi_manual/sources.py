@@ -63,6 +63,11 @@ class Manual:
         return [Command(one["name"], tuple(self.options[name] for name in one["options"]), tuple(one.get("files", ())),
                         tuple(one.get("words", ())), one["text"]) for one in self.source["command"]]
 
+    @cached_property
+    def tools(self) -> dict[str, Any]:
+        """What stands in the source on each tool in Python, by its name."""
+        return {one["name"]: one for one in self.source["tool"]}
+
     def usage(self) -> str:
         """The usage text of `abi`."""
         lines = [f"abi {command.usage}" for command in self.commands]

@@ -10,8 +10,8 @@ from pathlib import Path
 from typing import Iterable, Mapping, NamedTuple, Optional
 
 from abi_tools.abi_program import NO, YES, Abi, Answer
-from abi_tools.gates import Verdict
 from abi_tools.unpacking import unpack
+from abi_tools.verdicts import Verdict
 from abi_release import workers
 from abi_release.judging import Outcome, Settings, guarded, rule_file_of
 from abi_release.limited_program import LimitedAbi

@@ -12,10 +12,9 @@ from pathlib import Path
 from typing import Callable, Sequence, TextIO
 
 from abi_tools.abi_program import Abi
-from abi_tools.arguments import Arguments
+from abi_tools.arguments import Arguments, share
 from abi_tools.faults import Fault
-from abi_tools.gate_command import share
-from abi_tools.gates import Verdict
+from abi_tools.verdicts import Verdict
 from abi_release.apps import Ask, has_command
 from abi_release.clusters import Choice, LocalChoice, OtherChoice, default_megabytes, processors
 from abi_release.digests import OF_NOTHING, digest_of_file, program_digest

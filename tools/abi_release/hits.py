@@ -10,7 +10,7 @@ from abi_release.judging import GONE
 from abi_release.needs import ANY_LIBRARY, Imports
 from abi_release.sources import MOVED, Work
 from abi_release.stored_files import Json, Store
-from abi_tools.gates import Verdict
+from abi_tools.verdicts import Verdict
 
 BROKEN = (Verdict.NO.words(), GONE)
 # Of the exports that one package imports, so many are named.

@@ -9,8 +9,9 @@ from pathlib import Path
 from typing import Callable, NamedTuple, Optional
 
 from abi_tools.faults import Fault
-from abi_tools.gates import Judgement, Verdict, judge
+from abi_tools.gates import Judgement, judge
 from abi_tools.package_sides import Pair, package_rules
+from abi_tools.verdicts import Verdict
 from abi_release import workers
 from abi_release.digests import OF_NOTHING, digest_of_file, digest_of_files, program_digest
 from abi_release.limited_program import LimitedAbi, Limits

@@ -4,25 +4,18 @@ from __future__ import annotations
 
 import subprocess
 from pathlib import Path, PurePosixPath
-from typing import Iterable, Iterator, Optional
+from typing import Iterable, Iterator
 
 from debian.arfile import ArError
 from debian.deb822 import PkgRelation
 from debian.debfile import DebError, DebFile
-from elftools.elf.dynamic import DynamicSection
-from elftools.elf.elffile import ELFFile
-from elftools.elf.gnuversions import GNUVerNeedSection, GNUVerSymSection
-from elftools.elf.sections import SymbolTableSection
 
 from abi_tools.debug_files import DEBUG_FOLDER
-from abi_tools.elf_files import DAMAGED
+from abi_tools.elf_files import ElfFile
 from abi_tools.faults import Fault
 
 # The first bytes of an ELF-64 file in little endian.
 _IDENTITY = b"\x7fELF\x02\x01"
-# Indexes of symbol versions that name none, and the bit that hides one.
-_VERSIONS_FROM = 2
-_HIDDEN = 0x7FFF
 # Under this name stand imports that name no version, and so no library.
 ANY_LIBRARY = ""
 
@@ -70,11 +63,11 @@ def imports(root: Path, names: Iterator[Path]) -> Imports:
         with path.open("rb") as stream:
             if stream.read(len(_IDENTITY)) != _IDENTITY:
                 continue
-            try:
-                for library, symbol in _imported(ELFFile(stream)):
-                    found.setdefault(library, set()).update([symbol] if symbol else [])
-            except DAMAGED:
-                continue
+        try:
+            for library, symbol in _imported(ElfFile(path)):
+                found.setdefault(library, set()).update([symbol] if symbol else [])
+        except Fault:
+            continue
     return {library: sorted(symbols) for library, symbols in sorted(found.items())}
 
 
@@ -88,35 +81,8 @@ def files_that_need(root: Path, names: Iterable[PurePosixPath]) -> dict[str, lis
     return found
 
 
-def _imported(elf: ELFFile) -> Iterator[tuple[str, str]]:
+def _imported(file: ElfFile) -> Iterator[tuple[str, str]]:
     """The libraries that a file needs, each without a name, and the names that it imports, with their versions."""
-    needed: Optional[GNUVerNeedSection] = None
-    indexes: Optional[GNUVerSymSection] = None
-    symbols: Optional[SymbolTableSection] = None
-    for section in elf.iter_sections():
-        if isinstance(section, DynamicSection):
-            for tag in section.iter_tags("DT_NEEDED"):
-                yield tag.needed, ""
-        elif isinstance(section, GNUVerNeedSection):
-            needed = section
-        elif isinstance(section, GNUVerSymSection):
-            indexes = section
-        elif isinstance(section, SymbolTableSection) and section.header.sh_type == "SHT_DYNSYM":
-            symbols = section
-    versions = {} if needed is None else {one.entry.vna_other: (library.name, one.name)
-                                          for library, ones in needed.iter_versions() for one in ones}
-    for number, symbol in enumerate(symbols.iter_symbols() if symbols is not None else ()):
-        if symbol.entry.st_shndx != "SHN_UNDEF" or not symbol.name:
-            continue
-        index = _HIDDEN & _index(indexes, number)
-        if index in versions:
-            library, version = versions[index]
-            yield library, f"{symbol.name}@{version}"
-        else:
-            yield ANY_LIBRARY, symbol.name
-
-
-def _index(indexes: Optional[GNUVerSymSection], number: int) -> int:
-    """The index of the version of a symbol."""
-    value = 0 if indexes is None else indexes.get_symbol(number).entry.ndx
-    return value if isinstance(value, int) else 0
+    yield from ((library, "") for library in file.needed())
+    for name, version in file.imports():
+        yield (ANY_LIBRARY, name) if version is None else (version[0], f"{name}@{version[1]}")

@@ -14,7 +14,7 @@ from abi_release.judging import GONE, NEW, NOT_JUDGED
 from abi_release.scheduling import Failure
 from abi_release.sources import MOVED, Work
 from abi_release.stored_files import Json, Store, record_name
-from abi_tools.gates import Verdict
+from abi_tools.verdicts import Verdict
 
 # What a line measures, which is another thing on each run.
 MEASURED = "measured"
@@ -106,7 +106,8 @@ class Table:
     def summary(self) -> str:
         """How many libraries there were of each kind."""
         said = ", ".join(f"{count} {word}" for word, count in sorted(self.counts.items()))
-        return f"{sum(self.counts.values())} lines{': ' + said if said else ''}"
+        count = sum(self.counts.values())
+        return f"{count} line{'s' if count != 1 else ''}{': ' + said if said else ''}"
 
 
 def _empty(name: str) -> Json:

@@ -16,18 +16,39 @@ _WORDS = {"L1": "kind of type", "L2": "size", "L3": "sort of number", "L4": "ali
 _FIXED = {"X2": "the symbol is gone", "X3": "this version of the symbol is gone", "X6": "its type information is gone"}
 _ENUMERATORS = ("L9", "L10")
 _PARTS = ("L6", "L7", "L8")
+_STEP = " / "
+# The heads of lines on how large a type is and how it is aligned.
+OF_WHOLE = (_WORDS["L2"], _WORDS["L4"])
+
+
+# A member in the old and in the new library.
+Pair = tuple[Optional[Member], Optional[Member]]
 
 
 @dataclass(frozen=True)
 class Line:
-    """What changed in a type: the part of it, what is said of that, the breaks that say it (none where it breaks nothing), and
-    where the part is declared in the old and in the new library."""
+    """What changed in a type: the part of it, its types as C writes them, what is said of it, the breaks that say it (none where it
+    breaks nothing), where the part is declared in the old and in the new library, the part in both libraries where it is a member,
+    and whether another change only moved it."""
 
     head: str
-    text: str
+    types: str
+    said: str
     breaks: tuple[Break, ...]
     old_place: Optional[Place] = None
     new_place: Optional[Place] = None
+    members: Pair = (None, None)
+    is_moved: bool = False
+
+    @property
+    def names_part(self) -> bool:
+        """Whether the part has a name."""
+        return self.head.startswith(("member ", "enumerator "))
+
+    @property
+    def text(self) -> str:
+        """The types, and what is said of them."""
+        return ", ".join(word for word in (self.types, self.said) if word)
 
     @property
     def rules(self) -> tuple[str, ...]:
@@ -37,11 +58,13 @@ class Line:
 
 @dataclass
 class Block:
-    """A changed type, function or export."""
+    """A changed type, function or export: what it is, its breaks with the steps from it to what broke, its lines, and the exports from
+    which it was found among those that reach types of its members."""
 
     subject: Subject
     found: list[tuple[Break, tuple[str, ...]]] = field(default_factory=list)
     lines: list[Line] = field(default_factory=list)
+    leading: tuple[str, ...] = ()
 
     @property
     def breaks(self) -> list[Break]:
@@ -62,12 +85,32 @@ class Block:
     @property
     def exports(self) -> tuple[str, ...]:
         """The exports that are known to reach the type, in the order of the document."""
-        return tuple(dict.fromkeys(label for one in self.breaks for label in one.reaching))
+        named = [label for one, rest in self.found if not rest for label in one.reaching]
+        return tuple(dict.fromkeys([*named, *(one.export for one in self.breaks), *self.leading]))
+
+    @property
+    def member_exports(self) -> tuple[str, ...]:
+        """Further exports, which reach types of members, and perhaps by way of other types."""
+        known = set(self.exports)
+        return tuple(dict.fromkeys(label for one in self.breaks for label in one.exports if label not in known))
+
+    @property
+    def is_exact(self) -> bool:
+        """Whether no further export reaches the type."""
+        return not self.member_exports or any(one.exports for one, rest in self.found if not rest)
 
     @property
     def names_all_exports(self) -> bool:
-        """Whether the document names all exports that reach each break."""
+        """Whether the document names all exports that reach the type or types of members."""
         return all(one.exports for one in self.breaks)
+
+    @property
+    def ways(self) -> dict[str, tuple[str, ...]]:
+        """The steps to the type, by the exports from which they are known."""
+        found: dict[str, tuple[str, ...]] = {}
+        for one, rest in self.found:
+            found.setdefault(one.export, one.steps[:len(one.steps) - len(rest)])
+        return found
 
     @property
     def is_gone(self) -> bool:
@@ -95,7 +138,7 @@ def blocks_of(document: Document, old: Side, new: Side) -> list[Block]:
         subject, rest = subjects.of(one)
         found.setdefault(subject.key, Block(subject)).found.append((one, rest))
     for block in found.values():
-        block.lines = list(Lines(block, old, new).all())
+        block.lines = Lines(block, old, new).all()
     return list(found.values())
 
 
@@ -105,44 +148,56 @@ class Lines:
     def __init__(self, block: Block, old: Side, new: Side) -> None:
         self._block = block
         self._sides = (old, new)
-        self._members = [_members(side, described) for side, described in
-                         ((old, block.subject.old), (new, block.subject.new))]
+        described = ((old, block.subject.old), (new, block.subject.new))
+        self._members = [_members(side, one) for side, one in described]
+        self._enumerators = [_enumerators(side, one) for side, one in described]
 
-    def all(self) -> Iterable[Line]:
-        """First what is said of the type itself, then of its parts, and last what changed beside the breaks."""
+    def all(self) -> list[Line]:
+        """First what is said of the type itself, and then of its parts, also what changed beside the breaks, in the order of their
+        declaration."""
+        own: list[Line] = []
         parts: dict[str, list[tuple[Break, tuple[str, ...]]]] = {}
         for one, rest in self._block.found:
             head = _head(one, rest)
             if head:
                 parts.setdefault(head, []).append((one, rest))
             else:
-                yield self._own(one)
-        for head, found in parts.items():
-            yield self._part(head, found)
-        yield from self._beside(set(parts))
+                own.append(self._own(one))
+        lines = [*(self._part(head, found) for head, found in parts.items()), *self._beside(set(parts)), *self._added_enumerators()]
+        order = {head: number for number, head in enumerate(self._declared())}
+        return own + sorted(lines, key=lambda line: order.get(line.head.split(_STEP)[0], len(order)))
+
+    def _declared(self) -> list[str]:
+        """The parts of the type in the order of their declaration: those of the old one, and each new one behind the one that stands
+        before it."""
+        members = [[f"member {label}" for label in side] for side in self._members]
+        enumerators = [[f"enumerator {name}" for name in side] for side in self._enumerators]
+        return [*merged(*members), *merged(*enumerators), "result"]
 
     def _own(self, one: Break) -> Line:
         """What is said of the type, function or export itself."""
         subject = self._block.subject
         places = (subject.old.place, subject.new.place)
         if one.rule in _FIXED:
-            return Line("", _FIXED[one.rule], (one,), *places)
-        return Line(_WORDS.get(one.rule, one.name), _amount(one, change_of(one)) or one.detail, (one,), *places)
+            return Line("", "", _FIXED[one.rule], (one,), *places)
+        return Line(_WORDS.get(one.rule, one.name), "", _amount(one, change_of(one)) or one.detail, (one,), *places)
 
     def _part(self, head: str, found: Sequence[tuple[Break, tuple[str, ...]]]) -> Line:
         """What is said of a member, an enumerator, a parameter or a result."""
         first, rest = found[0]
         label = _member_label(first, rest)
         old, new = (members.get(label or "") for members in self._members)
-        said = [*self._types(first, rest, old, new)]
-        said += [_said(one, left) for one, left in found if one.rule not in ("L6", "L7")]
-        if any(one.rule == "L6" for one, _ in found):
-            said.append("gone")
-        said += _places(found, old, new)
-        places = (old.place if old is not None else None, new.place if new is not None else None)
-        return Line(head, ", ".join(word for word in said if word), tuple(one for one, _ in found), *places)
+        rules = {one.rule for one, _ in found}
+        # The size of a part of the member is not its own.
+        sizes = "" if len(rest) > 1 else _sizes(old, None if "L6" in rules else new)
+        unsaid = ("L6", "L7", "L2") if sizes else ("L6", "L7")
+        said = ["gone" if "L6" in rules else "", sizes, *(_said(one, left) for one, left in found if one.rule not in unsaid)]
+        said.append(_place_of_member(found, old, new))
+        is_moved = rules == {"L7"} and old is not None and new is not None and (old.declaration, old.width) == (new.declaration, new.width)
+        return Line(head, self._types(first, rest, old, new), ", ".join(filter(None, said)), tuple(one for one, _ in found),
+                    *_places(old, new), (old, new), is_moved)
 
-    def _types(self, one: Break, rest: Sequence[str], old: Optional[Member], new: Optional[Member]) -> Iterable[str]:
+    def _types(self, one: Break, rest: Sequence[str], old: Optional[Member], new: Optional[Member]) -> str:
         """The types of a part, as C writes them."""
         if len(rest) > 1:
             names = [side.type_name(side.entry(offset), offset)
@@ -151,25 +206,32 @@ class Lines:
             # The width of a bit field that changed is said beside its type.
             names = [None if member is None else member.type_name if one.rule == "L8" else member.declaration for member in (old, new)]
         first, second = names
-        if first is not None and second is not None and first != second:
-            yield f"{first} -> {second}"
-        elif first is not None and (second is not None or one.rule == "L6"):
-            yield first
+        if first is not None and (second is not None or one.rule == "L6"):
+            return first if second is None or first == second else f"{first} -> {second}"
+        return ""
 
     def _beside(self, heads: set[str]) -> Iterable[Line]:
         """The members that no break names and whose size changed, since a report has a break of two types once; and those that only
         the new type has, which break nothing by themselves."""
-        old, new = self._members
-        if self._block.subject.kind != "record" or not old or not new:
+        before, after = self._members
+        if self._block.subject.kind != "record" or not before or not after:
             return
-        for label, member in new.items():
+        for label, new in after.items():
             head = f"member {label}"
-            before = old.get(label)
-            if before is None:
-                text = f"added, {member.declaration}, {_of_size(member)}at {bit_place(member.bit)}"
-                yield Line(head, text, (), None, member.place)
-            elif before.width != member.width and head not in heads:
-                yield Line(head, _resized(before, member), (), before.place, member.place)
+            old = before.get(label)
+            if old is None:
+                said = ["added", _sizes(None, new), f"at {bit_place(new.bit)}"]
+                yield Line(head, new.declaration, ", ".join(filter(None, said)), (), *_places(None, new), (None, new))
+            elif old.width != new.width and head not in heads:
+                types = old.declaration if old.declaration == new.declaration else f"{old.declaration} -> {new.declaration}"
+                said = [_sizes(old, new), _place_of_member((), old, new)]
+                yield Line(head, types, ", ".join(filter(None, said)), (), *_places(old, new), (old, new))
+
+    def _added_enumerators(self) -> Iterable[Line]:
+        """The enumerators that only the new type has, which break nothing by themselves."""
+        old, new = self._enumerators
+        if old and new:
+            yield from (Line(f"enumerator {name}", "", f"added, {value}", ()) for name, value in new.items() if name not in old)
 
 
 def _members(side: Side, described: Described) -> dict[str, Member]:
@@ -178,10 +240,26 @@ def _members(side: Side, described: Described) -> dict[str, Member]:
     return {member.label: member for member in side.records.members(described.entry)}
 
 
+def _enumerators(side: Side, described: Described) -> dict[str, int]:
+    if side.records is None or described.entry is None or described.entry.tag != "enumeration_type":
+        return {}
+    return {one.name: one.value for one in side.records.enumerators(described.entry)}
+
+
+def merged(old: Sequence[str], new: Sequence[str]) -> list[str]:
+    """The names of both: the old ones in their order, and each new one behind the one that stands before it."""
+    order = list(old)
+    known = set(old)
+    for before, name in zip(["", *new], new):
+        if name not in known:
+            order.insert(order.index(before) + 1 if before else 0, name)
+    return order
+
+
 def _head(one: Break, rest: Sequence[str]) -> str:
     """The part of the type that a break is about; an empty text for the type itself."""
     if rest:
-        return " / ".join(rest)
+        return _STEP.join(rest)
     part = change_of(one).part
     if one.rule in _PARTS:
         return f"member {part}"
@@ -221,27 +299,25 @@ def _said(one: Break, rest: Sequence[str]) -> str:
     return f"{_WORDS.get(one.rule, one.name)} {amount or one.detail}"
 
 
-def _places(found: Sequence[tuple[Break, tuple[str, ...]]], old: Optional[Member], new: Optional[Member]) -> list[str]:
-    """Where a member stands and stood."""
+def _places(old: Optional[Member], new: Optional[Member]) -> tuple[Optional[Place], Optional[Place]]:
+    """Where a member is declared in both libraries."""
+    return None if old is None else old.place, None if new is None else new.place
+
+
+def _place_of_member(found: Iterable[tuple[Break, tuple[str, ...]]], old: Optional[Member], new: Optional[Member]) -> str:
+    """Where a member stood and stands."""
     for one, _ in found:
         change = change_of(one)
         if one.rule == "L7" and change.was is not None and change.now is not None:
-            return [moved(change.was, change.now)]
+            return moved(change.was, change.now)
     if old is None:
-        return []
-    if new is not None and new.bit != old.bit:
-        return [moved(str(old.bit), str(new.bit))]
-    gone = any(one.rule == "L6" for one, _ in found)
-    return [f"{_of_size(old) if gone else ''}at {bit_place(old.bit)}"]
+        return ""
+    return f"at {bit_place(old.bit)}" if new is None or new.bit == old.bit else moved(str(old.bit), str(new.bit))
 
 
-def _resized(old: Member, new: Member) -> str:
-    """A member of another size: its types, its sizes and its place."""
-    types = old.declaration if old.declaration == new.declaration else f"{old.declaration} -> {new.declaration}"
-    sizes = f"{size_of_bits(old.width).split()[0]} -> {size_of_bits(new.width)}"
-    place = f"at {bit_place(old.bit)}" if old.bit == new.bit else moved(str(old.bit), str(new.bit))
-    return f"{types}, {sizes}, {place}"
-
-
-def _of_size(member: Member) -> str:
-    return "" if member.is_bit_field else f"{size_of_bits(member.width)}, " if member.width else ""
+def _sizes(old: Optional[Member], new: Optional[Member]) -> str:
+    """How large a member was and is; nothing of bit fields, whose types have their widths, and of what has no size."""
+    found = [member.width for member in (old, new) if member is not None and not member.is_bit_field and member.width]
+    if not found:
+        return ""
+    return size_of_bits(found[0]) if found[0] == found[-1] else f"{size_of_bits(found[0]).split()[0]} -> {size_of_bits(found[-1])}"

@@ -2,23 +2,15 @@
 
 from __future__ import annotations
 
-import argparse
-import json
-import sys
 from pathlib import Path
 from typing import Sequence
 
-from abi_tools.arguments import Arguments
+from abi_tools.arguments import Arguments, share
 from abi_tools.faults import Fault
-from abi_tools.gate_command import share
-from abi_tools.gates import Verdict
-from abi_tools.output_file import clear_output, write_whole
+from abi_tools.output_file import clear_output
+from abi_tools.verdicts import Verdict
 
 from abi_report.documents import AbiJson
-from abi_report.judging import judge_document
-from abi_report.reports import Report
-from abi_report.rule_sections import Headers
-from abi_report.texts import write_text
 
 _DESCRIPTION = """\
 Says whether a new build of a library may replace an old one, and what changed: a block for each changed type, with the lines of
@@ -42,16 +34,16 @@ def main(arguments: Sequence[str]) -> int:
         clear_output(given.certificate, [path for path in (given.old, given.new, given.rules) if path is not None])
     if given.headers is not None and not given.headers.is_dir():
         raise Fault(f"there is no folder {given.headers} of headers")
-    document = AbiJson().check(given.old, given.new, given.rules)
-    judged = judge_document(document, given.old, given.new, given.require_types)
-    report = Report(document, judged, given.old, given.new, Headers(given.headers))
-    if given.certificate is not None and judged.verdict == Verdict.YES:
-        write_whole(given.certificate, document.text.encode())
-    _show(report, given.format, given.quiet)
-    return int(judged.verdict)
+    with AbiJson().started(given.old, given.new, given.rules, not (given.fast or given.quiet)) as running:
+        # The program judges while Python takes in the rest of this tool.
+        from abi_report.reporting import Wanted, report_on, writer_of
+
+        wanted = Wanted(given.old, given.new, given.headers, given.require_types, given.certificate)
+        write = writer_of(given.format, given.quiet)
+        return int(report_on(running.document(), wanted, write))
 
 
-def _parser() -> argparse.ArgumentParser:
+def _parser() -> Arguments:
     parser = Arguments("abi-report", _DESCRIPTION, _STATUSES, wrong=Verdict.CANNOT_TELL)
     parser.add_argument("--rules", type=Path, metavar="FILE", help="a rule file of abi: what is not compared")
     parser.add_argument("--headers", type=Path, metavar="FOLDER",
@@ -59,6 +51,8 @@ def _parser() -> argparse.ArgumentParser:
     parser.add_argument("--format", choices=_FORMATS, default="text", metavar="FORMAT",
                         help="text (as it is without this option), json (the document of abi-json with what belongs together), or "
                              "html (one page that needs no other file)")
+    parser.add_argument("--fast", action="store_true",
+                        help="leave out the notes on what no rule judges, and which other exports a change reaches, which take time")
     parser.add_argument("--quiet", action="store_true", help="the answer alone, in one line")
     parser.add_argument("--require-types", type=share, default=0.0, metavar="SHARE",
                         help="how many of 100 compared exports must have types in both libraries (default: one at all)")
@@ -66,17 +60,3 @@ def _parser() -> argparse.ArgumentParser:
     parser.add_argument("old", type=Path, metavar="OLD")
     parser.add_argument("new", type=Path, metavar="NEW")
     return parser
-
-
-def _show(report: Report, form: str, quiet: bool) -> None:
-    """Prints the report."""
-    if quiet or form == "text":
-        write_text(report, sys.stdout, quiet)
-    elif form == "json":
-        json.dump(report.whole(), sys.stdout, ensure_ascii=False, indent=1)
-        sys.stdout.write("\n")
-    else:
-        # Without a page its libraries are not needed.
-        from abi_report.pages import write_page
-
-        write_page(report, sys.stdout)

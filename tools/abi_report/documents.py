@@ -6,7 +6,7 @@ import json
 import os
 import shutil
 import subprocess
-from dataclasses import dataclass, field, replace
+from dataclasses import dataclass, replace
 from functools import cached_property
 from pathlib import Path
 from typing import Any, Mapping, Optional, Sequence
@@ -15,21 +15,30 @@ from abi_tools.faults import Fault
 
 Json = dict[str, Any]
 FORMAT = 1
-# The members that have notes.
-_NOTES = ("notes", "side_notes")
-# The kinds of notes that belong to breaks: an export that a break of another one affects, and what may have come in the place of
-# one that is gone.
-AFFECTED = "affected export"
+# The variable by which notes on what no rule judges are asked for.
+_NOTES = "ABI_NOTES"
+# The kinds of notes that belong to breaks: another export that leads to types which break a rule, and what may have come in the place
+# of an export that is gone.
+_AFFECTED = "affected export"
 SUCCESSOR = "likely successor"
+# The kind of notes on names of types, which say nothing beside the breaks of the same two types.
+_NAMES = "name of type"
+# How a space within a name is printed.
+_SPACE = "\\x20"
+# What stands in front of the row to which a note of the first kind belongs.
 _AS = "as "
+# Rules of exports, which speak of no types.
+_OF_EXPORTS = "X"
 
 
 @dataclass(frozen=True)
 class Place:
-    """A file of the source, and a line in it."""
+    """A file of the source, a line in it, and whether a function or an object is defined there, where it is known to be declared
+    nowhere else."""
 
     file: str
     line: int
+    is_definition: bool = False
 
 
 @dataclass(frozen=True)
@@ -43,8 +52,8 @@ class Value:
 @dataclass(frozen=True)
 class Break:
     """A break of the report: the rule and its plain name, the export, the steps to the types, what a row says, and the entries
-    of both types. `part`, `was`, `now` and `exports` are there where the document has them: the member, parameter or the like,
-    what it was and is, and all exports that reach both types."""
+    of both types. `part`, `was`, `now` and `exports` are there where the document has them: the member, parameter or the like, what it
+    was and is, and all exports that reach both types."""
 
     rule: str
     name: str
@@ -74,6 +83,11 @@ class Break:
         return f"{self.rule} {self.place}: {self.detail}"
 
     @property
+    def types(self) -> tuple[object, ...]:
+        """By what breaks of the same two types are known."""
+        return (self.place,) if self.old_entry is None else (self.old_entry, self.new_entry)
+
+    @property
     def reaching(self) -> tuple[str, ...]:
         """The exports that are known to reach the types."""
         return self.exports or (self.export,)
@@ -81,8 +95,8 @@ class Break:
 
 @dataclass(frozen=True)
 class Note:
-    """Something beside the answer: a sentence; or a change that was seen and not judged, with its kind, the export and the path where
-    it is, and what was and is."""
+    """Something beside the answer: a sentence; or a change that no rule judges, with its kind, the export and the path where it is,
+    and what was and is."""
 
     sentence: str = ""
     kind: str = ""
@@ -92,21 +106,26 @@ class Note:
     now: str = ""
 
     @property
+    def place(self) -> str:
+        """The export and the path."""
+        return f"{self.export} {self.path}".strip()
+
+    @property
     def text(self) -> str:
         """The note without its kind."""
         if not self.kind:
             return self.sentence
         change = " -> ".join(word for word in (self.was, self.now) if word)
-        return ": ".join(word for word in (f"{self.export} {self.path}".strip(), change, self.sentence) if word)
+        return ": ".join(word for word in (self.place, change) if word).replace(_SPACE, " ")
 
 
 @dataclass(frozen=True)
 class Document:
-    """A document, whole, with its breaks and notes read."""
+    """A document, whole, with its breaks and the notes that are shown. The exports that a change reaches are with the breaks."""
 
     whole: Json
     breaks: tuple[Break, ...] = ()
-    notes: tuple[Note, ...] = field(default=())
+    notes: tuple[Note, ...] = ()
 
     @property
     def answer(self) -> str:
@@ -150,35 +169,33 @@ def _value(found: Any) -> Optional[Value]:
 
 def _break(found: Json) -> Break:
     return Break(found["rule"], found["name"], found["export"], tuple(found["steps"]), found["detail"], found["old_entry"],
-                 found["new_entry"], found.get("part"), _value(found.get("was")), _value(found.get("is")),
-                 tuple(found.get("exports") or ()))
+                 found["new_entry"], found.get("part"), _value(found.get("was")), _value(found.get("is")))
 
 
-def _note(found: Any) -> Note:
-    """A note: a sentence, or an object with a kind."""
-    if not isinstance(found, dict):
-        return Note(str(found))
-    words = {name: _words(found.get(name)) for name in ("kind", "export", "path", "was", "is")}
-    return Note(_words(found.get("text")), words["kind"], words["export"], words["path"], words["was"], words["is"])
+def _note(found: Json) -> Note:
+    """A note on what no rule judges."""
+    kind, export, path, was, now = (str(found.get(name) or "") for name in ("kind", "export", "path", "was", "is"))
+    return Note("", kind, export, path, was, now)
 
 
-def _words(found: Any) -> str:
-    """A text, or a value with its unit."""
-    if isinstance(found, dict):
-        unit = str(found.get("unit", ""))
-        return f"{found.get('value', '')}{'' if unit in ('word', 'number', 'count', '') else f' {unit}'}"
-    return "" if found is None else str(found)
+def _shown(breaks: Sequence[Break], notes: Sequence[Note]) -> list[Note]:
+    """The notes without those on names of two types that break a rule."""
+    places = {one.place for one in breaks}
+    broken = {(note.was, note.now) for note in notes if note.kind == _NAMES and note.place in places}
+    return [note for note in notes if note.kind != _NAMES or (note.was, note.now) not in broken]
 
 
-def _with_affected(breaks: tuple[Break, ...], notes: Sequence[Note]) -> tuple[Break, ...]:
-    """The breaks with all exports that reach them, where notes name these: each says as which row the report has the break."""
-    found: dict[str, list[str]] = {}
+def _with_exports(breaks: Sequence[Break], notes: Sequence[Json]) -> tuple[Break, ...]:
+    """The breaks with all exports that lead to their types. Of each two types there are notes on the others at the first row."""
+    others: dict[str, list[str]] = {}
     for note in notes:
-        if note.kind == AFFECTED:
-            for words in (note.was, note.now, note.path):
-                if words.startswith(_AS):
-                    found.setdefault(words.removeprefix(_AS), []).append(note.export)
-    return tuple(one if one.exports else replace(one, exports=tuple(dict.fromkeys(found.get(one.place, ())))) for one in breaks)
+        if note["kind"] == _AFFECTED:
+            others.setdefault(note["path"].removeprefix(_AS), []).append(note["export"])
+    leading: dict[tuple[object, ...], dict[str, None]] = {}
+    for one in breaks:
+        beside = () if one.rule.startswith(_OF_EXPORTS) else others.get(one.place, ())
+        leading.setdefault(one.types, {}).update(dict.fromkeys((one.export, *beside)))
+    return tuple(replace(one, exports=tuple(leading[one.types])) for one in breaks)
 
 
 def read_document(text: bytes) -> Document:
@@ -187,11 +204,39 @@ def read_document(text: bytes) -> Document:
         whole = json.loads(text.decode("utf-8", "replace"))
         if whole["format"] != FORMAT:
             raise Fault(f"abi-json prints the format {whole['format']}; this tool reads the format {FORMAT}")
-        notes = [_note(one) for name in _NOTES for one in whole.get(name) or ()]
-        breaks = _with_affected(tuple(map(_break, whole["breaks"])), notes)
-        return Document(whole, breaks, tuple(note for note in notes if note.kind != AFFECTED))
+        breaks = tuple(map(_break, whole["breaks"]))
+        found = whole.get("side_notes")
+        sentences = [Note(str(one)) for one in whole.get("notes") or ()]
+        notes = [_note(one) for one in found or () if one["kind"] != _AFFECTED]
+        return Document(whole, breaks if found is None else _with_exports(breaks, found), (*sentences, *_shown(breaks, notes)))
     except (ValueError, KeyError, TypeError, AttributeError) as error:
         raise Fault("abi-json printed no document") from error
+
+
+class Running:
+    """A run of the program, which is ended where nobody waits for it any more."""
+
+    def __init__(self, process: subprocess.Popen[bytes]) -> None:
+        self._process = process
+
+    def __enter__(self) -> "Running":
+        return self
+
+    def __exit__(self, *_: object) -> None:
+        if self._process.poll() is None:
+            self._process.kill()
+        self._process.communicate()
+
+    def document(self) -> Document:
+        """The document that the program prints. Raises a fault if it prints none."""
+        printed, said = self._process.communicate()
+        status = self._process.returncode
+        if status < 0:
+            raise Fault(f"the signal {-status} ended abi-json")
+        if not printed:
+            words = said.decode("utf-8", "replace").strip()
+            raise Fault(f"abi-json ended with status {status} and printed nothing{': ' if words else ''}{words}")
+        return read_document(printed)
 
 
 class AbiJson:
@@ -205,14 +250,9 @@ class AbiJson:
             raise Fault(f"there is no program {named}: put abi-json on the PATH, or name it by the variable ABI_JSON")
         self._path = os.path.abspath(found)
 
-    def check(self, old: Path, new: Path, rules: Optional[Path]) -> Document:
-        """The document on two libraries. Raises a fault if the program does not print one."""
+    def started(self, old: Path, new: Path, rules: Optional[Path], with_notes: bool) -> Running:
+        """A run that judges two libraries, and has notes on what no rule judges or none."""
         options = [] if rules is None else [f"--rules={rules}"]
-        ended = subprocess.run([self._path, "check", *options, "--", str(old), str(new)], stdin=subprocess.DEVNULL,
-                               capture_output=True, check=False)
-        if ended.returncode < 0:
-            raise Fault(f"the signal {-ended.returncode} ended abi-json")
-        if not ended.stdout:
-            said = ended.stderr.decode("utf-8", "replace").strip()
-            raise Fault(f"abi-json ended with status {ended.returncode} and printed nothing{': ' if said else ''}{said}")
-        return read_document(ended.stdout)
+        return Running(subprocess.Popen([self._path, "check", *options, "--", str(old), str(new)], stdin=subprocess.DEVNULL,
+                                        stdout=subprocess.PIPE, stderr=subprocess.PIPE,
+                                        env={**os.environ, _NOTES: "1" if with_notes else "0"}))

@@ -7,19 +7,24 @@ there.
 from __future__ import annotations
 
 import bisect
+import itertools
 import struct
 from dataclasses import dataclass
+from functools import cached_property
 from pathlib import Path
-from typing import Iterator, Mapping, Optional, Union
+from typing import Collection, Iterable, Iterator, Mapping, Optional, Union
 
+from abi_tools.debug_contents import DebugContents
 from abi_tools.dwarf_tables import ATTRIBUTES, FORM_NAMES, STEPS, TAGS, Abbreviation, fixed_sizes, read_number
 from abi_tools.dwarf_units import Tables, Unit, units
 from abi_tools.elf_files import DAMAGED, ElfFile
 from abi_tools.faults import Fault
+from abi_tools.unit_code import code_of, listed_code
 
 from abi_report.texts_shown import shown
 
 _FOUR = struct.Struct("<I")
+_EIGHT = struct.Struct("<Q")
 _REFERENCES = {"DW_FORM_ref1": 1, "DW_FORM_ref2": 2, "DW_FORM_ref4": 4, "DW_FORM_ref8": 8}
 _NUMBERS = {"DW_FORM_data1": 1, "DW_FORM_data2": 2, "DW_FORM_data4": 4, "DW_FORM_data8": 8, "DW_FORM_addr": 8,
             "DW_FORM_sec_offset": 4, "DW_FORM_flag": 1}
@@ -31,6 +36,15 @@ _FIRST_TEXT_OFFSET = 8
 # How often a name is looked for in `.debug_str`, and its offset in `.debug_info`.
 _MOST_TEXTS = 64
 _MOST_PLACES = 4096
+# For how many names declarations are looked for, and in how many units.
+_MOST_DECLARED = 256
+_MOST_USERS = 8
+# How many bytes the code of an abbreviation has in front of a name.
+_CODE_SIZES = (1, 2, 3)
+# The expression of a variable's place begins so (DWARF 5, 7.7.1, DW_OP_addr).
+_AT_ADDRESS = b"\x03"
+# A number behind all addresses.
+_BEHIND = 1 << 65
 
 Value = Union[int, str, bytes]
 # What reading damaged bytes raises.
@@ -83,7 +97,7 @@ class Entries:
     def __init__(self, path: Path) -> None:
         """Reads the units. Raises a fault if the file or a unit is damaged."""
         self.file = ElfFile(path)
-        self.sections = {name: contents for name, (_, contents) in self.file.debug_sections().items()}
+        self.sections = DebugContents(self.file)
         self.info = self.sections.get(".debug_info", b"")
         self._abbreviations = self.sections.get(".debug_abbrev", b"")
         self._tables = Tables(self._abbreviations, f"{path}: .debug_abbrev")
@@ -92,6 +106,7 @@ class Entries:
         self._read: dict[int, Optional[Entry]] = {}
         self._bases: dict[int, int] = {}
         self._indexes: dict[int, dict[str, list[Entry]]] = {}
+        self._declarations: dict[str, Optional[Entry]] = {}
 
     def unit_at(self, offset: int) -> Optional[Unit]:
         """The unit in which an offset lies."""
@@ -237,11 +252,43 @@ class Entries:
         return self.at(unit.entries)
 
     def named(self, name: str, tags: tuple[str, ...]) -> Iterator[Entry]:
-        """The entries below the roots of units that have a name and one of the tags, and are no declarations."""
-        for unit in self._units_with(name):
-            for entry in self._index(unit).get(name, ()):
-                if entry.tag in tags and "declaration" not in entry.values:
-                    yield entry
+        """The entries that have a name and one of the tags: those at the addresses of the dynamic symbols of that name, or else those
+        below the roots of units."""
+        addresses = self._addresses.get(name, ())
+        chosen = list(filter(None, map(self._unit_of, sorted(addresses))))
+        direct = [entry for unit in chosen for entry in self._named_in(unit, name) if entry.tag in tags and _is_at(entry, addresses)]
+        yield from direct or self._below_roots(chosen, name, tags) or self._below_roots(self._units_with(name), name, tags)
+
+    def declaration(self, name: str) -> Optional[Entry]:
+        """The declaration of a function or an object in a unit that uses it, where one of the first units with that name has one."""
+        if self._has_indexes:
+            return None
+        if name not in self._declarations and len(self._declarations) < _MOST_DECLARED:
+            found = (one for unit in self._units_with(name)[:_MOST_USERS] for one in self._named_in(unit, name) if _is_declared(one))
+            self._declarations[name] = next(found, None)
+        return self._declarations.get(name)
+
+    def _below_roots(self, chosen: Iterable[Unit], name: str, tags: tuple[str, ...]) -> list[Entry]:
+        return [entry for unit in chosen for entry in self._index(unit).get(name, ()) if entry.tag in tags]
+
+    @property
+    def _has_indexes(self) -> bool:
+        """Whether texts have indexes, so that the bytes of an entry do not show the place of its name."""
+        return ".debug_str_offsets" in self.sections
+
+    def _named_in(self, unit: Unit, name: str) -> Iterator[Entry]:
+        """What may be entries of a unit that have a name: where the bytes of a name stand behind what may be a code, as gcc writes
+        it."""
+        places = () if self._has_indexes else (place for wanted in self._bytes_of(name)
+                                               for place in _found(self.info, wanted, unit.entries, unit.end))
+        entries = (self.at(place - size) for place in places for size in _CODE_SIZES)
+        return (one for one in entries if one is not None and one.name == name)
+
+    def _bytes_of(self, name: str) -> list[bytes]:
+        """How a name stands in an entry: itself, or the offset of a text in `.debug_str`."""
+        wanted = name.encode("ascii", "replace") + b"\0"
+        texts = self.sections.get(".debug_str", b"")
+        return [wanted, *map(_FOUR.pack, itertools.islice(_found(texts, wanted, 0, len(texts)), _MOST_TEXTS))]
 
     def _index(self, unit: Unit) -> dict[str, list[Entry]]:
         """The entries below the root of a unit, by their names."""
@@ -254,23 +301,70 @@ class Entries:
             self._indexes[unit.start] = found
         return self._indexes[unit.start]
 
+    # ---- units
+
+    def _unit_of(self, address: int) -> Optional[Unit]:
+        """The unit whose code has an address, or that has a variable there."""
+        number = bisect.bisect_right(self._code, (address, _BEHIND)) - 1
+        if number >= 0 and address < self._code[number][1]:
+            return self._unit_from(self._code[number][2])
+        place = self.info.find(_AT_ADDRESS + _EIGHT.pack(address))
+        return None if place < 0 else self.unit_at(place)
+
+    def _unit_from(self, start: int) -> Optional[Unit]:
+        """The unit that begins at an offset."""
+        number = bisect.bisect_left(self._starts, start)
+        return self._units[number] if number < len(self._units) and self._starts[number] == start else None
+
+    @cached_property
+    def _addresses(self) -> dict[str, set[int]]:
+        try:
+            return self.file.symbol_addresses()
+        except BROKEN:
+            return {}
+
+    @cached_property
+    def _code(self) -> list[tuple[int, int, int]]:
+        """The code of the units: each range with its end and where its unit begins, by `.debug_aranges`, or else by the roots."""
+        try:
+            found = sorted(listed_code(self.sections.get(".debug_aranges", b"")))
+        except BROKEN:
+            found = []
+        return found or sorted(self._code_of_roots())
+
+    def _code_of_roots(self) -> Iterator[tuple[int, int, int]]:
+        for unit in self._units:
+            try:
+                yield from [(*part, unit.start) for part in code_of(self.sections, unit, self._tables.at(unit.table))]
+            except BROKEN:
+                continue
+
     def _units_with(self, name: str) -> list[Unit]:
-        """The units whose bytes may name a text: those that have it, or where `.debug_str` has it. Where texts have indexes,
-        all."""
-        if ".debug_str_offsets" in self.sections:
+        """The units whose bytes may name a text. Where texts have indexes, all."""
+        if self._has_indexes:
             return self._units
-        wanted = name.encode("ascii", "replace") + b"\0"
-        places = list(_found(self.info, wanted, _MOST_PLACES))
-        for offset in _found(self.sections.get(".debug_str", b""), wanted, _MOST_TEXTS):
-            places += _found(self.info, _FOUR.pack(offset), _MOST_PLACES)
+        places = (place for wanted in self._bytes_of(name)
+                  for place in itertools.islice(_found(self.info, wanted, 0, len(self.info)), _MOST_PLACES))
         found = {unit.start: unit for unit in map(self.unit_at, places) if unit is not None}
         return [found[start] for start in sorted(found)]
 
 
-def _found(data: bytes, wanted: bytes, most: int) -> Iterator[int]:
-    at = data.find(wanted)
-    while at >= 0 and most > 0:
-        yield at
-        most -= 1
-        at = data.find(wanted, at + 1)
+def _is_at(entry: Entry, addresses: Collection[int]) -> bool:
+    """Whether a function or variable is at one of the addresses."""
+    place = entry.values.get("location")
+    if isinstance(place, bytes):
+        return place[:1] == _AT_ADDRESS and int.from_bytes(place[1:], "little") in addresses
+    return entry.number("low_pc") in addresses
 
+
+def _is_declared(entry: Entry) -> bool:
+    """Whether an entry declares a function or an object of another unit."""
+    return entry.tag in ("subprogram", "variable") and {"declaration", "external", "decl_file", "decl_line"} <= entry.values.keys()
+
+
+def _found(data: bytes, wanted: bytes, start: int, end: int) -> Iterator[int]:
+    """Where bytes stand in a part of others."""
+    at = data.find(wanted, start, end)
+    while at >= 0:
+        yield at
+        at = data.find(wanted, at + 1, end)

@@ -2,16 +2,18 @@
 
 from __future__ import annotations
 
-from concurrent.futures import ThreadPoolExecutor
 from dataclasses import dataclass
 from pathlib import Path
-from typing import Optional
+from typing import Callable, Optional, TypeVar
 
 from abi_tools.abi_program import NO, YES, Abi, Answer
 from abi_tools.faults import Fault
-from abi_tools.gates import Library, Verdict, judge_answer
+from abi_tools.gates import Library, judge_answer
+from abi_tools.verdicts import Verdict
 
 from abi_report.documents import Break, Document
+
+Result = TypeVar("Result")
 
 # Of what the other rules say it can be that the debug information has no types.
 _CERTAIN = ("X1", "X2", "X3", "X4", "X5")
@@ -38,8 +40,7 @@ def judge_document(document: Document, old: Path, new: Path, least_share: float)
     answer = Answer(document.status, _text(document), "")
     try:
         abi = Abi()
-        with ThreadPoolExecutor() as pool:
-            first, second = pool.map(lambda path: Library.read(abi, path), (old, new))
+        first, second = _at_once(lambda path: Library.read(abi, path), old, new)
     except Fault as fault:
         return Judged(Verdict.CANNOT_TELL, (str(fault),))
     judgement = judge_answer(answer, first, second, least_share)
@@ -59,8 +60,21 @@ def _text(document: Document) -> str:
     return "".join(f"{line}\n" for line in ("no", *(one.row for one in document.breaks)))
 
 
-def labels_of(path: Path) -> list[str]:
-    """The labels of a library's exports; none where they cannot be read."""
+def labels_of(old: Path, new: Path) -> list[list[str]]:
+    """The labels of the exports of both libraries; none where they cannot be read."""
+    return _at_once(_labels, old, new)
+
+
+def _at_once(read: Callable[[Path], Result], old: Path, new: Path) -> list[Result]:
+    """What reading both libraries gives, each in a thread of its own."""
+    # Most answers of no need no threads.
+    from concurrent.futures import ThreadPoolExecutor
+
+    with ThreadPoolExecutor() as pool:
+        return list(pool.map(read, (old, new)))
+
+
+def _labels(path: Path) -> list[str]:
     try:
         return [export.label for export in Abi().exports(path)]
     except Fault:

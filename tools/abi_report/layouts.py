@@ -11,7 +11,7 @@ from abi_report.subjects import Described, Side, Subject
 
 HOLE = "hole"
 PADDING = "padding"
-_BITS_OF_BYTE = 8
+BITS_OF_BYTE = 8
 # Where names are more, they are put beside each other in the order of the old ones alone.
 _MOST_MATCHED = 2000
 
@@ -30,17 +30,17 @@ class Room:
     def place(self) -> str:
         """Which bytes these are, or which bits where they are no whole bytes."""
         last = self.bit + self.width - 1
-        byte, first = divmod(self.bit, _BITS_OF_BYTE)
-        if first or self.width % _BITS_OF_BYTE:
+        byte, first = divmod(self.bit, BITS_OF_BYTE)
+        if first or self.width % BITS_OF_BYTE:
             return f"byte {byte}, bit {first}" if self.width == 1 else f"byte {byte}, bits {first} to {first + self.width - 1}"
-        if self.width <= _BITS_OF_BYTE:
+        if self.width <= BITS_OF_BYTE:
             return f"byte {byte}"
-        return f"bytes {self.bit // _BITS_OF_BYTE} to {last // _BITS_OF_BYTE}"
+        return f"bytes {self.bit // BITS_OF_BYTE} to {last // BITS_OF_BYTE}"
 
     @property
     def bytes(self) -> float:
         """How many bytes these are."""
-        return self.width / _BITS_OF_BYTE
+        return self.width / BITS_OF_BYTE
 
 
 @dataclass(frozen=True)
@@ -101,7 +101,7 @@ def rooms_of(members: Sequence[Member], size: int) -> list[Room]:
     """The rooms of a structure of so many bytes, in the order of their first bits: its members, and the holes between them where
     no members share bits."""
     rooms = sorted((Room(one.label, one.bit, one.width, one.declaration) for one in members), key=_order)
-    if _overlap(rooms) or any(room.bit + room.width > _BITS_OF_BYTE * size for room in rooms):
+    if _overlap(rooms) or any(room.bit + room.width > BITS_OF_BYTE * size for room in rooms):
         return rooms
     free: list[Room] = []
     at = 0
@@ -111,8 +111,8 @@ def rooms_of(members: Sequence[Member], size: int) -> list[Room]:
             free.append(Room(HOLE, at, room.bit - at, is_free=True))
         if room.width:
             at = room.bit + room.width
-    if at < _BITS_OF_BYTE * size:
-        free.append(Room(PADDING, at, _BITS_OF_BYTE * size - at, is_free=True))
+    if at < BITS_OF_BYTE * size:
+        free.append(Room(PADDING, at, BITS_OF_BYTE * size - at, is_free=True))
     return sorted([*rooms, *free], key=_order)
 
 

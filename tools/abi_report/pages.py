@@ -3,24 +3,27 @@
 from __future__ import annotations
 
 from pathlib import Path
-from typing import Optional, TextIO
+from typing import Callable, Optional, Sequence, TextIO
 
 from jinja2 import Environment, FileSystemLoader, select_autoescape
 
 from abi_report.blocks import Block
-from abi_report.layouts import Layouts, layouts_of
+from abi_report.layouts import BITS_OF_BYTE, Layouts, Room, layouts_of
 from abi_report.records import RECORDS
 from abi_report.reports import Report
 from abi_report.texts_shown import counted
+from abi_report.ways import Steps, Ways
 
 _PIECES = 200
 # So many rows of layouts stand in a page; of further structures `abi layout` prints them.
 _MOST_ROWS = 3_000
 # Layouts of more rooms get no bar, whose parts could not be told apart.
 _MOST_PARTS = 64
-# So many exports are named again although an earlier block has the same ones; so many are seen before a click.
+# So many exports are named again although an earlier block has the same ones; so many are seen before a click, and so many stand in
+# a page.
 _NAMED_AGAIN = 12
-_SEEN = 12
+_SEEN = 8
+_MOST_NAMES = 200_000
 
 
 class Page:
@@ -29,6 +32,9 @@ class Page:
     def __init__(self, report: Report) -> None:
         self.report = report
         self._rows = 0
+        self._names = 0
+        self._ways = Ways(report.old, [(block, (*block.exports[:_SEEN], *block.member_exports[:_SEEN])) for block in report.types
+                                      if not report.is_of_itself(block)])
 
     def layouts(self, block: Block) -> Optional[Layouts]:
         """Both layouts of a block's structure, as long as the page has room for them."""
@@ -51,19 +57,40 @@ class Page:
         """How much of the page's width a layout of so many bytes takes, beside the other one."""
         return f"{100 * size / max(layouts.old_size, layouts.new_size):.4g}%"
 
+    def cell(self, room: Room, size: int) -> str:
+        """Where a room stands in the bar of a layout of so many bytes."""
+        bits = size * BITS_OF_BYTE
+        return f"left:{100 * room.bit / bits:.6g}%;width:{100 * room.width / bits:.6g}%"
+
+    def named(self, exports: Sequence[str]) -> Sequence[str]:
+        """Those of some exports that are named: all, as long as the page has room for them."""
+        if self._names > _MOST_NAMES:
+            return exports[:_SEEN]
+        self._names += len(exports)
+        return exports
+
+    def way(self, block: Block, export: str) -> Optional[Steps]:
+        """The steps from an export to the type of a block, where they are known."""
+        return self._ways.of(block, export)
+
     def same(self, block: Block) -> Optional[Block]:
         """An earlier block with the same exports."""
         return self.report.same_exports(block, _NAMED_AGAIN)
 
 
-def write_page(report: Report, stream: TextIO) -> None:
-    """Writes the page piece by piece."""
+def page_writer() -> Callable[[Report, TextIO], None]:
+    """What writes the page of a report piece by piece."""
     environment = Environment(loader=FileSystemLoader(Path(__file__).resolve().parent), trim_blocks=True, lstrip_blocks=True,
                               autoescape=select_autoescape(default=True, default_for_string=True))
     environment.filters["arrows"] = lambda text: text.replace(" -> ", " → ")
+    environment.filters["any"] = any
     environment.filters["counted"] = lambda count, thing: counted(count, thing)
-    numbers = {id(block): number for number, block in enumerate(report.blocks, 1)}
-    pieces = environment.get_template("page.html.j2").stream(
-        report=report, page=Page(report), seen=_SEEN, number=lambda block: numbers[id(block)])
-    pieces.enable_buffering(_PIECES)
-    pieces.dump(stream)
+    template = environment.get_template("page.html.j2")
+
+    def write(report: Report, stream: TextIO) -> None:
+        numbers = {id(block): number for number, block in enumerate(report.blocks, 1)}
+        pieces = template.stream(report=report, page=Page(report), seen=_SEEN, number=lambda block: numbers[id(block)])
+        pieces.enable_buffering(_PIECES)
+        pieces.dump(stream)
+
+    return write

@@ -3,7 +3,7 @@ lines in the source."""
 
 from __future__ import annotations
 
-from dataclasses import dataclass
+from dataclasses import dataclass, replace
 from typing import Optional, Sequence
 
 from abi_report.c_names import Names, count_of
@@ -12,6 +12,7 @@ from abi_report.entries import BROKEN, Entries, Entry
 from abi_report.source_files import file_names
 
 RECORDS = ("structure_type", "union_type")
+_DEFINED = ("subprogram", "variable")
 _WRAPPERS = ("typedef", "const_type", "volatile_type", "restrict_type", "atomic_type")
 _POINTER_SIZE = 8
 _DEEPEST = 64
@@ -42,6 +43,14 @@ class Member:
     def declaration(self) -> str:
         """Its type, with the width of a bit field."""
         return f"{self.type_name} : {self.width}" if self.is_bit_field else self.type_name
+
+
+@dataclass(frozen=True)
+class Enumerator:
+    """An enumerator: its name and its value."""
+
+    name: str
+    value: int
 
 
 class Records:
@@ -97,6 +106,11 @@ class Records:
             self._members[record.offset] = found
         return self._members[record.offset]
 
+    def enumerators(self, enumeration: Entry) -> list[Enumerator]:
+        """The enumerators whose values can be read, in the order of the source."""
+        found = ((one.name, one.number("const_value")) for one in self.entries.children(enumeration) if one.tag == "enumerator")
+        return [Enumerator(name, value) for name, value in found if name is not None and value is not None]
+
     def _add_members(self, record: Entry, base: int, found: list[Member], depth: int) -> None:
         for one in self.entries.children(record):
             if one.tag != "member":
@@ -131,11 +145,9 @@ class Records:
     # ---- paths
 
     def export(self, label: str) -> Optional[Entry]:
-        """The function or variable that an export's label names."""
-        name = label.split("@")[0]
-        tags = ("subprogram", "variable")
-        found = list(self.entries.named(name, tags))
-        return next((one for one in found if "external" in one.values), found[0] if found else None)
+        """The function or variable that an export's label names: its definition, or else a declaration."""
+        found = list(self.entries.named(label.split("@")[0], _DEFINED))
+        return min(found, key=lambda one: ("declaration" in one.values, "external" not in one.values)) if found else None
 
     def walk(self, export: Entry, steps: Sequence[str]) -> Optional[Entry]:
         """The type to which steps lead from an export's type."""
@@ -163,7 +175,16 @@ class Records:
     # ---- the source
 
     def place(self, entry: Entry) -> Optional[Place]:
-        """Where an entry is declared, as far as that is known."""
+        """Where an entry is declared, as far as that is known. Of a function or an object that is defined: where a unit that uses it
+        has it declared, or else where it is defined."""
+        own = self._own_place(entry)
+        if own is None or not is_definition(entry):
+            return own
+        declared = self.entries.declaration(entry.name) if entry.name is not None else None
+        return (self._own_place(declared) if declared is not None else None) or replace(own, is_definition=True)
+
+    def _own_place(self, entry: Entry) -> Optional[Place]:
+        """The place that an entry says."""
         file, line = entry.number("decl_file"), entry.number("decl_line")
         if file is None or not line:
             return None
@@ -183,6 +204,11 @@ class Records:
             except BROKEN:
                 self._files[start] = []
         return self._files[start]
+
+
+def is_definition(entry: Entry) -> bool:
+    """Whether an entry is a function or an object that is defined, and not declared alone."""
+    return entry.tag in _DEFINED and "declaration" not in entry.values
 
 
 def _location(member: Entry) -> int:

@@ -6,18 +6,27 @@ import os
 from dataclasses import dataclass
 from functools import cached_property
 from pathlib import Path, PurePosixPath
-from typing import Iterable, Iterator, Optional
+from typing import Iterable, Iterator, Optional, Sequence
 
-from abi_tools.gates import Verdict
+from abi_tools.verdicts import Verdict
 
 from abi_report.blocks import Block, Line, blocks_of
-from abi_report.documents import SUCCESSOR, Document, Json, Place
+from abi_report.causes import Causes
+from abi_report.documents import SUCCESSOR, Break, Document, Json, Note, Place
 from abi_report.judging import Judged, labels_of
 from abi_report.rule_sections import Headers, rule_section
 from abi_report.subjects import Described, Side
 from abi_report.successors import Successors
 from abi_report.texts_shown import counted
+from abi_report.ways import Ways
 
+# A place of the old library, and one of the new library.
+Places = tuple[Optional[Place], Optional[Place]]
+
+# The places of so many notes of a kind are shown.
+_PLACED = 20
+_DEFINED = "defined at "
+_NO_LABELS: Sequence[list[str]] = ([], [])
 _KINDS = {"record": "type", "type": "type", "function": "function"}
 
 
@@ -39,6 +48,9 @@ class Report:
         self.new = Side(document, "new", new)
         self.headers = headers
         self.blocks = blocks_of(document, self.old, self.new)
+        ways = Ways(self.old, [(block, block.member_exports) for block in self.blocks if not block.is_exact])
+        for block in self.blocks:
+            block.leading = tuple(export for export in block.member_exports if ways.of(block, export) is not None)
         self._shown: dict[tuple[str, ...], Block] = {}
 
     @property
@@ -57,9 +69,37 @@ class Report:
         return "; ".join(self.judged.reasons)
 
     @cached_property
+    def sonames(self) -> str:
+        """What the sonames mean for programs of the old library, where one of both has one."""
+        found = [self.document.inputs.get(side.side, {}).get("soname") for side in (self.old, self.new)]
+        if self.judged.verdict == Verdict.CANNOT_TELL or not any(found):
+            return ""
+        if found[0] == found[1]:
+            return f"Both have the soname {found[0]}: programs that were built with the old library load the new one."
+        words = [f"the soname {name}" if name else "no soname" for name in found]
+        return f"The old library has {words[0]} and the new one {words[1]}: programs that were built with the old one do not load it."
+
+    @cached_property
+    def causes(self) -> Causes:
+        """The causes of what changed."""
+        return Causes([block for block in self.blocks if block.subject.kind in _KINDS], self.old, self.new)
+
+    @cached_property
     def types(self) -> list[Block]:
-        """The blocks of types and functions."""
-        return [block for block in self.blocks if block.subject.kind in _KINDS]
+        """The blocks of types and functions, each behind those of its causes."""
+        return self.causes.ordered()
+
+    def because(self, block: Block) -> list[tuple[Block, str]]:
+        """The causes of a change, each with what is said of it behind its name."""
+        found = []
+        for cause in self.causes.of(block) if block.subject.kind in _KINDS else ():
+            place = self.places(cause.subject.old.place, cause.subject.new.place)
+            found.append((cause, f"{self.causes.word(cause)}{f' ({place})' if place else ''}"))
+        return found
+
+    def because_word(self, block: Block) -> str:
+        """What stands in front of the causes."""
+        return "also because" if self.causes.is_own(block) else "because"
 
     @cached_property
     def others(self) -> list[Block]:
@@ -72,23 +112,35 @@ class Report:
         blocks = [block for block in self.blocks if block.is_gone]
         if not blocks:
             return []
-        successors = Successors(labels_of(self.old.path), labels_of(self.new.path), len(blocks))
-        return [Gone(block, tuple(dict.fromkeys([*self._noted(block.first.export), *successors.of(block.first.export)])))
-                for block in blocks]
+        noted = self._noted()
+        unnoted = sum(block.first.export not in noted for block in blocks)
+        # Without a symbol to search for, the exports are not read.
+        old, new = labels_of(self.old.path, self.new.path) if unnoted else _NO_LABELS
+        search = Successors(old, new, unnoted)
+        return [Gone(block, tuple(noted.get(block.first.export) or search.of(block.first.export))) for block in blocks]
 
-    def _noted(self, export: str) -> list[str]:
-        """The successors of an export that notes name."""
-        return [note.now or note.was for note in self.document.notes if note.kind == SUCCESSOR and note.export == export]
+    def _noted(self) -> dict[str, list[str]]:
+        """The likely successors that notes name, by the exports that are gone."""
+        found: dict[str, list[str]] = {}
+        for note in self.document.notes:
+            if note.kind == SUCCESSOR:
+                found.setdefault(note.was or note.export, []).append(note.now)
+        return found
 
     @cached_property
-    def notes(self) -> list[tuple[str, list[str]]]:
+    def notes(self) -> list[tuple[str, list[Note]]]:
         """The notes by their kinds; sentences have none."""
-        found: dict[str, list[str]] = {}
+        found: dict[str, list[Note]] = {}
         if self.judged.verdict != Verdict.CANNOT_TELL or self.document.breaks:
             for note in self.document.notes:
                 if note.kind != SUCCESSOR:
-                    found.setdefault(note.kind, []).append(note.text)
+                    found.setdefault(note.kind, []).append(note)
         return list(found.items())
+
+    def note_places(self, notes: Sequence[Note]) -> list[str]:
+        """Where the exports of notes of a kind are declared, of the first ones."""
+        places = [self.places(*self._places_of(note.export)) if note.export else "" for note in notes[:_PLACED]]
+        return places + [""] * (len(notes) - len(places))
 
     @cached_property
     def found(self) -> str:
@@ -123,10 +175,20 @@ class Report:
         """All rule sections."""
         return list(dict.fromkeys(found for block in self.types if (found := self.section(block)) is not None))
 
+    @property
+    def unnamed(self) -> str:
+        """A sentence that not all exports that changes reach are named, where that is so."""
+        is_complete = all(block.names_all_exports for block in self.blocks)
+        return "" if is_complete else " Of the exports that a change reaches, only the first is named here."
+
+    def is_of_itself(self, block: Block) -> bool:
+        """Whether a block is of a function or an export that no other one is known to reach."""
+        return block.subject.kind == "export" or (block.subject.kind == "function" and block.exports == (block.first.export,))
+
     def same_exports(self, block: Block, least: int) -> Optional[Block]:
         """The first block before this one that has the same exports, of which there are so many at least."""
-        exports = block.exports
-        if len(exports) < least:
+        exports = (*block.exports, "", *block.member_exports)
+        if len(exports) <= least:
             return None
         first = self._shown.setdefault(exports, block)
         return None if first is block else first
@@ -141,48 +203,81 @@ class Report:
 
     # ---- places
 
-    def export_places(self, block: Block) -> tuple[Optional[Place], Optional[Place]]:
+    def export_places(self, block: Block) -> Places:
         """Where the export of a block's first break is declared in both libraries."""
-        old, new = (side.place(side.export(block.first.export), None) for side in (self.old, self.new))
+        return self._places_of(block.first.export)
+
+    def _places_of(self, export: str) -> Places:
+        old, new = (side.place(side.export(export), None) for side in (self.old, self.new))
         return old, new
 
+    def was_at(self, block: Block) -> tuple[str, str]:
+        """Where the export of a block's first break was: what stands in front of the place, and the place."""
+        place = self.place(self.old, self.export_places(block)[0]) or ""
+        words = _DEFINED if place.startswith(_DEFINED) else "at "
+        return (f"; it was {words}", place.removeprefix(_DEFINED)) if place else ("", "")
+
     @cached_property
-    def folders(self) -> list[str]:
-        """Below which folders the places are."""
-        return [f"The places of {side.path} are below {self._folders[side.side]}." for side in (self.old, self.new)
-                if self._folders[side.side]]
+    def a_place(self) -> str:
+        """The first place that is shown of a type, as an example."""
+        places = (self.place(self.new, block.subject.new.place) for block in self.types)
+        return next(filter(None, places), "")
+
+    @cached_property
+    def folders(self) -> list[tuple[Path, str]]:
+        """Below which folder the places of each library are."""
+        return [(side.path, self._folders[side.side]) for side in (self.old, self.new) if self._folders[side.side]]
+
+    @cached_property
+    def rules(self) -> list[tuple[str, str]]:
+        """The rules that are broken, with their plain names."""
+        return sorted(self._rule_names.items(), key=lambda one: (one[0][0] != "X", int(one[0][1:])))
+
+    def line_places(self, block: Block) -> list[str]:
+        """Where the part of each line is declared, if that is another place than the block's."""
+        old, new = block.subject.old.place, block.subject.new.place
+        # Of a part that one library alone has, that library's place counts.
+        own = [self.places(line.old_place and old, line.new_place and new) for line in block.lines]
+        found = [self.places(line.old_place, line.new_place) if line.head else "" for line in block.lines]
+        return ["" if one == other else one for one, other in zip(found, own)]
 
     def place(self, side: Side, place: Optional[Place]) -> Optional[str]:
-        """A place as it is shown: without the folder that all places of the library have in common."""
+        """A place as it is shown: without the folder that all places of the library have in common, and with the word that it is of a
+        definition."""
         if place is None:
             return None
         folder = self._folders[side.side]
         file = place.file.removeprefix(f"{folder}/") if folder else place.file
-        return f"{file}:{place.line}"
+        return f"{_DEFINED if place.is_definition else ''}{file}:{place.line}"
 
     def places(self, old: Optional[Place], new: Optional[Place]) -> str:
-        """Two places, one where they are the same."""
+        """Two places, one where they are the same; one that only one library has says which."""
         first, second = self.place(self.old, old), self.place(self.new, new)
-        if first is None or second is None or first == second:
-            return first or second or ""
-        return f"{first}, now {second}"
+        if first is not None and second is not None:
+            return first if first == second else f"{first}, now {second}"
+        return f"{first} (old)" if first is not None else f"{second} (new)" if second is not None else ""
 
     @cached_property
     def _folders(self) -> dict[str, str]:
         found: dict[str, set[str]] = {"old": set(), "new": set()}
-        for side, place in self._all_places():
-            found[side].add(str(PurePosixPath(place.file).parent))
+        is_one_tree = False
+        for old, new in self._all_places():
+            is_one_tree |= old is not None and new is not None and old.file == new.file
+            for side, folder in zip(("old", "new"), _roots(old, new)):
+                found[side] |= {folder} if folder is not None else set()
+        if is_one_tree:
+            found = dict.fromkeys(found, found["old"] | found["new"])
         return {side: os.path.commonpath(sorted(paths)) if _are_alike(paths) else "" for side, paths in found.items()}
 
-    def _all_places(self) -> Iterator[tuple[str, Place]]:
+    def _all_places(self) -> Iterator[Places]:
+        """The places that the report shows."""
+        for _, notes in self.notes:
+            yield from (self._places_of(note.export) for note in notes[:_PLACED] if note.export)
         for block in self.blocks:
-            for side, place in (("old", block.subject.old.place), ("new", block.subject.new.place)):
-                if place is not None:
-                    yield side, place
-            for line in block.lines:
-                for side, place in (("old", line.old_place), ("new", line.new_place)):
-                    if place is not None:
-                        yield side, place
+            subject = block.subject
+            has_place = subject.old.place is not None or subject.new.place is not None
+            yield (subject.old.place, subject.new.place) if has_place else self.export_places(block)
+            yield from ((line.old_place, line.new_place) for line in block.lines)
 
     # ---- the document
 
@@ -197,15 +292,35 @@ class Report:
             "gone": [{"export": one.block.first.export, "breaks": _numbers(one.block.breaks, numbers),
                       "successors": list(one.successors)} for one in self.gone],
         }
-        return {**self.document.whole, "report": report}
+        return {**self.document.whole, "breaks": [self._typed(one, found) for one, found in
+                                                  zip(self.document.breaks, self.document.whole["breaks"])], "report": report}
+
+    def _typed(self, one: Break, found: Json) -> Json:
+        """A break of the document with both types."""
+        return {**found, "old_type": self._type(self.old, one.old_entry), "new_type": self._type(self.new, one.new_entry)}
+
+    def _type(self, side: Side, offset: Optional[int]) -> Optional[Json]:
+        """The type of an entry: its name as C writes it, and its place."""
+        return None if offset is None else _described(side.described(offset))
 
     def _block(self, block: Block, numbers: dict[int, int]) -> Json:
         return {
             "kind": block.subject.kind, "title": block.title, "old": _described(block.subject.old),
             "new": _described(block.subject.new), "export": block.first.export, "steps": list(block.steps),
-            "exports": list(block.exports), "all_exports": block.names_all_exports,
+            "exports": list(block.exports), "member_exports": list(block.member_exports), "all_exports": block.names_all_exports,
+            "because": [cause.title for cause, _ in self.because(block)],
             "changes": [_line(line, numbers) for line in block.lines], "rule_section": self.section(block),
         }
+
+
+def _roots(old: Optional[Place], new: Optional[Place]) -> tuple[Optional[str], Optional[str]]:
+    """The folders in which two places lie, or those above, where the places have folders of the same names: so that both are shown
+    alike."""
+    paths = [None if place is None else PurePosixPath(place.file).parent for place in (old, new)]
+    first, second = paths
+    while first is not None and second is not None and first != second and first.name == second.name != "":
+        first, second = first.parent, second.parent
+    return None if first is None else str(first), None if second is None else str(second)
 
 
 def _are_alike(paths: set[str]) -> bool:

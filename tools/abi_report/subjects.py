@@ -15,7 +15,7 @@ from typing import Optional, Sequence
 from abi_report.c_names import Names
 from abi_report.documents import Break, Document, Place
 from abi_report.entries import BROKEN, Entries, Entry
-from abi_report.records import Records
+from abi_report.records import Records, is_definition
 
 # Rules of exports and of the library.
 EXPORT_RULES = ("X1", "X2", "X3", "X4", "X5", "X6")
@@ -25,12 +25,23 @@ _OF_HOLDERS = ("L1", "L5")
 _FUNCTIONS = ("subprogram", "subroutine_type")
 
 
+@dataclass(frozen=True)
+class Described:
+    """A type of one library: its entry where it could be read, the offset, its name as C writes it and its place."""
+
+    entry: Optional[Entry]
+    offset: Optional[int]
+    name: Optional[str]
+    place: Optional[Place]
+
+
 class Side:
     """One library of a report: what its document and its debug information say of it."""
 
     def __init__(self, document: Document, side: str, path: Path) -> None:
         self._document = document
         self._exports: dict[str, Optional[Entry]] = {}
+        self._described: dict[Optional[int], Described] = {}
         self.side = side
         self.path = path
 
@@ -72,9 +83,9 @@ class Side:
     def place(self, entry: Optional[Entry], offset: Optional[int]) -> Optional[Place]:
         """Where a type is declared: by the document, or else by the debug information."""
         said = self._document.place(self.side, offset)
-        if said is not None or entry is None or self.records is None:
+        if entry is None or self.records is None or (said is not None and not is_definition(entry)):
             return said
-        return self.records.place(entry)
+        return self.records.place(entry) or said
 
     def type_name(self, entry: Optional[Entry], offset: Optional[int]) -> Optional[str]:
         """A type as C writes it: by the document, or else by the debug information."""
@@ -83,15 +94,21 @@ class Side:
             return said
         return self.names.prototype(entry) if entry.tag == "subprogram" else self.names.of(entry.offset)
 
+    def described(self, offset: Optional[int]) -> Described:
+        """The type of an entry; in place of typedefs and qualifiers of a structure, union or enumeration that itself."""
+        if offset not in self._described:
+            self._described[offset] = self._described_at(offset)
+        return self._described[offset]
 
-@dataclass(frozen=True)
-class Described:
-    """A type of one library: its entry where it could be read, the offset, its name as C writes it and its place."""
-
-    entry: Optional[Entry]
-    offset: Optional[int]
-    name: Optional[str]
-    place: Optional[Place]
+    def _described_at(self, offset: Optional[int]) -> Described:
+        entry = self.entry(offset)
+        if entry is not None and self.records is not None and entry.tag not in _FUNCTIONS:
+            core = self.records.core(offset)
+            if core is not None and core.tag in ("structure_type", "union_type", "enumeration_type"):
+                place = self.place(core, core.offset) or self.place(entry, offset)
+                name = self.type_name(core, core.offset) if core.name is not None else self.type_name(entry, offset)
+                return Described(core, core.offset, name, place)
+        return Described(entry, offset, self.type_name(entry, offset), self.place(entry, offset))
 
 
 @dataclass(frozen=True)
@@ -151,23 +168,12 @@ class Subjects:
 
     def _of_pair(self, one: Break) -> Subject:
         """The types themselves."""
-        old, new = (self._described(side, offset) for side, offset in ((self.old, one.old_entry), (self.new, one.new_entry)))
+        old, new = self.old.described(one.old_entry), self.new.described(one.new_entry)
         if not one.steps and (old.entry is None or old.entry.tag in _FUNCTIONS):
             return Subject("function", old, new, ("function", one.export))
         if one.rule not in _OF_HOLDERS and self._is_tagged(one):
             return Subject("record", old, new, _record_key(old, new))
         return Subject("type", old, new, ("type", one.old_entry, one.new_entry, None if one.old_entry else one.export))
-
-    def _described(self, side: Side, offset: Optional[int]) -> Described:
-        entry = side.entry(offset)
-        records = side.records
-        if entry is not None and records is not None and entry.tag not in _FUNCTIONS:
-            core = records.core(offset)
-            if core is not None and core.tag in ("structure_type", "union_type", "enumeration_type"):
-                place = side.place(core, core.offset) or side.place(entry, offset)
-                name = side.type_name(core, core.offset) if core.name is not None else side.type_name(entry, offset)
-                return Described(core, core.offset, name, place)
-        return Described(entry, offset, side.type_name(entry, offset), side.place(entry, offset))
 
 
 def _of_export(one: Break) -> Subject:

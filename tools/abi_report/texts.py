@@ -5,9 +5,10 @@ from __future__ import annotations
 import textwrap
 from typing import Iterable, Iterator, Sequence, TextIO
 
-from abi_tools.gates import Verdict
+from abi_tools.verdicts import Verdict
 
 from abi_report.blocks import Block
+from abi_report.documents import Note
 from abi_report.reports import Report
 from abi_report.texts_shown import counted
 
@@ -20,7 +21,8 @@ _RULES_WIDTH = 7
 _WIDTH = 110
 # So many exports are named again although an earlier block has the same ones.
 _NAMED_AGAIN = 12
-# So many notes of a kind are shown.
+# So many exports that reach a type, and so many notes of a kind, are shown.
+_NAMED = 12
 _NOTED = 10
 
 
@@ -53,21 +55,25 @@ def _lines(report: Report) -> Iterator[Words]:
     yield _answer(report)
     if report.found:
         yield [(report.found, "")]
+    if report.sonames:
+        yield [(report.sonames, "")]
+    if report.rules:
+        yield from _wrapped(f"Rules: {', '.join(f'{rule} {name}' for rule, name in report.rules)}", "", "  ")
     for block in [*report.types, *report.others]:
         yield []
         yield from _block(report, block)
     yield from _gone(report)
-    yield from _listed("Notes", [line for kind, notes in report.notes for line in _of_kind(kind, notes)])
+    yield from _listed("Notes", [line for kind, notes in report.notes for line in _of_kind(report, kind, notes)])
     yield from _listed("Compared", report.compared)
 
 
 def _block(report: Report, block: Block) -> Iterator[Words]:
     subject = block.subject
-    place = report.places(subject.old.place, subject.new.place)
+    places = report.export_places(block) if subject.kind == "export" else (subject.old.place, subject.new.place)
+    place = report.places(*places)
     yield [(block.title, "bold"), (f"  {place}" if place else "", "cyan")]
-    for line in block.lines:
-        where = report.places(line.old_place, line.new_place) if line.head else ""
-        where = "" if where == place else where
+    yield from _because(report, block)
+    for line, where in zip(block.lines, report.line_places(block)):
         yield [(f"  {' '.join(line.rules):<{_RULES_WIDTH}} ", "red" if line.rules else ""),
                (f"{line.head}: " if line.head else "", "bold" if line.rules else ""), (line.text, ""),
                (f"  {where}" if where else "", "cyan")]
@@ -81,23 +87,51 @@ def _block(report: Report, block: Block) -> Iterator[Words]:
 
 def _reached(report: Report, block: Block) -> Iterator[Words]:
     """The exports that reach a type, and the way to it from the first one."""
-    exports = block.exports
     same = report.same_exports(block, _NAMED_AGAIN)
-    if block.subject.kind == "export" or (block.subject.kind == "function" and exports == (block.first.export,)):
+    if report.is_of_itself(block):
         return
     if same is not None:
-        yield [(f"  reached by the same {counted(len(exports), 'export')} as {same.title}", "")]
+        yield [(f"  reached by the same {counted(len(block.exports) + len(block.member_exports), 'export')} as {same.title}", "")]
     else:
-        lead = f"reached by {counted(len(exports), 'export')}: " if block.names_all_exports else "reached by "
-        behind = "" if block.names_all_exports else ", and perhaps by others"
-        for line in textwrap.wrap(lead + ", ".join(exports) + behind, _WIDTH, subsequent_indent="    ", break_long_words=False,
-                                  break_on_hyphens=False, initial_indent="  "):
-            yield [(line, "")]
+        yield from _wrapped(_named_exports(block), "  ", "    ")
     if block.steps or block.subject.kind == "type":
         has_place = block.subject.old.place or block.subject.new.place
         place = "" if has_place else report.places(*report.export_places(block))
         yield [("  by way of ", ""), (" / ".join((block.first.export, *(block.steps or block.first.steps))), "magenta"),
                (f"  {place}" if place else "", "cyan")]
+
+
+def _because(report: Report, block: Block) -> Iterator[Words]:
+    """What made a type change that did not change by itself."""
+    found = report.because(block)
+    if found:
+        words = " and ".join(f"{cause.title} {said}" for cause, said in found)
+        yield from _wrapped(f"{report.because_word(block)} {words}", "  ", "    ")
+
+
+def _wrapped(text: str, first: str, later: str) -> Iterator[Words]:
+    """A text in lines, with what stands before the first one and before later ones."""
+    for line in textwrap.wrap(text, _WIDTH, initial_indent=first, subsequent_indent=later, break_long_words=False, break_on_hyphens=False):
+        yield [(line, "")]
+
+
+def _named_exports(block: Block) -> str:
+    """The exports that reach a type, and how many they are."""
+    names, others = _cut(block.exports), block.member_exports
+    if not block.names_all_exports:
+        return f"reached by {names}, and perhaps by others"
+    words = f"reached by {counted(len(block.exports), 'export')}: {names}"
+    if not others:
+        return words
+    verb = "reaches" if len(others) == 1 else "reach"
+    perhaps = "" if block.is_exact else ", and perhaps the type itself"
+    return f"{words}; {counted(len(others), 'other')} {verb} types of members{perhaps}: {_cut(others)}"
+
+
+def _cut(names: Sequence[str]) -> str:
+    """The first of some names, and how many more there are."""
+    left = len(names) - _NAMED
+    return ", ".join(names[:_NAMED]) + (f" and {counted(left, 'other')}" if left > 0 else "")
 
 
 def _gone(report: Report) -> Iterator[Words]:
@@ -108,13 +142,14 @@ def _gone(report: Report) -> Iterator[Words]:
     for one in report.gone:
         broken = one.block.first
         perhaps = f"; perhaps now {', '.join(one.successors)}" if one.successors else ""
-        yield [(f"  {broken.rule:<{_RULES_WIDTH}} ", "red"), (broken.export, "bold"), (f": {one.block.lines[0].text}{perhaps}", "")]
+        yield [(f"  {broken.rule:<{_RULES_WIDTH}} ", "red"), (broken.export, "bold"), (f": {one.block.lines[0].text}{perhaps}", ""),
+               ("".join(report.was_at(one.block)), "")]
 
 
-def _of_kind(kind: str, notes: Sequence[str]) -> Iterator[str]:
-    """The first notes of a kind, and how many more there are."""
-    for note in notes[:_NOTED]:
-        yield f"{kind}: {note}" if kind else note
+def _of_kind(report: Report, kind: str, notes: Sequence[Note]) -> Iterator[str]:
+    """The first notes of a kind with the places of their exports, and how many more there are."""
+    for note, place in zip(notes[:_NOTED], report.note_places(notes)):
+        yield f"{f'{kind}: ' if kind else ''}{note.text}{f'  {place}' if place else ''}"
     if len(notes) > _NOTED:
         yield f"{kind}: and {len(notes) - _NOTED:,} more"
 

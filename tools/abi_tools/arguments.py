@@ -19,3 +19,11 @@ class Arguments(argparse.ArgumentParser):
     def error(self, message: str) -> NoReturn:
         """Prints the usage and what is wrong, and ends the program."""
         self.exit(self._wrong, f"{self.format_usage()}{self.prog}: {message}\n")
+
+
+def share(text: str) -> float:
+    """A share of 100. Raises ValueError if it is none."""
+    value = float(text.removesuffix("%"))
+    if not 0 <= value <= 100:
+        raise argparse.ArgumentTypeError(f"{text} is no share of 100")
+    return value

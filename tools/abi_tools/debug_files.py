@@ -18,6 +18,10 @@ _SUPPLEMENTARY_FOLDER = DEBUG_FOLDER / ".dwz"
 _MOST_LINKS = 40
 
 
+class NoDebugFile(Fault):
+    """That there is no debug file of a library."""
+
+
 def below(root: Path, name: PurePosixPath) -> Optional[Path]:
     """The file or folder that a name leads to where `root` is the folder `/`, also through links; none where there is none."""
     at = root
@@ -110,7 +114,9 @@ def debug_file(library: ElfFile, root: Path) -> ElfFile:
         if reason is None:
             return debug
         reasons.append(reason)
-    raise Fault(reasons[0] if reasons else _nowhere(library, root))
+    if reasons:
+        raise Fault(reasons[0])
+    raise NoDebugFile(_nowhere(library, root))
 
 
 def _nowhere(library: ElfFile, root: Path) -> str:

@@ -2,11 +2,10 @@
 
 from __future__ import annotations
 
+import re
 import struct
 from dataclasses import dataclass
-from typing import Callable, Mapping, Optional, Union
-
-from elftools.dwarf.enums import ENUM_DW_AT, ENUM_DW_FORM, ENUM_DW_TAG
+from typing import Callable, Iterator, Mapping, NamedTuple, Optional, Union
 
 from abi_tools.faults import Fault
 
@@ -14,10 +13,26 @@ Bytes = Union[bytes, bytearray]
 # How to step over a value: it takes the section and where the value begins, and answers where it ends.
 Step = Callable[[Bytes, int], int]
 
-FORMS: Mapping[str, int] = {name: number for name, number in ENUM_DW_FORM.items() if isinstance(number, int)}
+# The forms from 1 on (DWARF 5, 7.5.6); `-` is a number that no form has. Those of GNU stand behind them.
+_FORMS_FROM_1 = """addr - block2 block4 data2 data4 data8 string block block1 data1 flag sdata strp udata ref_addr ref1 ref2 ref4 ref8
+    ref_udata indirect sec_offset exprloc flag_present strx addrx ref_sup4 strp_sup data16 line_strp ref_sig8 implicit_const
+    loclistx rnglistx ref_sup8 strx1 strx2 strx3 strx4 addrx1 addrx2 addrx3 addrx4""".split()
+_GNU_FORMS = {"GNU_ref_alt": 0x1F20, "GNU_strp_alt": 0x1F21}
+_FORMS = {**{name: number for number, name in enumerate(_FORMS_FROM_1, 1) if name != "-"}, **_GNU_FORMS}
+FORMS: Mapping[str, int] = {f"DW_FORM_{name}": number for name, number in _FORMS.items()}
 FORM_NAMES: Mapping[int, str] = {number: name for name, number in FORMS.items()}
-TAGS: Mapping[str, int] = {name: number for name, number in ENUM_DW_TAG.items() if isinstance(number, int)}
-ATTRIBUTES: Mapping[str, int] = {name: number for name, number in ENUM_DW_AT.items() if isinstance(number, int)}
+# The tags that the tools ask for (DWARF 5, 7.5.3, table 7.3).
+TAGS: Mapping[str, int] = {f"DW_TAG_{name}": number for name, number in {
+    "array_type": 0x01, "enumeration_type": 0x04, "formal_parameter": 0x05, "member": 0x0D, "pointer_type": 0x0F, "compile_unit": 0x11,
+    "structure_type": 0x13, "subroutine_type": 0x15, "typedef": 0x16, "union_type": 0x17, "unspecified_parameters": 0x18,
+    "subrange_type": 0x21, "base_type": 0x24, "const_type": 0x26, "enumerator": 0x28, "subprogram": 0x2E, "variable": 0x34,
+    "volatile_type": 0x35, "restrict_type": 0x37, "imported_unit": 0x3D, "atomic_type": 0x47}.items()}
+# The attributes that the tools ask for (DWARF 5, 7.5.4, table 7.5).
+ATTRIBUTES: Mapping[str, int] = {f"DW_AT_{name}": number for name, number in {
+    "sibling": 0x01, "location": 0x02, "name": 0x03, "byte_size": 0x0B, "bit_offset": 0x0C, "bit_size": 0x0D, "stmt_list": 0x10,
+    "low_pc": 0x11, "high_pc": 0x12, "comp_dir": 0x1B, "const_value": 0x1C, "prototyped": 0x27, "upper_bound": 0x2F, "count": 0x37,
+    "data_member_location": 0x38, "decl_file": 0x3A, "decl_line": 0x3B, "declaration": 0x3C, "external": 0x3F, "type": 0x49,
+    "ranges": 0x55, "data_bit_offset": 0x6B, "str_offsets_base": 0x72, "addr_base": 0x73, "rnglists_base": 0x74}.items()}
 # The most bytes of a number of variable length, as `abi` reads it.
 _LONGEST_NUMBER = 10
 _TWO = struct.Struct("<H")
@@ -95,8 +110,7 @@ def fixed_sizes(version: int) -> dict[str, int]:
     return {**_SIZES, "DW_FORM_ref_addr": 8} if version == 2 else dict(_SIZES)
 
 
-@dataclass(frozen=True)
-class AttributeForm:
+class AttributeForm(NamedTuple):
     """One attribute of an abbreviation: its number, its form, and where the form stands in the section."""
 
     attribute: int
@@ -105,8 +119,7 @@ class AttributeForm:
     form_end: int
 
 
-@dataclass(frozen=True)
-class Abbreviation:
+class Abbreviation(NamedTuple):
     """The tag of entries, the forms of their attributes, and whether each has a list of entries below it."""
 
     tag: int
@@ -116,27 +129,56 @@ class Abbreviation:
 
 Table = Mapping[int, Abbreviation]
 
-
-def read_table(section: Bytes, at: int) -> dict[int, Abbreviation]:
-    """The table of abbreviations at a place, by their codes. Raises IndexError if it does not end in the section."""
-    table: dict[int, Abbreviation] = {}
-    while True:
-        code, at = read_number(section, at)
-        if code == 0:
-            return table
-        tag, at = read_number(section, at)
-        has_children = section[at] != 0
-        attributes, at = _read_attributes(section, at + 1)
-        table[code] = Abbreviation(tag, attributes, has_children)
+_NUMBER = rb"[\x80-\xff]{0,%d}[\x00-\x7f]" % (_LONGEST_NUMBER - 1)
+_ZERO = rb"\x80{0,%d}\x00" % (_LONGEST_NUMBER - 1)
+_CONSTANT = rb"\x%02x" % FORMS["DW_FORM_implicit_const"]
+# An attribute and its form, which are not both 0; behind one form stands a value.
+_ATTRIBUTE = rb"(?!%b%b)%b(?:%b%b|(?!%b)%b)" % (_ZERO, _ZERO, _NUMBER, _CONSTANT, _NUMBER, _CONSTANT, _NUMBER)
+# The code of an abbreviation, its tag, the byte of children, and the attributes with the pair of zeros that ends them.
+_ABBREVIATION = re.compile(rb"(%b)%b[\x00-\xff](?:%b)*%b%b" % (_NUMBER, _NUMBER, _ATTRIBUTE, _ZERO, _ZERO))
 
 
-def _read_attributes(section: Bytes, at: int) -> tuple[tuple[AttributeForm, ...], int]:
+class ReadTable(Table):
+    """The table of abbreviations at a place, by their codes. Each is read where it is asked for, since units use few of them."""
+
+    def __init__(self, section: bytes, at: int) -> None:
+        """Finds where the abbreviations begin. Raises IndexError if the table does not end in the section."""
+        self._section = section
+        self._places: dict[int, int] = {}
+        self._read: dict[int, Abbreviation] = {}
+        code = read_number(section, at)[0]
+        while code:
+            found = _ABBREVIATION.match(section, at)
+            if found is None:
+                raise IndexError("an abbreviation does not end")
+            self._places[code] = found.end(1)
+            at = found.end()
+            code = read_number(section, at)[0]
+
+    def __getitem__(self, code: int) -> Abbreviation:
+        found = self._read.get(code)
+        if found is None:
+            found = self._read[code] = self._at(self._places[code])
+        return found
+
+    def __iter__(self) -> Iterator[int]:
+        return iter(self._places)
+
+    def __len__(self) -> int:
+        return len(self._places)
+
+    def _at(self, at: int) -> Abbreviation:
+        tag, at = read_number(self._section, at)
+        return Abbreviation(tag, _read_attributes(self._section, at + 1), self._section[at] != 0)
+
+
+def _read_attributes(section: Bytes, at: int) -> tuple[AttributeForm, ...]:
     attributes: list[AttributeForm] = []
     while True:
         attribute, form_at = read_number(section, at)
         form, at = read_number(section, form_at)
         if attribute == 0 and form == 0:
-            return tuple(attributes), at
+            return tuple(attributes)
         attributes.append(AttributeForm(attribute, form, form_at, at))
         if FORM_NAMES.get(form) == "DW_FORM_implicit_const":
             at = _over_number(section, at)

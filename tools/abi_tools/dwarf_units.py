@@ -7,7 +7,7 @@ from dataclasses import dataclass
 from functools import partial
 from typing import Callable, Iterator
 
-from abi_tools.dwarf_tables import Bytes, Run, Shifts, Table, fixed_sizes, plan, read_number, read_table
+from abi_tools.dwarf_tables import Bytes, ReadTable, Run, Shifts, Table, fixed_sizes, plan, read_number
 from abi_tools.faults import Fault
 
 _FOUR = struct.Struct("<I")
@@ -86,7 +86,7 @@ class Tables:
         """The table at an offset. Raises a fault if it does not end in the section."""
         if offset not in self.read:
             try:
-                self.read[offset] = read_table(self._section, offset)
+                self.read[offset] = ReadTable(self._section, offset)
             except IndexError as error:
                 raise Fault(f"{self._where}: the abbreviations at {offset} do not end inside their section") from error
         return self.read[offset]
@@ -108,27 +108,25 @@ class Pass:
         runs = self._plans.setdefault((unit.table, unit.version), {})
         table = self._tables.at(unit.table)
         sizes = self._sizes.setdefault(unit.version, fixed_sizes(unit.version))
-        _checked_pass(section, unit, runs, partial(_planned, table, sizes, self._shifts), self._where)
+        for _ in _checked_pass(section, unit, runs, partial(_planned, table, sizes, self._shifts), self._where):
+            pass
 
 
 def _planned(table: Table, sizes: dict[str, int], shifts: Shifts, code: int) -> tuple[Run, ...]:
     return plan(table[code], sizes, shifts)
 
 
-def codes_used(section: Bytes, unit: Unit, table: Table, where: str) -> set[int]:
-    """The codes of the abbreviations that the entries of a unit have. Raises a fault if an entry is damaged, or has a form that
-    is not read."""
-    runs: dict[int, tuple[Run, ...]] = {}
-    planned = partial(_planned, table, fixed_sizes(unit.version), Shifts({}))
-    _checked_pass(section, unit, runs, planned, where)
-    return set(runs)
+def codes_used(section: Bytes, unit: Unit, table: Table, where: str) -> Iterator[int]:
+    """The codes of the abbreviations that the entries of a unit have, each where it is met first. Raises a fault where an entry is
+    damaged, or has a form that is not read."""
+    return _checked_pass(section, unit, {}, partial(_planned, table, fixed_sizes(unit.version), Shifts({})), where)
 
 
 def _checked_pass(section: Bytes, unit: Unit, runs: dict[int, tuple[Run, ...]],
-                  planned: Callable[[int], tuple[Run, ...]], where: str) -> None:
+                  planned: Callable[[int], tuple[Run, ...]], where: str) -> Iterator[int]:
     """A pass over the entries of a unit, with a fault where one is damaged."""
     try:
-        _over_entries(section, unit, runs, planned)
+        yield from _over_entries(section, unit, runs, planned)
     except (IndexError, ValueError, KeyError, struct.error) as error:
         raise Fault(f"{where}: an entry of the unit at {unit.start} is damaged") from error
     except Fault as fault:
@@ -136,8 +134,8 @@ def _checked_pass(section: Bytes, unit: Unit, runs: dict[int, tuple[Run, ...]],
 
 
 def _over_entries(section: Bytes, unit: Unit, runs: dict[int, tuple[Run, ...]],
-                  planned: Callable[[int], tuple[Run, ...]]) -> None:
-    """Passes over the entries of a unit; `runs` has what was planned before."""
+                  planned: Callable[[int], tuple[Run, ...]]) -> Iterator[int]:
+    """Passes over the entries of a unit, and tells each code where it is met first; `runs` has what was planned before."""
     read = _FOUR.unpack_from
     # Values are written where the section can be: where something is added to them.
     write: Callable[..., None] = _FOUR.pack_into
@@ -150,6 +148,7 @@ def _over_entries(section: Bytes, unit: Unit, runs: dict[int, tuple[Run, ...]],
         if code >= 0x80:
             code, at = read_number(section, at - 1)
         if code not in runs:
+            yield code
             runs[code] = planned(code)
         for run in runs[code]:
             for place, more in run.added:

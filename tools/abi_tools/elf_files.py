@@ -1,38 +1,79 @@
-"""ELF files as the tools read them: sections with their contents, and by what a file names another one."""
+"""ELF files as the tools read them: sections with their contents, and by what a file names another one. A section is read where its
+contents are asked for."""
 
 from __future__ import annotations
 
+import os
 import struct
+import weakref
 from dataclasses import dataclass
 from functools import cached_property
-from io import BytesIO
 from pathlib import Path
-from typing import Iterator, Optional
-
-from elftools.common.exceptions import ELFError
-from elftools.construct.core import ConstructError
-from elftools.elf.dynamic import DynamicSection
-from elftools.elf.elffile import ELFFile
-from elftools.elf.sections import NoteSection, Section as ReadSection, SymbolTableSection
+from typing import Iterator, NamedTuple, Optional
 
 from abi_tools.faults import Fault
 from abi_tools.inflating import SHF_COMPRESSED, inflate, inflate_old
 
-# What the library that reads ELF files raises where a file is damaged.
-DAMAGED = (ELFError, ConstructError, struct.error, UnicodeDecodeError, IndexError, KeyError, AttributeError, TypeError,
-           ValueError, OverflowError)
+# What reading raises where bytes are damaged.
+DAMAGED = (struct.error, UnicodeDecodeError, IndexError, KeyError, AttributeError, TypeError, ValueError, OverflowError)
 
 _MAGIC = b"\x7fELF"
-_CLASS_AT = 4
-_CLASS_64 = 2
-# e_shoff, e_shentsize and e_shnum of the header of an ELF-64 file
-_TABLE_END = struct.Struct("<40xQ10xHH2x")
+# e_ident: the class of the file, and the order of its bytes
+_CLASS_AT, _CLASS_64 = 4, 2
+_ORDER_AT, _LITTLE_ENDIAN = 5, 1
+ET_DYN = 3
+EM_X86_64 = 62
+# Numbers that say that the count or number stands in the first section (gABI, "ELF Header").
+_PN_XNUM = 0xFFFF
+_SHN_XINDEX = 0xFFFF
 SHT_NULL = 0
 SHT_PROGBITS = 1
+_SHT_DYNAMIC = 6
+_SHT_NOTE = 7
 SHT_NOBITS = 8
 SHT_DYNSYM = 11
+_SHT_GNU_VERNEED = 0x6FFFFFFE
+_SHT_GNU_VERSYM = 0x6FFFFFFF
+_SHN_UNDEF = 0
+# Version indexes of symbols without the bit that hides one; vn_version, vn_cnt, vn_file, vn_aux and vn_next; vna_hash, vna_flags,
+# vna_other, vna_name and vna_next (GNU symbol versioning).
+_VERSION_INDEX = 0x7FFF
+_INDEX = struct.Struct("<H")
+_NEED = struct.Struct("<HHIII")
+_NEEDED_VERSION = struct.Struct("<IHHII")
+# Entries of the dynamic table, and symbols (gABI, "Dynamic Section" and "Symbol Table").
+_DYNAMIC_ENTRY = struct.Struct("<qQ")
+_DT_NULL, _DT_NEEDED, _DT_SONAME = 0, 1, 14
+_SYMBOL = struct.Struct("<IBBHQQ")
+# namesz, descsz and type of a note, whose parts begin at multiples of four bytes (gABI, "Note Section").
+_NOTE = struct.Struct("<III")
+_GNU = b"GNU\0"
+_NT_GNU_BUILD_ID = 3
+# p_offset and p_filesz of a segment
+_SEGMENT = struct.Struct("<8xQ16xQ16x")
 # The lengths of build ids: those of hashes, of a UUID, and what a linker is told.
 _BUILD_ID_LENGTHS = range(1, 65)
+
+
+class Header(NamedTuple):
+    """The header of an ELF-64 file (gABI, "ELF Header"), behind `e_ident`."""
+
+    kind: int
+    machine: int
+    version: int
+    entry: int
+    segments_at: int
+    sections_at: int
+    flags: int
+    size: int
+    segment_size: int
+    segments: int
+    section_size: int
+    sections: int
+    names: int
+
+
+_HEADER = struct.Struct("<16xHHIQQQIHHHHHH")
 
 
 @dataclass(frozen=True)
@@ -63,6 +104,11 @@ class Section:
         """Whether the section is one of debug information, compressed or not."""
         return self.name.startswith((".debug_", ".zdebug_"))
 
+    @property
+    def is_compressed(self) -> bool:
+        """Whether the section's bytes are compressed."""
+        return bool(self.flags & SHF_COMPRESSED) or self.name.startswith(".zdebug_")
+
     def header(self, name: int) -> bytes:
         """The header as it stands in a file, where the name stands at the offset `name`."""
         return self.LAYOUT.pack(name, self.kind, self.flags, self.address, self.offset, self.size, self.link, self.info,
@@ -89,48 +135,110 @@ class ElfFile:
     """An ELF-64 file in the order of bytes of x86-64, whose sections all lie in it."""
 
     def __init__(self, path: Path) -> None:
-        """Reads the file. Raises a fault if there is none, or it is damaged or of another class or order of bytes."""
+        """Reads the headers. Raises a fault if there is no file, or it is damaged or of another class or order of bytes."""
         self.path = path
         if not path.is_file():
             raise Fault(f"there is no file {path}")
-        self.data = path.read_bytes()
-        self._check_table()
+        self._file = os.open(path, os.O_RDONLY | os.O_CLOEXEC)
+        weakref.finalize(self, os.close, self._file)
+        self.size = os.fstat(self._file).st_size
+        self.header = self._read_header()
         try:
-            self.elf = ELFFile(BytesIO(self.data))
-            if self.elf.elfclass != 64 or not self.elf.little_endian:
-                raise Fault(f"{path} is no ELF-64 file in little endian")
             self.sections = list(self._read_sections())
         except DAMAGED as error:
             raise Fault(f"{path} is no ELF file, or is damaged in its headers") from error
         self._check_ranges()
 
-    def _read_sections(self) -> Iterator[Section]:
-        header = self.elf.header
-        for number in range(self.elf.num_sections()):
-            fields = Section.LAYOUT.unpack_from(self.data, header.e_shoff + number * header.e_shentsize)
-            yield Section(number, self.elf.get_section(number).name, *fields[1:])
+    def _bytes(self, offset: int, size: int) -> bytes:
+        """Bytes of the file. Raises a fault if it ends before them."""
+        parts = []
+        while size > 0:
+            part = os.pread(self._file, size, offset)
+            if not part:
+                raise Fault(f"{self.path} is cut short")
+            parts.append(part)
+            offset, size = offset + len(part), size - len(part)
+        return b"".join(parts)
 
-    def _check_table(self) -> None:
-        if not self.data.startswith(_MAGIC) or len(self.data) < _TABLE_END.size:
+    @cached_property
+    def data(self) -> bytes:
+        """All bytes of the file."""
+        return self._bytes(0, self.size)
+
+    def _read_header(self) -> Header:
+        start = self._bytes(0, min(self.size, _HEADER.size))
+        if not start.startswith(_MAGIC) or len(start) < _HEADER.size:
             raise Fault(f"{self.path} is no ELF file")
-        table, entry_size, count = _TABLE_END.unpack_from(self.data)
-        if self.data[_CLASS_AT] == _CLASS_64 and table + entry_size * count > len(self.data):
+        header = Header(*_HEADER.unpack(start))
+        is_64 = start[_CLASS_AT] == _CLASS_64
+        if is_64 and header.sections_at + header.section_size * header.sections > self.size:
             raise Fault(f"{self.path} is cut short: its table of sections ends behind the end of the file")
+        if not is_64 or start[_ORDER_AT] != _LITTLE_ENDIAN:
+            raise Fault(f"{self.path} is no ELF-64 file in little endian")
+        return header
+
+    def _read_sections(self) -> Iterator[Section]:
+        """The sections with their names. The counts that are too large for the header stand in the first section."""
+        header, layout = self.header, Section.LAYOUT
+        if not header.sections_at:
+            return
+        first = layout.unpack(self._bytes(header.sections_at, layout.size))
+        count = header.sections or first[5]
+        if header.section_size < layout.size or header.sections_at + count * header.section_size > self.size:
+            raise ValueError("the table of sections does not lie in the file")
+        table = self._bytes(header.sections_at, count * header.section_size)
+        rows = [layout.unpack_from(table, number * header.section_size) for number in range(count)]
+        texts = self._names(rows)
+        for number, (name, *fields) in enumerate(rows):
+            end = texts.find(b"\0", name)
+            text = texts[name:end if end >= 0 else None]
+            yield Section(number, text.decode("utf-8", "surrogateescape"), *fields)
+
+    def _names(self, rows: list[tuple[int, ...]]) -> bytes:
+        """The names of the sections."""
+        if not self.names_number:
+            return b""
+        kind, offset, size = rows[self.names_number][1], *rows[self.names_number][4:6]
+        if kind == SHT_NOBITS or offset + size > self.size:
+            raise ValueError("the names of the sections do not lie in the file")
+        return self._bytes(offset, size)
+
+    @cached_property
+    def names_number(self) -> int:
+        """The number of the section with the names of sections."""
+        number = self.header.names
+        if number != _SHN_XINDEX:
+            return number
+        return int(Section.LAYOUT.unpack(self._bytes(self.header.sections_at, Section.LAYOUT.size))[6])
 
     def _check_ranges(self) -> None:
         if not self.sections:
             raise Fault(f"{self.path} has no sections")
         for section in self.sections:
-            if section.holds_bytes and section.offset + section.size > len(self.data):
+            if section.holds_bytes and section.offset + section.size > self.size:
                 raise Fault(f"{self.path} is cut short: its section {section.name} ends behind the end of the file")
+
+    def segments_end(self) -> int:
+        """Where the last byte of the headers of segments and of segments ends. Raises a fault if the headers are damaged."""
+        header = self.header
+        count = self.sections[0].info if header.segments == _PN_XNUM else header.segments
+        try:
+            table = self._bytes(header.segments_at, count * header.segment_size)
+            rows = [_SEGMENT.unpack_from(table, number * header.segment_size) for number in range(count)]
+        except (struct.error, OverflowError, Fault) as error:
+            raise Fault(f"{self.path} is damaged in its program headers") from error
+        return max([header.segments_at + len(table), *(sum(row) for row in rows)])
 
     def first(self, name: str) -> Optional[Section]:
         """The first section of the name that has bytes, where there is one."""
         return next((section for section in self.sections if section.name == name and section.holds_bytes), None)
 
+    def _of_kind(self, kind: int) -> Iterator[Section]:
+        return (section for section in self.sections if section.kind == kind)
+
     def raw(self, section: Section) -> bytes:
         """The bytes of a section as they stand in the file."""
-        return self.data[section.offset:section.offset + section.size] if section.holds_bytes else b""
+        return self._bytes(section.offset, section.size) if section.holds_bytes else b""
 
     def contents(self, section: Section) -> bytes:
         """The bytes of a section, inflated where they are compressed. Raises a fault if that cannot be done."""
@@ -141,15 +249,17 @@ class ElfFile:
             return inflate_old(self.raw(section), where)
         return self.raw(section)
 
-    def debug_sections(self) -> dict[str, tuple[Section, bytes]]:
-        """The first section of debug information of each name, in their order, with inflated contents, under the names of
-        uncompressed sections. Raises a fault if a section cannot be inflated."""
-        found: dict[str, tuple[Section, bytes]] = {}
+    def debug_headers(self) -> dict[str, Section]:
+        """The first section of debug information of each name, in their order, under the names of uncompressed sections."""
+        found: dict[str, Section] = {}
         for section in self.sections:
-            name = section.name.replace(".zdebug_", ".debug_", 1)
-            if section.is_debug and section.holds_bytes and name not in found:
-                found[name] = section, self.contents(section)
+            if section.is_debug and section.holds_bytes:
+                found.setdefault(section.name.replace(".zdebug_", ".debug_", 1), section)
         return found
+
+    def debug_sections(self) -> dict[str, tuple[Section, bytes]]:
+        """The same with inflated contents. Raises a fault if a section cannot be inflated."""
+        return {name: (section, self.contents(section)) for name, section in self.debug_headers().items()}
 
     @property
     def has_debug_information(self) -> bool:
@@ -159,13 +269,13 @@ class ElfFile:
     @cached_property
     def build_id(self) -> Optional[bytes]:
         """The build id, where the file has one. Raises a fault if the note is damaged."""
-        for section in self._read(NoteSection):
+        for section in self._of_kind(_SHT_NOTE):
             if section.name != ".note.gnu.build-id":
                 continue
             try:
-                for note in section.iter_notes():
-                    if note["n_type"] == "NT_GNU_BUILD_ID" and len(note["n_descdata"]) in _BUILD_ID_LENGTHS:
-                        return bytes(note["n_descdata"])
+                for name, kind, described in _notes(self.contents(section)):
+                    if (name, kind) == (_GNU, _NT_GNU_BUILD_ID) and len(described) in _BUILD_ID_LENGTHS:
+                        return described
             except DAMAGED as error:
                 raise Fault(f"{self.path}: the note with the build id is damaged") from error
         return None
@@ -195,8 +305,8 @@ class ElfFile:
 
     @property
     def checksums(self) -> list[bytes]:
-        """What a supplementary file can be known by: its build id, and the checksum in its `.debug_sup`, as far as it has
-        them. Raises a fault if one is damaged."""
+        """What a supplementary file can be known by: its build id, and the checksum in its `.debug_sup`, where it has them. Raises
+        a fault if one is damaged."""
         standard = self._standard_link()
         own = [standard[1].checksum] if standard is not None and standard[0] else []
         return own if self.build_id is None else [self.build_id, *own]
@@ -223,37 +333,102 @@ class ElfFile:
             raise Fault(f"{self.path}: the section {name} is damaged")
         return file.decode("utf-8", "surrogateescape"), rest
 
-    def _read(self, kind: type) -> Iterator[ReadSection]:
-        """The sections that the library reads as those of a kind."""
-        try:
-            for section in self.elf.iter_sections():
-                if isinstance(section, kind):
-                    yield section
-        except DAMAGED as error:
-            raise Fault(f"{self.path} is damaged") from error
-
     @property
     def is_shared_object(self) -> bool:
         """Whether the file is of the type and for the machine that `abi` reads."""
-        return bool(self.elf.header.e_type == "ET_DYN" and self.elf.header.e_machine == "EM_X86_64")
+        return (self.header.kind, self.header.machine) == (ET_DYN, EM_X86_64)
 
     @property
     def soname(self) -> Optional[str]:
         """The soname, where the file has one. Raises a fault if the dynamic table is damaged."""
+        return next((text for tag, text in self._dynamic_texts() if tag == _DT_SONAME), None)
+
+    def needed(self) -> list[str]:
+        """The libraries that the file needs, by DT_NEEDED. Raises a fault if the dynamic table is damaged."""
+        return [text for tag, text in self._dynamic_texts() if tag == _DT_NEEDED]
+
+    def _dynamic_texts(self) -> Iterator[tuple[int, str]]:
+        """The entries of the dynamic table that name something: the tag, and the name."""
         try:
-            for section in self._read(DynamicSection):
-                for tag in section.iter_tags("DT_SONAME"):
-                    return str(tag.soname)
+            for section in self._of_kind(_SHT_DYNAMIC):
+                for tag, value in _DYNAMIC_ENTRY.iter_unpack(self.raw(section)):
+                    if tag == _DT_NULL:
+                        break
+                    if tag in (_DT_NEEDED, _DT_SONAME):
+                        yield tag, _text(self.raw(self.sections[section.link]), value)
         except DAMAGED as error:
             raise Fault(f"{self.path}: the dynamic table is damaged") from error
-        return None
+
+    def imports(self) -> Iterator[tuple[str, Optional[tuple[str, str]]]]:
+        """The names of the undefined dynamic symbols, with the file and the version that each needs, where it needs one. Raises a fault
+        if a table is damaged."""
+        try:
+            texts, symbols = self._symbols()
+            indexes = [index & _VERSION_INDEX for section in self._of_kind(_SHT_GNU_VERSYM)
+                       for (index,) in _INDEX.iter_unpack(self.raw(section))]
+            versions = dict(self._needed_versions())
+            for number, symbol in enumerate(symbols):
+                name = _text(texts, symbol[0])
+                if symbol[3] == _SHN_UNDEF and name:
+                    yield name, versions.get(indexes[number] if number < len(indexes) else 0)
+        except DAMAGED as error:
+            raise Fault(f"{self.path}: a table of dynamic symbols or of their versions is damaged") from error
+
+    def _needed_versions(self) -> Iterator[tuple[int, tuple[str, str]]]:
+        """The versions that the file needs of others, by their indexes: the file and the version (GNU symbol versioning)."""
+        for section in self._of_kind(_SHT_GNU_VERNEED):
+            data, texts = self.raw(section), self.raw(self.sections[section.link])
+            at = 0
+            for _ in range(section.info):
+                _, count, file, first, following = _NEED.unpack_from(data, at)
+                place = at + first
+                for _ in range(count):
+                    _, _, index, name, behind = _NEEDED_VERSION.unpack_from(data, place)
+                    yield index & _VERSION_INDEX, (_text(texts, file), _text(texts, name))
+                    place += behind
+                at += following
 
     def symbol_values(self) -> list[int]:
         """The values of the dynamic symbols, by their numbers. Raises a fault if the table is damaged."""
+        return [symbol[4] for symbol in self._symbols()[1]]
+
+    def symbol_addresses(self) -> dict[str, set[int]]:
+        """The values of the dynamic symbols by their names, without those that are 0. Raises a fault if the table is damaged."""
+        texts, symbols = self._symbols()
+        found: dict[str, set[int]] = {}
+        for name, _, _, _, value, _ in symbols:
+            if value:
+                found.setdefault(_text(texts, name), set()).add(value)
+        return found
+
+    def _symbols(self) -> tuple[bytes, list[tuple[int, ...]]]:
+        """The texts with the names of the dynamic symbols, and the symbols."""
         try:
-            for section in self._read(SymbolTableSection):
-                if section.header.sh_type == "SHT_DYNSYM":
-                    return [symbol.entry.st_value for symbol in section.iter_symbols()]
+            for section in self._of_kind(SHT_DYNSYM):
+                return self.raw(self.sections[section.link]), list(_SYMBOL.iter_unpack(self.raw(section)))
         except DAMAGED as error:
             raise Fault(f"{self.path}: the table of dynamic symbols is damaged") from error
-        return []
+        return b"", []
+
+
+def _text(texts: bytes, at: int) -> str:
+    """The text at an offset of a string table. Raises ValueError if it does not end."""
+    return texts[at:texts.index(b"\0", at)].decode("utf-8", "surrogateescape")
+
+
+def _notes(section: bytes) -> Iterator[tuple[bytes, int, bytes]]:
+    """The notes of a section: the name with its end, the type and what is described. Raises ValueError if one does not end in it."""
+    at = 0
+    while at < len(section):
+        name_size, size, kind = _NOTE.unpack_from(section, at)
+        name = at + _NOTE.size
+        start = name + _up(name_size)
+        if start + size > len(section):
+            raise ValueError("a note does not end in its section")
+        yield section[name:name + name_size], kind, section[start:start + size]
+        at = start + _up(size)
+
+
+def _up(size: int) -> int:
+    """The size with what stands behind it up to a multiple of four."""
+    return size + -size % 4

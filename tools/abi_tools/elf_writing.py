@@ -6,7 +6,7 @@ import struct
 from dataclasses import dataclass, replace
 from typing import Collection, Sequence
 
-from abi_tools.elf_files import DAMAGED, ElfFile, SHT_NULL, SHT_PROGBITS, Section
+from abi_tools.elf_files import ElfFile, SHT_NULL, SHT_PROGBITS, Section
 from abi_tools.faults import Fault
 from abi_tools.inflating import SHF_COMPRESSED
 
@@ -46,14 +46,9 @@ def _pad(image: bytearray, alignment: int) -> None:
 
 def _kept_end(library: ElfFile, kept: Sequence[Section]) -> int:
     """Where the last byte of the library's headers, segments and kept sections ends."""
-    header = library.elf.header
-    ends: list[int] = [_FILE_HEADER_SIZE, header.e_phoff + header.e_phnum * header.e_phentsize]
-    try:
-        ends += [segment["p_offset"] + segment["p_filesz"] for segment in library.elf.iter_segments()]
-    except DAMAGED as error:
-        raise Fault(f"{library.path} is damaged in its program headers") from error
+    ends = [_FILE_HEADER_SIZE, library.segments_end()]
     ends += [section.offset + section.size for section in kept if section.holds_bytes]
-    return int(min(max(ends), len(library.data)))
+    return min(max(ends), len(library.data))
 
 
 def with_sections(library: ElfFile, dropped: Collection[str], added: Sequence[AddedSection]) -> bytes:
@@ -68,7 +63,7 @@ def with_sections(library: ElfFile, dropped: Collection[str], added: Sequence[Ad
         _pad(image, section.like.alignment)
         placed.append(section.placed(len(image)))
         image += section.contents
-    names_number = library.elf.get_shstrndx()
+    names_number = library.names_number
     _write_table(image, [*kept, *placed], names_number, library.raw(library.sections[names_number]))
     return bytes(image)
 

@@ -3,14 +3,16 @@
 from __future__ import annotations
 
 import argparse
+import shlex
 import sys
 from pathlib import Path
 from typing import Sequence
 
 from abi_tools.abi_program import Abi
-from abi_tools.arguments import Arguments
-from abi_tools.gates import Judgement, Verdict, judge
+from abi_tools.arguments import Arguments, share
+from abi_tools.gates import Judgement, judge
 from abi_tools.output_file import clear_output, write_whole
+from abi_tools.verdicts import Verdict
 
 _DESCRIPTION = """\
 Runs `abi check` on a library that was released and a new build of it, for a build that must stop where the new one may not replace
@@ -19,19 +21,11 @@ the old one, or where that cannot be told. `abi` is the one that the variable AB
 _STATUSES = """\
 Exit status:
   0  yes: the new library may replace the old one
-  1  no: the report of abi is printed
+  1  no: the report of abi is printed, and on standard error the command that shows the changed types
   2  it cannot be told, and a line says why: an input is refused or missing, exports lost their types with the debug information
      (stripped, -g1), nothing was compared, no types were compared, or fewer than --require-types asks for; also where the
      arguments are wrong
 """
-
-
-def share(text: str) -> float:
-    """A share of 100. Raises ValueError if it is none."""
-    value = float(text.removesuffix("%"))
-    if not 0 <= value <= 100:
-        raise argparse.ArgumentTypeError(f"{text} is no share of 100")
-    return value
 
 
 def main(arguments: Sequence[str]) -> int:
@@ -46,14 +40,22 @@ def main(arguments: Sequence[str]) -> int:
     given = parser.parse_args(arguments)
     if given.certificate is not None:
         clear_output(given.certificate, [path for path in (given.old, given.new, given.rules) if path is not None])
-    judgement = judge(Abi(), given.old, given.new, given.rules, given.require_types)
+    judgement = _judged(given)
     if given.certificate is not None and judgement.verdict == Verdict.YES and judgement.answer is not None:
         write_whole(given.certificate, judgement.answer.text.encode("utf-8", "surrogateescape"))
-    _show(judgement)
+    _show(judgement, given)
     return int(judgement.verdict)
 
 
-def _show(judgement: Judgement) -> None:
+def _judged(given: argparse.Namespace) -> Judgement:
+    """The verdict. Where the old file is missing, the reason says how the first one is made."""
+    if not given.old.exists():
+        reason = f"there is no file {given.old}: `abi-baseline LIBRARY FILE` keeps the interface of a released library in a file"
+        return Judgement(Verdict.CANNOT_TELL, (reason,), None)
+    return judge(Abi(), given.old, given.new, given.rules, given.require_types)
+
+
+def _show(judgement: Judgement, given: argparse.Namespace) -> None:
     """Prints the answer for people."""
     if judgement.answer is not None and judgement.verdict != Verdict.CANNOT_TELL:
         sys.stderr.write(judgement.answer.notes)
@@ -61,5 +63,9 @@ def _show(judgement: Judgement) -> None:
         print(f"yes: {judgement.compared} exports compared, {judgement.typed} with types")
     elif judgement.verdict == Verdict.NO and judgement.answer is not None:
         sys.stdout.write(judgement.answer.text)
+        sys.stdout.flush()
+        options = [] if given.rules is None else ["--rules", str(given.rules)]
+        command = shlex.join(["abi-report", *options, str(given.old), str(given.new)])
+        print(f"abi-gate: {given.new} may not replace {given.old}; see {command}", file=sys.stderr)
     for reason in judgement.reasons:
         print(f"cannot tell: {reason}")

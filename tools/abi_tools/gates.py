@@ -6,28 +6,17 @@ level 1, a yes says little, and a no may come from the missing types alone.
 
 from __future__ import annotations
 
-import enum
 from dataclasses import dataclass
 from functools import cached_property
 from pathlib import Path
 from typing import Optional
 
 from abi_tools.abi_program import NO, YES, Abi, Answer, Export
-from abi_tools.debug_levels import Levels, levels
+from abi_tools.counting import counted
+from abi_tools.debug_levels import Levels
 from abi_tools.elf_files import ElfFile
 from abi_tools.faults import Fault
-
-
-class Verdict(enum.IntEnum):
-    """The exit statuses of a gate."""
-
-    YES = 0
-    NO = 1
-    CANNOT_TELL = 2
-
-    def words(self) -> str:
-        """How people read it."""
-        return self.name.lower().replace("_", " ")
+from abi_tools.verdicts import Verdict
 
 
 @dataclass(frozen=True)
@@ -44,7 +33,7 @@ class Library:
         """Reads it. Raises a fault if `abi` does not read it."""
         exports = {export.number: export for export in abi.exports(path)}
         file = ElfFile(abi.folder / path)
-        return cls(path, exports, levels(file), file.symbol_values())
+        return cls(path, exports, Levels(file), file.symbol_values())
 
     @cached_property
     def by_label(self) -> dict[str, Export]:
@@ -115,7 +104,7 @@ def _of_yes(answer: Answer, old: Library, new: Library, least_share: float) -> J
     if not bound:
         reasons.append("nothing was compared: no export of the old library, or none that the rule file does not leave out")
     elif lost:
-        reasons.append(_lost(lost, new))
+        reasons.append(_lost(lost, f"{new.path} {new.levels.reason()}"))
     elif counted and not typed:
         reasons.append(f"no types were compared: {_without_types(old, new)}")
     elif counted and 100 * typed < least_share * len(counted):
@@ -131,28 +120,28 @@ def _of_no(answer: Answer, old: Library, new: Library) -> Judgement:
         return Judgement(Verdict.NO, (), answer, old=old, new=new)
     labels = {row.split(" ", 2)[1].rstrip(":") for row in doubtful}
     if any(old.lacks_types(old.by_label[label]) for label in labels if label in old.by_label):
-        reason = f"{len(labels)} exports cannot be compared: {old.path} {old.levels.reason()}"
+        reason = f"{counted(len(labels), 'export')} cannot be compared: {old.path} {old.levels.reason()}"
+    elif all(new.is_described(new.by_label[label]) for label in labels if label in new.by_label):
+        reason = _lost(len(labels), f"{new.path} has types for the code around them: gcc may have folded equal functions; build both "
+                                    "libraries with -fno-ipa-icf, or by clang")
     else:
-        reason = _lost(len(labels), new)
+        reason = _lost(len(labels), f"{new.path} {new.levels.reason()}")
     return Judgement(Verdict.CANNOT_TELL, (reason,), answer, old=old, new=new)
 
 
 def _is_doubtful(row: str, old: Library, new: Library) -> bool:
-    """Whether a row of the report comes from missing types: an export whose type is gone with the debug information, or one whose
-    type is read from debug information without types."""
+    """Whether a row of the report comes from missing types: an export whose type is gone, be it with the debug information or because
+    the compiler folded equal functions, or one whose type is read from debug information without types."""
     rule, label = row.split(" ", 2)[:2]
     first, second = old.by_label.get(label.rstrip(":")), new.by_label.get(label.rstrip(":"))
     if first is None or second is None:
         return False
-    if rule == "X6":
-        return not new.is_described(second)
-    return rule.startswith("L") and (old.lacks_types(first) or new.lacks_types(second))
+    return rule == "X6" or rule.startswith("L") and (old.lacks_types(first) or new.lacks_types(second))
 
 
-def _lost(count: int, new: Library) -> str:
-    """That exports lost their types with the debug information."""
-    return (f"{count} exports that have types in the old library have none in the new one: "
-            f"{new.path} {new.levels.reason()}")
+def _lost(count: int, why: str) -> str:
+    """That exports lost their types, and why."""
+    return f"the types of {counted(count, 'export')} are gone: {why}"
 
 
 def _without_types(old: Library, new: Library) -> str:

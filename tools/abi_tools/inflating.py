@@ -5,8 +5,6 @@ from __future__ import annotations
 import struct
 import zlib
 
-import zstandard
-
 from abi_tools.faults import Fault
 
 SHF_COMPRESSED = 0x800
@@ -41,15 +39,29 @@ def inflate_old(contents: bytes, where: str) -> bytes:
 def _inflated(kind: int, packed: bytes, size: int, where: str) -> bytes:
     if size > LARGEST:
         raise Fault(f"{where} says that it has {size} bytes once it is inflated, which is too much")
-    try:
-        if kind == _ZLIB:
-            plain = zlib.decompressobj().decompress(packed, size + 1)
-        elif kind == _ZSTD:
-            plain = zstandard.ZstdDecompressor().stream_reader(packed).read(size + 1)
-        else:
-            raise Fault(f"{where} is compressed in a way that is neither zlib nor zstd (type {kind})")
-    except (zlib.error, zstandard.ZstdError) as error:
-        raise Fault(f"{where} cannot be inflated: {error}") from error
+    if kind == _ZLIB:
+        plain = _inflated_zlib(packed, size, where)
+    elif kind == _ZSTD:
+        plain = _inflated_zstd(packed, size, where)
+    else:
+        raise Fault(f"{where} is compressed in a way that is neither zlib nor zstd (type {kind})")
     if len(plain) != size:
         raise Fault(f"{where} does not have the {size} bytes that it says once it is inflated")
     return plain
+
+
+def _inflated_zlib(packed: bytes, size: int, where: str) -> bytes:
+    try:
+        return zlib.decompressobj().decompress(packed, size + 1)
+    except zlib.error as error:
+        raise Fault(f"{where} cannot be inflated: {error}") from error
+
+
+def _inflated_zstd(packed: bytes, size: int, where: str) -> bytes:
+    # Without such a section this library is not needed.
+    import zstandard
+
+    try:
+        return bytes(zstandard.ZstdDecompressor().stream_reader(packed).read(size + 1))
+    except zstandard.ZstdError as error:
+        raise Fault(f"{where} cannot be inflated: {error}") from error

@@ -4,7 +4,6 @@ from __future__ import annotations
 
 import errno
 import os
-import tempfile
 from pathlib import Path
 from typing import Sequence
 
@@ -65,6 +64,9 @@ def _name(file: int, output: Path) -> None:
 
 def _write_and_rename(output: Path, contents: bytes) -> None:
     """The same, by a temporary file beside the output."""
+    # Few file systems need it.
+    import tempfile
+
     file, temporary = tempfile.mkstemp(prefix=f".{output.name}.", dir=output.parent)
     try:
         _write_all(file, contents)

@@ -2,40 +2,55 @@
 
 from __future__ import annotations
 
+import shlex
 from dataclasses import dataclass
 from pathlib import Path
 from typing import Optional, Sequence
 
 from abi_tools.abi_program import Abi
+from abi_tools.counting import counted
+from abi_tools.debug_files import NoDebugFile
 from abi_tools.faults import Fault
-from abi_tools.gates import Judgement, Verdict, judge
+from abi_tools.gates import Judgement, judge
 from abi_tools.joining import join
 from abi_tools.output_file import write_whole
 from abi_tools.package_sides import PackagedLibrary, Pair, Side, package_rules
+from abi_tools.verdicts import Verdict
+
+
+# How a note of `abi` begins.
+_NOTE = "abi: note: "
 
 
 @dataclass(frozen=True)
 class Line:
-    """What is said of a library in a line, and what that means for all packages: nothing of a new library."""
+    """What is said of a library in a line, what that means for all packages (nothing of a library that is new or left out), and the
+    notes of `abi` on it."""
 
     text: str
     word: str
     verdict: Optional[Verdict]
+    notes: tuple[str, ...] = ()
 
 
 @dataclass(frozen=True)
 class Judging:
-    """How libraries are judged: the program, which works in the folder `work`; both sides; the folder of certificates; the rule file
-    that is named; and the share of exports that must have types."""
+    """How libraries are judged: the program, which works in the folder `work`; both sides; the folder of certificates; the folder where
+    joined libraries are kept that broke, if they are; the rule file that is named; the share of exports that must have types; and the
+    sonames of libraries that are not judged."""
 
     work: Path
     sides: tuple[Side, Side]
     certificates: Path
+    keep: Optional[Path]
     rules: Optional[Path]
     least_share: float
+    left_out: tuple[str, ...]
 
     def line(self, pair: Pair) -> Line:
         """What is said of a library of either side."""
+        if pair.soname in self.left_out:
+            return Line(f"left out {pair.name}", "left out", None)
         if pair.new is None and pair.old is not None:
             return Line(f"gone {pair.name}: {pair.old.package.file.name} had it", "gone", Verdict.NO)
         if pair.old is None and pair.new is not None:
@@ -52,14 +67,14 @@ class Judging:
         reasons = [put_joined(library, side, self.work / folder / name)
                    for library, side, folder in zip((pair.old, pair.new), self.sides, ("old", "new"))]
         judgement = judge(Abi(folder=self.work), Path("old", name), Path("new", name), rules, self.least_share)
-        kept = self._keep(name, judgement)
+        kept = [*self._keep(name, judgement), *self._keep_libraries(name, judgement.verdict, rules)]
         parts = [_outcome(judgement), *_types(judgement), *([f"rules {said_of_rules}"] if said_of_rules else []), *kept]
         if judgement.verdict == Verdict.CANNOT_TELL or judgement.verdict == Verdict.NO:
             parts += [reason for reason in reasons if reason]
         for folder in ("old", "new"):
             (self.work / folder / name).unlink()
         word = judgement.verdict.words()
-        return Line(f"{word} {pair.name}: {'; '.join(parts)}", word, judgement.verdict)
+        return Line(f"{word} {pair.name}: {'; '.join(parts)}", word, judgement.verdict, _notes(judgement))
 
     def _keep(self, name: str, judgement: Judgement) -> Sequence[str]:
         """Keeps the certificate of a yes or the report of a no, and takes away what an earlier run kept."""
@@ -72,6 +87,25 @@ class Judging:
         write_whole(place, judgement.answer.text.encode("utf-8", "surrogateescape"))
         return [f"{kind} {place}"]
 
+    def _keep_libraries(self, name: str, verdict: Verdict, rules: Optional[Path]) -> Sequence[str]:
+        """Keeps both joined libraries of a no, with the rule file, and answers the command that shows what broke. Takes away what an
+        earlier run kept."""
+        if self.keep is None:
+            return []
+        libraries = [self.keep / side / name for side in ("old", "new")]
+        kept_rules = self.keep / f"{name}.rules"
+        for place in (*libraries, kept_rules):
+            place.unlink(missing_ok=True)
+        if verdict != Verdict.NO:
+            return []
+        for place in libraries:
+            place.parent.mkdir(parents=True, exist_ok=True)
+            write_whole(place, (self.work / place.parent.name / name).read_bytes())
+        if rules is not None:
+            write_whole(kept_rules, rules.read_bytes())
+        options = [] if rules is None else ["--rules", str(kept_rules)]
+        return [f"see {shlex.join(['abi-report', *options, *map(str, libraries)])}"]
+
 
 def put_joined(library: Optional[PackagedLibrary], side: Side, output: Path) -> str:
     """Puts a library, joined with its debug information, where it is judged. Where that cannot be joined the library stands there as
@@ -80,6 +114,9 @@ def put_joined(library: Optional[PackagedLibrary], side: Side, output: Path) -> 
     output.parent.mkdir(exist_ok=True)
     try:
         output.write_bytes(join(library.path, side.root))
+    except NoDebugFile:
+        output.write_bytes(library.path.read_bytes())
+        return f"there is no debug file of {library.name}: add the -dbgsym, -dbg or -debuginfo package of {library.package.file.name}"
     except Fault as fault:
         output.write_bytes(library.path.read_bytes())
         return str(fault).replace(f"{side.root}/", "").replace(f" below {side.root}", "")
@@ -91,8 +128,7 @@ def _outcome(judgement: Judgement) -> str:
     if judgement.verdict == Verdict.YES:
         return f"{judgement.compared} exports compared, {judgement.typed} with types"
     if judgement.verdict == Verdict.NO and judgement.answer is not None:
-        count = len(judgement.answer.rows)
-        return f"{count} break{'s' if count != 1 else ''}"
+        return counted(len(judgement.answer.rows), "break")
     return ", ".join(judgement.reasons)
 
 
@@ -102,6 +138,12 @@ def _types(judgement: Judgement) -> list[str]:
         return []
     counts = [library.typed_count() for library in (judgement.old, judgement.new)]
     return [f"exports with types: old {counts[0][0]} of {counts[0][1]}, new {counts[1][0]} of {counts[1][1]}"]
+
+
+def _notes(judgement: Judgement) -> tuple[str, ...]:
+    """What `abi` saw and did not judge, which it says where the variable ABI_NOTES asks for it."""
+    lines = judgement.answer.notes.splitlines() if judgement.answer is not None else []
+    return tuple(line.removeprefix(_NOTE) for line in lines if line.startswith(_NOTE))
 
 
 def worst(lines: Sequence[Line]) -> Verdict:

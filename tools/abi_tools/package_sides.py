@@ -73,6 +73,11 @@ class Pair:
     old: Optional[PackagedLibrary]
     new: Optional[PackagedLibrary]
 
+    @property
+    def soname(self) -> str:
+        """The soname, or the name of the file where there is none."""
+        return next((library.soname for library in (self.old, self.new) if library is not None), self.name)
+
 
 def pairs(old: Side, new: Side) -> list[Pair]:
     """The libraries of both sides, paired by soname, in the order of their names."""

@@ -2,18 +2,19 @@
 
 from __future__ import annotations
 
+import argparse
 import sys
 import tempfile
 from collections import Counter
 from pathlib import Path
 from typing import Optional, Sequence
 
-from abi_tools.arguments import Arguments
+from abi_tools.arguments import Arguments, share
+from abi_tools.counting import counted
 from abi_tools.faults import Fault
-from abi_tools.gate_command import share
-from abi_tools.gates import Verdict
 from abi_tools.package_judging import Judging, Line, worst
-from abi_tools.package_sides import Side, pairs
+from abi_tools.package_sides import Pair, Side, pairs
+from abi_tools.verdicts import Verdict
 
 _DESCRIPTION = """\
 Says of each library in packages whether the one of the new packages may replace the one of the old packages. OLD and NEW are .deb or
@@ -32,13 +33,19 @@ Exit status:
 def main(arguments: Sequence[str]) -> int:
     """Judges packages as the arguments say, prints a line for each library, and answers the worst verdict."""
     parser = Arguments("abi-packages", _DESCRIPTION, _STATUSES, wrong=Verdict.CANNOT_TELL)
-    parser.usage = "abi-packages [--rules FILE] [--require-types SHARE] [--certificates FOLDER] OLD.. -- NEW.."
+    parser.usage = ("abi-packages [--rules FILE] [--require-types SHARE] [--certificates FOLDER] [--keep FOLDER] [--leave-out SONAME].. "
+                    "OLD.. -- NEW..")
     parser.add_argument("--rules", type=Path, metavar="FILE",
                         help="a rule file of abi (default: usr/share/doc/PACKAGE/abi.rules of the new package, or else of the old one)")
     parser.add_argument("--require-types", type=share, default=0.0, metavar="SHARE",
                         help="how many of 100 compared exports must have types in both libraries (default: one at all)")
     parser.add_argument("--certificates", type=Path, default=Path("abi-certificates"), metavar="FOLDER",
-                        help="where certificates and reports are kept (default: abi-certificates)")
+                        help="where certificates and reports are kept, in place of those of earlier runs on libraries of the same "
+                             "sonames (default: abi-certificates)")
+    parser.add_argument("--keep", type=Path, metavar="FOLDER",
+                        help="where both joined libraries of a no are kept, for abi-report (default: nowhere)")
+    parser.add_argument("--leave-out", action="append", default=[], metavar="SONAME",
+                        help="a library that is not judged, as one in C++; may be given several times")
     parser.add_argument("old", type=Path, nargs="+", metavar="OLD", help="packages of the old build")
     before, new = _parted(arguments)
     given = parser.parse_args(before)
@@ -46,7 +53,7 @@ def main(arguments: Sequence[str]) -> int:
         parser.error("the new packages are missing: they stand behind --")
     if any(name.startswith("-") for name in new):
         parser.error("options stand before the files")
-    return int(_judge(given.old, [Path(name) for name in new], given.rules, given.certificates, given.require_types))
+    return int(_judge(given, [Path(name) for name in new]))
 
 
 def _parted(arguments: Sequence[str]) -> tuple[list[str], Optional[list[str]]]:
@@ -57,26 +64,44 @@ def _parted(arguments: Sequence[str]) -> tuple[list[str], Optional[list[str]]]:
     return list(arguments[:at]), list(arguments[at + 1:])
 
 
-def _judge(old: Sequence[Path], new: Sequence[Path], rules: Optional[Path], certificates: Path, least_share: float) -> Verdict:
-    if rules is not None and not rules.is_file():
-        raise Fault(f"there is no rule file {rules}")
-    certificates.mkdir(parents=True, exist_ok=True)
+def _judge(given: argparse.Namespace, new: Sequence[Path]) -> Verdict:
+    if given.rules is not None and not given.rules.is_file():
+        raise Fault(f"there is no rule file {given.rules}")
+    given.certificates.mkdir(parents=True, exist_ok=True)
     with tempfile.TemporaryDirectory(prefix="abi-packages-") as folder:
         work = Path(folder)
-        sides = Side.unpacked(old, work / "old-packages"), Side.unpacked(new, work / "new-packages")
-        judging = Judging(work, sides, certificates, rules.resolve() if rules else None, least_share)
+        sides = Side.unpacked(given.old, work / "old-packages"), Side.unpacked(new, work / "new-packages")
+        found = pairs(*sides)
+        _refuse_unknown(given.leave_out, found)
+        judging = Judging(work, sides, given.certificates, given.keep, given.rules.resolve() if given.rules else None,
+                          given.require_types, tuple(given.leave_out))
         lines = []
-        for pair in pairs(*sides):
+        for pair in found:
             lines.append(judging.line(pair))
-            print(lines[-1].text, flush=True)
+            _print_line(pair, lines[-1])
     _summary(lines)
     return worst(lines)
+
+
+def _refuse_unknown(left_out: Sequence[str], found: Sequence[Pair]) -> None:
+    """Raises a fault where a soname is to be left out that no library has."""
+    for soname in left_out:
+        if not any(pair.soname == soname for pair in found):
+            raise Fault(f"no library has the soname {soname}, which --leave-out names")
+
+
+def _print_line(pair: Pair, line: Line) -> None:
+    """Prints what is said of a library, and its notes on standard error."""
+    print(line.text, flush=True)
+    for note in line.notes:
+        print(f"abi-packages: {pair.name}: note: {note}", file=sys.stderr)
 
 
 def _summary(lines: Sequence[Line]) -> None:
     """Says how many libraries there were of each kind."""
     counts = Counter(line.word for line in lines)
     said = ", ".join(f"{count} {word}" for word, count in sorted(counts.items()))
-    print(f"{len(lines)} libraries{': ' + said if said else ''}")
+    print(f"{counted(len(lines), 'library', 'libraries')}{': ' + said if said else ''}")
     if not any(line.verdict is not None for line in lines):
-        print("cannot tell: no library is in the old packages", file=sys.stderr)
+        why = "all libraries are left out or new" if counts["left out"] else "no library is in the old packages"
+        print(f"cannot tell: {why}", file=sys.stderr)

@@ -6,21 +6,21 @@ import importlib
 import sys
 
 # The libraries that do not come with Python, and the packages of Debian that bring them.
-PACKAGES = {"elftools": "python3-pyelftools", "debian": "python3-debian", "zstandard": "python3-zstandard",
+PACKAGES = {"debian": "python3-debian", "zstandard": "python3-zstandard",
             "dask": "python3-dask", "distributed": "python3-distributed", "jinja2": "python3-jinja2", "rich": "python3-rich"}
 
 
 def start(tool: str, module: str, fault_status: int = 1, package: str = "abi_tools") -> int:
     """Runs `main` of the module of this package, or of another one, with the arguments of the command line, and answers its status;
-    `fault_status` where it cannot be done."""
+    `fault_status` where it cannot be done. Some libraries are taken in only where they are needed."""
     try:
+        from abi_tools.faults import run_tool
+
         command = importlib.import_module(f"{package}.{module}")
+        return run_tool(tool, command.main, sys.argv[1:], fault_status)
     except ModuleNotFoundError as error:
         library = (error.name or "").split(".")[0]
         if library not in PACKAGES:
             raise
         print(f"{tool}: there is no {library} for Python: install the package {PACKAGES[library]}", file=sys.stderr)
         return fault_status
-    from abi_tools.faults import run_tool
-
-    return run_tool(tool, command.main, sys.argv[1:], fault_status)

@@ -1,0 +1,83 @@
+"""Manual pages of the tools in Python, made of what they print with --help."""
+
+from __future__ import annotations
+
+import os
+import re
+import subprocess
+from pathlib import Path
+from typing import Iterable, Iterator
+
+from abi_manual.manual_pages import head, paragraphs, plain, sentences, words
+from abi_manual.sources import Manual
+
+_TOOLS = Path(__file__).resolve().parents[1]
+# So wide that argparse breaks no line.
+_COLUMNS = "100000"
+_OPTIONS, _STATUSES = "options", "Exit status"
+_HEADING = re.compile(rf"(positional arguments|{_OPTIONS}|{_STATUSES}):(.*)")
+# An argument, an option or a status, and behind blanks what is said of it.
+_ENTRY = re.compile(r"  (\S.*?)(?: {2,}(.*))?")
+_STATUS_IN_LINE = re.compile(r"(\d+) ([^;]+?)(?:;|\.?$)")
+
+
+def tool_page(manual: Manual, name: str) -> str:
+    """The page of a tool."""
+    tool = manual.tools[name]
+    parts = _parts(_help(name))
+    usage, *description = "\n".join(parts[""]).split("\n\n")
+    lines = [
+        *head(name, tool["brief"], manual.source["date"], "what the tool prints with --help"),
+        ".SH SYNOPSIS", _synopsis(usage.removeprefix("usage: ").strip()),
+        ".SH DESCRIPTION", *paragraphs("\n\n".join(" ".join(one.split()) for one in description if one.strip())),
+        ".SH OPTIONS", *_entries(parts[_OPTIONS]),
+        ".SH EXIT STATUS", *_entries(parts[_STATUSES]),
+        ".SH SEE ALSO", *(f".BR {plain(other)} (1)," for other in tool["see"][:-1]), f".BR {plain(tool['see'][-1])} (1)",
+    ]
+    return "\n".join(lines) + "\n"
+
+
+def _help(name: str) -> str:
+    """What a tool prints with --help."""
+    return subprocess.run([str(_TOOLS / name), "--help"], env=dict(os.environ, COLUMNS=_COLUMNS), stdin=subprocess.DEVNULL,
+                          capture_output=True, text=True, check=True).stdout
+
+
+def _parts(text: str) -> dict[str, list[str]]:
+    """The lines below each heading; lines that are not indented are no part of a list, and stand below the heading of no name."""
+    parts: dict[str, list[str]] = {"": []}
+    at = ""
+    for line in text.splitlines():
+        heading = _HEADING.fullmatch(line)
+        if heading is not None:
+            at = heading[1]
+            parts[at] = [f"  {number}  {said}" for number, said in _STATUS_IN_LINE.findall(heading[2])]
+        else:
+            parts[at if line.startswith(" ") else ""].append(line)
+    return parts
+
+
+def _synopsis(usage: str) -> str:
+    name, _, rest = usage.partition(" ")
+    return f"\\fB{plain(name)}\\fR {words(rest)}"
+
+
+def _entries(lines: Iterable[str]) -> Iterator[str]:
+    """The entries of a list; those of which nothing is said are left out, since the usage has them."""
+    found: list[tuple[str, list[str]]] = []
+    for line in lines:
+        entry = _ENTRY.fullmatch(line) if not line.startswith("   ") else None
+        if entry is None:
+            found[-1][1].append(line.strip())
+        else:
+            found.append((entry[1], [entry[2] or ""]))
+    for name, said in found:
+        if any(said):
+            yield ".TP"
+            yield f"\\fB{words(name)}\\fR"
+            yield from sentences(_sentence(" ".join(said).strip()))
+
+
+def _sentence(text: str) -> str:
+    """A text with the ends of a sentence."""
+    return f"{text[0].upper()}{text[1:]}{'' if text.endswith('.') else '.'}"

@@ -1,0 +1,82 @@
+"""A report of a document, made and written."""
+
+from __future__ import annotations
+
+import json
+import sys
+from dataclasses import dataclass
+from pathlib import Path
+from typing import Callable, Iterator, Optional
+
+from abi_tools.output_file import write_whole
+from abi_tools.verdicts import Verdict
+
+from abi_report.documents import Document
+from abi_report.judging import judge_document
+from abi_report.reports import Report
+from abi_report.rule_sections import Headers
+
+Write = Callable[[Report], None]
+# The document, and its member `report`.
+_OPENED = 2
+
+
+@dataclass(frozen=True)
+class Wanted:
+    """What the arguments ask for: both libraries, the folder of the public headers, the least share of exports with types, and where
+    the certificate is kept."""
+
+    old: Path
+    new: Path
+    headers: Optional[Path]
+    require_types: float
+    certificate: Optional[Path]
+
+
+def report_on(document: Document, wanted: Wanted, write: Write) -> Verdict:
+    """Writes the report, and answers the verdict."""
+    judged = judge_document(document, wanted.old, wanted.new, wanted.require_types)
+    report = Report(document, judged, wanted.old, wanted.new, Headers(wanted.headers))
+    if wanted.certificate is not None and judged.verdict == Verdict.YES:
+        write_whole(wanted.certificate, document.text.encode())
+    write(report)
+    return judged.verdict
+
+
+def writer_of(form: str, quiet: bool) -> Write:
+    """What writes a report in a form to standard output."""
+    if form == "json" and not quiet:
+        return _write_document
+    # What another form needs is not taken in.
+    if form == "html" and not quiet:
+        from abi_report.pages import page_writer
+
+        write_page = page_writer()
+        return lambda report: write_page(report, sys.stdout)
+    from abi_report.texts import write_text
+
+    return lambda report: write_text(report, sys.stdout, quiet)
+
+
+def _write_document(report: Report) -> None:
+    sys.stdout.writelines(_pieces(report.whole(), _OPENED))
+    sys.stdout.write("\n")
+
+
+def _pieces(value: object, levels: int) -> Iterator[str]:
+    """The text of a value: an object of the first levels has a line for each member, and a list of objects in it a line for each."""
+    if isinstance(value, dict) and value and levels:
+        opening = "{"
+        for name, member in value.items():
+            yield f"{opening}\n{json.dumps(name, ensure_ascii=False)}: "
+            yield from _pieces(member, levels - 1)
+            opening = ","
+        yield "\n}"
+    elif isinstance(value, list) and value and isinstance(value[0], dict):
+        opening = "["
+        for one in value:
+            yield f"{opening}\n{json.dumps(one, ensure_ascii=False)}"
+            opening = ","
+        yield "]"
+    else:
+        yield json.dumps(value, ensure_ascii=False)
