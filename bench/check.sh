@@ -12,7 +12,6 @@
 # usage: bench/check.sh [ABI]   (default: the program that `rt run` built in crates/abi_cli/out)
 set -eu
 . "$(dirname "$0")/common.bash"
-source=$top/tests/c/entries.awk
 mkdir -p check
 cd check
 
@@ -82,13 +81,6 @@ verified() {
     beside "$ours" "$abi" check "$2" "$3"
 }
 
-# built NAME COMMAND..: the library of a name, which the command makes where it is not there yet.
-built() {
-    local name=$1
-    shift
-    [ -e "$name" ] || "$@" -shared -fPIC -w -g -O1 -o "$name"
-}
-
 # longer LIBRARY: the name of a copy of it with one more byte.
 longer() {
     cp "$1" longer.so
@@ -116,9 +108,7 @@ else
     echo "libcrypto of OpenSSL is left out (bench/openssl.sh builds it)"
 fi
 
-awk -v first=1 -v last=6500 -f "$source" >groups.c
-sed '0,/struct { short x, y; } place/s//struct { int x, y; } place/' groups.c >changed.c
-cmp -s groups.c changed.c && { echo "bench: nothing was changed in the sources" >&2; exit 1; }
+generate_c
 for compiler in gcc clang; do
     command -v $compiler >/dev/null || { echo "there is no $compiler"; continue; }
     built "$compiler.so" $compiler groups.c

@@ -1,6 +1,6 @@
-# What the scripts beside this one share: where they work, which program they take, processor time, peak memory and ratios. A
-# script takes this file in with its own arguments. It ends where a command that is measured fails, and where gcc, readelf or GNU
-# time (/usr/bin/time, of the package time) is missing.
+# What the scripts beside this one share: where they work, which program they take, processor time, peak memory, ratios and
+# generated C. A script takes this file in with its own arguments. It ends where a command that is measured fails, and where gcc,
+# readelf or GNU time (/usr/bin/time, of the package time) is missing.
 set -o pipefail
 for tool in gcc readelf /usr/bin/time; do
     command -v "$tool" >/dev/null || { echo "bench: there is no $tool" >&2; exit 1; }
@@ -47,3 +47,18 @@ least() {
 }
 
 ratio() { awk -v a="$1" -v b="$2" 'BEGIN { if (b > 0) printf "%.2f", a / b; else printf "none" }'; }
+
+# generate_c: writes groups.c, a C source of declarations of all sorts, and changed.c, where one structure is changed.
+generate_c() {
+    awk -v first=1 -v last=6500 -f "$top/tests/c/entries.awk" >groups.c
+    sed '0,/struct { short x, y; } place/s//struct { int x, y; } place/' groups.c >changed.c
+    cmp -s groups.c changed.c && { echo "bench: nothing was changed in the sources" >&2; exit 1; }
+    return 0
+}
+
+# built NAME COMMAND..: the library of a name, which the command makes where it is not there yet.
+built() {
+    local name=$1
+    shift
+    [ -e "$name" ] || "$@" -shared -fPIC -w -g -O1 -o "$name"
+}

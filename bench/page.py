@@ -1,10 +1,10 @@
-"""Opens a page in headless Chromium, says how long that took, and keeps pictures of it.
+"""Opens a page in headless Chromium, measures how long that takes, and keeps pictures of it.
 
 usage: /usr/bin/python3 bench/page.py PAGE [FOLDER]
 
-Opens the page of `tools/abi-release` three times, each time in a new browser, and prints the seconds until its event `load` and until
-the frame behind it is painted, counted from the moment at which the browser is told to open it. FOLDER gets pictures: the top of
-the page, the page with its filter set, a light and a dark one, and its end.
+Opens a page of `tools/abi-report` or `tools/abi-release` three times, each time in a new browser, and prints the seconds until its
+event `load` and until the frame behind it is painted, counted from the call that opens it. FOLDER gets pictures at two widths, light
+and dark: the top of the page, the page with the filter set, and its end.
 """
 
 from __future__ import annotations
@@ -28,6 +28,12 @@ _BROWSER = ["chromium", "--headless", "--no-sandbox", "--disable-gpu", "--no-fir
 # Two frames later what was laid out is painted.
 _PAINTED = "new Promise(done => requestAnimationFrame(() => requestAnimationFrame(() => done(true))))"
 _ROWS = "document.querySelectorAll('main tr').length"
+# Widths and heights: a desktop's and a phone's.
+_SIZES = ((1400, 900), (390, 844))
+_NARROW = 600
+# Types words into the filter.
+_FILTER = """(() => { const field = document.querySelector('input[type=search]');
+    if (field) { field.value = %s; field.dispatchEvent(new Event('input')); } })()"""
 
 
 class Browser:
@@ -85,23 +91,32 @@ async def opened(browser: Browser, page: Path) -> tuple[float, float]:
 
 
 async def pictures(browser: Browser, folder: Path) -> None:
-    """Keeps pictures of the page, and prints how many lines were shown in them."""
+    """Keeps pictures of the page at each width and in the colours of each scheme."""
     folder.mkdir(parents=True, exist_ok=True)
-    await browser.picture(folder / "top.png")
-    await browser.value("document.querySelector('button[data-answer=no]')?.click()")
-    await browser.picture(folder / "no.png")
-    print(f"with the button `no`: {await browser.value('shown.textContent')}")
-    await browser.value("field.value = '99 report'; filter()")
-    await browser.call("Emulation.setEmulatedMedia", features=[{"name": "prefers-color-scheme", "value": "dark"}])
-    await browser.picture(folder / "filter_dark.png")
-    print(f"with `99 report` in the filter: {await browser.value('shown.textContent')}")
-    await browser.call("Emulation.setEmulatedMedia", features=[])
-    await browser.value("document.querySelector('button[data-answer=no]')?.click(); field.value = ''; filter()")
-    await browser.value("document.querySelector('main details')?.setAttribute('open', '')")
-    await browser.value("window.scrollTo(0, document.body.scrollHeight)")
-    await browser.value(_PAINTED)
-    await browser.value("window.scrollTo(0, document.body.scrollHeight)")
-    await browser.picture(folder / "end.png")
+    for width, height in _SIZES:
+        await browser.call("Emulation.setDeviceMetricsOverride", width=width, height=height, deviceScaleFactor=1, mobile=width < _NARROW)
+        for scheme in ("light", "dark"):
+            await browser.call("Emulation.setEmulatedMedia", features=[{"name": "prefers-color-scheme", "value": scheme}])
+            await _scheme(browser, folder, f"{width}_{scheme}")
+            wide = await browser.value("document.documentElement.scrollWidth")
+            if wide > width:
+                print(f"at a width of {width} the page has {wide} columns")
+
+
+async def _scheme(browser: Browser, folder: Path, name: str) -> None:
+    """Keeps pictures of the top, of what a filter leaves, and of the end."""
+    await browser.value("window.scrollTo(0, 0)")
+    await browser.picture(folder / f"top_{name}.png")
+    await browser.value(_FILTER % json.dumps("9 2"))
+    await browser.value("for (const one of [...document.querySelectorAll('main details')].slice(0, 3)) one.open = true")
+    await browser.picture(folder / f"filter_{name}.png")
+    await browser.value("for (const one of document.querySelectorAll('main details[open]')) one.open = false")
+    await browser.value(_FILTER % '""')
+    # What was not laid out yet gets its height at the first of these.
+    for _ in range(2):
+        await browser.value("window.scrollTo(0, document.body.scrollHeight)")
+        await browser.value(_PAINTED)
+    await browser.picture(folder / f"end_{name}.png")
 
 
 async def run(page: Path, folder: Optional[Path]) -> tuple[float, float]:

@@ -1,0 +1,128 @@
+"""Measures how much of each limit of `abi` some libraries take.
+
+usage: /usr/bin/python3 -m limits ABI GRAPH_LINES LIBRARY[,CHANGED]..
+
+Prints the table of docs/LIMITS.md, with a cell for each library: what was counted, how much it may be, and the percentage. CHANGED
+is another build of the library, for which there is a report. Below stand how deep types hold one another, how much they weigh and
+how long chains of origins are at most, and what the rule files of examples/ weigh. Ends with status 1 where a library takes more
+than a tenth of a limit of the table.
+"""
+
+from __future__ import annotations
+
+import sys
+import tempfile
+from dataclasses import dataclass
+from pathlib import Path
+from typing import Optional
+
+from elftools.elf.elffile import ELFFile
+
+from . import debug_tables, elf_tables, graphs, held, pairs, rule_files
+from .entries import read_entries
+from .figures import MOST_SHARE, Figure
+from .rows import ROWS, Row
+
+_EXAMPLES = Path(__file__).resolve().parents[2] / "examples"
+Figures = dict[str, Figure]
+
+
+@dataclass(frozen=True)
+class Programs:
+    """Where `abi` and tool_graph_lines stand."""
+
+    abi: str
+    graph_lines: str
+
+
+def _elf_figures(library: str) -> Figures:
+    with open(library, "rb") as stream:
+        elf = ELFFile(stream)
+        return {
+            "symbols": elf_tables.symbols(elf),
+            "definitions": elf_tables.definitions(elf),
+            "exports": elf_tables.exports(elf),
+            "needs": elf_tables.needs(elf),
+            "soname": elf_tables.soname(elf),
+        }
+
+
+def _type_figures(library: str, nodes: dict[int, graphs.Node]) -> Figures:
+    size = Path(library).stat().st_size
+    entries = read_entries(library)
+    with open(library, "rb") as stream:
+        elf = ELFFile(stream)
+        return {
+            "lists": debug_tables.range_lists(elf, entries),
+            "tables": debug_tables.abbreviations(elf, entries.units),
+            "attributes": debug_tables.attributes(entries.units),
+            "flat": graphs.flat_parts(nodes, entries),
+            "parts": graphs.held_parts(nodes, size),
+            "letters": graphs.letters(nodes, size),
+            "names": graphs.labels(nodes),
+            "steps": graphs.walk_steps(nodes),
+            "depth": held.deepest(nodes, entries),
+            "heaviest": held.heaviest(nodes, entries),
+            "chain": held.longest_chain(entries),
+        }
+
+
+def _pair_figures(library: str, changed: Optional[str], abi: str, nodes: dict[int, graphs.Node]) -> Figures:
+    """What is found where the library is compared with itself, and with another build."""
+    certificate = pairs.run(abi, "check", library, library)
+    figures = {"visits": pairs.visits(nodes, certificate), "compared": pairs.compared_parts(nodes, certificate)}
+    if changed is not None:
+        figures["report"] = pairs.report_bytes(pairs.run(abi, "check", library, changed), library, changed)
+    return figures | _composed_figures(library, certificate, abi)
+
+
+def _composed_figures(library: str, certificate: str, abi: str) -> Figures:
+    """What is found where the certificate of the library and itself is composed with itself."""
+    with tempfile.NamedTemporaryFile("w") as copy:
+        copy.write(certificate)
+        copy.flush()
+        composed = pairs.run(abi, "compose", library, library, library, copy.name, copy.name)
+    return {"lines": pairs.composed_lines(composed), "certificate": pairs.composed_bytes(composed)}
+
+
+def measured(library: str, changed: Optional[str], programs: Programs) -> Figures:
+    """All figures of a library."""
+    nodes = graphs.read_graph(programs.graph_lines, library)
+    return _elf_figures(library) | _type_figures(library, nodes) | _pair_figures(library, changed, programs.abi, nodes)
+
+
+def is_over(figures: Figures, row: Row) -> bool:
+    return row.name in figures and figures[row.name].share > MOST_SHARE
+
+
+def print_table(columns: dict[str, Figures]) -> None:
+    print("| What is counted | Limit | " + " | ".join(columns) + " |")
+    print("|---" * (len(columns) + 2) + "|")
+    for row in ROWS:
+        cells = (str(figures.get(row.name, "none")) for figures in columns.values())
+        print(f"| {row.counted} | {row.limit} | " + " | ".join(cells) + " |")
+
+
+def print_others(columns: dict[str, Figures]) -> None:
+    for file, figures in columns.items():
+        print(f"{file}: depth by value {figures['depth']}, weight {figures['heaviest']}, chain of origins {figures['chain']}")
+    for rules in sorted(_EXAMPLES.rglob("*.rules")):
+        print(f"{rules.name}: weight of patterns {rule_files.weight(rules)}")
+
+
+def main(programs: Programs, words: list[str]) -> int:
+    columns = {}
+    for library, _, changed in (word.partition(",") for word in words):
+        columns[Path(library).name] = measured(library, changed or None, programs)
+    print_table(columns)
+    print_others(columns)
+    over = [f"{file}: {row.name}" for file, figures in columns.items() for row in ROWS if is_over(figures, row)]
+    for line in over:
+        print(f"more than a tenth: {line}")
+    return 1 if over else 0
+
+
+if __name__ == "__main__":
+    if len(sys.argv) < 4:
+        sys.exit(__doc__)
+    sys.exit(main(Programs(*sys.argv[1:3]), sys.argv[3:]))

@@ -1,0 +1,124 @@
+"""Tables of abbreviations and range lists, as far as `abi` reads them."""
+
+from __future__ import annotations
+
+from typing import Any, Iterator
+
+from elftools.elf.elffile import ELFFile
+
+from .entries import Entries, Unit
+from .figures import Figure, constant, times_read
+
+# An abbreviation has at least a byte for its code, its tag, its children and each number of its pairs, of which the last is 0 0.
+_ABBREVIATION = 5
+_PAIR = 2
+_IMPLICIT_CONST = 0x21
+_ADDRESS = 8
+_BASE = b"\xff" * _ADDRESS
+_END = b"\0" * (2 * _ADDRESS)
+_LISTS = 5
+_NO_RANGES = ("DW_RLE_base_address", "DW_RLE_base_addressx")
+
+
+def contents(elf: ELFFile, name: str) -> bytes:
+    section = elf.get_section_by_name(name)
+    return bytes(section.data()) if section else b""
+
+
+class _Numbers:
+    """Reads numbers of variable length."""
+
+    def __init__(self, held: bytes, at: int) -> None:
+        self._held = held
+        self._at = at
+
+    def byte(self) -> int:
+        self._at += 1
+        return self._held[self._at - 1]
+
+    def number(self) -> int:
+        """An unsigned number; of a signed one only the end counts here."""
+        value = shift = 0
+        while True:
+            byte = self.byte()
+            value |= (byte & 0x7F) << shift
+            shift += 7
+            if byte < 0x80:
+                return value
+
+    def pairs(self) -> Iterator[tuple[int, int]]:
+        while True:
+            pair = self.number(), self.number()
+            if pair[1] == _IMPLICIT_CONST:
+                self.number()
+            if pair == (0, 0):
+                return
+            yield pair
+
+
+def _table_bytes(held: bytes, at: int) -> int:
+    """The least bytes of the abbreviations of a table."""
+    numbers = _Numbers(held, at)
+    found = 0
+    while numbers.number():
+        numbers.number()
+        numbers.byte()
+        found += _ABBREVIATION + _PAIR * sum(1 for _ in numbers.pairs())
+    return found
+
+
+def abbreviations(elf: ELFFile, units: list[Unit]) -> Figure:
+    """The tables of all units: one is read again where those that are kept beside one another left no room for it."""
+    held = contents(elf, ".debug_abbrev")
+    most = min(len(held), constant("dwarf_units/src/table.rt", "MOST_KEPT_BYTES"))
+    kept: set[int] = set()
+    room = found = 0
+    for unit in units:
+        if unit.abbreviations not in kept:
+            size = _table_bytes(held, unit.abbreviations)
+            found += size
+            if size > room:
+                kept, room = set(), most
+            room = max(0, room - size)
+            kept.add(unit.abbreviations)
+    return times_read(found, len(held))
+
+
+def attributes(units: list[Unit]) -> Figure:
+    """The attributes of the entries of a unit: of the unit that has the most for its bytes."""
+    figures = [times_read(unit.attributes, unit.size) for unit in units]
+    return max(figures, key=lambda figure: figure.share, default=Figure(0, 0))
+
+
+def _list_bytes(ranges: Any, place: int) -> int:
+    """The bytes of a list of version 5 up to its first range."""
+    found = 0
+    for entry in ranges.get_range_list_at_offset_ex(place):
+        if entry.entry_type == "DW_RLE_end_of_list":
+            break
+        found += entry.entry_length
+        if entry.entry_type not in _NO_RANGES:
+            break
+    return found
+
+
+def _pair_bytes(held: bytes, place: int) -> int:
+    """The bytes of a list of pairs up to its first range."""
+    found = 0
+    while held[place + found:place + found + 2 * _ADDRESS] not in (_END, b""):
+        base = held[place + found:place + found + _ADDRESS] == _BASE
+        found += 2 * _ADDRESS
+        if not base:
+            break
+    return found
+
+
+def range_lists(elf: ELFFile, entries: Entries) -> Figure:
+    """The range lists of functions."""
+    pairs = contents(elf, ".debug_ranges")
+    lists = contents(elf, ".debug_rnglists")
+    ranges = elf.get_dwarf_info().range_lists() if entries.lists else None
+    found = sum(
+        _list_bytes(ranges, place) if version >= _LISTS else _pair_bytes(pairs, place) for version, place in entries.lists
+    )
+    return times_read(found, len(pairs) + len(lists))

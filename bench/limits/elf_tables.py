@@ -1,0 +1,89 @@
+"""Records and names in the tables of a library: its symbols, versions and needs, as pyelftools reads them."""
+
+from __future__ import annotations
+
+from typing import Any, Iterator, Optional
+
+from elftools.elf.elffile import ELFFile
+
+from .figures import Figure, constant, times_read
+
+_SYMBOL = 24
+_DEFINITION = 20
+_NEED = 16
+_AUXILIARY = 16
+_INDEX = 0x7FFF
+
+
+def _section(elf: ELFFile, kind: str) -> Optional[Any]:
+    return next((section for section in elf.iter_sections() if section["sh_type"] == kind), None)
+
+
+def _length(name: str) -> int:
+    return len(name.encode())
+
+
+def _table(elf: ELFFile, kind: str, record: int, names: Iterator[str]) -> Figure:
+    """Records of a size, each with a name, in the first section of a kind."""
+    section = _section(elf, kind)
+    if section is None:
+        return Figure(0, 0)
+    strings = elf.get_section(section["sh_link"])
+    found = sum(record + _length(name) for name in names)
+    return times_read(found, section["sh_size"] + strings["sh_size"])
+
+
+def symbols(elf: ELFFile) -> Figure:
+    """Symbols with their names."""
+    section = _section(elf, "SHT_DYNSYM")
+    names = (symbol.name for symbol in section.iter_symbols()) if section else iter(())
+    return _table(elf, "SHT_DYNSYM", _SYMBOL, names)
+
+
+def definitions(elf: ELFFile) -> Figure:
+    """Definitions of versions with their names."""
+    return _table(elf, "SHT_GNU_verdef", _DEFINITION, iter(_versions(elf).values()))
+
+
+def _versions(elf: ELFFile) -> dict[int, str]:
+    """The names of the versions that a library defines, by their indexes."""
+    section = _section(elf, "SHT_GNU_verdef")
+    if section is None:
+        return {}
+    return {version["vd_ndx"] & _INDEX: next(names).name for version, names in section.iter_versions()}
+
+
+def exports(elf: ELFFile) -> Figure:
+    """The names of defined symbols, each with that of its version."""
+    section = _section(elf, "SHT_DYNSYM")
+    if section is None:
+        return Figure(0, 0)
+    versions = _versions(elf)
+    indexes = _section(elf, "SHT_GNU_versym")
+    found = 0
+    for number, symbol in enumerate(section.iter_symbols()):
+        if symbol["st_shndx"] != "SHN_UNDEF":
+            index = indexes.get_symbol(number)["ndx"] if indexes else 0
+            version = versions.get(index & _INDEX, "") if isinstance(index, int) else ""
+            found += _length(symbol.name) + _length(version)
+    return times_read(found, _SYMBOL * section.num_symbols())
+
+
+def needs(elf: ELFFile) -> Figure:
+    """What a library needs of others: files and versions with their names, as `abi app` reads them of a program."""
+    section = _section(elf, "SHT_GNU_verneed")
+    if section is None:
+        return Figure(0, 0)
+    found = 0
+    for need, auxiliaries in section.iter_versions():
+        found += _NEED + _length(need.name)
+        found += sum(_AUXILIARY + _length(auxiliary.name) for auxiliary in auxiliaries)
+    strings = elf.get_section(section["sh_link"])
+    return times_read(found, section["sh_size"] + strings["sh_size"])
+
+
+def soname(elf: ELFFile) -> Figure:
+    """The bytes of the soname."""
+    dynamic = _section(elf, "SHT_DYNAMIC")
+    names = [tag.soname for tag in dynamic.iter_tags("DT_SONAME")] if dynamic else []
+    return Figure(_length(names[0]) if names else 0, constant("suppressions/src/block.rt", "LONGEST_SONAME"))

@@ -1,0 +1,58 @@
+"""What `abi` compares of two libraries: pairs of types, rows of a report and lines of a composed certificate."""
+
+from __future__ import annotations
+
+import subprocess
+from pathlib import Path
+
+from .figures import Figure, allowed, constant
+from .graphs import Node, parts
+
+_EXPLORING = "pair_explorer/src/exploring.rt"
+_ROOM = "pair_compare/src/reports/room.rt"
+_COMPOSING = "library_check/src/composing.rt"
+_BASE = "abi_base/src/lib.rt"
+
+
+def run(program: str, *words: str) -> str:
+    """What a command of `abi` prints, which ends with yes or no."""
+    ended = subprocess.run([program, *words], stdout=subprocess.PIPE, stderr=subprocess.PIPE, text=True)
+    if ended.returncode not in (0, 1):
+        raise RuntimeError(f"{program} {' '.join(words)}: {ended.returncode} {ended.stderr.strip()}")
+    return ended.stdout
+
+
+def pair_lines(certificate: str) -> list[tuple[int, int]]:
+    """The old and the new entry of each line."""
+    words = (line.split() for line in certificate.splitlines())
+    return [(int(line[1]), int(line[2])) for line in words if line[0] == "pair"]
+
+
+def visits(nodes: dict[int, Node], certificate: str) -> Figure:
+    """The pairs of types that were visited, of a library beside itself."""
+    return Figure(len(pair_lines(certificate)), allowed(_EXPLORING, "VISITS_A_TYPE", 2 * len(nodes), "VISITS_AT_LEAST"))
+
+
+def compared_parts(nodes: dict[int, Node], certificate: str) -> Figure:
+    """The parts of the types of each pair, of a library beside itself."""
+    found = sum(len(nodes[old].parts) + len(nodes[new].parts) for old, new in pair_lines(certificate))
+    return Figure(found, allowed(_EXPLORING, "PARTS_A_PART", 2 * parts(nodes), "PARTS_AT_LEAST"))
+
+
+def report_bytes(report: str, old: str, new: str) -> Figure:
+    """The rows of a report, each with what it takes beside its text."""
+    row = constant(_ROOM, "ROW")
+    found = sum(row + len(line.encode()) for line in report.splitlines()[1:])
+    size = Path(old).stat().st_size + Path(new).stat().st_size
+    return Figure(found, allowed(_ROOM, "BYTES_A_BYTE", size, "BYTES_AT_LEAST"))
+
+
+def composed_lines(certificate: str) -> Figure:
+    """The pair lines of a composed certificate."""
+    most = constant(_BASE, "INPUT_LIMIT") // constant(_COMPOSING, "PAIR_ROOM")
+    return Figure(len(pair_lines(certificate)), most)
+
+
+def composed_bytes(certificate: str) -> Figure:
+    """The bytes of a composed certificate."""
+    return Figure(len(certificate.encode()), constant(_BASE, "INPUT_LIMIT"))

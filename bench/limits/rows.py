@@ -1,0 +1,65 @@
+"""What docs/LIMITS.md says of each limit: what is counted, and how much there may be. The numbers are those of the sources."""
+
+from __future__ import annotations
+
+from dataclasses import dataclass
+
+from .figures import constant
+
+_TIMES = constant("abi_base/src/effort.rt", "MOST_TIMES")
+_SYMBOL = constant("elf/src/constants.rt", "SYM_SIZE")
+_FLAT = "type_graph/src/limits.rt"
+_ROOM = "library_read/src/room.rt"
+_WALKS = "psabi/src/walks.rt"
+_EXPLORING = "pair_explorer/src/exploring.rt"
+_REPORT = "pair_compare/src/reports/room.rt"
+_BLOCK = "suppressions/src/block.rt"
+_INPUT = constant("abi_base/src/lib.rt", "INPUT_LIMIT")
+_LINES = _INPUT // constant("library_check/src/composing.rt", "PAIR_ROOM")
+
+
+@dataclass(frozen=True)
+class Row:
+    """A limit: the name of its figure, what is counted, and how much there may be."""
+
+    name: str
+    counted: str
+    limit: str
+
+
+def _each(source: str, each: str, thing: str, beside: str) -> str:
+    return f"{constant(source, each):,} for each {thing}, and {constant(source, beside):,} more"
+
+
+ROWS = [
+    Row("symbols", f"Symbols: {_SYMBOL} bytes each, and its name", f"{_TIMES} times the bytes of `.dynsym`"),
+    Row("definitions", "Definitions of versions: 20 bytes each, and its name", f"{_TIMES} times the bytes of their section"),
+    Row("exports", "Exports: the bytes of the name and of its version", f"{_TIMES * _SYMBOL:,} bytes for each symbol"),
+    Row("needs", "`app`, needs of versions: 16 bytes for each file and each version, and the names",
+        f"{_TIMES} times the bytes of their section"),
+    Row("lists", "Range lists of functions: the bytes of each up to its first range",
+        f"{_TIMES} times the bytes of `.debug_rnglists` and `.debug_ranges`"),
+    Row("tables", "Tables of abbreviations that are read: 5 bytes for each abbreviation, 2 for each attribute of it",
+        f"{_TIMES} times the bytes of `.debug_abbrev`"),
+    Row("attributes", "Attributes of the entries of a unit", f"{_TIMES} for each byte of the unit"),
+    Row("flat", "Members and parameters that are made; those of a nameless structure in each structure around it",
+        _each(_FLAT, "PARTS_AN_ENTRY", "entry", "PARTS_AT_LEAST")),
+    Row("parts", "Parts by which types are compared, of each type anew: members, enumerators, parameters, targets",
+        _each(_ROOM, "PARTS_A_BYTE", "byte of the file", "PARTS_AT_LEAST")),
+    Row("letters", "Letters of the names of types and parts, of each type anew",
+        _each(_ROOM, "LETTERS_A_BYTE", "byte of the file", "LETTERS_AT_LEAST")),
+    Row("names", "Names of types: each has its own and those of its typedefs",
+        _each(_FLAT, "LABELS_A_TYPE", "type", "LABELS_AT_LEAST")),
+    Row("steps", "Steps from types that functions pass by value to their leaves",
+        _each(_WALKS, "STEPS_A_NODE", "type", "STEPS_AT_LEAST")),
+    Row("visits", "Pairs of types that are visited",
+        _each(_EXPLORING, "VISITS_A_TYPE", "type of both libraries", "VISITS_AT_LEAST")),
+    Row("compared", "Parts of the types of each pair that is visited",
+        _each(_EXPLORING, "PARTS_A_PART", "part of both libraries", "PARTS_AT_LEAST")),
+    Row("report", f"Rows of a report: {constant(_REPORT, 'ROW')} bytes each, and its text",
+        _each(_REPORT, "BYTES_A_BYTE", "byte of both files", "BYTES_AT_LEAST")),
+    Row("soname", "Bytes of the soname that a rule file is asked about", f"{constant(_BLOCK, 'LONGEST_SONAME'):,}"),
+    Row("weight", "Weight of the patterns of a rule file", f"{constant(_BLOCK, 'MOST_WEIGHT'):,}"),
+    Row("lines", "Pair lines that `compose` writes", f"{_LINES:,}"),
+    Row("certificate", "Bytes of the certificate that `compose` writes", f"{_INPUT:,}"),
+]

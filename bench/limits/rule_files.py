@@ -1,0 +1,22 @@
+"""How much the patterns of a rule file weigh."""
+
+from __future__ import annotations
+
+import re
+from pathlib import Path
+
+from .figures import Figure, constant
+
+_BLOCK = "suppressions/src/block.rt"
+_PATTERN = re.compile(r"^\s*\w*regexp\s*=\s*(.*?)\s*$", re.MULTILINE)
+_CLASS = re.compile(r"\\(.)", re.DOTALL)
+
+
+def weight(rules: Path) -> Figure:
+    """The patterns of a rule file: a weight of its own for each, one for each byte, and one for each class."""
+    each, class_weight = constant(_BLOCK, "PATTERN_WEIGHT"), constant(_BLOCK, "CLASS_WEIGHT")
+    found = 0
+    for pattern in _PATTERN.findall(rules.read_text()):
+        classes = sum(1 for letter in _CLASS.findall(pattern) if letter.isascii() and letter.isalpha())
+        found += each + len(pattern.encode()) + class_weight * classes
+    return Figure(found, constant(_BLOCK, "MOST_WEIGHT"))
