@@ -56,7 +56,9 @@ def _type_figures(library: str, nodes: dict[int, graphs.Node]) -> Figures:
             "lists": debug_tables.range_lists(elf, entries),
             "tables": debug_tables.abbreviations(elf, entries.units),
             "attributes": debug_tables.attributes(entries.units),
-            "flat": graphs.flat_parts(nodes, entries),
+            "types": graphs.reached_types(nodes, size),
+            "flat": graphs.flat_parts(nodes, entries, size),
+            "enumerators": graphs.enumerators(nodes, size),
             "parts": graphs.held_parts(nodes, size),
             "letters": graphs.letters(nodes, size),
             "names": graphs.labels(nodes),
@@ -71,6 +73,7 @@ def _pair_figures(library: str, changed: Optional[str], abi: str, nodes: dict[in
     """What is found where the library is compared with itself, and with another build."""
     certificate = pairs.run(abi, "check", library, library)
     figures = {"visits": pairs.visits(nodes, certificate), "compared": pairs.compared_parts(nodes, certificate)}
+    figures["listing"] = pairs.listing_bytes(pairs.run(abi, "exports", library), library)
     if changed is not None:
         figures["report"] = pairs.report_bytes(pairs.run(abi, "check", library, changed), library, changed)
     return figures | _composed_figures(library, certificate, abi)
@@ -87,8 +90,11 @@ def _composed_figures(library: str, certificate: str, abi: str) -> Figures:
 
 def measured(library: str, changed: Optional[str], programs: Programs) -> Figures:
     """All figures of a library."""
-    nodes = graphs.read_graph(programs.graph_lines, library)
-    return _elf_figures(library) | _type_figures(library, nodes) | _pair_figures(library, changed, programs.abi, nodes)
+    lines = graphs.read_lines(programs.graph_lines, library)
+    nodes = graphs.read_graph(lines)
+    declared = {"declared": graphs.declared_letters(lines, Path(library).stat().st_size)}
+    pairs_of_types = _pair_figures(library, changed, programs.abi, nodes)
+    return _elf_figures(library) | declared | _type_figures(library, nodes) | pairs_of_types
 
 
 def is_over(figures: Figures, row: Row) -> bool:

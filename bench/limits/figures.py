@@ -45,6 +45,11 @@ def allowed(source: str, each: str, many: int, beside: str) -> int:
     return constant(source, each) * many + constant(source, beside)
 
 
+def allowed_by(source: str, bytes_each: str, size: int, beside: str) -> int:
+    """A limit that grows with the bytes of a file: one for so many of its bytes, and so many more."""
+    return size // constant(source, bytes_each) + constant(source, beside)
+
+
 def times_read(found: int, held: int) -> Figure:
     """Bytes that are read, of a table with so many bytes: each may be read some times."""
     return Figure(found, constant("abi_base/src/effort.rt", "MOST_TIMES") * held)

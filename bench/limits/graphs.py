@@ -7,7 +7,7 @@ import subprocess
 from dataclasses import dataclass, field
 
 from .entries import AGGREGATES, WRAPPERS, Entries, Entry
-from .figures import Figure, allowed, constant
+from .figures import Figure, allowed, allowed_by, constant, times_read
 
 _LIMITS = "type_graph/src/limits.rt"
 _ROOM = "library_read/src/room.rt"
@@ -52,9 +52,19 @@ def _take_part(node: Node, line: str) -> None:
     node.parts.append((words[0], 0 if words[0] == "enumerator" else int(words[-1])))
 
 
-def read_graph(program: str, library: str) -> dict[int, Node]:
+def read_lines(program: str, library: str) -> list[str]:
+    """What tool_graph_lines prints of a library."""
+    return subprocess.run([program, library], stdout=subprocess.PIPE, check=True, text=True).stdout.splitlines()
+
+
+def declared_letters(lines: list[str], size: int) -> Figure:
+    """The letters of the names under which exports are declared, of a file with so many bytes."""
+    found = sum(_letters(line.split()[-1]) for line in lines if line.startswith("export "))
+    return times_read(found, size)
+
+
+def read_graph(lines: list[str]) -> dict[int, Node]:
     """The types by their entries; void has 0."""
-    lines = subprocess.run([program, library], stdout=subprocess.PIPE, check=True, text=True).stdout.splitlines()
     nodes: dict[int, Node] = {}
     node = Node("", 0, 0, 0, 0)
     for line in lines:
@@ -89,8 +99,19 @@ def _peeled(types: dict[int, Entry], place: int | None) -> Entry | None:
     return entry
 
 
-def flat_parts(nodes: dict[int, Node], entries: Entries) -> Figure:
-    """Flat members and parameters that are made."""
+def reached_types(nodes: dict[int, Node], size: int) -> Figure:
+    """The types that exports reach, of a file with so many bytes. The node of void is none."""
+    return Figure(len(nodes) - 1, allowed_by(_LIMITS, "BYTES_A_TYPE", size, "TYPES_AT_LEAST"))
+
+
+def enumerators(nodes: dict[int, Node], size: int) -> Figure:
+    """The enumerators of the enumerations that exports reach; their typedefs share them."""
+    found = sum(len(node.parts) for node in nodes.values() if node.kind == "enumeration")
+    return Figure(found, allowed_by(_LIMITS, "BYTES_A_PART", size, "PARTS_AT_LEAST"))
+
+
+def flat_parts(nodes: dict[int, Node], entries: Entries, size: int) -> Figure:
+    """Flat members and parameters that are made, of a file with so many bytes."""
     found = 0
     for place, node in nodes.items():
         entry = entries.types.get(place)
@@ -98,7 +119,7 @@ def flat_parts(nodes: dict[int, Node], entries: Entries) -> Figure:
             found += sum(1 for sort, _ in node.parts if sort == "param")
         elif entry is not None and entry.tag in AGGREGATES:
             found += _flat(entries.types, entry)
-    return Figure(found, allowed(_LIMITS, "PARTS_AN_ENTRY", entries.count, "PARTS_AT_LEAST"))
+    return Figure(found, allowed_by(_LIMITS, "BYTES_A_PART", size, "PARTS_AT_LEAST"))
 
 
 def held_parts(nodes: dict[int, Node], size: int) -> Figure:

@@ -10,6 +10,7 @@ from .graphs import Node, parts
 
 _EXPLORING = "pair_explorer/src/exploring.rt"
 _ROOM = "pair_compare/src/reports/room.rt"
+_LISTING = "listings/src/exports/lines.rt"
 _COMPOSING = "library_check/src/composing.rt"
 _BASE = "abi_base/src/lib.rt"
 
@@ -45,6 +46,12 @@ def report_bytes(report: str, old: str, new: str) -> Figure:
     found = sum(row + len(line.encode()) for line in report.splitlines()[1:])
     size = Path(old).stat().st_size + Path(new).stat().st_size
     return Figure(found, allowed(_ROOM, "BYTES_A_BYTE", size, "BYTES_AT_LEAST"))
+
+
+def listing_bytes(listing: str, library: str) -> Figure:
+    """The bytes that `exports` prints of a library."""
+    size = Path(library).stat().st_size
+    return Figure(len(listing.encode()), allowed(_LISTING, "BYTES_A_BYTE", size, "BYTES_AT_LEAST"))
 
 
 def composed_lines(certificate: str) -> Figure:

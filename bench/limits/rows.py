@@ -10,6 +10,7 @@ _TIMES = constant("abi_base/src/effort.rt", "MOST_TIMES")
 _SYMBOL = constant("elf/src/constants.rt", "SYM_SIZE")
 _FLAT = "type_graph/src/limits.rt"
 _ROOM = "library_read/src/room.rt"
+_LISTING = "listings/src/exports/lines.rt"
 _WALKS = "psabi/src/walks.rt"
 _EXPLORING = "pair_explorer/src/exploring.rt"
 _REPORT = "pair_compare/src/reports/room.rt"
@@ -31,10 +32,15 @@ def _each(source: str, each: str, thing: str, beside: str) -> str:
     return f"{constant(source, each):,} for each {thing}, and {constant(source, beside):,} more"
 
 
+def _by_bytes(source: str, bytes_each: str, beside: str) -> str:
+    return f"1 for each {constant(source, bytes_each)} bytes of the file, and {constant(source, beside):,} more"
+
+
 ROWS = [
     Row("symbols", f"Symbols: {_SYMBOL} bytes each, and its name", f"{_TIMES} times the bytes of `.dynsym`"),
     Row("definitions", "Definitions of versions: 20 bytes each, and its name", f"{_TIMES} times the bytes of their section"),
     Row("exports", "Exports: the bytes of the name and of its version", f"{_TIMES * _SYMBOL:,} bytes for each symbol"),
+    Row("declared", "Letters of the names under which exports are declared", f"{_TIMES} times the bytes of the file"),
     Row("needs", "`app`, needs of versions: 16 bytes for each file and each version, and the names",
         f"{_TIMES} times the bytes of their section"),
     Row("lists", "Range lists of functions: the bytes of each up to its first range",
@@ -42,8 +48,10 @@ ROWS = [
     Row("tables", "Tables of abbreviations that are read: 5 bytes for each abbreviation, 2 for each attribute of it",
         f"{_TIMES} times the bytes of `.debug_abbrev`"),
     Row("attributes", "Attributes of the entries of a unit", f"{_TIMES} for each byte of the unit"),
+    Row("types", "Types that exports reach", _by_bytes(_FLAT, "BYTES_A_TYPE", "TYPES_AT_LEAST")),
     Row("flat", "Members and parameters that are made; those of a nameless structure in each structure around it",
-        _each(_FLAT, "PARTS_AN_ENTRY", "entry", "PARTS_AT_LEAST")),
+        _by_bytes(_FLAT, "BYTES_A_PART", "PARTS_AT_LEAST")),
+    Row("enumerators", "Enumerators", _by_bytes(_FLAT, "BYTES_A_PART", "PARTS_AT_LEAST")),
     Row("parts", "Parts by which types are compared, of each type anew: members, enumerators, parameters, targets",
         _each(_ROOM, "PARTS_A_BYTE", "byte of the file", "PARTS_AT_LEAST")),
     Row("letters", "Letters of the names of types and parts, of each type anew",
@@ -58,6 +66,7 @@ ROWS = [
         _each(_EXPLORING, "PARTS_A_PART", "part of both libraries", "PARTS_AT_LEAST")),
     Row("report", f"Rows of a report: {constant(_REPORT, 'ROW')} bytes each, and its text",
         _each(_REPORT, "BYTES_A_BYTE", "byte of both files", "BYTES_AT_LEAST")),
+    Row("listing", "Bytes that `exports` prints", _each(_LISTING, "BYTES_A_BYTE", "byte of the file", "BYTES_AT_LEAST")),
     Row("soname", "Bytes of the soname that a rule file is asked about", f"{constant(_BLOCK, 'LONGEST_SONAME'):,}"),
     Row("weight", "Weight of the patterns of a rule file", f"{constant(_BLOCK, 'MOST_WEIGHT'):,}"),
     Row("lines", "Pair lines that `compose` writes", f"{_LINES:,}"),

@@ -103,6 +103,11 @@ def test_types_are_counted() -> None:
     assert graphs.letters(_NODES, 100) == Figure(6, 32 * 100 + 1_048_576)
 
 
+def test_names_of_declarations_are_counted() -> None:
+    lines = ["export f@@V1 entry 64 named f_impl", "export g entry 0 named g", r"export h entry 9 named a\x20b", "node 0 void"]
+    assert graphs.declared_letters(lines, 100) == Figure(6 + 1 + 3, 64 * 100)
+
+
 def test_what_types_hold_is_counted() -> None:
     found = held.Held(_NODES, _TYPES)
     # The structure 3 weighs 3, the array and the typedef 4 each.

@@ -1,2 +1,3 @@
 pub mod ElfLemmas
 pub mod Faultless
+pub mod NameLemmas

@@ -1,4 +1,4 @@
--- Names that were seen already, and tests that pass them.
+-- The set of names, and tests that pass a name of it.
 use Rattle.std.proofs.Common.{◌≡◌, ℕ, Bool, true, cond, List, [], ◌∷◌, ◌++◌, refl, sym, ◌∙◌, ap, inl, inr}
 use Rattle.std.specs.Prelude.{◌&&◌, ◌==◌, if◌then◌else◌}
 use Rattle.std.specs.Borrow.{Bor}
@@ -28,7 +28,7 @@ kind_is Enumeration = refl
 kind_is Typedef = refl
 kind_is Builtin = refl
 
--- kinds of one number are one
+-- kinds with equal numbers are equal
 one_kind : (j k : LabelKind) → kind_number j ≡ kind_number k → j ≡ k
 one_kind j k e = sym (kind_is j) ∙ ap kind_of e ∙ kind_is k
 
@@ -36,7 +36,7 @@ one_label : (l m : PlainLabel) → l.kind ≡ m.kind → l.name ≡ m.name → l
 one_label l m kinds names =
     ap (λ (k : LabelKind). let x : PlainLabel = record { kind = k; name = l.name } in x) kinds ∙ ap (λ (n : List ℕ). let x : PlainLabel = record { kind = m.kind; name = n } in x) names
 
--- the key is this number and this name
+-- the key has this number and this name
 abbrev is_key : ℕ → List ℕ → ℕ × Bor (List ℕ) → Bool
 is_key n name q = n == q.0 && bytes_eq name q.1.now
 

@@ -1,4 +1,4 @@
--- The sections of a rule file that hold of nothing in a library.
+-- The idle sections of a rule file: those that match nothing in a library.
 use Rattle.std.specs.Prelude.{◌||◌, ℕ, Bool, not, List, Option, filter, flat_map}
 use Rattle.std.specs.List.{list_any}
 use Rattle.abi_types.specs.declared.kind.Way.TheVariants.{Direct, Pointer}
@@ -9,11 +9,11 @@ use Rattle.suppression_text.specs.Rules.{PlainRules, PlainSection}
 use Rattle.suppressions.specs.Meaning.{section_holds}
 use Rattle.suppressions.specs.Subjects.{export_subject, label_subject}
 
--- the section holds of an export of a library with a soname
+-- the section matches an export of a library that has this soname
 abbrev pub holds_of_export : PlainSection → Option (List ℕ) → PlainExport → Bool
 holds_of_export section soname e = section_holds (export_subject soname e) section
 
--- it holds of a name of a type, where the type is reached by value or through a pointer
+-- it matches a name of a type, where a program reaches the type by value or through a pointer
 abbrev pub holds_of_label : PlainSection → Option (List ℕ) → PlainLabel → Bool
 holds_of_label section soname l = section_holds (label_subject soname Direct l) section || section_holds (label_subject soname Pointer l) section
 
@@ -21,10 +21,10 @@ holds_of_label section soname l = section_holds (label_subject soname Direct l) 
 abbrev pub all_labels : List PlainNode → List PlainLabel
 all_labels nodes = flat_map (λ (n : PlainNode). n.labels) nodes
 
--- it holds of an export of the library, or of a name of one of its types
+-- it matches an export of the library, or a name of one of its types
 unfoldable pub holds_in : PlainLibrary → PlainSection → Bool
 holds_in library section = list_any (holds_of_export section library.soname) library.exports || list_any (holds_of_label section library.soname) (all_labels library.graph)
 
--- the sections that hold of nothing, in the order of the rule file
+-- the sections that match nothing, in the order of the rule file
 unfoldable pub idle_of : PlainRules → PlainLibrary → List PlainSection
 idle_of rules library = filter (λ section. not (holds_in library section)) rules.sections

@@ -1,4 +1,4 @@
--- Names of types that were seen already, in a set.
+-- A set of the names of types.
 use Rattle.std.specs.Prelude.{◌≡◌, ◌==◌, ◌&&◌, ℕ, Bool, true, List}
 use Rattle.std.specs.Borrow.{Bor}
 use Rattle.std.specs.List.{list_any}
@@ -17,14 +17,14 @@ kind_number Enumeration = 2
 kind_number Typedef = 3
 kind_number Builtin = 4
 
--- a set of names, with the numbers of their kinds
+-- a set of the kinds and the names of labels
 abbrev pub Seen : Type 0
 Seen = HashSet (ℕ × Bor (List ℕ)) (BuildHasherDefault FoldHasher)
 
 abbrev pub is_seen : Seen → PlainLabel → Bool
 is_seen seen l = contains_by (λ k. kind_number l.kind == k.0 && bytes_eq l.name k.1.now) seen
 
--- a test that passes a name of the set passes one of these
+-- a test that passes a name of the set passes one of these names
 abbrev pub AreSeen : Seen → List PlainLabel → Type 0
 AreSeen seen names = (l : PlainLabel) → is_seen seen l ≡ true → (test : PlainLabel → Bool) → test l ≡ true → list_any test names ≡ true
 

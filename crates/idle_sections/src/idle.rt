@@ -1,4 +1,4 @@
-// Sections that hold of nothing.
+// Sections that match nothing.
 ghost use Rattle.std.specs.Prelude.{◌≡◌, not, map, IfOk};
 ghost use Rattle.std.specs.Borrow.{Bor};
 ghost use Rattle.std.specs.List.{list_any};
@@ -17,22 +17,22 @@ use suppressions::compiled::CompiledSection;
 use suppressions::ready_section::ReadySection;
 use suppressions::subject::Subject;
 
-// How many sections, exports and names count beside those that there are. For each, a section may be asked 64 times of something:
-// some 268 million times for these.
+// A constant beside the numbers of sections, exports and names. Each of these allows 64 tests, so the constant allows some 268
+// million.
 const MORE: usize = 1 << 22;
 
-// How often sections may be asked.
+// How many tests all sections may take.
 fn effort_for(sections: &[Section], tests: usize) -> Effort {
     Effort::for_bytes(MORE.saturating_add(sections.len()).saturating_add(tests))
 }
 
-// How often a section is asked at most: once of each export, and twice of each name.
+// The most tests of one section: one for each export, and two for each name.
 fn tests_of(old: &Library<OldIx>, names: &[Label]) -> usize {
     let exports = old.exports().len();
     exports.saturating_add(names.len().saturating_mul(2))
 }
 
-// Whether a section holds of an export.
+// Whether a section matches an export.
 fn holds_of_exports(ready: &mut ReadySection, soname: Option<&[u8]>, exports: &[Export]) -> bool
     ensures holds { result ≡ list_any (holds_of_export ready.old (option_copied soname.entry)) (plain_exports exports.now) }
     ensures same { ready.new ≡ ready.old }
@@ -45,7 +45,7 @@ fn holds_of_exports(ready: &mut ReadySection, soname: Option<&[u8]>, exports: &[
     false
 }
 
-// Whether a section holds of a name by one of both ways.
+// Whether a section matches a name of a type, by value or through a pointer.
 fn holds_of_name(ready: &mut ReadySection, soname: Option<&[u8]>, label: &Label) -> bool
     ensures holds { result ≡ holds_of_label ready.old (option_copied soname.entry) (plain_label label.now) }
     ensures same { ready.new ≡ ready.old }
@@ -54,7 +54,7 @@ fn holds_of_name(ready: &mut ReadySection, soname: Option<&[u8]>, label: &Label)
         || ready.holds(&Subject::of_label(soname, Way::Pointer, label))
 }
 
-// Whether a section holds of one of these names.
+// Whether a section matches one of these names.
 fn holds_of_names(ready: &mut ReadySection, soname: Option<&[u8]>, names: &[Label]) -> bool
     ensures holds { result ≡ list_any (holds_of_label ready.old (option_copied soname.entry)) (map plain_label names.now) }
     ensures same { ready.new ≡ ready.old }
@@ -67,7 +67,7 @@ fn holds_of_names(ready: &mut ReadySection, soname: Option<&[u8]>, names: &[Labe
     false
 }
 
-// Whether a section holds of nothing in a library, whose types have these names.
+// Whether a section matches nothing in a library. The types of the library have these names.
 #[tactic(auto, unfolding(crate::specs::Idle::holds_in))]
 fn is_idle(
     alloc: Global,
@@ -87,8 +87,8 @@ fn is_idle(
     Ok(!holds_of_names(&mut ready, soname, names))
 }
 
-/// The sections of a rule file that hold of nothing in a library, in the order of the file: of none of its exports, and of no name
-/// of its types by any way. It fails where memory runs out, or where sections would be asked too often.
+/// The sections of a rule file that match nothing in a library, in the order of the file. They match no export, and no name of a
+/// type, by value or through a pointer. It fails where memory runs out, and where the sections would take too many tests.
 #[tactic(auto, unfolding(crate::specs::Idle::idle_of))]
 pub fn idle_sections<'r>(
     alloc: Global,

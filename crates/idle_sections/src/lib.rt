@@ -1,4 +1,4 @@
-//! The sections of a rule file that hold of nothing in the old library: those that a packager may strike out.
+//! The idle sections of a rule file: they match nothing in the old library, and a packager may strike them out.
 #![tactic(auto)]
 
 mod idle;

@@ -22,14 +22,14 @@ fn kind_number(kind: LabelKind) -> u8
     }
 }
 
-// Whether a name was seen.
+// Whether a name is in the set.
 fn was_seen(seen: &HashSet<(u8, &[u8])>, label: &Label) -> bool
     ensures { result ≡ is_seen seen.now (plain_label label.now) }
 {
     seen.contains(&(kind_number(label.kind), label.name))
 }
 
-// Puts a name last, unless it was seen.
+// Adds a name, unless it is in the set.
 fn push_once<'x>(
     seen: &mut HashSet<(u8, &'x [u8])>,
     names: &mut Vec<Label<'x>>,
@@ -47,7 +47,7 @@ fn push_once<'x>(
     Ok(())
 }
 
-// Puts names last, those that were not seen.
+// Adds the names that are not in the set.
 fn push_names<'x>(
     seen: &mut HashSet<(u8, &'x [u8])>,
     names: &mut Vec<Label<'x>>,

@@ -13,11 +13,12 @@ use crate::laws::readable_files_are_libraries;
 use crate::listing::{Listing, read_listing};
 use crate::room::ask_room;
 use crate::typing::{Typed, with_types};
-use abi_base::{NoMemory, Refusal};
+use abi_base::{Effort, NoMemory, Refusal};
 use abi_types::{Index, Library};
 use elf::file::read_elf;
 use psabi::call_shapes;
 use std::alloc::Global;
+use type_graph::GraphLimits;
 
 // The library of a readable file, by what was read of it. Its functions get the places of their calls.
 fn library_with<'a, Ix: Index>(
@@ -44,7 +45,7 @@ fn library_with<'a, Ix: Index>(
 /// The library that a file is. The fault is the first one of its header and sections, of its symbols, of its dynamic table, of
 /// its versions, of its exports, of its units and entries, and of the types that its exports reach. The library keeps names
 /// where they stand in the bytes, and nothing else of the debug information. Types that have more parts or longer names than a
-/// file of its size may have count as no memory.
+/// file of its size may have, and exports that are declared under longer names, count as no memory.
 pub fn read_library<'a, Ix: Index>(
     alloc: Global,
     bytes: &'a [u8],
@@ -55,7 +56,9 @@ pub fn read_library<'a, Ix: Index>(
 {
     let file = read_elf(bytes)?;
     let Listing { soname, exports } = read_listing(alloc, &file)?;
-    let typed = match with_types(alloc, &file, exports) {
+    let limits = GraphLimits::for_file(bytes.len());
+    let letters = Effort::for_bytes(bytes.len());
+    let typed = match with_types(alloc, &file, exports, letters, limits) {
         Ok(typed) => typed,
         Err(refused) => return Err(refused),
     };

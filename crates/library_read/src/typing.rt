@@ -9,13 +9,13 @@ ghost use Rattle.library_read.specs.Debug.{debug_of, sections_in};
 ghost use Rattle.library_read.specs.Exports as exports_spec;
 ghost use Rattle.library_read.specs.Faults.{debug_fault};
 
-use abi_base::{List, NoMemory, Refusal};
+use abi_base::{Effort, List, NoMemory, Refusal};
 use abi_types::{Export, Graph, Index, SymbolKind};
 use dwarf_entries::{Dwarf, tree};
 use elf::file::ElfFile;
 use elf::sections::debug_sections;
 use std::alloc::Global;
-use type_graph::raw_graph;
+use type_graph::{GraphLimits, raw_graph};
 
 /// Exports with their types.
 #[derive(Drop)]
@@ -87,15 +87,21 @@ fn with_type<'a>(dwarf: &Dwarf<'a>, export: &Export<'a>) -> Export<'a>
     }
 }
 
-// The exports, each with what its entry says.
-fn typed_exports<'a>(dwarf: &Dwarf<'a>, mut exports: Vec<Export<'a>>) -> List<Export<'a>>
-    ensures { plain_exports result ≡ map (exports_spec.typed dwarf.now) (plain_exports exports.entry.items) }
+// The exports, each with what its entry says. The entries of all exports may have one long name, so names are counted: finding a
+// name's end takes as many steps as the name has letters.
+fn typed_exports<'a>(
+    dwarf: &Dwarf<'a>,
+    mut exports: Vec<Export<'a>>,
+    mut letters: Effort,
+) -> Result<List<Export<'a>>, NoMemory>
+    ensures { IfOk result (λ typed. plain_exports typed ≡ map (exports_spec.typed dwarf.now) (plain_exports exports.entry.items)) }
 {
     'exports: for k in 0..exports.len() {
         let export = with_type(dwarf, &exports[k]);
+        letters.spend(export.declared.len())?;
         exports[k] = export;
     }
-    List::of(exports)
+    Ok(List::of(exports))
 }
 
 // The positions of the entries of exports, in the order of the exports.
@@ -123,12 +129,15 @@ fn debug_information<'a>(alloc: Global, file: &ElfFile<'a>) -> Result<Dwarf<'a>,
 }
 
 /// The exports of a file with their types. The fault is the first one of its units and entries, and then of the types that the
-/// exports reach. Nothing of the debug information is kept but the types, and names where they stand in the file.
+/// exports reach. Nothing of the debug information is kept but the types, and names where they stand in the file. Past a limit, or
+/// where the names under which exports are declared take more than `letters`, the answer is that memory ran out.
 #[tactic(auto, unfolding(crate::specs::Faults::debug_fault))]
 pub(crate) fn with_types<'a, Ix: Index>(
     alloc: Global,
     file: &ElfFile<'a>,
     exports: Vec<Export<'a>>,
+    letters: Effort,
+    limits: GraphLimits,
 ) -> Result<Typed<'a, Ix>, Refusal>
     ensures judged { Judges result (debug_fault file.now (plain_exports exports.entry.items)) }
     ensures exports { IfOk result (λ typed. plain_exports typed.exports ≡ map (exports_spec.typed (debug_of file.now)) (plain_exports exports.entry.items)) }
@@ -139,10 +148,10 @@ pub(crate) fn with_types<'a, Ix: Index>(
         Err(refused) => return Err(refused),
     };
     let roots = roots_among(alloc, &dwarf, exports.as_slice())?;
-    let graph = match raw_graph(alloc, &dwarf, roots.as_slice()) {
+    let graph = match raw_graph(alloc, &dwarf, roots.as_slice(), limits) {
         Ok(graph) => graph,
         Err(refused) => return Err(refused),
     };
-    let exports = typed_exports(&dwarf, exports);
+    let exports = typed_exports(&dwarf, exports, letters)?;
     Ok(Typed { exports, graph })
 }

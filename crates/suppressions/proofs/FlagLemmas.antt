@@ -1,4 +1,4 @@
--- What sections say that are asked in parts.
+-- Two lists of sections suppress together what each of them suppresses.
 use Rattle.std.proofs.Common.{◌≡◌, ◌<◌, ◌≤◌, ◌+◌, ◌-◌, ℕ, Bool, true, false, List, [], ◌∷◌, ◌++◌, length, take, drop, get_or, map, Option, refl, sym, ◌∙◌, ap, subst, arith}
 use Rattle.std.specs.Prelude.{◌||◌, not}
 use Rattle.std.specs.List.{filter, list_any}
@@ -37,7 +37,7 @@ or_both false true true q = refl
 or_both false true false q = refl
 or_both false false p q = refl
 
--- the last sections hold of what one of the first two lists holds of
+-- c matches a subject exactly where a or b does
 abbrev pub Together : List PlainSection → List PlainSection → List PlainSection → Type 0
 Together a b c = (s : PlainSubject) → some_section_holds c s ≡ (some_section_holds a s || some_section_holds b s)
 
@@ -115,7 +115,7 @@ marked_by rules soname labels way named others a b r is_named is_others is_a is_
 
 -- ---- flags
 
--- the flags of two lists of sections come to those of both
+-- joining the flags of two lists gives the flags of all their sections
 pub joined : (a b c : List PlainSection) (old : PlainLibrary) (one other flags : Flags) → Together a b c → AreFlags a old one → AreFlags b old other → AreEither one other flags → AreFlags c old flags
 joined a b c old one other flags together ones others is = record {
   exports = is.exports ∙ rw (ones.exports, others.exports) (either-map (drops a old.soname) (drops b old.soname) (drops c old.soname) (drops-together a b c together old.soname) old.exports);
@@ -130,7 +130,7 @@ of_one_size a b old one other ones others = record {
   pointer = ap length ones.pointer ∙ length-map old.graph (λ (n : PlainNode). marks_names a old.soname Pointer n.labels) ∙ sym (ap length others.pointer ∙ length-map old.graph (λ (n : PlainNode). marks_names b old.soname Pointer n.labels));
 }
 
--- the flags of one more block
+-- one more block of sections
 pub one_block_more : (asking : Bool) (sections : List PlainSection) (start end : ℕ) (old : PlainLibrary) (one other flags : Flags) → start ≤ end → AreFlags (chosen asking (take start sections)) old one
     → AreFlags (chosen asking (take (end - start) (drop start sections))) old other → AreEither one other flags → AreFlags (chosen asking (take end sections)) old flags
 one_block_more asking sections start end old one other flags le ones others is =

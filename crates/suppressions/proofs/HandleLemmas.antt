@@ -1,4 +1,4 @@
--- Sections in order of their handles, and searches by a handle.
+-- The order of sections by their handles, and the search for a handle.
 use Rattle.std.proofs.Common.{zero, suc, ◌≡◌, ◌<◌, ◌≤◌, ◌+◌, ◌-◌, ℕ, Bool, true, false, List, [], ◌∷◌, ◌++◌, length, take, drop, get_or, refl, sym, ap, ◌∙◌, inl, inr, arith}
 use Rattle.std.specs.Prelude.{All, Contains, IsPermutation}
 use Rattle.std.specs.List.{range_with_len}
@@ -181,7 +181,7 @@ module _ (handles : List PlainHandle) (places : List ℕ) (handle : PlainHandle)
     pub AreAt-slice : AreAt handles handle slice
     AreAt-slice k = (listed k, there k)
 
--- the numbers below one more
+-- one more number
 pub range-more : (a n j : ℕ) → a + n ≡ j → range_with_len a (n + 1) ≡ range_with_len a n ++ j ∷ []
 range-more a zero j e = let f : j ≡ a = omega arith in rw f refl
 range-more a (suc n) j e =

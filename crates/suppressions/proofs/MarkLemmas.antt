@@ -33,7 +33,7 @@ marks_are_even rules library = record {
   pointer = even (λ (labels : List PlainLabel). is_marked rules library.soname labels Pointer) library.graph (marks_of rules library).pointer refl;
 }
 
--- the flags of one more node
+-- one more node
 pub flags_more : (f : List PlainLabel → Bool) (nodes : List PlainNode) (i : ℕ) (flags now : List Bool) (labels : List PlainLabel) (flag : Bool) → i < length nodes
     → flags ≡ map (λ (n : PlainNode). f n.labels) (take i nodes) → labels ≡ (node_at nodes i).labels → flag ≡ f labels → now ≡ flags ++ flag ∷ [] → now ≡ map (λ (n : PlainNode). f n.labels) (take (i + 1) nodes)
 flags_more f nodes i flags now labels flag lt was are is put =
@@ -42,7 +42,7 @@ flags_more f nodes i flags now labels flag lt was are is put =
     put ∙ ap (λ (bs : List Bool). bs ++ flag ∷ []) was ∙ ap (λ (b : Bool). map g (take i nodes) ++ b ∷ []) here
     ∙ sym (ap (map g) (take_more nodes i void_node lt) ∙ map-append g (take i nodes) (node_at nodes i ∷ []))
 
--- the flags of the sections that ask names and of those that ask none come to the marks of the rules
+-- The sections that ask about names and the others together give the marks of the rule file.
 pub marks_are : (rules : PlainRules) (old : PlainLibrary) (digest : List ℕ) (sections : List PlainSection) (named others flags : Flags) → digest ≡ rules.digest → sections ≡ rules.sections
     → AreFlags (chosen true sections) old named → AreFlags (chosen false sections) old others → AreEither named others flags → marks_with digest flags.exports flags.direct flags.pointer ≡ marks_of rules old
 unfolding marks_of is_dropped is_marked

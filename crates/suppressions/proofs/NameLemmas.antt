@@ -1,4 +1,4 @@
--- Names that were judged already.
+-- The map that keeps how names are marked.
 use Rattle.std.proofs.Common.{◌≡◌, ℕ, Bool, true, false, cond, List, Option, Some, refl, sym, ◌∙◌, ap}
 use Rattle.std.specs.Prelude.{◌&&◌, ◌==◌}
 use Rattle.std.specs.Borrow.{Bor}
@@ -16,7 +16,7 @@ use Rattle.suppressions.specs.Known.{Known, kind_number, name_ways, IsKnown}
 abbrev key : LabelKind → List ℕ → ℕ × Bor (List ℕ)
 key kind name = (kind_number kind, record { ref_ptr = (0, 0); now = name })
 
--- kinds of one number are one
+-- kinds with equal numbers are equal
 one_kind : (j k : LabelKind) → kind_number j ≡ kind_number k → j ≡ k
 one_kind Structure Structure e = refl
 one_kind Structure Union e = cc
@@ -55,15 +55,15 @@ cases : {P : Type 0} (b : Bool) → (b ≡ true → P) → (b ≡ false → P) �
 cases true here other = here refl
 cases false here other = other refl
 
--- the pair is this number and this name
+-- the key has this number and this name
 abbrev names : ℕ → List ℕ → ℕ × Bor (List ℕ) → Bool
 names n name q = n == q.0 && bytes_eq name q.1.now
 
--- what stands under the name of a pair
+-- the entry under the key
 abbrev under : Known → ℕ × Bor (List ℕ) → Option MarkedByWay
 under known q = get_by (λ k. q.0 == k.0 && bytes_eq q.1.now k.1.now) known
 
--- what is known is right, with one more name that was judged
+-- the map stays right when a judged name is added
 pub known_more : (sections : List PlainSection) (soname : Option (List ℕ)) (old new : Known) (label : PlainLabel) (n : ℕ) (ways : MarkedByWay) → IsKnown sections soname old → n ≡ kind_number label.kind → ways ≡ name_ways sections soname label
     → ((q : ℕ × Bor (List ℕ)) → under new q ≡ cond (names n label.name q) (Some ways) (under old q)) → IsKnown sections soname new
 known_more sections soname old new label n ways was number is adds l found held =

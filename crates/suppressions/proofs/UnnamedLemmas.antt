@@ -1,4 +1,4 @@
--- Sections that ask no name.
+-- Sections that ask about no name.
 use Rattle.std.proofs.Common.{◌≡◌, ℕ, Bool, true, false, List, [], ◌∷◌, Option, refl, sym, ◌∙◌, ap}
 use Rattle.std.specs.Prelude.{◌||◌}
 use Rattle.std.specs.List.{list_all, list_any}
@@ -20,7 +20,7 @@ neither true b e = cc
 neither false b e = (refl, e)
 
 module _ (s : PlainSubject) where
-  -- the same bytes, apart from names
+  -- the subject and the one without names have the same bytes
   same_asked : (key : Key) → asks_name key ≡ false → asked s key ≡ asked (unnamed s) key
   same_asked Label unasked = refl
   same_asked Name unasked = cc
@@ -55,7 +55,7 @@ module _ (s : PlainSubject) where
       let both = neither (asks_names section) (list_any asks_names sections) none in
       rw (same_section section both.0, same_unnamed sections both.1) refl
 
--- a name is marked as the one by which it is judged
+-- a name and the name that is judged for it have equal marks
 pub judged_alike : (sections : List PlainSection) (soname : Option (List ℕ)) (l : PlainLabel) → name_ways sections soname (judged_label sections l) ≡ name_ways sections soname l
 judged_alike sections soname l = by_asking (some_ask sections) refl where
   by_asking : (b : Bool) → some_ask sections ≡ b → name_ways sections soname (judged_label sections l) ≡ name_ways sections soname l
@@ -69,6 +69,6 @@ judged_alike sections soname l = by_asking (some_ask sections) refl where
 pub marked_as_judged : (sections : List PlainSection) (soname : Option (List ℕ)) (l judged : PlainLabel) (ways : MarkedByWay) → judged ≡ judged_label sections l → ways ≡ name_ways sections soname judged → ways ≡ name_ways sections soname l
 marked_as_judged sections soname l judged ways same is = is ∙ ap (name_ways sections soname) same ∙ judged_alike sections soname l
 
--- what holds of all exports of a kind
+-- sections that ask about no name drop all exports of a kind, or none
 pub kind_alike : (sections : List PlainSection) (soname : Option (List ℕ)) (e : PlainExport) (kind : SectionKind) → some_ask sections ≡ false → section_of_symbol e.kind ≡ kind → some_section_holds sections (kind_subject soname kind) ≡ drops sections soname e
 kind_alike sections soname e kind none is = sym (same_unnamed (export_subject soname e) sections none ∙ ap (λ (k : SectionKind). some_section_holds sections (kind_subject soname k)) is)

@@ -1,4 +1,4 @@
--- Rules that ask for no way.
+-- Sections without `accessed_through`.
 use Rattle.std.proofs.Common.{◌≡◌, ℕ, Bool, true, false, List, [], ◌∷◌, map, Option, refl}
 use Rattle.std.specs.Prelude.{◌||◌}
 use Rattle.std.specs.List.{list_all, list_any}
@@ -20,7 +20,7 @@ neither true b e = cc
 neither false b e = (refl, e)
 
 module _ (soname : Option (List ℕ)) (l : PlainLabel) where
-  -- the same bytes, apart from the way
+  -- the subject has the same bytes by value and through a pointer
   same_asked : (key : Key) → same_key AccessedThrough key ≡ false → asked (label_subject soname Direct l) key ≡ asked (label_subject soname Pointer l) key
   same_asked Label other = refl
   same_asked Name other = refl

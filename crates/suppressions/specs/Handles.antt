@@ -1,4 +1,4 @@
--- What sections are found by: the name that they ask for exactly.
+-- The handle of a section: the exact name by which it is found.
 use Rattle.std.specs.Prelude.{◌≡◌, ◌<◌, ◌↔◌, ℕ, List, [], length, map, Option, Some, None, slice_index_or, Contains, IsPermutation, IsSorted}
 use Rattle.std.specs.List.{range_with_len}
 use Rattle.std.specs.Ordering.{nat_cmp, ordering_then}
@@ -7,7 +7,7 @@ use Rattle.std.specs.declared.cmp.Ordering.{Ordering}
 use Rattle.suppression_text.specs.declared.key.Key.TheVariants.{Name, SymbolName}
 use Rattle.suppression_text.specs.Rules.{PlainSection, value_in}
 
--- the number of a kind of handles, and a name
+-- the number of the kind of handle, and the name
 abbrev pub PlainHandle : Type 0
 PlainHandle = ℕ × List ℕ
 
@@ -22,14 +22,14 @@ abbrev pub name_handle : Option (List ℕ) → Option (List ℕ) → PlainHandle
 name_handle (Some name) symbol = (1, name)
 name_handle None symbol = symbol_handle symbol
 
--- a section is found by its `name`, or else by its `symbol_name`
+-- the handle of a section: its `name`, or else its `symbol_name`
 abbrev pub handle_of : PlainSection → PlainHandle
 handle_of section = name_handle (value_in Name section) (value_in SymbolName section)
 
 abbrev pub handles_of : List PlainSection → List PlainHandle
 handles_of sections = map handle_of sections
 
--- ---- their order
+-- ---- the order of handles
 
 abbrev pub handle_cmp : PlainHandle → PlainHandle → Ordering
 handle_cmp one other = ordering_then (nat_cmp one.0 other.0) (slice_cmp nat_cmp one.1 other.1)
@@ -40,11 +40,11 @@ handle_at handles k = slice_index_or handles k any_handle
 abbrev pub place_cmp : List PlainHandle → ℕ → ℕ → Ordering
 place_cmp handles a b = handle_cmp (handle_at handles a) (handle_at handles b)
 
--- all positions, in order of the handles there
+-- the places are all positions, in the order of the handles there
 pub record IsHandleOrder (places : List ℕ) (handles : List PlainHandle) : Type 0 where
   pub all : IsPermutation (range_with_len 0 (length handles)) places
   pub rises : IsSorted (place_cmp handles) places
 
--- the positions of all handles that are this one
+-- the places are the positions of this handle
 abbrev pub AreAt : List PlainHandle → PlainHandle → List ℕ → Type 0
 AreAt handles handle places = (k : ℕ) → Contains places k ↔ ((k < length handles) × (handle_at handles k ≡ handle))

@@ -1,4 +1,4 @@
--- Sections that hold of a subject, among those of some numbers.
+-- Sections that match a subject, given by their numbers.
 use Rattle.std.specs.Prelude.{◌≡◌, ◌<◌, ℕ, Bool, true, false, List, [], length, slice_index_or}
 use Rattle.std.specs.List.{list_any}
 use Rattle.suppression_text.specs.declared.key.SectionKind.TheVariants.{Types}
@@ -7,19 +7,19 @@ use Rattle.suppressions.specs.Handles.{PlainHandle, handle_of}
 use Rattle.suppressions.specs.Meaning.{section_holds}
 use Rattle.suppressions.specs.Subjects.{PlainSubject}
 
--- the section of a number
+-- the section that has this number
 abbrev pub section_at : List PlainSection → ℕ → PlainSection
 section_at sections k = slice_index_or sections k (headed_section 0 Types [])
 
--- one of the sections of these numbers holds of the subject
+-- one of the sections with these numbers matches the subject
 abbrev pub one_section_holds : List PlainSection → PlainSubject → List ℕ → Bool
 one_section_holds sections s numbers = list_any (λ (k : ℕ). section_holds s (section_at sections k)) numbers
 
--- a section holds of the subject
+-- the section that has this number matches the subject
 abbrev pub Holds : List PlainSection → PlainSubject → ℕ → Type 0
 Holds sections s k = (k < length sections) × (section_holds s (section_at sections k) ≡ true)
 
--- the answer is whether a section of this handle holds of the subject
+-- The answer is yes only where a section matches the subject, and no only where no section of this handle does.
 pub record IsOneOfHandle (sections : List PlainSection) (s : PlainSubject) (handle : PlainHandle) (answer : Bool) : Type 0 where
   pub some : answer ≡ true → (k : ℕ) × Holds sections s k
   pub none : answer ≡ false → (k : ℕ) → handle_of (section_at sections k) ≡ handle → (Holds sections s k → ⊥)

@@ -1,4 +1,4 @@
--- Names of types that were judged already, in a map.
+-- A map that keeps how the names of types are marked.
 use Rattle.std.specs.Prelude.{◌≡◌, ◌==◌, ◌&&◌, ℕ, List, Option, Some}
 use Rattle.std.specs.Borrow.{Bor}
 use Rattle.std.specs.Str.{bytes_eq}
@@ -20,21 +20,21 @@ kind_number Enumeration = 2
 kind_number Typedef = 3
 kind_number Builtin = 4
 
--- a map from names, with the numbers of their kinds, to how they are marked
+-- a map from the kind and the name of a label to how sections mark it
 abbrev pub Known : Type 0
 Known = HashMap (ℕ × Bor (List ℕ)) MarkedByWay (BuildHasherDefault FoldHasher)
 
 abbrev pub known_of : Known → PlainLabel → Option MarkedByWay
 known_of known l = get_by (λ k. kind_number l.kind == k.0 && bytes_eq l.name k.1.now) known
 
--- how sections mark a name, by each way
+-- how sections mark a name: by value, and through a pointer
 abbrev pub name_ways : List PlainSection → Option (List ℕ) → PlainLabel → MarkedByWay
 name_ways sections soname l = record { direct = marks_name sections soname Direct l; pointer = marks_name sections soname Pointer l }
 
--- how they mark a type with these names
+-- how they mark a type that has these names
 abbrev pub names_ways : List PlainSection → Option (List ℕ) → List PlainLabel → MarkedByWay
 names_ways sections soname labels = record { direct = marks_names sections soname Direct labels; pointer = marks_names sections soname Pointer labels }
 
--- what the map says of a name is how the sections mark it
+-- each answer in the map is how the sections mark the name
 abbrev pub IsKnown : List PlainSection → Option (List ℕ) → Known → Type 0
 IsKnown sections soname known = (l : PlainLabel) (ways : MarkedByWay) → known_of known l ≡ Some ways → ways ≡ name_ways sections soname l

@@ -1,4 +1,4 @@
--- Handles of the code, without where their names lie in memory.
+-- The handles of the code as plain data, without addresses.
 use Rattle.std.specs.Prelude.{ℕ, List, map}
 use Rattle.suppressions.specs.declared.handle.Handle.{Handle}
 use Rattle.suppressions.specs.declared.handle.Handle.TheVariants.{Any, Name, Symbol}

@@ -1,4 +1,4 @@
--- What properties speak of in the code, without where its bytes lie in memory.
+-- The subjects of the code as plain data, without addresses.
 use Rattle.std.specs.Option.{option_copied}
 use Rattle.suppressions.specs.declared.subject.Subject.{Subject}
 use Rattle.suppressions.specs.Subjects.{PlainSubject}

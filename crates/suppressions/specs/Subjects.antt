@@ -1,4 +1,4 @@
--- What the properties of a rule file speak of: an export, or a name of a type that is reached by a way.
+-- Subjects: an export, or a name of a type with how a program reaches the type. Sections are matched with them.
 use Rattle.std.specs.Prelude.{ℕ, List, [], Option, Some, None, codes}
 use Rattle.abi_types.specs.declared.export.SymbolKind.{SymbolKind}
 use Rattle.abi_types.specs.declared.export.SymbolKind.TheVariants.{NoType, Object, Func, Common, Tls, Ifunc}
@@ -13,7 +13,7 @@ use Rattle.suppression_text.specs.declared.key.SectionKind.TheVariants.{Function
 use Rattle.suppression_text.specs.declared.key.Key.{Key}
 use Rattle.suppression_text.specs.declared.key.Key.TheVariants.{Label, Name, NameRegexp, NameNotRegexp, SymbolName, SymbolNameRegexp, SymbolVersion, SymbolVersionRegexp, SonameRegexp, TypeKind, AccessedThrough}
 
--- the sections that speak of it, and the bytes that their properties ask, where it has any
+-- the kind of the sections that can match it, and the bytes that properties test, where it has them
 pub record PlainSubject : Type 0 where
   pub kind : SectionKind
   pub name : List ℕ
@@ -23,7 +23,7 @@ pub record PlainSubject : Type 0 where
   pub type_kind : Option (List ℕ)
   pub way : Option (List ℕ)
 
--- the bytes that a property asks
+-- the bytes that a property tests
 abbrev pub asked : PlainSubject → Key → Option (List ℕ)
 asked s Label = None
 asked s Name = Some s.name
@@ -39,7 +39,7 @@ asked s AccessedThrough = s.way
 
 -- ---- exports
 
--- sections on functions speak of functions and of symbols without a type, those on variables of all others
+-- Sections on functions can match functions and symbols without a type. Sections on variables can match all others.
 abbrev pub section_of_symbol : SymbolKind → SectionKind
 section_of_symbol Func = Functions
 section_of_symbol Ifunc = Functions
@@ -48,7 +48,7 @@ section_of_symbol Object = Variables
 section_of_symbol Common = Variables
 section_of_symbol Tls = Variables
 
--- an export of a library with a soname
+-- an export of a library that has this soname
 abbrev pub export_subject : Option (List ℕ) → PlainExport → PlainSubject
 export_subject soname e = record {
   kind = section_of_symbol e.kind;
@@ -60,7 +60,7 @@ export_subject soname e = record {
   way = None;
 }
 
--- of an export what others share: the sections that speak of it, and the soname
+-- what all exports of a kind have in common
 abbrev pub kind_subject : Option (List ℕ) → SectionKind → PlainSubject
 kind_subject soname kind = record { kind = kind; name = []; symbol = None; version = None; soname = soname; type_kind = None; way = None }
 
@@ -77,7 +77,7 @@ abbrev pub accessed_through_word : Way → List ℕ
 accessed_through_word Direct = codes "direct"
 accessed_through_word Pointer = codes "pointer"
 
--- a name of a type of a library with a soname, where the type is reached by a way
+-- a name of a type of a library that has this soname, where a program reaches the type in this way
 abbrev pub label_subject : Option (List ℕ) → Way → PlainLabel → PlainSubject
 label_subject soname way l = record {
   kind = Types;
@@ -91,6 +91,6 @@ label_subject soname way l = record {
 
 -- ---- without names
 
--- what is left of it where no name is asked
+-- the subject without its names
 abbrev pub unnamed : PlainSubject → PlainSubject
 unnamed s = record s { name = []; symbol = None; version = None }

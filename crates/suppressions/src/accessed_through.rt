@@ -1,4 +1,4 @@
-// The names of types, each judged once.
+// Which names of types sections mark. Each name is judged once.
 ghost use Rattle.std.specs.Prelude.{◌≡◌, IfOk, OnOk, map};
 ghost use Rattle.std.specs.Option.{option_copied};
 ghost use Rattle.abi_types.specs.Plain.{plain_label};
@@ -12,7 +12,7 @@ use abi_base::NoMemory;
 use abi_types::{Label, LabelKind, Way};
 use std::collections::HashMap;
 
-/// Whether a type is marked, by the way by which it is reached.
+/// Whether a type is marked, by how a program reaches it.
 #[derive(Clone, Copy, Debug)]
 pub struct MarkedByWay {
     /// Where it is reached by value.
@@ -33,7 +33,7 @@ fn kind_number(kind: LabelKind) -> u8
     }
 }
 
-// How sections mark a name.
+// Asks the sections about a name.
 fn judge_name(sections: &mut ReadyRules, soname: Option<&[u8]>, label: &Label) -> MarkedByWay
     ensures ways { result ≡ name_ways sections.old (option_copied soname.entry) (plain_label label.now) }
     ensures same { sections.new ≡ sections.old }
@@ -43,14 +43,14 @@ fn judge_name(sections: &mut ReadyRules, soname: Option<&[u8]>, label: &Label) -
     MarkedByWay { direct, pointer }
 }
 
-// What is known of a name.
+// The answer for a name that was judged before.
 fn known_name(known: &HashMap<(u8, &[u8]), MarkedByWay>, label: &Label) -> Option<MarkedByWay>
     ensures { result ≡ known_of known.now (plain_label label.now) }
 {
     known.get(&(kind_number(label.kind), label.name)).copied()
 }
 
-// The name by which sections judge a name: where they ask none, the kind suffices.
+// The name to judge. Where no section asks about names, it is empty, and one answer serves all names of a kind.
 fn judged_label<'x>(sections: &ReadyRules, label: &Label<'x>) -> Label<'x>
     ensures { plain_label result ≡ spec.judged_label sections.now (plain_label label.now) }
 {
@@ -64,7 +64,7 @@ fn judged_label<'x>(sections: &ReadyRules, label: &Label<'x>) -> Label<'x>
     }
 }
 
-// How sections mark a name, which is judged once.
+// The answer for a name, which is judged the first time only.
 fn name_once<'x>(
     sections: &mut ReadyRules,
     known: &mut HashMap<(u8, &'x [u8]), MarkedByWay>,
@@ -85,7 +85,7 @@ fn name_once<'x>(
     Ok(ways)
 }
 
-/// How sections mark a type with these names. Each name is judged once, as long as what is known is handed on.
+/// Whether sections mark a type that has these names. `known` keeps the answers, so that each name is judged once.
 pub fn names_once<'x>(
     sections: &mut ReadyRules,
     known: &mut HashMap<(u8, &'x [u8]), MarkedByWay>,

@@ -1,26 +1,26 @@
-// How much the patterns of a rule file weigh, and how many of its sections are compiled at a time.
+// The weight of patterns, and the blocks of sections that are compiled at a time.
 ghost use Rattle.std.specs.Prelude.{◌≤◌, ◌<◌, length};
 
 use crate::compiled::is_chosen;
 use abi_base::NoMemory;
 use suppression_text::{Property, Section};
 
-// What a pattern weighs beside its bytes. The least compiled pattern takes some ten kilobytes.
+// The weight of a pattern beside its bytes. The smallest compiled pattern takes some ten kilobytes.
 const PATTERN_WEIGHT: usize = 64;
 
-// What a class such as `\w` weighs beside its two bytes. One of Unicode compiles to some twenty kilobytes.
+// The weight of a class such as `\w` beside its two bytes. A Unicode class compiles to some twenty kilobytes.
 const CLASS_WEIGHT: usize = 64;
 
-// How much a block of sections weighs, unless one section weighs more: some sixty short patterns.
+// The most that a block of several sections weighs: some sixty short patterns.
 const BLOCK_WEIGHT: usize = 4096;
 
-// How much the patterns of a rule file may weigh. Three hundred patterns of twenty bytes weigh a tenth of it.
+// The most that the patterns of a rule file may weigh. Three hundred patterns of twenty bytes weigh a tenth of it.
 const MOST_WEIGHT: usize = 1 << 18;
 
-// How long a soname may be that rules are asked of: the longest path of Linux. Names of files have 255 bytes at most.
+// The most bytes of a soname, which is that of a path on Linux. The name of a file has 255 bytes at most.
 const LONGEST_SONAME: usize = 4096;
 
-// How many of the bytes begin a class: a backslash before a letter.
+// How many classes the bytes have: each backslash before a letter begins one.
 fn classes_in(text: &[u8]) -> usize {
     let mut count = 0usize;
     let mut escaped = false;
@@ -33,7 +33,7 @@ fn classes_in(text: &[u8]) -> usize {
     count
 }
 
-// What a property weighs: nothing unless it has a pattern.
+// The weight of a property. A property without a pattern weighs nothing.
 fn property_weight(property: &Property) -> usize {
     if !property.has_pattern() {
         return 0;
@@ -45,7 +45,7 @@ fn property_weight(property: &Property) -> usize {
         .saturating_add(text.len())
 }
 
-// What the patterns of a section weigh.
+// The weight of the patterns of a section.
 fn section_weight(section: &Section) -> usize {
     let mut weight = 0usize;
     for property in section.properties() {
@@ -54,8 +54,8 @@ fn section_weight(section: &Section) -> usize {
     weight
 }
 
-/// Where the block ends that begins at a place: behind the first section, and then before the first one that makes it too heavy.
-/// Sections that ask names weigh, or those that ask none.
+/// The end of the block that begins at a place. A block has at least one section, and ends before the section that would make it
+/// too heavy. Only the chosen sections weigh: with `asking` those that ask about names, and without it the others.
 pub fn block_end(sections: &[Section], start: usize, asking: bool) -> usize
     requires { start ≤ length sections.now }
     ensures inside { result ≤ length sections.now }
@@ -77,7 +77,7 @@ pub fn block_end(sections: &[Section], start: usize, asking: bool) -> usize
     end
 }
 
-/// Fails where a soname is too long, or where the patterns of sections weigh too much.
+/// Fails where a soname is too long, and where the patterns of sections weigh too much.
 pub fn check_limits(sections: &[Section], soname: Option<&[u8]>) -> Result<(), NoMemory> {
     if let Some(name) = soname {
         if name.len() > LONGEST_SONAME {

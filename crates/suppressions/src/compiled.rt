@@ -1,13 +1,14 @@
-//! Sections whose patterns are compiled.
+//! Sections with compiled patterns.
 ghost use Rattle.std.specs.Prelude.{◌≡◌, IfOk};
 ghost use Rattle.suppressions.specs.Names as spec;
 
+use crate::boxed::BoxedProperty;
 use abi_base::NoMemory;
 use std::alloc::Global;
 use std::marker::Model;
-use suppression_text::{CompiledProperty, Key, Section};
+use suppression_text::{Key, Section};
 
-// Whether a property asks a name.
+// Whether a property asks about a name.
 fn asks_name(key: Key) -> bool
     ensures { result ≡ spec.asks_name key }
 {
@@ -17,7 +18,7 @@ fn asks_name(key: Key) -> bool
     }
 }
 
-/// Whether a section asks a name. One that does not holds of all names that share a soname, a kind and a way, or of none of them.
+/// Whether a section asks about a name. A section that does not gives one answer for all names of a soname, a kind and a way.
 #[tactic(auto, unfolding(crate::specs::Names::asks_names))]
 pub fn asks_names(section: &Section) -> bool
     ensures { result ≡ spec.asks_names section.now }
@@ -28,7 +29,7 @@ pub fn asks_names(section: &Section) -> bool
         .any(|property| asks_name(property.key()))
 }
 
-/// Whether a section is one of those that ask names, or of those that ask none.
+/// Whether a section is chosen: with `asking` the sections are that ask about names, and without it the others.
 pub fn is_chosen(section: &Section, asking: bool) -> bool
     ensures { result ≡ spec.is_chosen asking section.now }
 {
@@ -39,11 +40,11 @@ pub fn is_chosen(section: &Section, asking: bool) -> bool
     }
 }
 
-/// A section whose patterns are compiled. Contracts see it as the section.
+/// A section with its patterns compiled. Contracts see the section.
 #[derive(Drop)]
 pub struct CompiledSection<'r> {
     section: &'r Section,
-    properties: Vec<CompiledProperty<'r>>,
+    properties: Vec<BoxedProperty<'r>>,
 }
 
 impl<'r> Model for CompiledSection<'r> {
@@ -57,23 +58,23 @@ impl<'r> Model for CompiledSection<'r> {
     ghost invariant = { λ c. c.properties.items ≡ c.section.now.properties };
 }
 
-// The properties of a section, compiled.
+// Compiles the properties of a section.
 fn properties_of<'r>(
     alloc: Global,
     section: &'r Section,
-) -> Result<Vec<CompiledProperty<'r>>, NoMemory>
+) -> Result<Vec<BoxedProperty<'r>>, NoMemory>
     ensures { IfOk result (λ compiled. compiled.items ≡ section.now.properties) }
 {
     let properties = section.properties();
     let mut compiled = Vec::with_capacity(alloc, properties.len())?;
     for property in properties {
-        compiled.push(property.compiled(alloc)?)?;
+        compiled.push(BoxedProperty::of(alloc, property)?)?;
     }
     Ok(compiled)
 }
 
 impl<'r> CompiledSection<'r> {
-    /// The section, compiled.
+    /// Compiles a section.
     pub fn of(alloc: Global, section: &'r Section) -> Result<CompiledSection<'r>, NoMemory>
         ensures { IfOk result (λ compiled. compiled ≡ section.now) }
     {
@@ -91,15 +92,15 @@ impl<'r> CompiledSection<'r> {
         self.section
     }
 
-    /// Its properties, compiled.
-    pub fn properties(&self) -> &[CompiledProperty<'r>]
+    /// The properties of the section, compiled.
+    pub fn properties(&self) -> &[BoxedProperty<'r>]
         ensures { result.now ≡ self.now.properties }
     {
         self.properties.as_slice()
     }
 }
 
-/// Of sections, those that ask names, or those that ask none, compiled.
+/// Compiles the chosen sections: with `asking` those that ask about names, and without it the others.
 #[tactic(auto, unfolding(crate::specs::Names::chosen))]
 pub fn compiled<'r>(
     alloc: Global,

@@ -1,4 +1,4 @@
-// What sections are found by.
+// The handle of a section: the exact name by which it is found.
 ghost use Rattle.std.specs.Prelude.{◌≡◌};
 ghost use Rattle.suppressions.specs.Handles.{handle_cmp};
 ghost use Rattle.suppressions.specs.Handles as spec;
@@ -7,18 +7,18 @@ ghost use Rattle.suppressions.specs.PlainHandles.{plain_handle, class_of};
 use std::cmp::Ordering;
 use suppression_text::{Key, Section};
 
-/// What a section asks for exactly. A section with `name` or `symbol_name` can hold only of that name.
+/// The exact name that a section asks for. A section with `name` or `symbol_name` can match only that name.
 #[derive(Clone, Copy)]
 pub enum Handle<'x> {
-    /// Neither property: the section can hold of any name.
+    /// Neither property: the section can match any name.
     Any,
-    /// The property `name`.
+    /// The value of `name`.
     Name(&'x [u8]),
-    /// The property `symbol_name` of a section without `name`.
+    /// The value of `symbol_name`, in a section without `name`.
     Symbol(&'x [u8]),
 }
 
-// The place of a kind of handles among all kinds.
+// The number of a kind of handles.
 fn class(handle: Handle) -> u8
     ensures { result ≡ class_of handle.entry }
 {
@@ -43,7 +43,7 @@ impl<'x> Handle<'x> {
         }
     }
 
-    // The name, empty where there is none.
+    // The name. It is empty where there is none.
     fn name(self) -> &'x [u8]
         ensures { result.now ≡ (plain_handle self.entry).1 }
     {
@@ -54,7 +54,7 @@ impl<'x> Handle<'x> {
         }
     }
 
-    /// How two handles compare: by their kinds, then by their names.
+    /// Compares two handles by their kinds, and then by their names.
     pub fn order(self, other: Handle) -> Ordering
         ensures { result ≡ handle_cmp (plain_handle self.entry) (plain_handle other.entry) }
     {

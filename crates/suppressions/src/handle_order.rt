@@ -1,4 +1,4 @@
-// Sections in order of their handles, so that those of a handle are found without a look at all others.
+// The order of sections by their handles. In it a binary search finds the sections of a handle.
 ghost use Rattle.std.specs.Prelude.{◌≡◌, ◌≤◌, ◌-◌, false, true, length, take, drop, map, IfOk};
 ghost use Rattle.std.specs.List.{range_with_len};
 ghost use Rattle.std.specs.List.Sorted.{IsPartitionPoint};
@@ -13,7 +13,7 @@ use abi_base::NoMemory;
 use std::alloc::Global;
 use std::cmp::Ordering;
 
-// The handle at a position, that of any section past the last one.
+// The handle at a position. Past the end it is `Any`.
 fn handle_at<'x>(handles: &[Handle<'x>], k: usize) -> Handle<'x>
     ensures { plain_handle result ≡ spec.handle_at (plain_handles handles.now) k }
 {
@@ -24,21 +24,21 @@ fn handle_at<'x>(handles: &[Handle<'x>], k: usize) -> Handle<'x>
     }
 }
 
-// How two positions compare: by the handles there.
+// Compares the handles at two positions.
 fn place_order(handles: &[Handle], a: usize, b: usize) -> Ordering
     ensures { result ≡ place_cmp (plain_handles handles.now) a b }
 {
     handle_at(handles, a).order(handle_at(handles, b))
 }
 
-// Whether the handle at a position stands before a handle.
+// Whether the handle at a position is less than a handle.
 fn stands_before(handles: &[Handle], k: usize, handle: Handle) -> bool
     ensures { result ≡ is_lt (handle_cmp (spec.handle_at (plain_handles handles.now) k) (plain_handle handle.entry)) }
 {
     handle_at(handles, k).order(handle).is_lt()
 }
 
-// Whether the handle at a position does not stand behind a handle.
+// Whether the handle at a position is at most a handle.
 fn stands_upto(handles: &[Handle], k: usize, handle: Handle) -> bool
     ensures { result ≡ is_le (handle_cmp (spec.handle_at (plain_handles handles.now) k) (plain_handle handle.entry)) }
 {
@@ -59,7 +59,7 @@ fn handles_in<'r>(
     Ok(handles)
 }
 
-// The numbers below a count.
+// The numbers below a count, in order.
 fn numbers_below(alloc: Global, count: usize) -> Result<Vec<usize>, NoMemory>
     ensures { IfOk result (λ numbers. numbers.items ≡ range_with_len 0 count) }
 {
@@ -70,7 +70,7 @@ fn numbers_below(alloc: Global, count: usize) -> Result<Vec<usize>, NoMemory>
     Ok(numbers)
 }
 
-// The positions of all handles, in their order.
+// The positions of all handles, in the order of the handles.
 fn places_of(alloc: Global, handles: &[Handle]) -> Result<Vec<usize>, NoMemory>
     ensures { IfOk result (λ places. IsHandleOrder places.items (plain_handles handles.now)) }
 {
@@ -79,7 +79,7 @@ fn places_of(alloc: Global, handles: &[Handle]) -> Result<Vec<usize>, NoMemory>
     Ok(places)
 }
 
-// How many positions stand before those of a handle.
+// How many positions have a handle that is less than this one.
 fn count_before(handles: &[Handle], places: &[usize], handle: Handle) -> usize
     requires { IsHandleOrder places.now (plain_handles handles.now) }
     ensures inside { result ≤ length places.now }
@@ -88,7 +88,7 @@ fn count_before(handles: &[Handle], places: &[usize], handle: Handle) -> usize
     places.partition_point(|k| stands_before(handles, *k, handle))
 }
 
-// How many positions do not stand behind those of a handle.
+// How many positions have a handle that is at most this one.
 fn count_upto(handles: &[Handle], places: &[usize], handle: Handle) -> usize
     requires { IsHandleOrder places.now (plain_handles handles.now) }
     ensures inside { result ≤ length places.now }
@@ -97,7 +97,7 @@ fn count_upto(handles: &[Handle], places: &[usize], handle: Handle) -> usize
     places.partition_point(|k| stands_upto(handles, *k, handle))
 }
 
-// The positions from one place on up to another.
+// The positions from a start up to an end.
 fn between(places: &[usize], start: usize, end: usize) -> &[usize]
     requires rises { start ≤ end }
     requires inside { end ≤ length places.now }
@@ -106,7 +106,7 @@ fn between(places: &[usize], start: usize, end: usize) -> &[usize]
     &places[start..end]
 }
 
-// The positions of a handle, by two binary searches.
+// The positions of a handle. Two binary searches find them.
 fn places_in<'a>(handles: &[Handle], places: &'a [usize], handle: Handle) -> &'a [usize]
     requires { IsHandleOrder places.now (plain_handles handles.now) }
     ensures { AreAt (plain_handles handles.now) (plain_handle handle.entry) result.now }
@@ -116,7 +116,7 @@ fn places_in<'a>(handles: &[Handle], places: &'a [usize], handle: Handle) -> &'a
     between(places, start, end)
 }
 
-/// The handles of sections, and the sections' numbers in the order of them. Contracts see it as the list of the handles.
+/// The handles of sections, and the numbers of the sections in the order of their handles. Contracts see the list of the handles.
 #[derive(Drop)]
 pub struct HandleOrder<'r> {
     handles: Vec<Handle<'r>>,
@@ -136,7 +136,7 @@ impl<'r> std::marker::Model for HandleOrder<'r> {
 }
 
 impl<'r> HandleOrder<'r> {
-    /// The order of sections.
+    /// Sorts sections by their handles.
     pub fn of(alloc: Global, sections: &[CompiledSection<'r>]) -> Result<HandleOrder<'r>, NoMemory>
         ensures { IfOk result (λ order. order ≡ handles_of sections.now) }
     {
@@ -145,7 +145,7 @@ impl<'r> HandleOrder<'r> {
         Ok(HandleOrder { handles, places })
     }
 
-    /// The numbers of the sections of a handle.
+    /// The numbers of the sections that have this handle.
     pub fn find(&self, handle: Handle) -> &[usize]
         ensures { AreAt self.now (plain_handle handle.entry) result.now }
     {

@@ -1,4 +1,4 @@
-//! Laws of rule files. The functions do nothing.
+//! Laws of rule files. The functions do nothing: their contracts are the laws.
 ghost use Rattle.std.specs.Prelude.{◌≡◌, ℕ, List, Option};
 ghost use Rattle.abi_types.specs.declared.kind.Way.TheVariants.{Direct, Pointer};
 ghost use Rattle.abi_types.specs.Libraries.{PlainLibrary};
@@ -8,13 +8,13 @@ ghost use Rattle.suppressions.specs.Marks.{marks_of_text, AreAtBothWays, AreEven
 ghost use Rattle.suppressions.specs.Meaning.{is_marked};
 ghost use Rattle.suppressions.specs.Reasons.{HasNoWays};
 
-/// Whatever the text of a rule file says, it marks types with equal labels alike, at each way.
+/// Every rule file gives types with equal labels equal marks, by value and through a pointer.
 pub fn a_rule_file_marks_equal_labels_alike()
     ensures { (text : List ℕ) (library : PlainLibrary) → AreEvenMarks library (marks_of_text text library) }
 {}
 
-/// A rule file without `accessed_through` marks a type alike, however it is reached: the marks at both ways are the same, of the
-/// old library and of the new one.
+/// A rule file without `accessed_through` marks a type by value exactly where it marks it through a pointer, in the old library
+/// and in the new one.
 pub fn rules_without_accessed_through_see_no_way()
     ensures types { (rules : PlainRules) (soname : Option (List ℕ)) (labels : List PlainLabel) → HasNoWays rules
         → is_marked rules soname labels Direct ≡ is_marked rules soname labels Pointer }

@@ -1,9 +1,10 @@
-//! What a packager's rule file means: which exports of the old library are not compared, and which of its types, by the way by
-//! which they are reached.
+//! What a packager's rule file suppresses in the old library: the exports that are not compared, and the types that are not
+//! compared where a program reaches them by value, or through a pointer.
 #![tactic(auto)]
 
 mod accessed_through;
 mod block;
+pub mod boxed;
 pub mod compiled;
 mod handle;
 mod handle_order;

@@ -1,4 +1,4 @@
-// What a rule file says of exports, of types and of a library.
+// What a rule file suppresses: an export, a type, and all exports and types of a library.
 ghost use Rattle.std.specs.Prelude.{◌≡◌, ◌||◌, IfOk, false, length, map};
 ghost use Rattle.std.specs.Option.{option_copied};
 ghost use Rattle.abi_types.specs.Plain.{plain_export, plain_exports, plain_label};
@@ -21,14 +21,14 @@ use std::alloc::Global;
 use std::collections::HashMap;
 use suppression_text::{Rules, Section, SectionKind};
 
-// Whether one of two is true.
+// Whether one of two flags is set.
 fn one_of(one: bool, other: bool) -> bool
     ensures { result ≡ (one || other) }
 {
     one || other
 }
 
-// Whether sections that ask names, or those that ask none, drop an export.
+// Whether the chosen sections drop an export: those that ask about names, or the others.
 fn chosen_drop(
     alloc: Global,
     sections: &[Section],
@@ -43,7 +43,7 @@ fn chosen_drop(
     Ok(ready.some_holds(&Subject::of_export(soname, export)))
 }
 
-/// Whether a rule file drops an export of a library with a soname.
+/// Whether a rule file drops an export of a library that has this soname.
 #[tactic(auto, unfolding(crate::specs::Meaning::is_dropped))]
 pub fn drops_export(
     alloc: Global,
@@ -58,7 +58,7 @@ pub fn drops_export(
     Ok(one_of(named, others))
 }
 
-// Whether sections mark a type with these names.
+// Whether sections mark a type that has these names.
 fn marks_labels(
     sections: &mut ReadyRules,
     soname: Option<&[u8]>,
@@ -75,7 +75,7 @@ fn marks_labels(
     false
 }
 
-// Whether compiled sections mark a type with these names.
+// Whether compiled sections mark a type that has these names.
 fn compiled_mark(
     alloc: Global,
     compiled: &[CompiledSection],
@@ -89,7 +89,7 @@ fn compiled_mark(
     Ok(marks_labels(&mut ready, soname, labels, way))
 }
 
-/// Whether a rule file marks a type with these names, of a library with a soname, where it is reached by a way.
+/// Whether a rule file marks a type that has these names where a program reaches it in this way. The library has this soname.
 #[tactic(auto, unfolding(crate::specs::Meaning::is_marked))]
 pub fn drops_labels(
     alloc: Global,
@@ -107,7 +107,7 @@ pub fn drops_labels(
     Ok(one_of(by_name, by_kind))
 }
 
-// Whether sections that ask no name drop an export: what they say of functions or of variables.
+// Whether sections drop an export, if they ask about no name. They drop all functions or none, and all variables or none.
 fn kind_flag(
     sections: &mut ReadyRules,
     soname: Option<&[u8]>,
@@ -128,7 +128,7 @@ fn kind_flag(
     }
 }
 
-// For each export whether sections drop it that ask no name: one answer for those of a kind.
+// For each export, whether sections drop it that ask about no name. All exports of a kind have one answer.
 fn kind_flags(
     alloc: Global,
     sections: &mut ReadyRules,
@@ -148,7 +148,7 @@ fn kind_flags(
     Ok(flags)
 }
 
-// For each export whether sections drop it.
+// For each export, whether sections drop it.
 fn export_flags(
     alloc: Global,
     sections: &mut ReadyRules,
@@ -168,14 +168,14 @@ fn export_flags(
     Ok(flags)
 }
 
-/// For each node of a graph whether it is marked, by the way by which it is reached.
+/// For each node of a graph, whether it is marked where it is reached by value, and where it is reached through a pointer.
 #[derive(Drop)]
 struct NodeFlags {
     direct: List<bool>,
     pointer: List<bool>,
 }
 
-// For each node of a graph whether sections mark it.
+// For each node of a graph, whether sections mark it.
 fn node_flags(
     alloc: Global,
     sections: &mut ReadyRules,
@@ -196,7 +196,8 @@ fn node_flags(
     Ok(NodeFlags { direct, pointer })
 }
 
-/// Which exports of a library sections drop, and which of its nodes they mark, by the way by which these are reached.
+/// For each export of a library, whether sections drop it. For each node, whether they mark it where it is reached by value, and
+/// where it is reached through a pointer.
 #[derive(Drop)]
 pub struct Flags {
     exports: List<bool>,
@@ -204,7 +205,7 @@ pub struct Flags {
     pointer: List<bool>,
 }
 
-// The flags of sections that ask names, or of those that ask none.
+// The flags of the chosen sections: those that ask about names, or the others.
 fn chosen_flags(
     alloc: Global,
     sections: &[Section],
@@ -225,7 +226,7 @@ fn chosen_flags(
     })
 }
 
-// For each place whether it is marked in one of two lists.
+// For each place, whether the flag there is set in one of two lists.
 fn either(alloc: Global, one: &[bool], other: &[bool]) -> Result<List<bool>, NoMemory>
     requires { length one.now ≡ length other.now }
     ensures { IfOk result (λ flags. flags ≡ either_of one.now other.now) }
@@ -237,7 +238,7 @@ fn either(alloc: Global, one: &[bool], other: &[bool]) -> Result<List<bool>, NoM
     Ok(flags)
 }
 
-// What is marked in one of two.
+// Joins the flags of two lists of sections.
 fn either_flags(alloc: Global, one: &Flags, other: &Flags) -> Result<Flags, NoMemory>
     requires { AreOfOneSize one.now other.now }
     ensures { IfOk result (AreEither one.now other.now) }
@@ -249,8 +250,8 @@ fn either_flags(alloc: Global, one: &Flags, other: &Flags) -> Result<Flags, NoMe
     })
 }
 
-// The flags of sections that ask names, or of those that ask none: block after block, so that the compiled patterns of one block
-// are in memory at a time.
+// The flags of the chosen sections: those that ask about names, or the others. It takes the sections block by block, so that the
+// compiled patterns of one block at a time are in memory.
 fn flags_of(
     alloc: Global,
     sections: &[Section],
@@ -270,8 +271,9 @@ fn flags_of(
     Ok(flags)
 }
 
-/// What a rule file says of a library: which exports it drops, and which nodes it marks, by the way by which they are reached.
-/// Nodes with equal labels are marked alike. It fails only when memory runs out.
+/// What a rule file suppresses in a library: the exports that it drops, and the nodes that it marks where they are reached by
+/// value, and through a pointer. Nodes with equal labels have equal marks. It fails where memory runs out, and where the soname
+/// or the patterns pass a limit of `docs/LIMITS.md`.
 #[tactic(auto, unfolding(crate::specs::Marks::marks_of, crate::specs::Meaning::is_dropped, crate::specs::Meaning::is_marked))]
 pub fn marks(alloc: Global, rules: &Rules, old: &Library<OldIx>) -> Result<Marks, NoMemory>
     ensures marks { IfOk result (λ marks. marks ≡ marks_of rules.now old.now) }

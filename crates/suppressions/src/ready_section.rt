@@ -1,4 +1,4 @@
-//! Sections whose patterns are ready to be searched for.
+//! Sections that are ready to be matched.
 ghost use Rattle.std.specs.Prelude.{◌≡◌, ◌<◌, All, length, IfOk};
 ghost use Rattle.std.specs.List.{list_all};
 ghost use Rattle.suppressions.specs.PlainHandles.{plain_handle};
@@ -8,6 +8,7 @@ ghost use Rattle.suppressions.specs.Holding.{one_section_holds, IsOneOfHandle};
 ghost use Rattle.suppressions.specs.Meaning.{property_holds, section_holds, some_section_holds};
 ghost use Rattle.suppressions.specs.Meaning as meaning;
 
+use crate::boxed::{BoxedProperty, BoxedTest};
 use crate::compiled::{CompiledSection, asks_names};
 use crate::handle::Handle;
 use crate::handle_order::HandleOrder;
@@ -15,13 +16,13 @@ use crate::subject::Subject;
 use abi_base::NoMemory;
 use std::alloc::Global;
 use std::marker::Model;
-use suppression_text::{CompiledProperty, Key, Section, SectionKind, Test};
+use suppression_text::{Key, Section, SectionKind};
 
-/// A section whose patterns are ready. Contracts see it as the section.
+/// A section that is ready to be matched. Contracts see the section.
 #[derive(Drop)]
 pub struct ReadySection<'r> {
     section: &'r Section,
-    tests: Vec<Test<'r>>,
+    tests: Vec<BoxedTest<'r>>,
 }
 
 impl<'r> Model for ReadySection<'r> {
@@ -32,11 +33,11 @@ impl<'r> Model for ReadySection<'r> {
     ghost view = { λ r. record r.section.now { properties = r.tests.items } };
 }
 
-// The properties of a section, ready.
+// Prepares the properties of a section.
 fn tests_of<'c>(
     alloc: Global,
-    properties: &'c [CompiledProperty],
-) -> Result<Vec<Test<'c>>, NoMemory>
+    properties: &'c [BoxedProperty],
+) -> Result<Vec<BoxedTest<'c>>, NoMemory>
     ensures { IfOk result (λ tests. tests.items ≡ properties.now) }
 {
     let mut tests = Vec::with_capacity(alloc, properties.len())?;
@@ -46,9 +47,9 @@ fn tests_of<'c>(
     Ok(tests)
 }
 
-// Whether a property holds of what it speaks of.
+// Whether a property holds for a subject.
 #[tactic(auto, unfolding(crate::specs::Meaning::property_holds))]
-fn holds(test: &mut Test, subject: &Subject) -> bool
+fn holds(test: &mut BoxedTest, subject: &Subject) -> bool
     ensures holds { result ≡ property_holds (plain_subject subject.now) test.old }
     ensures same { test.new ≡ test.old }
 {
@@ -62,8 +63,8 @@ fn holds(test: &mut Test, subject: &Subject) -> bool
     }
 }
 
-// Whether all properties hold.
-fn all_hold(tests: &mut [Test], subject: &Subject) -> bool
+// Whether all properties hold for a subject.
+fn all_hold(tests: &mut [BoxedTest], subject: &Subject) -> bool
     ensures all { result ≡ list_all (property_holds (plain_subject subject.now)) tests.old }
     ensures same { tests.new ≡ tests.old }
 {
@@ -77,7 +78,7 @@ fn all_hold(tests: &mut [Test], subject: &Subject) -> bool
     true
 }
 
-// The place of a kind among the kinds of sections.
+// The number of a kind of sections.
 fn kind_place(kind: SectionKind) -> u8
     ensures { result ≡ meaning.kind_place kind }
 {
@@ -89,7 +90,7 @@ fn kind_place(kind: SectionKind) -> u8
 }
 
 impl<'c> ReadySection<'c> {
-    /// The section, ready.
+    /// Prepares a compiled section.
     pub fn of<'r>(
         alloc: Global,
         compiled: &'c CompiledSection<'r>,
@@ -101,14 +102,14 @@ impl<'c> ReadySection<'c> {
         Ok(ReadySection { section, tests })
     }
 
-    // Whether it speaks of a subject.
+    // Whether the section is for subjects of this kind.
     fn speaks_of(&self, subject: &Subject) -> bool
         ensures { result ≡ meaning.speaks_of self.now (plain_subject subject.now) }
     {
         kind_place(self.section.kind()) == kind_place(subject.kind)
     }
 
-    /// Whether it speaks of a subject, and all its properties hold.
+    /// Whether the section matches a subject: it is for this kind, and all its properties hold.
     #[tactic(auto, unfolding(crate::specs::Meaning::section_holds))]
     pub fn holds(&mut self, subject: &Subject) -> bool
         ensures holds { result ≡ section_holds (plain_subject subject.now) self.old }
@@ -121,7 +122,7 @@ impl<'c> ReadySection<'c> {
     }
 }
 
-// Sections, ready.
+// Prepares compiled sections.
 fn ready_sections<'c>(
     alloc: Global,
     compiled: &'c [CompiledSection],
@@ -135,14 +136,14 @@ fn ready_sections<'c>(
     Ok(ready)
 }
 
-// Whether some sections ask names.
+// Whether some section asks about a name.
 fn some_ask(compiled: &[CompiledSection]) -> bool
     ensures { result ≡ spec.some_ask compiled.now }
 {
     compiled.iter().any(|section| asks_names(section.section()))
 }
 
-// Whether one of the sections with these numbers holds of a subject.
+// Whether one of the sections with these numbers matches a subject.
 fn one_holds(sections: &mut [ReadySection], numbers: &[usize], subject: &Subject) -> bool
     requires { All (λ k. k < length sections.old) numbers.now }
     ensures some { result ≡ one_section_holds sections.old (plain_subject subject.now) numbers.now }
@@ -156,8 +157,8 @@ fn one_holds(sections: &mut [ReadySection], numbers: &[usize], subject: &Subject
     false
 }
 
-/// Sections, ready, and found by the names that they ask for exactly: a name meets the sections that ask for it and those that
-/// ask for no name, not all others. Contracts see it as the list of the sections.
+/// Sections that are ready to be matched, with an index by the exact names that they ask for. A search for a name looks only at
+/// the sections that ask for exactly this name, and at those that ask for no exact name. Contracts see the list of the sections.
 #[derive(Drop)]
 pub struct ReadyRules<'c> {
     sections: Vec<ReadySection<'c>>,
@@ -179,7 +180,7 @@ impl<'c> Model for ReadyRules<'c> {
 }
 
 impl<'c> ReadyRules<'c> {
-    /// The sections, ready.
+    /// Prepares compiled sections.
     pub fn of(alloc: Global, compiled: &'c [CompiledSection]) -> Result<ReadyRules<'c>, NoMemory>
         ensures { IfOk result (λ ready. ready ≡ compiled.now) }
     {
@@ -193,14 +194,14 @@ impl<'c> ReadyRules<'c> {
         })
     }
 
-    /// Whether some of them ask names.
+    /// Whether some section asks about a name.
     pub fn asks_names(&self) -> bool
         ensures { result ≡ spec.some_ask self.now }
     {
         self.asks
     }
 
-    // Whether a section of a handle holds of a subject.
+    // Whether a section with this handle matches a subject.
     fn holds_at(&mut self, handle: Handle, subject: &Subject) -> bool
         ensures some { IsOneOfHandle self.old (plain_subject subject.now) (plain_handle handle.entry) result }
         ensures same { self.new ≡ self.old }
@@ -212,7 +213,7 @@ impl<'c> ReadyRules<'c> {
         )
     }
 
-    /// Whether some section speaks of a subject and all its properties hold.
+    /// Whether some section matches a subject.
     pub fn some_holds(&mut self, subject: &Subject) -> bool
         ensures some { result ≡ some_section_holds self.old (plain_subject subject.now) }
         ensures same { self.new ≡ self.old }

@@ -1,4 +1,4 @@
-//! What the properties of a rule file speak of.
+//! Subjects: what sections are matched with.
 ghost use Rattle.std.specs.Prelude.{◌≡◌};
 ghost use Rattle.std.specs.Option.{option_copied};
 ghost use Rattle.abi_types.specs.Plain.{plain_export, plain_label};
@@ -8,10 +8,10 @@ ghost use Rattle.suppressions.specs.Subjects as subjects;
 use abi_types::{Export, Label, LabelKind, SymbolKind, Way};
 use suppression_text::{Key, SectionKind};
 
-/// What the properties of a rule file speak of: an export, or a name of a type that is reached by a way.
+/// What a section is matched with: an export, or a name of a type with how a program reaches the type.
 #[derive(Clone, Copy)]
 pub struct Subject<'x> {
-    /// The sections that speak of it.
+    /// The kind of the sections that can match it.
     pub kind: SectionKind,
     /// The declared name of an export, or the name of a type.
     pub name: &'x [u8],
@@ -23,11 +23,11 @@ pub struct Subject<'x> {
     pub soname: Option<&'x [u8]>,
     /// The word for the kind of a type.
     pub type_kind: Option<&'x [u8]>,
-    /// The word for the way by which a type is reached.
+    /// The word for how a program reaches the type.
     pub way: Option<&'x [u8]>,
 }
 
-/// The kind of the sections that speak of exports of a kind.
+/// The kind of the sections that can match exports of a kind.
 pub fn section_of_symbol(kind: SymbolKind) -> SectionKind
     ensures { result ≡ subjects.section_of_symbol kind }
 {
@@ -76,7 +76,7 @@ impl<'x> Subject<'x> {
         }
     }
 
-    /// What the exports of a library with a soname share that sections of a kind speak of: no name.
+    /// What all exports have in common that sections of a kind can match: the soname of the library, and no name.
     pub fn of_kind(soname: Option<&'x [u8]>, kind: SectionKind) -> Subject<'x>
         ensures { plain_subject result ≡ kind_subject (option_copied soname.entry) kind }
     {
@@ -91,7 +91,7 @@ impl<'x> Subject<'x> {
         }
     }
 
-    /// A name of a type of a library with a soname, where the type is reached by a way.
+    /// A name of a type of a library with a soname, where a program reaches the type in this way.
     pub fn of_label(soname: Option<&'x [u8]>, way: Way, label: &Label<'x>) -> Subject<'x>
         ensures { plain_subject result ≡ label_subject (option_copied soname.entry) way (plain_label label.now) }
     {
@@ -106,7 +106,7 @@ impl<'x> Subject<'x> {
         }
     }
 
-    /// The bytes that a property asks, where there are any.
+    /// The bytes that a property tests, if the subject has them.
     pub fn asked(&self, key: Key) -> Option<&'x [u8]>
         ensures { option_copied result ≡ subjects.asked (plain_subject self.now) key }
     {

@@ -61,7 +61,7 @@ fn facts(alloc: Global, dwarf: &Dwarf, offset: u64) -> Result<Option<Facts>, Ref
         return Ok(None);
     };
     let found = reached(alloc, dwarf, &[root])?;
-    let leads = type_references_of(alloc, dwarf, &found)?;
+    let leads = type_references_of(alloc, dwarf, &found, dwarf.len())?;
     let all = learn_all(alloc, dwarf, &found, &leads)?;
     match found.number(root) {
         Some(number) => Ok(all.get(number).copied()),

@@ -5,7 +5,7 @@ use dwarf_entries::Dwarf;
 use std::alloc::Global;
 use std::process::Abort;
 use std::test::*;
-use type_graph::raw_graph;
+use type_graph::{GraphLimits, raw_graph};
 
 // The abbreviations of a unit, of a base type, of a structure, of a nameless one, of a member, of a nameless one, of a typedef,
 // and of a qualifier.
@@ -28,9 +28,10 @@ const NO_ENCODING: &[u8] =
 
 // The graph of what is reached from the entry at an offset.
 fn graph<'a>(alloc: Global, dwarf: &Dwarf<'a>, offset: u64) -> Result<Graph<'a, OldIx>, Refusal> {
+    let limits = GraphLimits::for_file(0);
     match dwarf.find(offset) {
-        Some(root) => raw_graph(alloc, dwarf, &[root]),
-        None => raw_graph(alloc, dwarf, &[]),
+        Some(root) => raw_graph(alloc, dwarf, &[root], limits),
+        None => raw_graph(alloc, dwarf, &[], limits),
     }
 }
 

@@ -1,5 +1,5 @@
 -- How many flat members and parameters a library has in all.
-use Rattle.std.specs.Prelude.{ℕ, ◌+◌, ◌*◌, List, length, sum_by, Some, None}
+use Rattle.std.specs.Prelude.{ℕ, List, length, sum_by, Some, None}
 use Rattle.dwarf_entries.specs.Debug.{PlainDwarf}
 use Rattle.type_reach.specs.declared.role.Role.{Role}
 use Rattle.type_reach.specs.declared.role.Role.TheVariants as role
@@ -29,8 +29,3 @@ parts_held d e = parts_for (role_of d.tree e) d e
 -- those of all entries that were found
 abbrev pub parts_in_all : PlainDwarf → List ℕ → ℕ
 parts_in_all d found = sum_by (parts_held d) found
-
--- How many a library may have: four for each of its entries, and 16,384 more. Where no two functions share parameters and no two
--- structures hold one nameless structure, each entry counts once, and once more for each nameless structure around it.
-abbrev pub most_parts : ℕ → ℕ
-most_parts entries = 4 * entries + 16384

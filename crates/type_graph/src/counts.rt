@@ -8,13 +8,10 @@ ghost use Rattle.type_reach.specs.Summaries.{AreSummaries};
 ghost use Rattle.type_reach.specs.PeeledCores.{StandsForNone};
 ghost use Rattle.type_reach.specs.Flat.{flat_of};
 ghost use Rattle.type_graph.specs.Counts.{params_of, parts_held, parts_in_all};
-ghost use Rattle.type_graph.specs.Counts as spec;
 
 use crate::flatten::replacing;
 use crate::judged::JudgedTypes;
-use crate::limits::{PARTS_AN_ENTRY, PARTS_AT_LEAST};
 use abi_base::NoMemory;
-use dwarf_entries::Dwarf;
 use type_reach::laws::laws_of_types;
 use type_reach::{
     Role, is_nameless, member_type, members_among, parts_at, role_of, summary_at,
@@ -108,22 +105,24 @@ fn after_parts(
     }
 }
 
-// How many parts a library may have in all.
-fn most_parts(dwarf: &Dwarf) -> usize
-    ensures { result ≡ spec.most_parts (length dwarf.now.tree.entries) }
+/// Fails where there are more than so many types.
+pub(crate) fn ask_types(types: usize, most: usize) -> Result<(), NoMemory>
+    ensures { OnOk result (types ≤ most) }
 {
-    dwarf.known();
-    PARTS_AN_ENTRY * dwarf.len() + PARTS_AT_LEAST
+    if most < types {
+        return Err(NoMemory);
+    }
+    Ok(())
 }
 
-/// Fails where the entries that were found have more flat members and parameters in all than a library may have.
-pub(crate) fn ask_parts(types: &JudgedTypes<'_, '_>) -> Result<(), NoMemory>
+/// Fails where the entries that were found have more flat members and parameters in all than so many.
+pub(crate) fn ask_parts(types: &JudgedTypes<'_, '_>, most: usize) -> Result<(), NoMemory>
     requires closed { IsClosed types.now.dwarf.now.tree types.now.found.now }
     requires leads { AreTypeReferences types.now.dwarf.now.tree types.now.found.now types.now.leads.now }
     requires summaries { AreSummaries types.now.dwarf.now types.now.found.now types.now.summaries.now }
-    ensures { OnOk result (parts_in_all types.now.dwarf.now types.now.found.now ≤ spec.most_parts (length types.now.dwarf.now.tree.entries)) }
+    ensures { OnOk result (parts_in_all types.now.dwarf.now types.now.found.now ≤ most) }
 {
-    let mut left = most_parts(types.dwarf);
+    let mut left = most;
     'found: for number in 0..types.found.len() {
         let e = types.found.at(number);
         left = after_parts(types, number, e, left)?;

@@ -4,10 +4,11 @@ ghost use Rattle.abi_base.specs.Outcome.{Judges};
 ghost use Rattle.type_reach.specs.Faults.{types_fault};
 ghost use Rattle.type_graph.specs.Nodes.{made_nodes, nodes_of};
 
-use crate::counts::ask_parts;
+use crate::counts::{ask_parts, ask_types};
 use crate::judged::JudgedTypes;
 use crate::judging::{ask_shapes, ask_sizes};
 use crate::laws::the_nodes_are_a_graph;
+use crate::limits::GraphLimits;
 use crate::nodes::nodes;
 use abi_base::{List, Refusal};
 use abi_types::{Graph, Index, Node};
@@ -20,13 +21,15 @@ fn reached_nodes<'a, Ix: Index>(
     alloc: Global,
     dwarf: &Dwarf<'a>,
     roots: &[usize],
+    limits: GraphLimits,
 ) -> Result<List<Node<'a, Ix>>, Refusal>
     requires { All (λ root. root < length dwarf.now.tree.entries) roots.now }
     ensures judged { Judges result (types_fault dwarf.now roots.now) }
     ensures nodes { IfOk result (λ nodes. nodes ≡ nodes_of dwarf.now roots.now) }
 {
     let found = reached(alloc, dwarf, roots)?;
-    let leads = type_references_of(alloc, dwarf, &found)?;
+    ask_types(found.len(), limits.types)?;
+    let leads = type_references_of(alloc, dwarf, &found, limits.parts)?;
     match ask_shapes(alloc, dwarf, &found, &leads) {
         Ok(()) => {}
         Err(refused) => return Err(refused),
@@ -47,18 +50,19 @@ fn reached_nodes<'a, Ix: Index>(
         leads: &leads,
         summaries: summaries.as_slice(),
     };
-    ask_parts(&types)?;
-    let nodes = nodes(alloc, &types)?;
+    ask_parts(&types, limits.parts)?;
+    let nodes = nodes(alloc, &types, limits.parts)?;
     Ok(nodes)
 }
 
 /// The graph of the types that the roots reach: the node of void, then one for each reached entry in order of offset. Functions
 /// have no call places yet. The fault is the first one of a shape in order of offset, else the first one of a depth, else the
-/// first one of a size. Types with more flat members and parameters than a library may have count as no memory.
+/// first one of a size. Past a limit the answer is that memory ran out.
 pub fn raw_graph<'a, Ix: Index>(
     alloc: Global,
     dwarf: &Dwarf<'a>,
     roots: &[usize],
+    limits: GraphLimits,
 ) -> Result<Graph<'a, Ix>, Refusal>
     requires { All (λ root. root < length dwarf.now.tree.entries) roots.now }
     ensures judged { Judges result (types_fault dwarf.now roots.now) }
@@ -66,7 +70,7 @@ pub fn raw_graph<'a, Ix: Index>(
 {
     the_nodes_are_a_graph();
     dwarf.known();
-    let nodes = match reached_nodes(alloc, dwarf, roots) {
+    let nodes = match reached_nodes(alloc, dwarf, roots, limits) {
         Ok(nodes) => nodes,
         Err(refused) => return Err(refused),
     };

@@ -17,3 +17,4 @@ mod sharing;
 mod views;
 
 pub use graph::raw_graph;
+pub use limits::GraphLimits;

@@ -1,4 +1,5 @@
 // The limits of types.
+ghost use Rattle.std.specs.Prelude.{◌≡◌, ◌+◌, ◌/◌};
 
 /// The number that no size, place or alignment reaches.
 pub(crate) const VALUE_LIMIT: u64 = 0x8000_0000_0000_0000;
@@ -18,11 +19,38 @@ pub(crate) const ROOMS_LIMIT: u64 = 0x4000_0000_0000_0000;
 /// The size of a floating-point number of 128 bits, in bytes.
 pub(crate) const QUAD_SIZE: u64 = 16;
 
-/// How many parts a library may have in all for each of its entries.
-pub(crate) const PARTS_AN_ENTRY: usize = 4;
+// How many bytes of a file each type takes, and each part, on average, at least.
+const BYTES_A_TYPE: usize = 16;
 
-/// How many more it may have, however few entries it has.
-pub(crate) const PARTS_AT_LEAST: usize = 16_384;
+const BYTES_A_PART: usize = 8;
+
+// How many types and parts more there may be, however small the file is.
+const TYPES_AT_LEAST: usize = 16_384;
+
+const PARTS_AT_LEAST: usize = 16_384;
+
+/// How many types a library may reach, and how many parts these may have in all. A type or a part may take one byte of the file, and
+/// takes hundreds of bytes of memory; compilers write some hundred bytes for each.
+#[derive(Clone, Copy, Debug, PartialEq, Eq)]
+pub struct GraphLimits {
+    /// The most types.
+    pub types: usize,
+    /// The most members and parameters, and the most enumerators.
+    pub parts: usize,
+}
+
+impl GraphLimits {
+    /// The limits for a file with so many bytes.
+    pub fn for_file(bytes: usize) -> GraphLimits
+        ensures types { result.types ≡ bytes / 16 + 16384 }
+        ensures parts { result.parts ≡ bytes / 8 + 16384 }
+    {
+        GraphLimits {
+            types: bytes / BYTES_A_TYPE + TYPES_AT_LEAST,
+            parts: bytes / BYTES_A_PART + PARTS_AT_LEAST,
+        }
+    }
+}
 
 /// How many names a library's types may have for each type. A type has its own name and those of the typedefs that lead to it.
 pub(crate) const LABELS_A_TYPE: usize = 16;

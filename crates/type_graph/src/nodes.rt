@@ -16,7 +16,7 @@ use crate::limits::{LABELS_A_TYPE, LABELS_AT_LEAST};
 use crate::sharing::share_parts;
 use crate::views::view;
 use abi_base::{List, NoMemory};
-use abi_types::{Index, Node};
+use abi_types::{Index, Kind, Node};
 use dwarf_entries::Dwarf;
 use std::alloc::Global;
 use type_reach::laws::laws_of_types;
@@ -66,10 +66,20 @@ fn most_labels(types: usize) -> usize {
         .saturating_add(LABELS_AT_LEAST)
 }
 
-// The nodes of void and of all that was found. A node whose core is another entry has no parts yet.
+// How many enumerators a type has.
+fn enumerators_of<Ix: Index>(node: &Node<Ix>) -> usize {
+    match node.view.kind {
+        Kind::Enumeration => node.view.parts_len(),
+        _ => 0,
+    }
+}
+
+// The nodes of void and of all that was found. A node whose core is another entry has no parts yet. It fails where there are more
+// enumerators than so many.
 fn first_nodes<'a, Ix: Index>(
     alloc: Global,
     types: &JudgedTypes<'_, 'a>,
+    most_enumerators: usize,
 ) -> Result<List<Node<'a, Ix>>, NoMemory>
     requires closed { IsClosed types.now.dwarf.now.tree types.now.found.now }
     requires leads { AreTypeReferences types.now.dwarf.now.tree types.now.found.now types.now.leads.now }
@@ -79,21 +89,24 @@ fn first_nodes<'a, Ix: Index>(
 {
     let mut nodes = List::of(Vec::with_capacity(alloc, types.found.len() + 1)?);
     nodes.push(node(alloc, types, None)?)?;
-    let mut left = most_labels(types.found.len());
+    let mut labels = most_labels(types.found.len());
+    let mut enumerators = most_enumerators;
     'found: for number in 0..types.found.len() {
         let e = types.found.at(number);
         let made = node(alloc, types, Some(e))?;
-        left = taken(left, made.labels.as_slice().len())?;
+        labels = taken(labels, made.labels.as_slice().len())?;
+        enumerators = taken(enumerators, enumerators_of(&made))?;
         nodes.push(made)?;
     }
     Ok(nodes)
 }
 
-/// The nodes of void and of all that was found, in the order of the numbers.
+/// The nodes of void and of all that was found, in the order of the numbers. It fails where there are more enumerators than so many.
 // A structure, its typedefs, and these with `const` share one list of parts: otherwise most parts of a library would be copies.
 pub(crate) fn nodes<'a, Ix: Index>(
     alloc: Global,
     types: &JudgedTypes<'_, 'a>,
+    most_enumerators: usize,
 ) -> Result<List<Node<'a, Ix>>, NoMemory>
     requires closed { IsClosed types.now.dwarf.now.tree types.now.found.now }
     requires leads { AreTypeReferences types.now.dwarf.now.tree types.now.found.now types.now.leads.now }
@@ -101,7 +114,7 @@ pub(crate) fn nodes<'a, Ix: Index>(
     requires fits { (e : ℕ) → Contains types.now.found.now e → is_too_large types.now.dwarf.now e ≡ false }
     ensures { IfOk result (λ nodes. nodes ≡ made_nodes types.now.dwarf.now types.now.found.now) }
 {
-    let first: List<Node<'a, Ix>> = first_nodes(alloc, types)?;
+    let first: List<Node<'a, Ix>> = first_nodes(alloc, types, most_enumerators)?;
     let nodes = share_parts(types, first.into_vec())?;
     Ok(List::of(nodes))
 }

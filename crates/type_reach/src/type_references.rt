@@ -1,5 +1,5 @@
 // What the entries that were found lead to, kept once.
-ghost use Rattle.std.specs.Prelude.{◌≡◌, ◌<◌, ◌++◌, ◌^◌, true, length, slice_get, slice_index_or, All, Some, IfOk, OnOk, IfSome};
+ghost use Rattle.std.specs.Prelude.{◌≡◌, ◌<◌, ◌+◌, ◌++◌, ◌^◌, true, length, slice_get, slice_index_or, All, Some, IfOk, OnOk, IfSome};
 ghost use Rattle.type_reach.specs.References.{own_types};
 ghost use Rattle.type_reach.specs.References as spec;
 ghost use Rattle.type_reach.specs.ByValue.{IsClosed};
@@ -93,11 +93,23 @@ fn fill_types(
     Ok(())
 }
 
-/// What the entries that were found lead to.
+// What is left of a number of parts, less so many. It fails where fewer are left.
+fn taken(left: usize, many: usize) -> Result<usize, NoMemory>
+    ensures { IfOk result (λ rest. rest + many ≡ left) }
+{
+    if left < many {
+        return Err(NoMemory);
+    }
+    Ok(left - many)
+}
+
+/// What the entries that were found lead to. It fails where they have more parts in all than `most_parts`: functions may share the
+/// parameters of one origin, so that a small file can ask for very many.
 pub fn type_references_of(
     alloc: Global,
     dwarf: &Dwarf,
     found: &ReachedEntries,
+    most_parts: usize,
 ) -> Result<TypeReferences, NoMemory>
     requires { IsClosed dwarf.now.tree found.now }
     ensures { IfOk result (λ leads. AreTypeReferences dwarf.now.tree found.now leads) }
@@ -106,9 +118,11 @@ pub fn type_references_of(
     let mut types = Rows::with_capacity(alloc, found.len())?;
     let mut own_parts = Vec::new(alloc);
     let mut own_types = Vec::new(alloc);
+    let mut left = most_parts;
     'found: for number in 0..found.len() {
         let e = found.at(number);
         fill_parts(alloc, dwarf, &mut own_parts, e)?;
+        left = taken(left, own_parts.len())?;
         fill_types(dwarf, &mut own_types, e, own_parts.as_slice())?;
         parts.push(own_parts.as_slice())?;
         types.push(own_types.as_slice())?;

@@ -1,7 +1,6 @@
 // A file without a fault, and look-ups of its sections.
-ghost use Rattle.std.specs.Prelude.{◌≡◌, ◌≢◌, ◌≤◌, ◌<◌, IfOk, IfSome, IfNone, false, length};
-ghost use Rattle.std.specs.Option.{option_copied, option_map, option_map_or};
-ghost use Rattle.std.specs.Str.{bytes_eq};
+ghost use Rattle.std.specs.Prelude.{◌≡◌, ◌≢◌, ◌≤◌, ◌<◌, IfOk, IfSome, IfNone, length};
+ghost use Rattle.std.specs.Option.{option_copied, option_map};
 ghost use Rattle.abi_base.specs.Outcome.{Judges};
 ghost use Rattle.elf.specs.file.Elf.{table, elf_fault, section_named, strings_of, name_of_section};
 ghost use Rattle.elf.specs.file.Elf as spec;
@@ -11,7 +10,7 @@ ghost use Rattle.abi_base.specs.Limits.{input_limit};
 use crate::constants::SHT_STRTAB;
 use crate::file::header::{header_fault, section_in, table_in};
 use crate::file::places::{
-    compressed_fault_in, contents_in, name_fault_in, name_in, range_fault_in,
+    compressed_fault_in, contents_in, has_name_in, name_fault_in, name_in, range_fault_in,
 };
 use crate::file::records::{Section, SectionTable};
 use abi_base::{INPUT_LIMIT, Refusal};
@@ -72,16 +71,6 @@ pub fn read_elf<'a>(bytes: &'a [u8]) -> Result<ElfFile<'a>, Refusal>
     })
 }
 
-// Whether a name was found and is this one.
-fn is_name(found: Option<&[u8]>, name: &[u8]) -> bool
-    ensures { result ≡ option_map_or (λ n. bytes_eq n name.now) (option_copied found.entry) false }
-{
-    match found {
-        Some(found) => found == name,
-        None => false,
-    }
-}
-
 impl<'a> ElfFile<'a> {
     /// The contents of the first section of a name, or none exactly where there is no such section.
     pub fn section(&self, name: &[u8]) -> Option<&'a [u8]>
@@ -101,7 +90,7 @@ impl<'a> ElfFile<'a> {
         ensures inside { IfSome result (λ i. i < (table self.now).count) }
     {
         for number in 0..self.sections.count {
-            if is_name(name_in(self.bytes, self.sections, self.names, number), name) {
+            if has_name_in(self.bytes, self.sections, self.names, number, name) {
                 return Some(number as u32);
             }
         }

@@ -1,8 +1,10 @@
 // The contents and names of sections, and their faults, place by place.
-ghost use Rattle.std.specs.Prelude.{◌≡◌, ◌<◌, ◌≤◌, IfNone, length, map};
-ghost use Rattle.std.specs.Option.{option_copied};
+ghost use Rattle.std.specs.Prelude.{◌≡◌, ◌<◌, ◌≤◌, IfNone, IfSome, Some, drop, false, length, map, slice_get, ◌+◌};
+ghost use Rattle.std.specs.Option.{option_copied, option_map_or};
+ghost use Rattle.std.specs.Str.{bytes_eq};
+ghost use Rattle.abi_base.specs.Numbers.{is_zero};
 ghost use Rattle.abi_base.specs.Outcome.{first};
-ghost use Rattle.elf.specs.file.Elf.{table, contents, section_name, all_sections, range_fault, name_fault, compressed_fault, holds_bytes, HasTable, HasRanges};
+ghost use Rattle.elf.specs.file.Elf.{table, contents, section_name, all_sections, has_name, range_fault, name_fault, compressed_fault, holds_bytes, HasTable, HasRanges};
 ghost use Rattle.elf.specs.file.Elf as spec;
 
 use crate::constants::{DEBUG_PREFIX, SHF_COMPRESSED, SHT_NOBITS, SHT_NULL, ZDEBUG_PREFIX};
@@ -91,15 +93,83 @@ pub fn name_in<'a>(
     text_at(names, u64::from(header.name))
 }
 
-// The fault of a section whose name does not end in the contents of the section of names.
-#[tactic(auto, unfolding(crate::specs::file::Elf::name_fault))]
-fn name_fault_at(bytes: &[u8], sections: SectionTable, names: &[u8], number: u64) -> Option<Fault>
+// Whether a name was found and is this one.
+fn is_name(found: Option<&[u8]>, name: &[u8]) -> bool
+    ensures { result ≡ option_map_or (λ n. bytes_eq n name.now) (option_copied found.entry) false }
+{
+    match found {
+        Some(found) => found == name,
+        None => false,
+    }
+}
+
+// Whether a 0 byte stands at a place in the section of names.
+fn is_end(names: &[u8], place: usize) -> bool
+    ensures { result ≡ option_map_or is_zero (slice_get names.now place) false }
+{
+    match names.get(place) {
+        Some(byte) => *byte == 0,
+        None => false,
+    }
+}
+
+/// Whether the section of a number has this name. The end of its name is looked for only where a 0 byte stands behind as many
+/// bytes as this name has, since many sections may share a long name.
+#[tactic(auto, using(crate::proofs::file_lemmas::NameLemmas::ends_behind), unfolding(crate::specs::file::Elf::section_name))]
+pub fn has_name_in(
+    bytes: &[u8],
+    sections: SectionTable,
+    names: &[u8],
+    number: u64,
+    name: &[u8],
+) -> bool
     requires table { sections ≡ table bytes.now }
     requires has { HasTable bytes.now }
     requires number { number < sections.count }
     requires names { names.now ≡ contents bytes.now sections.names }
+    ensures { result ≡ has_name bytes.now name.now number }
+{
+    let at = section_in(bytes, sections, number).name as usize;
+    is_end(names, at + name.len()) && is_name(name_in(bytes, sections, names, number), name)
+}
+
+// The place of the last 0 byte of a section of names: each name that begins up to there ends there or before.
+#[tactic(auto, using(crate::proofs::file_lemmas::NameLemmas::zero_at))]
+fn last_zero(names: &[u8]) -> Option<usize>
+    ensures { IfSome result (λ k. slice_get names.now k ≡ Some 0) }
+{
+    let mut end = names.len();
+    'back: while end > 0 {
+        end -= 1;
+        if names[end] == 0 {
+            return Some(end);
+        }
+    }
+    None
+}
+
+// The fault of a section whose name does not end in the contents of the section of names. Only the end of a name behind the
+// last 0 byte is looked for, since many sections may share a long name.
+#[tactic(auto, using(crate::proofs::file_lemmas::NameLemmas::ends_before), unfolding(crate::specs::file::Elf::name_fault, crate::specs::file::Elf::section_name))]
+fn name_fault_at(
+    bytes: &[u8],
+    sections: SectionTable,
+    names: &[u8],
+    last_zero: Option<usize>,
+    number: u64,
+) -> Option<Fault>
+    requires table { sections ≡ table bytes.now }
+    requires has { HasTable bytes.now }
+    requires number { number < sections.count }
+    requires names { names.now ≡ contents bytes.now sections.names }
+    requires last_zero { IfSome last_zero (λ k. slice_get names.now k ≡ Some 0) }
     ensures { result ≡ name_fault bytes.now number }
 {
+    if let Some(end) = last_zero {
+        if section_in(bytes, sections, number).name as usize <= end {
+            return None;
+        }
+    }
     match name_in(bytes, sections, names, number) {
         Some(_) => None,
         None => Some(Fault {
@@ -116,8 +186,9 @@ pub fn name_fault_in(bytes: &[u8], sections: SectionTable, names: &[u8]) -> Opti
     requires names { names.now ≡ contents bytes.now sections.names }
     ensures { result ≡ first (map (name_fault bytes.now) (all_sections bytes.now)) }
 {
+    let last_zero = last_zero(names);
     for number in 0..sections.count {
-        match name_fault_at(bytes, sections, names, number) {
+        match name_fault_at(bytes, sections, names, last_zero, number) {
             Some(fault) => return Some(fault),
             None => {}
         }
@@ -135,8 +206,16 @@ fn is_compressed(name: &[u8], flags: u64) -> bool
     (name.starts_with(&DEBUG_PREFIX) && has_flag) || name.starts_with(&ZDEBUG_PREFIX)
 }
 
-// The fault of a compressed debug section. A section without a name has none here: that is another fault.
-#[tactic(auto, unfolding(crate::specs::file::Elf::compressed_fault))]
+// The bytes of the section of names from a place on.
+fn names_from(names: &[u8], at: usize) -> &[u8]
+    ensures { result.now ≡ drop at names.now }
+{
+    if at < names.len() { &names[at..] } else { &[] }
+}
+
+// The fault of a compressed debug section. A section without a name has none here: that is another fault. The end of a name is
+// looked for only where the bytes before it are those of a compressed section, since many sections may share a long name.
+#[tactic(auto, unfolding(crate::specs::file::Elf::compressed_fault, crate::specs::file::Elf::section_name))]
 fn compressed_fault_at(
     bytes: &[u8],
     sections: SectionTable,
@@ -150,6 +229,9 @@ fn compressed_fault_at(
     ensures { result ≡ compressed_fault bytes.now number }
 {
     let header = section_in(bytes, sections, number);
+    if !is_compressed(names_from(names, header.name as usize), header.flags) {
+        return None;
+    }
     match name_in(bytes, sections, names, number) {
         Some(name) => {
             if is_compressed(name, header.flags) {

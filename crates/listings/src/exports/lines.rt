@@ -9,6 +9,12 @@ use report::{kind_word, push_place};
 use std::alloc::{AllocError, Global};
 use std::fmt::Write;
 
+// How many bytes the lines may have for each byte of the file.
+const BYTES_A_BYTE: usize = 8;
+
+// How many more they may have, however small the file is.
+const BYTES_AT_LEAST: usize = 1_048_576;
+
 // Appends a comma and a place.
 #[tactic(auto, unfolding(crate::specs::exports::ExportLines::place_behind))]
 fn push_next(text: &mut String, place: &Place) -> Result<(), AllocError>
@@ -98,29 +104,41 @@ fn push_line<Ix: Index>(
     text.push_str("\n")
 }
 
-// Appends the lines of exports.
+// Appends the lines of exports. It fails where the text grows longer than so many bytes.
 fn push_lines<Ix: Index>(
     alloc: Global,
     text: &mut String,
     graph: &Graph<Ix>,
     exports: &[Export],
-) -> Result<(), AllocError>
+    most: usize,
+) -> Result<(), NoMemory>
     ensures { OnOk result (string_bytes text.new ≡ string_bytes text.old ++ flat_map (export_line graph.now) (plain_exports exports.now)) }
 {
     for export in exports {
         push_line(alloc, text, graph, export)?;
+        if most < text.len() {
+            return Err(NoMemory);
+        }
     }
     Ok(())
 }
 
+// How many bytes the lines of a library may have.
+fn most_bytes(file: &[u8]) -> usize {
+    file.len()
+        .saturating_mul(BYTES_A_BYTE)
+        .saturating_add(BYTES_AT_LEAST)
+}
+
 /// The line of each export of a library, in order of their symbols: the number of its symbol, its label, its kind, its size in
 /// bytes, and then the places of its arguments and of its result where its type is a function, the kind of any other type, or
-/// that it has none. It fails only when memory runs out.
+/// that it has none. Exports may share the parameters of one function: past the limit of bytes the answer is that memory ran out.
 #[tactic(auto, unfolding(crate::specs::exports::ExportLines::exports_text))]
 pub fn export_lines<Ix: Index>(alloc: Global, library: &Library<Ix>) -> Result<String, NoMemory>
     ensures { IfOk result (λ text. string_bytes text ≡ exports_text library.now) }
 {
     let mut text = String::new(alloc);
-    push_lines(alloc, &mut text, library.graph(), library.exports())?;
+    let most = most_bytes(library.file());
+    push_lines(alloc, &mut text, library.graph(), library.exports(), most)?;
     Ok(text)
 }

@@ -1,4 +1,4 @@
--- The section is as it was, and the names that are left decide.
+-- The section has not changed, and the remaining names decide.
 use Rattle.std.proofs.Common.{◌≡◌, map, drop}
 use Rattle.std.specs.List.{list_any}
 use Rattle.std.specs.Option.{option_copied}

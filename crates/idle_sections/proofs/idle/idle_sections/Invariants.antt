@@ -1,4 +1,4 @@
--- Those of the sections so far that hold of nothing.
+-- The idle sections so far.
 use Rattle.std.proofs.Common.{◌≡◌, not, map, take}
 use Rattle.std.specs.Borrow.{Bor}
 use Rattle.std.specs.List.{filter}

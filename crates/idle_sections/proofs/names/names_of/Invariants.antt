@@ -1,4 +1,4 @@
--- The names of the nodes so far.
+-- The names are those of the nodes so far.
 use Rattle.std.proofs.Common.{map, take}
 use Rattle.abi_types.specs.Plain.{plain_label}
 use Rattle.idle_sections.specs.Idle.{all_labels}

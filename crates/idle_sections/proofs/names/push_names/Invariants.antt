@@ -1,4 +1,4 @@
--- The names so far.
+-- The names so far are pushed.
 use Rattle.std.proofs.Common.{◌++◌, map, take}
 use Rattle.abi_types.specs.Plain.{plain_label}
 use Rattle.idle_sections.specs.Names.{AreAlike, AreSeen}

@@ -1,4 +1,4 @@
--- One more name, which stands in the set with the number of its kind.
+-- The set has the name that is added, under the number of its kind.
 use Rattle.std.proofs.Common.{◌≡◌, ◌∷◌, ◌++◌, [], List, ap, map, subst, sym, ◌∙◌}
 use Rattle.std.proofs.lemmas.List.{map-append}
 use Rattle.abi_types.specs.Plain.{plain_label}

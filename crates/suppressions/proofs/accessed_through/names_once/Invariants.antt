@@ -6,7 +6,7 @@ use Rattle.suppressions.specs.Meaning.{marks_names}
 use Rattle.suppressions.specs.Known.{IsKnown}
 use Rattle.suppressions.proofs.accessed_through.names_once.Given as goal
 
--- how the names so far are marked
+-- the answers are those for the names so far
 abbrev pub invariant-loop-label : goal.invariant-loop-label
 invariant-loop-label l = record {
   same : l.sections ≡ l.fn.sections;

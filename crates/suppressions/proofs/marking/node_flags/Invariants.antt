@@ -6,7 +6,7 @@ use Rattle.suppressions.specs.Meaning.{marks_names}
 use Rattle.suppressions.specs.Known.{IsKnown}
 use Rattle.suppressions.proofs.marking.node_flags.Given as goal
 
--- the nodes so far
+-- the sections have not changed, and the flags are those of the nodes so far
 abbrev pub invariant-loop-i : goal.invariant-loop-i
 invariant-loop-i l = record {
   same : l.sections ≡ l.fn.sections;

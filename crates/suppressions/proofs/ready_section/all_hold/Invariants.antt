@@ -4,7 +4,7 @@ use Rattle.suppressions.specs.PlainSubjects.{plain_subject}
 use Rattle.suppressions.specs.Meaning.{property_holds}
 use Rattle.suppressions.proofs.ready_section.all_hold.Given as goal
 
--- the properties are as they were, and those that are left decide
+-- the properties have not changed, and the remaining ones decide
 abbrev pub invariant-tests : goal.invariant-tests
 invariant-tests l = (l.tests ≡ l.fn.tests) × (list_all (property_holds (plain_subject l.subject)) (drop l.at l.tests) ≡ list_all (property_holds (plain_subject l.subject)) l.tests)
 

@@ -1,7 +1,7 @@
-use Rattle.std.proofs.Common.{◌+◌, ◌≤◌, length, take}
+use Rattle.std.proofs.Common.{◌+◌, ◌≤◌, take}
 use Rattle.std.specs.Prelude.{sum_by}
-use Rattle.type_graph.specs.Counts.{parts_held, most_parts}
+use Rattle.type_graph.specs.Counts.{parts_held}
 use Rattle.type_graph.proofs.counts.ask_parts.Given as goal
 
 abbrev pub invariant-found : goal.invariant-found
-invariant-found l = l.left + sum_by (parts_held l.types.dwarf.now) (take l.number l.types.found.now) ≤ most_parts (length l.types.dwarf.now.tree.entries)
+invariant-found l = l.left + sum_by (parts_held l.types.dwarf.now) (take l.number l.types.found.now) ≤ l.most
