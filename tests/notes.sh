@@ -75,7 +75,7 @@ said() {
         built old
         built new
         ABI_NOTES=1 "$program" check old.so new.so >answer 2>errors || fail "$1, $build: the answer is no yes"
-        sed -n '/^abi: note: exports with types: /d; s/^abi: note: //p' errors >got
+        sed -n '/^abi: note: exports with types: /d; /^abi: note: exports of OLD: /d; s/^abi: note: //p' errors >got
         same "$1, $build"
         passed "$1, $build"
     done <<<"$builds"
@@ -126,6 +126,59 @@ notes "an enumerator is added" "" "s/GREEN }/GREEN, BLUE }/"
 : >want
 notes "a structure that nothing declares alone changes" "" "s/int a;/long a;/"
 notes "a structure inside a function changes" "" "s/char none/long none/"
+echo "defined elsewhere: of_inner param 1 / target: was member third at bit 128, width 3: 4-byte unsigned integer, now member third at bit 128, width 5: 4-byte unsigned integer" >want
+notes "a bit field is wider" "" "s/third : 3/third : 5/"
+
+# ---- one form of bit fields against the other
+
+# forms NAME OLD NEW: nothing is said of the units, which one compiler builds with two versions of DWARF. DWARF 4 counts a bit field
+# from the other end of its storage.
+forms() {
+    units old "" ""
+    units new "" ""
+    build=$2
+    built old
+    build=$3
+    built new
+    : >want
+    ABI_NOTES=1 "$program" check old.so new.so >answer 2>errors || fail "$1: the answer is no yes"
+    sed -n '/^abi: note: exports /d; s/^abi: note: //p' errors >got
+    same "$1"
+    passed "$1"
+}
+
+forms "bit fields of DWARF 4, then of DWARF 5" "gcc -gdwarf-4" "gcc -gdwarf-5"
+forms "bit fields of DWARF 5, then of DWARF 4" "gcc -gdwarf-5" "gcc -gdwarf-4"
+
+# ---- two structures of one tag
+
+# A second unit that defines the tag in another way.
+cat >twice.c <<'END'
+struct inner { short only; };
+__attribute__((visibility("hidden"))) int use_twice(struct inner *inner) { return inner->only; }
+END
+
+# twice NAME OLD NEW EDIT: what is said of libraries that define a tag twice, by the order of their units and an edit of the second
+# definition.
+twice() {
+    sed "$4" twice.c >twice_new.c
+    while read -r build; do
+        $build -O0 -fPIC -shared -o old.so outer.c again.c $2 2>warnings || fail "$build refuses the old units of $1"
+        $build -O0 -fPIC -shared -o new.so outer.c again.c $3 2>warnings || fail "$build refuses the new units of $1"
+        ABI_NOTES=1 "$program" check old.so new.so >answer 2>errors || fail "$1, $build: the answer is no yes"
+        sed -n '/^abi: note: exports /d; s/^abi: note: //p' errors >got
+        same "$1, $build"
+        passed "$1, $build"
+    done <<<"$builds"
+}
+
+: >want
+twice "two structures of a tag change places" "inner.c twice.c" "twice.c inner.c" ""
+twice "a third unit defines a tag as the first does" "inner.c twice.c" "twice_new.c twice.c inner.c" "s/use_twice/use_again/"
+echo "defined elsewhere: of_inner param 1 / target: was size 2, now size 8" >want
+twice "the second structure of a tag changes" "inner.c twice.c" "inner.c twice_new.c" "s/short/long/"
+twice "the second structure of a tag changes, and stands first" "inner.c twice.c" "twice_new.c inner.c" "s/short/long/"
+
 # ---- one source against another
 
 # sources NAME COMPILERS OLD NEW: what is said of the libraries of two sources must be what the file `want` holds, by each kind of
@@ -136,7 +189,7 @@ sources() {
         echo "$3" | $build -w -O0 -fPIC -shared -o old.so -x c - || fail "$build refuses the old source of $1"
         echo "$4" | $build -w -O0 -fPIC -shared -o new.so -x c - || fail "$build refuses the new source of $1"
         ABI_NOTES=1 "$program" check old.so new.so >answer 2>errors || fail "$1, $build: the answer is no yes"
-        sed -n '/^abi: note: exports with types: /d; s/^abi: note: //p' errors >got
+        sed -n '/^abi: note: exports with types: /d; /^abi: note: exports of OLD: /d; s/^abi: note: //p' errors >got
         same "$1, $build"
         passed "$1, $build"
     done <<<"$builds"
@@ -154,7 +207,44 @@ echo 'union without members: g param 1: was size 8, members 0, now size 8, membe
 sources "a transparent union, whose members gcc leaves out" gcc \
     'typedef union { int *i; unsigned *u; } any __attribute__((transparent_union)); int g(any a) { return *a.i; }' \
     'typedef union { int *i; long *u; } any __attribute__((transparent_union)); int g(any a) { return *a.i; }'
+# itself NAME COMPILER SOURCE: nothing is said of a library against a copy of it.
+itself() {
+    echo "$3" | $2 -g -w -O0 -fPIC -shared -o old.so -x c - || fail "$2 refuses the source of $1"
+    cp old.so new.so
+    ABI_NOTES=1 "$program" check old.so new.so >answer 2>errors || fail "$1: the answer is no yes"
+    sed -n '/^abi: note: exports /d; s/^abi: note: //p' errors >got
+    : >want
+    same "$1"
+    passed "$1"
+}
+
+itself "a transparent union against itself" gcc \
+    'typedef union { int *i; unsigned *u; } any __attribute__((transparent_union)); int g(any a) { return *a.i; }'
+echo 'name of type: f param 1 / target: was one = struct without a tag, now two = struct without a tag' >want
+sources "a structure without a tag gets another typedef" "gcc clang" \
+    'typedef struct { int a; } one; int f(one *p) { return p->a; }' \
+    'typedef struct { int a; } two; int f(two *p) { return p->a; }'
 echo 'prototype: h: was prototyped, now none' >want
 sources "a function of the old style" "gcc clang" 'int h(int a) { return a; }' 'int h(a) int a; { return a; }'
+
+# ---- how many exports are compared
+
+# counts NAME RULES LINE: the line of counts of two libraries, of which the old one has three exports and the new one two of them.
+counts() {
+    echo 'int f(void) { return 1; } int g(void) { return 2; } int h(void) { return 3; }' | gcc -g -fPIC -shared -o old.so -x c -
+    echo 'int f(void) { return 1; } int g(void) { return 2; }' | gcc -g -fPIC -shared -o new.so -x c -
+    echo "$2" >some.rules
+    ABI_NOTES=1 "$program" check --rules some.rules old.so new.so >answer 2>errors || true
+    sed -n 's/^abi: note: exports of OLD: //p' errors >got
+    echo "$3" >want
+    same "$1"
+    passed "$1"
+}
+
+counts "an export is gone" "" "2 compared, 0 dropped by the rule file, 1 gone"
+counts "an export is dropped" "[suppress_function]
+name = g" "1 compared, 1 dropped by the rule file, 1 gone"
+counts "an export that is gone is dropped" "[suppress_function]
+name = h" "2 compared, 1 dropped by the rule file, 0 gone"
 
 finished

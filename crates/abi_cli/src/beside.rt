@@ -3,14 +3,13 @@ ghost use Rattle.std.specs.Prelude.{◌≤◌, length};
 ghost use Rattle.abi_base.specs.Limits.{input_limit};
 
 use crate::notes::bytes_of;
-use abi_base::{List, NoMemory, Remark, SizedExports};
+use abi_base::{NoMemory, Remark, SizedExports};
 use abi_top::{Ended, Input, Outcome};
 use explain::name_of;
-use side_notes::{all_notes, note_text};
+use side_notes::{Beside, Counts, all_beside, note_text};
 use std::alloc::{AllocError, Global};
 use std::env;
 use std::rt::{Env, Files};
-use type_notes::Note;
 
 /// Whether such notes are wanted: standard error is a terminal, or the environment variable `ABI_NOTES` is 1.
 pub(crate) fn are_wanted<R: Env + AllocGlobal>(rt: &R, is_terminal: bool) -> bool {
@@ -33,15 +32,12 @@ fn input_bytes<R: Files + AllocGlobal>(rt: &R, ended: &Ended<'_>, which: Input) 
     }
 }
 
-// The notes on what was judged.
-fn notes_of_inputs<R: Files + AllocGlobal>(
-    rt: &R,
-    ended: &Ended<'_>,
-) -> Result<List<Note>, NoMemory> {
+// What is said beside what was judged.
+fn beside_of_inputs<R: Files + AllocGlobal>(rt: &R, ended: &Ended<'_>) -> Result<Beside, NoMemory> {
     let old = input_bytes(rt, ended, Input::Old);
     let new = input_bytes(rt, ended, Input::New);
     let rules = input_bytes(rt, ended, Input::Rules);
-    all_notes(rt.alloc(), &old, &new, &rules)
+    all_beside(rt.alloc(), &old, &new, &rules)
 }
 
 // How many exports of a size above 0 have a type.
@@ -49,8 +45,18 @@ fn typed(exports: SizedExports) -> usize {
     exports.all.saturating_sub(exports.untyped)
 }
 
-// The line of counts: how many exports of a size above 0 each library has, and how many of these have a type.
-fn count_line(alloc: Global, remark: Remark) -> Result<String, AllocError> {
+// The line of how many exports of the old library are compared, how many the rule file drops, and how many are gone.
+fn compared_line(alloc: Global, counts: &Counts) -> Result<String, AllocError> {
+    let compared = counts.compared;
+    let dropped = counts.dropped;
+    let gone = counts.gone;
+    format!(in alloc;
+        "abi: note: exports of OLD: {compared} compared, {dropped} dropped by the rule file, {gone} gone\n"
+    )
+}
+
+// The line of types: how many exports of a size above 0 each library has, and how many of these have a type.
+fn types_line(alloc: Global, remark: Remark) -> Result<String, AllocError> {
     let old_typed = typed(remark.old);
     let old_all = remark.old.all;
     let new_typed = typed(remark.new);
@@ -60,7 +66,7 @@ fn count_line(alloc: Global, remark: Remark) -> Result<String, AllocError> {
     )
 }
 
-/// The notes as lines, and last the line of counts, where `check` judged two libraries.
+/// The notes as lines, and last two lines of counts, where `check` judged two libraries.
 pub(crate) fn text_beside<R: Files + AllocGlobal>(
     rt: &R,
     words: &[&str],
@@ -73,10 +79,14 @@ pub(crate) fn text_beside<R: Files + AllocGlobal>(
     if !is_check {
         return Ok(Vec::new(rt.alloc()));
     }
-    let notes = notes_of_inputs(rt, ended)?;
-    let mut text = note_text(rt.alloc(), notes.as_slice())?;
+    let beside = beside_of_inputs(rt, ended)?;
+    let mut text = note_text(rt.alloc(), beside.notes.as_slice())?;
+    if let Some(counts) = &beside.counts {
+        let line = compared_line(rt.alloc(), counts)?;
+        text.extend_from_slice(line.as_bytes())?;
+    }
     if let Some(remark) = remark {
-        let line = count_line(rt.alloc(), remark)?;
+        let line = types_line(rt.alloc(), remark)?;
         text.extend_from_slice(line.as_bytes())?;
     }
     Ok(text)

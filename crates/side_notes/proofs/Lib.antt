@@ -1,10 +1,11 @@
 mod AddedLemmas
 mod AffectedLemmas
-mod BetweenLemmas
+mod CountLemmas
 mod IdleLemmas
 mod LineLemmas
 mod Marked
 mod OldExportLemmas
+mod RuleLemmas
 mod StemLemmas
 mod SuccessorLemmas
 mod TypeLemmas

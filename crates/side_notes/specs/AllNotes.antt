@@ -1,5 +1,6 @@
 -- All notes on two libraries, from their bytes and those of a rule file.
-use Rattle.std.specs.Prelude.{◌≡◌, ℕ, Bool, true, false, is_none, List, [], ◌++◌}
+use Rattle.std.specs.Prelude.{◌≡◌, ℕ, Bool, true, false, not, is_none, List, [], ◌++◌}
+use Rattle.std.specs.Str.{bytes_eq}
 use Rattle.abi_types.specs.declared.library.Marks.{Marks}
 use Rattle.abi_types.specs.Libraries.{PlainLibrary}
 use Rattle.cert_check.specs.Compatible.{sides}
@@ -8,12 +9,12 @@ use Rattle.library_read.specs.Debug.{debug_of}
 use Rattle.library_read.specs.Faults.{library_fault}
 use Rattle.library_read.specs.Libraries.{library_of}
 use Rattle.suppression_text.specs.Faults.{rule_fault}
-use Rattle.suppression_text.specs.Rules.{rules_of}
+use Rattle.suppression_text.specs.Rules.{PlainRules, rules_of}
 use Rattle.suppressions.specs.Marks.{marks_of}
 use Rattle.type_notes.specs.NotedPairs.{AreNotes, PlainPair}
 use Rattle.type_notes.specs.declared.note.Note.{Note}
 use Rattle.side_notes.specs.Affected.{AreAffected}
-use Rattle.side_notes.specs.Between.{notes_of}
+use Rattle.side_notes.specs.Between.{notes_by}
 
 -- two libraries with marks, and the entries of both
 abbrev pub noted_by : PlainLibrary → PlainLibrary → Marks → PlainDwarf → PlainDwarf → PlainPair
@@ -36,9 +37,16 @@ abbrev pub AreWhere : Bool → (List Note → Type 0) → List Note → Type 0
 AreWhere true Are notes = Are notes
 AreWhere false Are notes = notes ≡ []
 
--- those of two libraries that were read, by a rule file; none where it has a fault
+-- All notes on two libraries that were read, by a rule file that was read: those on types, and then those on exports alone and on
+-- the sections of the rule file that hold of nothing.
+pub record AreByRules (old new : PlainLibrary) (old_bytes new_bytes : List ℕ) (rules : PlainRules) (notes : List Note) : Type 0 where
+  pub before : List Note
+  pub are_types : AreTypeNotes (noted_with old new (marks_of rules old) old_bytes new_bytes) before
+  pub are : notes ≡ before ++ notes_by old new rules
+
+-- those by a rule file; none where it has a fault
 abbrev pub AreWithBoth : PlainLibrary → PlainLibrary → List ℕ → List ℕ → List ℕ → List Note → Type 0
-AreWithBoth old new old_bytes new_bytes rules = AreWhere (is_none (rule_fault rules)) (AreTypeNotes (noted_with old new (marks_of (rules_of rules) old) old_bytes new_bytes))
+AreWithBoth old new old_bytes new_bytes rules = AreWhere (is_none (rule_fault rules)) (AreByRules old new old_bytes new_bytes (rules_of rules))
 
 -- those of an old library and the bytes of both; none where those of the new one have a fault
 abbrev pub AreWithOld : PlainLibrary → List ℕ → List ℕ → List ℕ → List Note → Type 0
@@ -48,8 +56,6 @@ AreWithOld old old_bytes new_bytes rules = AreWhere (is_none (library_fault new_
 abbrev pub AreOfFiles : List ℕ → List ℕ → List ℕ → List Note → Type 0
 AreOfFiles old new rules = AreWhere (is_none (library_fault old)) (AreWithOld (library_of old) old new rules)
 
--- those, and then the notes on exports alone
-pub record AreAllNotes (old new rules : List ℕ) (notes : List Note) : Type 0 where
-  pub before : List Note
-  pub are_types : AreOfFiles old new rules before
-  pub are : notes ≡ before ++ notes_of old new rules
+-- the same; none where the old library and the new one are the same bytes
+abbrev pub AreAllNotes : List ℕ → List ℕ → List ℕ → List Note → Type 0
+AreAllNotes old new rules = AreWhere (not (bytes_eq old new)) (AreOfFiles old new rules)

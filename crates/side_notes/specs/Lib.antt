@@ -3,6 +3,8 @@ pub mod Affected
 pub mod AllNotes
 pub mod Between
 pub mod Bound
+pub mod Counts
+pub mod CountsOfFiles
 pub mod Idle
 pub mod Made
 pub mod NoteTexts

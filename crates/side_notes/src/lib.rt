@@ -5,7 +5,9 @@
 pub mod added;
 pub mod affected;
 mod between;
+mod counts;
 pub mod idle;
+pub mod laws;
 mod lines;
 pub mod making;
 pub mod old_exports;
@@ -15,6 +17,7 @@ pub mod threads;
 mod types;
 pub mod versions;
 
-pub use between::{export_notes, notes_between};
+pub use between::export_notes;
+pub use counts::{Counts, Fate, counts_of};
 pub use lines::note_text;
-pub use types::all_notes;
+pub use types::{Beside, all_beside, all_notes};

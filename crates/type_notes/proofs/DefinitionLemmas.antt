@@ -1,14 +1,16 @@
--- The first definition of each name, as loops over entries find it, and texts that grow entry by entry.
+-- The definitions of each name, as loops over entries find them, and texts that grow entry by entry.
 use Rattle.std.proofs.Common.{◌≡◌, ◌↔◌, ◌<◌, ◌≤◌, ◌+◌, ◌-◌, ◌∙◌, ℕ, zero, suc, Bool, true, false, cond, List, [], ◌∷◌, ◌++◌, length, take, map, get_or, Option, Some, None, ap, sym, subst, arith, refl, inl, inr}
-use Rattle.std.specs.Prelude.{find, filter, is_some, codes, if◌then◌else◌, Contains}
+use Rattle.std.specs.Prelude.{◌||◌, filter, position, is_some, codes, if◌then◌else◌, Contains}
+use Rattle.std.specs.HashMap.{get_by}
 use Rattle.std.specs.Borrow.{Bor}
 use Rattle.std.specs.List.{flat_map, range_with_len, All}
-use Rattle.std.specs.Option.{IfSome, option_or}
+use Rattle.std.specs.Option.{IfSome}
 use Rattle.std.specs.Str.{bytes_eq}
 use Rattle.std.proofs.lemmas.Bool.{cases_Bool}
+use Rattle.std.proofs.lemmas.List.Folds.{list_any_more}
 use Rattle.std.proofs.lemmas.Grind.{flat_map-append}
 use Rattle.std.proofs.lemmas.List.{append-nil, append_assoc, take_more}
-use Rattle.std.proofs.lemmas.List.Elements.{All-append, All-filter, All-head, All-nil, All-tail, Contains-get_or}
+use Rattle.std.proofs.lemmas.List.Elements.{All-append, All-filter, All-head, All-nil, Contains-get_or, filter-append}
 use Rattle.std.proofs.lemmas.Slice.Eq.{bytes_eq-Decides}
 use Rattle.abi_base.proofs.lemmas.Places.{places, places_more}
 use Rattle.dwarf_tree.specs.Parents.{StandsBelow}
@@ -17,7 +19,7 @@ use Rattle.dwarf_entries.specs.Addresses.{tag_at}
 use Rattle.dwarf_entries.specs.Debug.{PlainDwarf}
 use Rattle.type_reach.specs.References.{Type_, role_of, tagged_children, type_of}
 use Rattle.type_notes.specs.declared.difference.Difference.{Difference}
-use Rattle.type_notes.specs.DefinedElsewhere.{Named, at_top_of, definition_of, definition_named, defines, first_of, has_definitions, is_unit_tag, place_under, tops_below}
+use Rattle.type_notes.specs.DefinedElsewhere.{Named, TextSet, at_top_of, definitions_of, definitions_named, defines, first_in, first_of, has_definitions, has_text, is_among, is_unit_tag, list_or_none, places_under, tops_below, tops_of}
 use Rattle.type_notes.specs.DefinitionTexts.{goes_on, type_text, type_word}
 use Rattle.type_notes.proofs.RangeLemmas.{range_next}
 
@@ -26,51 +28,41 @@ key q = record { ref_ptr = (0, 0); now = q }
 
 -- ---- the map of names
 
-or_none : (o : Option ℕ) → o ≡ option_or o None
-or_none None = refl
-or_none (Some x) = refl
+-- what stands under each name once the list under one name is taken out
+pub taken_others : (old new : Named) (name : List ℕ) → ((q : Bor (List ℕ)) → get_by (λ k. bytes_eq q.now k.now) new ≡ cond (bytes_eq name q.now) None (get_by (λ k. bytes_eq q.now k.now) old))
+    → (q : List ℕ) → places_under new q ≡ (if bytes_eq name q then [] else places_under old q)
+taken_others old new name updates q =
+    ap list_or_none (updates (key q)) ∙ elim (cases_Bool (bytes_eq name q)) [
+      | inl same ↦ rw same refl
+      | inr apart ↦ rw apart refl
+    ]
 
-or_or : (a b c : Option ℕ) → option_or (option_or a b) c ≡ option_or a (option_or b c)
-or_or None b c = refl
-or_or (Some x) b c = refl
-
-none_there : {X : Type 0} (o : Option X) (b : Bool) → b ≡ is_some o → b ≡ false → o ≡ None
-none_there None b is none = refl
-none_there (Some x) b is none = absurd cc
-
-pub first_kept : (old new : Named) (name : List ℕ) (place : ℕ) (there : Bool) → there ≡ is_some (place_under old name) → there ≡ false
-    → ((q : Bor (List ℕ)) → place_under new q.now ≡ cond (bytes_eq name q.now) (Some place) (place_under old q.now))
-    → (q : List ℕ) → place_under new q ≡ option_or (place_under old q) (if bytes_eq name q then Some place else None)
-first_kept old new name place there is none adds q =
-    adds (key q) ∙ elim (cases_Bool (bytes_eq name q)) [
-      | inl same ↦ let e : name ≡ q = (bytes_eq-Decides name q).0 same in
-          let here : place_under old q ≡ None = subst (λ (n : List ℕ). place_under old n ≡ None) e (none_there (place_under old name) there is none) in
-          rw (same, here) refl
-      | inr apart ↦ rw apart (or_none (place_under old q))
+-- what stands under each name once the list is put back with one place more
+pub kept : (old mid new : Named) (name list grown : List ℕ) (place : ℕ) → list ≡ places_under old name → grown ≡ list ++ place ∷ []
+    → ((q : List ℕ) → places_under mid q ≡ (if bytes_eq name q then [] else places_under old q))
+    → ((q : Bor (List ℕ)) → get_by (λ k. bytes_eq q.now k.now) new ≡ cond (bytes_eq name q.now) (Some grown) (get_by (λ k. bytes_eq q.now k.now) mid))
+    → (q : List ℕ) → places_under new q ≡ places_under old q ++ (if bytes_eq name q then place ∷ [] else [])
+kept old mid new name list grown place is pushed others updates q =
+    ap list_or_none (updates (key q)) ∙ elim (cases_Bool (bytes_eq name q)) [
+      | inl same ↦ rw same (pushed ∙ ap (λ (l : List ℕ). l ++ place ∷ []) (is ∙ ap (places_under old) ((bytes_eq-Decides name q).0 same)))
+      | inr apart ↦ rw apart (others q ∙ ap (λ (b : Bool). if b then [] else places_under old q) apart ∙ sym (append-nil (places_under old q)))
     ]
 
 -- ---- searches
 
-pub find-append : (p : ℕ → Bool) (xs ys : List ℕ) → find p (xs ++ ys) ≡ option_or (find p xs) (find p ys)
-find-append p [] ys = refl
-find-append p (x ∷ xs) ys = elim (cases_Bool (p x)) [
-  | inl is ↦ rw is refl
-  | inr isnt ↦ rw isnt (find-append p xs ys)
-]
-
 -- one entry more of a list
-pub found_more : (p : ℕ → Bool) (xs : List ℕ) (k : ℕ) (d : ℕ) → k < length xs → (first so_far next : Option ℕ) → so_far ≡ option_or first (find p (take k xs))
-    → next ≡ option_or so_far (if p (get_or xs k d) then Some (get_or xs k d) else None) → next ≡ option_or first (find p (take (k + 1) xs))
-found_more p xs k d lt first so_far next was is =
-    is ∙ ap (λ (o : Option ℕ). option_or o (find p (get_or xs k d ∷ []))) was ∙ or_or first (find p (take k xs)) (find p (get_or xs k d ∷ []))
-    ∙ ap (option_or first) (sym (find-append p (take k xs) (get_or xs k d ∷ [])) ∙ ap (find p) (sym (take_more xs k d lt)))
+pub listed_more : (p : ℕ → Bool) (xs : List ℕ) (k : ℕ) (d : ℕ) → k < length xs → (first so_far next : List ℕ) → so_far ≡ first ++ filter p (take k xs)
+    → next ≡ so_far ++ (if p (get_or xs k d) then get_or xs k d ∷ [] else []) → next ≡ first ++ filter p (take (k + 1) xs)
+listed_more p xs k d lt first so_far next was is =
+    is ∙ ap (λ (l : List ℕ). l ++ filter p (get_or xs k d ∷ [])) was ∙ append_assoc first (filter p (take k xs)) (filter p (get_or xs k d ∷ []))
+    ∙ ap (λ (l : List ℕ). first ++ l) (sym (filter-append p (take k xs) (get_or xs k d ∷ [])) ∙ ap (filter p) (sym (take_more xs k d lt)))
 
 -- the tops of one unit more
-pub tops_more : (p : ℕ → Bool) (t : PlainTree) (tag n : ℕ) (so_far next : Option ℕ) → so_far ≡ find p (tops_below t tag n) → next ≡ option_or so_far (find p (at_top_of t tag n))
-    → next ≡ find p (tops_below t tag (n + 1))
+pub tops_more : (p : ℕ → Bool) (t : PlainTree) (tag n : ℕ) (so_far next : List ℕ) → so_far ≡ filter p (tops_below t tag n) → next ≡ so_far ++ filter p (at_top_of t tag n)
+    → next ≡ filter p (tops_below t tag (n + 1))
 tops_more p t tag n so_far next was is =
-    is ∙ ap (λ (o : Option ℕ). option_or o (find p (at_top_of t tag n))) was ∙ sym (find-append p (tops_below t tag n) (at_top_of t tag n))
-    ∙ ap (find p) (ap (λ (xs : List ℕ). tops_below t tag n ++ xs) (sym (append-nil (at_top_of t tag n))) ∙ sym (flat_map-append (at_top_of t tag) (range_with_len 0 n) (n ∷ [])) ∙ sym (ap (flat_map (at_top_of t tag)) (range_next n)))
+    is ∙ ap (λ (l : List ℕ). l ++ filter p (at_top_of t tag n)) was ∙ sym (filter-append p (tops_below t tag n) (at_top_of t tag n))
+    ∙ ap (filter p) (ap (λ (xs : List ℕ). tops_below t tag n ++ xs) (sym (append-nil (at_top_of t tag n))) ∙ sym (flat_map-append (at_top_of t tag) (range_with_len 0 n) (n ∷ [])) ∙ sym (ap (flat_map (at_top_of t tag)) (range_next n)))
 
 -- ---- what is found is an entry
 
@@ -95,24 +87,43 @@ tops_inside deeper t tag a zero le = All-nil (IsInside t)
 tops_inside deeper t tag a (suc n) le =
     All-append (IsInside t) (at_top_of t tag a) (flat_map (at_top_of t tag) (range_with_len (a + 1) n)) (top_inside deeper t tag a (omega arith)) (tops_inside deeper t tag (a + 1) n (omega arith))
 
-either_holds : (P : ℕ → Type 0) (b : Bool) (x : ℕ) (o : Option ℕ) → P x → IfSome o P → IfSome (cond b (Some x) o) P
-either_holds P true x o here later = here
-either_holds P false x o here later = later
+definitions_inside : StandOneDeeper → (d : PlainDwarf) (tag : ℕ) (name : List ℕ) → All (IsInside d.tree) (definitions_of d tag name)
+unfolding definitions_of
+definitions_inside deeper d tag name = All-filter (defines d name) (IsInside d.tree) (tops_of d.tree tag) (tops_inside deeper d.tree tag 0 (length d.tree.entries) (omega arith))
 
-find_holds : (P : ℕ → Type 0) (p : ℕ → Bool) (xs : List ℕ) → All P xs → IfSome (find p xs) P
-find_holds P p [] all = tt
-find_holds P p (x ∷ xs) all = either_holds P (p x) x (find p xs) (All-head P x xs all) (find_holds P p xs (All-tail P x xs all))
-
-definition_inside : StandOneDeeper → (d : PlainDwarf) (tag : ℕ) (name : List ℕ) → IfSome (definition_of d tag name) (λ e. e < length d.tree.entries)
-unfolding definition_of
-definition_inside deeper d tag name = find_holds (IsInside d.tree) (defines d name) (tops_below d.tree tag (length d.tree.entries)) (tops_inside deeper d.tree tag 0 (length d.tree.entries) (omega arith))
-
-pub named_inside : StandOneDeeper → (d : PlainDwarf) (tag : ℕ) (name : Option (List ℕ)) → IfSome (definition_named d tag name) (λ e. e < length d.tree.entries)
-named_inside deeper d tag None = tt
+pub named_inside : StandOneDeeper → (d : PlainDwarf) (tag : ℕ) (name : Option (List ℕ)) → All (IsInside d.tree) (definitions_named d tag name)
+named_inside deeper d tag None = All-nil (IsInside d.tree)
 named_inside deeper d tag (Some name) = elim_tag (has_definitions tag) where
-  elim_tag : (b : Bool) → IfSome (if b then definition_of d tag name else None) (λ e. e < length d.tree.entries)
-  elim_tag true = definition_inside deeper d tag name
-  elim_tag false = tt
+  elim_tag : (b : Bool) → All (IsInside d.tree) (if b then definitions_of d tag name else [])
+  elim_tag true = definitions_inside deeper d tag name
+  elim_tag false = All-nil (IsInside d.tree)
+
+-- the first of what is found
+pub first_inside : (t : PlainTree) (xs : List ℕ) → All (IsInside t) xs → IfSome (first_in xs) (IsInside t)
+first_inside t [] all = tt
+first_inside t (x ∷ xs) all = All-head (IsInside t) x xs all
+
+-- ---- texts that are none of others
+
+tests_same : {X : Type 0} (p q : X → Bool) → ((x : X) → p x ≡ q x) → p ≡ q
+tests_same p q same = λ i x. same x i
+
+pub position_same : {X : Type 0} (p q : X → Bool) → ((x : X) → p x ≡ q x) → (xs : List X) → position p xs ≡ position q xs
+position_same p q same xs = ap (λ r. position r xs) (tests_same p q same)
+
+cond_or : (b c : Bool) → cond b true c ≡ (c || b)
+cond_or true true = refl
+cond_or true false = refl
+cond_or false true = refl
+cond_or false false = refl
+
+-- one text more in a set
+pub among_more : (old new : TextSet) (texts : List (List ℕ)) (k : ℕ) (d text : List ℕ) → k < length texts → text ≡ get_or texts k d
+    → ((q : Bor (List ℕ)) → has_text new q.now ≡ cond (bytes_eq text q.now) true (has_text old q.now))
+    → ((q : List ℕ) → has_text old q ≡ is_among (take k texts) q) → (q : List ℕ) → has_text new q ≡ is_among (take (k + 1) texts) q
+among_more old new texts k d text lt is updates so_far q =
+    updates (key q) ∙ ap (λ (b : Bool). cond (bytes_eq text q) true b) (so_far q) ∙ cond_or (bytes_eq text q) (is_among (take k texts) q)
+    ∙ ap (λ (t : List ℕ). is_among (take k texts) q || bytes_eq t q) is ∙ sym (list_any_more (λ (t : List ℕ). bytes_eq t q) texts k d lt)
 
 -- ---- the first difference
 

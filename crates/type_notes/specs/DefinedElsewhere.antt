@@ -1,9 +1,10 @@
 -- Structures, unions and enumerations that one unit only declares, and another unit of the same library defines (DWARF 5, section
 -- 2.13.1 "Non-Defining Declarations and Completions").
-use Rattle.std.specs.Prelude.{◌≡◌, ℕ, ◌==◌, Bool, false, not, ◌&&◌, ◌||◌, if◌then◌else◌, List, [], ◌∷◌, length, map, flat_map, find, max, Option, Some, None, slice_get}
+use Rattle.std.specs.Prelude.{◌≡◌, ◌<◌, ℕ, ◌==◌, Bool, false, not, ◌&&◌, ◌||◌, if◌then◌else◌, List, [], ◌∷◌, length, map, All, flat_map, filter, position, max, Option, Some, None, slice_get, unwrap_or}
 use Rattle.std.specs.Borrow.{Bor}
 use Rattle.std.specs.HashMap.{HashMap, get_by}
-use Rattle.std.specs.List.{range_with_len}
+use Rattle.std.specs.HashSet.{HashSet, contains_by}
+use Rattle.std.specs.List.{list_any, range_with_len}
 use Rattle.std.specs.Option.{option_or}
 use Rattle.std.specs.Str.{bytes_eq}
 use Rattle.std.specs.declared.hash.FoldHasher.{FoldHasher}
@@ -16,13 +17,14 @@ use Rattle.dwarf_entries.specs.Debug.{PlainDwarf}
 use Rattle.type_reach.specs.References.{Type_, tagged_children}
 use Rattle.type_notes.specs.declared.definitions.Definitions.{Definitions}
 use Rattle.type_notes.specs.declared.definitions.DefinitionPair.{DefinitionPair}
+use Rattle.type_notes.specs.declared.elsewhere.Kin.{Kin}
 use Rattle.type_notes.specs.declared.difference.Difference.{Difference}
 use Rattle.type_notes.specs.declared.note.NoteKind.TheVariants as note
 use Rattle.type_notes.specs.Differences.{differing}
-use Rattle.type_notes.specs.DefinitionTexts.{part_text, parts_of, size_text}
+use Rattle.type_notes.specs.DefinitionTexts.{definition_text, part_text, parts_of, size_text}
 use Rattle.type_notes.specs.Texts.{none}
 
--- ---- the definition of a name
+-- ---- the definitions of a name
 
 -- the root of a unit (sections 3.1.1 "Full and Partial Compilation Unit Entries" and 3.1.4 "Type Unit Entries")
 abbrev pub is_unit_tag : ℕ → Bool
@@ -48,20 +50,36 @@ has_name name None = false
 unfoldable pub defines : PlainDwarf → List ℕ → ℕ → Bool
 defines d name e = not (is_declared_only d.tree e) && has_name name (name_of d e)
 
--- the definition of a tag and a name: the first entry with both that is no declaration, at the top of a unit
-unfoldable pub definition_of : PlainDwarf → ℕ → List ℕ → Option ℕ
-definition_of d tag name = find (defines d name) (tops_of d.tree tag)
+-- the definitions of a tag and a name: the entries with both that are no declarations, at the top of a unit, in their order
+unfoldable pub definitions_of : PlainDwarf → ℕ → List ℕ → List ℕ
+definitions_of d tag name = filter (defines d name) (tops_of d.tree tag)
 
 abbrev pub has_definitions : ℕ → Bool
 has_definitions tag = tag == dw_tag_structure_type || (tag == dw_tag_union_type || tag == dw_tag_enumeration_type)
 
-abbrev pub definition_named : PlainDwarf → ℕ → Option (List ℕ) → Option ℕ
-definition_named d tag (Some name) = if has_definitions tag then definition_of d tag name else None
-definition_named d tag None = None
+abbrev pub definitions_named : PlainDwarf → ℕ → Option (List ℕ) → List ℕ
+definitions_named d tag (Some name) = if has_definitions tag then definitions_of d tag name else []
+definitions_named d tag None = []
 
--- what defines the type of an entry: the entry itself, or where it is a declaration the definition of its tag and its name
+-- the definitions of an entry's tag and name
+unfoldable pub definitions_like : PlainDwarf → ℕ → List ℕ
+definitions_like d e = definitions_named d (tag_at d.tree e) (name_of d e)
+
+abbrev pub first_in : List ℕ → Option ℕ
+first_in [] = None
+first_in (x ∷ xs) = Some x
+
+-- what defines the type of an entry first: the entry itself, or where it is a declaration the first definition of its tag and name
 unfoldable pub defined_by : PlainDwarf → ℕ → Option ℕ
-defined_by d e = if is_declared_only d.tree e then definition_named d (tag_at d.tree e) (name_of d e) else Some e
+defined_by d e = if is_declared_only d.tree e then first_in (definitions_like d e) else Some e
+
+abbrev pub or_alone : ℕ → List ℕ → List ℕ
+or_alone e [] = e ∷ []
+or_alone e (x ∷ xs) = x ∷ xs
+
+-- all definitions of the tag and name of a definition, or it alone where it stands at the top of no unit
+unfoldable pub kin_of : PlainDwarf → ℕ → List ℕ
+kin_of d e = or_alone e (definitions_like d e)
 
 -- ---- two definitions
 
@@ -91,6 +109,37 @@ unfoldable pub definition_change : PlainDwarf → PlainDwarf → ℕ → ℕ →
 definition_change d e a b =
     option_or (differing note.DefinedElsewhere (size_text d.tree a) (size_text e.tree b)) (first_part_change d e (parts_of d.tree a) (parts_of e.tree b))
 
+-- ---- all definitions of a tag and a name
+
+-- a text is one of some
+abbrev pub is_among : List (List ℕ) → List ℕ → Bool
+is_among texts text = list_any (λ (t : List ℕ). bytes_eq t text) texts
+
+abbrev pub is_lacking : List (List ℕ) → List ℕ → Bool
+is_lacking others text = not (is_among others text)
+
+-- the position of the first text that is none of others
+abbrev pub first_lacking : List (List ℕ) → List (List ℕ) → Option ℕ
+first_lacking texts others = position (is_lacking others) texts
+
+abbrev pub texts_of : PlainDwarf → List ℕ → List (List ℕ)
+texts_of d entries = map (definition_text d) entries
+
+abbrev pub change_between : PlainDwarf → PlainDwarf → Option ℕ → Option ℕ → Option Difference
+change_between d e (Some a) (Some b) = definition_change d e a b
+change_between d e a b = None
+
+abbrev pub change_from : PlainDwarf → PlainDwarf → List ℕ → List ℕ → Option ℕ → Option ℕ → Option Difference
+change_from d e olds news None other = None
+change_from d e olds news (Some place) other = change_between d e (slice_get olds place) (slice_get news (unwrap_or other 0))
+
+-- What differs between all old definitions of a tag and a name and all new ones: nothing where each old one has the text of some new
+-- one. Else the first old one that has not is told, beside the first new one that has the text of no old one, or the first of all
+-- new ones.
+unfoldable pub kin_change : PlainDwarf → PlainDwarf → List ℕ → List ℕ → Option Difference
+kin_change d e olds news =
+    change_from d e olds news (first_lacking (texts_of d olds) (texts_of e news)) (first_lacking (texts_of e news) (texts_of d olds))
+
 abbrev pub both : Option ℕ → Option ℕ → Option (ℕ × ℕ)
 both (Some a) (Some b) = Some (a, b)
 both a b = None
@@ -106,18 +155,35 @@ definitions_behind d e a b = None
 -- ---- maps from names to definitions
 
 abbrev pub Named : Type 0
-Named = HashMap (Bor (List ℕ)) ℕ (BuildHasherDefault FoldHasher)
+Named = HashMap (Bor (List ℕ)) (List ℕ) (BuildHasherDefault FoldHasher)
 
-abbrev pub place_under : Named → List ℕ → Option ℕ
-place_under places name = get_by (λ k. bytes_eq name k.now) places
+abbrev pub list_or_none : Option (List ℕ) → List ℕ
+list_or_none None = []
+list_or_none (Some list) = list
 
--- the maps have the definition of each name
+abbrev pub places_under : Named → List ℕ → List ℕ
+places_under places name = list_or_none (get_by (λ k. bytes_eq name k.now) places)
+
+-- the maps have the definitions of each name
 pub record AreDefinitions (d : PlainDwarf) (m : Definitions) : Type 0 where
-  pub structures : (name : List ℕ) → place_under m.structures name ≡ definition_of d dw_tag_structure_type name
-  pub unions : (name : List ℕ) → place_under m.unions name ≡ definition_of d dw_tag_union_type name
-  pub enumerations : (name : List ℕ) → place_under m.enumerations name ≡ definition_of d dw_tag_enumeration_type name
+  pub structures : (name : List ℕ) → places_under m.structures name ≡ definitions_of d dw_tag_structure_type name
+  pub unions : (name : List ℕ) → places_under m.unions name ≡ definitions_of d dw_tag_union_type name
+  pub enumerations : (name : List ℕ) → places_under m.enumerations name ≡ definitions_of d dw_tag_enumeration_type name
 
 -- those of both libraries
 pub record AreOfBoth (d e : PlainDwarf) (p : DefinitionPair) : Type 0 where
   pub old : AreDefinitions d p.old.now
   pub new : AreDefinitions e p.new.now
+
+-- these are entries of both
+pub record AreKin (k : Kin) : Type 0 where
+  pub old : All (λ e. e < length k.old_dwarf.now.tree.entries) k.old.now
+  pub new : All (λ e. e < length k.new_dwarf.now.tree.entries) k.new.now
+
+-- ---- sets of texts
+
+abbrev pub TextSet : Type 0
+TextSet = HashSet (Bor (List ℕ)) (BuildHasherDefault FoldHasher)
+
+abbrev pub has_text : TextSet → List ℕ → Bool
+has_text set text = contains_by (λ k. bytes_eq text k.now) set

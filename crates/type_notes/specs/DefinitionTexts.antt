@@ -1,18 +1,18 @@
 -- What definitions of structures, unions and enumerations say, as printed texts: their sizes, and each member or enumerator.
 use Rattle.std.specs.Prelude.{ℕ, zero, suc, ◌+◌, ◌==◌, ◌||◌, Bool, true, false, if◌then◌else◌, List, [], ◌∷◌, ◌++◌, Option, Some, None, codes, decimal}
-use Rattle.std.specs.List.{concat}
-use Rattle.abi_base.specs.Dwarf.{dw_tag_structure_type, dw_tag_union_type, dw_tag_enumeration_type, dw_tag_enumerator, dw_tag_member, dw_at_byte_size, dw_at_bit_offset, dw_at_const_value, dw_at_data_bit_offset, dw_at_encoding, dw_ate_boolean, dw_ate_complex_float, dw_ate_decimal_float, dw_ate_float, dw_ate_unsigned, dw_ate_unsigned_char, dw_ate_utf}
+use Rattle.std.specs.List.{concat, flat_map}
+use Rattle.abi_base.specs.Dwarf.{dw_tag_structure_type, dw_tag_union_type, dw_tag_enumeration_type, dw_tag_enumerator, dw_tag_member, dw_at_byte_size, dw_at_const_value, dw_at_encoding, dw_ate_boolean, dw_ate_complex_float, dw_ate_decimal_float, dw_ate_float, dw_ate_unsigned, dw_ate_unsigned_char, dw_ate_utf}
 use Rattle.abi_base.specs.Limits.{depth_limit}
 use Rattle.abi_types.specs.Shown.{shown}
 use Rattle.dwarf_tree.specs.Trees.{PlainTree}
 use Rattle.dwarf_entries.specs.Addresses.{tag_at}
 use Rattle.dwarf_entries.specs.Chains.{attribute_along, name_of}
 use Rattle.dwarf_entries.specs.Debug.{PlainDwarf}
-use Rattle.type_reach.specs.Placement.{byte_of, width_of}
 use Rattle.type_reach.specs.References.{Type_, role_of, tagged_children, type_of}
-use Rattle.type_reach.specs.Values.{is_there, number_at, wrapped_of}
+use Rattle.type_reach.specs.Values.{number_at, wrapped_of}
 use Rattle.type_reach.specs.declared.role.Role.{Role}
 use Rattle.type_reach.specs.declared.role.Role.TheVariants as role
+use Rattle.type_notes.specs.MemberPlaces.{place_text}
 use Rattle.type_notes.specs.Texts.{dimensions_text, is_signed_encoding, name_text, number_text}
 
 -- ---- types (DWARF 5, section 5 "Type Entries")
@@ -76,29 +76,6 @@ type_text d (suc n) (Some e) = type_word d e ++ (if goes_on (role_of d.tree e) t
 
 -- ---- members and enumerators (DWARF 5, sections 5.7.6 "Data Member Entries" and 5.7 "Enumeration Type Entries")
 
--- where in its byte a bit field of DWARF 3 begins
-unfoldable pub offset_words : Bool → ℕ → List ℕ
-offset_words is_said offset = if is_said then codes ", bit offset " ++ decimal offset else []
-
-abbrev pub offset_text : PlainTree → ℕ → List ℕ
-offset_text t m = offset_words (is_there t m dw_at_bit_offset) (number_at t m dw_at_bit_offset)
-
-abbrev pub byte_words : ℕ → List ℕ
-byte_words byte = codes " at byte " ++ decimal byte
-
-abbrev pub byte_text : PlainDwarf → ℕ → List ℕ
-byte_text d m = byte_words (byte_of d m) ++ offset_text d.tree m
-
-abbrev pub begin_text : PlainDwarf → ℕ → List ℕ
-begin_text d m = if is_there d.tree m dw_at_data_bit_offset then codes " at bit " ++ decimal (number_at d.tree m dw_at_data_bit_offset) else byte_text d m
-
-abbrev pub width_text : ℕ → List ℕ
-width_text width = if width == 0 then [] else codes ", width " ++ decimal width
-
--- where a member stands, and how wide it is where it is a bit field
-unfoldable pub place_text : PlainDwarf → ℕ → List ℕ
-place_text d m = begin_text d m ++ width_text (width_of d m)
-
 -- a member by its name, its place and its type
 unfoldable pub member_text : PlainDwarf → ℕ → List ℕ
 member_text d m =
@@ -120,3 +97,10 @@ parts_of t e = tagged_children t e (if tag_at t e == dw_tag_enumeration_type the
 
 abbrev pub size_text : PlainTree → ℕ → List ℕ
 size_text t e = codes "size " ++ size_of t e
+
+abbrev pub part_behind : PlainDwarf → ℕ → List ℕ
+part_behind d m = codes ", " ++ part_text d m
+
+-- all that a definition says: its size, and its members or enumerators in order
+unfoldable pub definition_text : PlainDwarf → ℕ → List ℕ
+definition_text d e = size_text d.tree e ++ flat_map (part_behind d) (parts_of d.tree e)

@@ -5,6 +5,7 @@ pub mod DefinedElsewhere
 pub mod DefinitionTexts
 pub mod Differences
 pub mod Entries
+pub mod MemberPlaces
 pub mod NotedPairs
 pub mod Notes
 pub mod Packing

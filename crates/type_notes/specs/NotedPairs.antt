@@ -24,7 +24,7 @@ use Rattle.type_notes.specs.declared.note.Note.{Note}
 use Rattle.type_notes.specs.declared.noted_pair.NotedPair.{NotedPair}
 use Rattle.type_notes.specs.Between.{differences}
 use Rattle.type_notes.specs.Chains.{core_at}
-use Rattle.type_notes.specs.DefinedElsewhere.{definition_change, definitions_behind}
+use Rattle.type_notes.specs.DefinedElsewhere.{definitions_behind, kin_change, kin_of}
 
 -- two libraries and marks, and the entries of both
 pub record PlainPair : Type 0 where
@@ -69,10 +69,14 @@ is_of a (Some definitions) = definitions.0 == a
 abbrev pub was_compared : PlainPair → List Visit → ℕ → ℕ → Bool
 was_compared p visits n a = list_any (λ v. is_of a (definitions_at p v)) (take n visits)
 
--- what differs between two definitions, unless the old one is among some
+-- what differs between all definitions of the tags and names of two definitions
+abbrev pub change_behind : PlainPair → ℕ → ℕ → Option Difference
+change_behind p a b = kin_change p.old_dwarf p.new_dwarf (kin_of p.old_dwarf a) (kin_of p.new_dwarf b)
+
+-- the same, unless the old definition is among some
 abbrev pub change_unless : (ℕ → Bool) → PlainPair → Option (ℕ × ℕ) → List Difference
 change_unless among p None = []
-change_unless among p (Some (a, b)) = if among a then [] else option_to_list (definition_change p.old_dwarf p.new_dwarf a b)
+change_unless among p (Some (a, b)) = if among a then [] else option_to_list (change_behind p a b)
 
 -- what differs between the definitions that are compared at the visit of a number, where no earlier one compares the old definition
 abbrev pub definition_changes : PlainPair → List Visit → ℕ → Visit → List Difference

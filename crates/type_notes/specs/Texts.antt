@@ -79,7 +79,7 @@ sign_word sign = if sign then codes "signed" else codes "unsigned"
 -- ---- the names of parameters (DWARF 5, section 4.1 "Data Object Entries")
 
 abbrev pub name_text : Option (List ℕ) → List ℕ
-name_text None = none
+name_text None = codes "without a name"
 name_text (Some name) = shown name
 
 abbrev pub named_behind : PlainDwarf → ℕ → List ℕ

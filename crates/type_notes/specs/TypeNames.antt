@@ -1,5 +1,5 @@
 -- The names of types, as C sees them: the typedefs on the way to a structure, a union, an enumeration or a base type, and its own.
-use Rattle.std.specs.Prelude.{ℕ, List, [], ◌++◌, drop, Option, codes}
+use Rattle.std.specs.Prelude.{ℕ, ◌==◌, if◌then◌else◌, List, [], ◌++◌, length, drop, Option, codes}
 use Rattle.std.specs.List.{flat_map}
 use Rattle.abi_types.specs.declared.kind.LabelKind.{LabelKind}
 use Rattle.abi_types.specs.declared.kind.LabelKind.TheVariants as label
@@ -17,9 +17,13 @@ keyword label.Enumeration = codes "enum "
 keyword label.Typedef = []
 keyword label.Builtin = []
 
+-- a name, or that a type has no tag
+abbrev pub shown_or_none : List ℕ → List ℕ
+shown_or_none name = if length name == 0 then codes "without a tag" else shown name
+
 -- a name behind what stands between two names
 abbrev pub label_behind : PlainLabel → List ℕ
-label_behind l = codes " = " ++ (keyword l.kind ++ shown l.name)
+label_behind l = codes " = " ++ (keyword l.kind ++ shown_or_none l.name)
 
 -- the names with ` = ` between them: each stands behind one, but for the first
 abbrev pub labels_text : List PlainLabel → List ℕ

@@ -1,28 +1,28 @@
 // What definitions of types say, as texts.
 ghost use Rattle.std.specs.Prelude.{◌≡◌, ◌<◌, ◌+◌, ◌++◌, length, All, IfOk, IfSome, OnOk, string_bytes};
+ghost use Rattle.std.specs.List.{flat_map};
 ghost use Rattle.abi_base.specs.Limits.{depth_limit};
 ghost use Rattle.dwarf_entries.specs.Chains as names;
-ghost use Rattle.type_reach.specs.Placement as placement;
 ghost use Rattle.type_notes.specs.DefinitionTexts as spec;
 ghost use Rattle.type_notes.specs.Texts as texts;
 
 use crate::chain::ENTRIES;
 use crate::dimensions::dimensions_text;
+use crate::member_places::push_place;
 use crate::names::push_name;
 use crate::sign::is_signed_encoding;
-use abi_base::NoMemory;
 use abi_base::dwarf::{
-    DW_AT_bit_offset, DW_AT_byte_size, DW_AT_const_value, DW_AT_data_bit_offset,
-    DW_AT_data_member_location, DW_AT_encoding, DW_ATE_UTF, DW_ATE_boolean, DW_ATE_complex_float,
-    DW_ATE_decimal_float, DW_ATE_float, DW_ATE_unsigned, DW_ATE_unsigned_char,
-    DW_TAG_enumeration_type, DW_TAG_enumerator, DW_TAG_member, DW_TAG_structure_type,
-    DW_TAG_union_type,
+    DW_AT_byte_size, DW_AT_const_value, DW_AT_encoding, DW_ATE_UTF, DW_ATE_boolean,
+    DW_ATE_complex_float, DW_ATE_decimal_float, DW_ATE_float, DW_ATE_unsigned,
+    DW_ATE_unsigned_char, DW_TAG_enumeration_type, DW_TAG_enumerator, DW_TAG_member,
+    DW_TAG_structure_type, DW_TAG_union_type,
 };
+use abi_base::{List, NoMemory};
 use abi_types::push_shown;
 use dwarf_entries::Dwarf;
 use std::alloc::{AllocError, Global};
 use std::fmt::Write;
-use type_reach::{Role, is_there, number_at, place_of, role_of, type_of, width_of, wrapped_of};
+use type_reach::{Role, number_at, role_of, type_of, wrapped_of};
 
 // What a base type is, by its encoding.
 #[tactic(auto, unfolding(crate::specs::DefinitionTexts::encoding_word))]
@@ -167,69 +167,6 @@ fn push_type(
     Ok(())
 }
 
-// Appends where in its byte a bit field begins, where it says so.
-#[tactic(auto, unfolding(crate::specs::DefinitionTexts::offset_words))]
-fn push_offset(text: &mut String, is_said: bool, offset: u64) -> Result<(), AllocError>
-    ensures { OnOk result (string_bytes text.new ≡ string_bytes text.old ++ spec.offset_words is_said offset) }
-{
-    if !is_said {
-        return Ok(());
-    }
-    write!(text, ", bit offset {offset}")
-}
-
-// The byte at which a member begins.
-#[tactic(auto, unfolding(type_reach::specs::Placement::byte_of))]
-fn byte_of(dwarf: &Dwarf, m: usize) -> u64
-    requires { m < length dwarf.now.tree.entries }
-    ensures { result ≡ placement.byte_of dwarf.now m }
-{
-    place_of(dwarf, dwarf.attr(m, DW_AT_data_member_location)).unwrap_or(0)
-}
-
-// Appends a byte at which a member begins.
-fn push_byte(text: &mut String, byte: u64) -> Result<(), AllocError>
-    ensures { OnOk result (string_bytes text.new ≡ string_bytes text.old ++ spec.byte_words byte) }
-{
-    write!(text, " at byte {byte}")
-}
-
-// Appends at which byte a member begins, and where in it where a bit field says so.
-fn push_byte_place(text: &mut String, dwarf: &Dwarf, m: usize) -> Result<(), AllocError>
-    requires { m < length dwarf.now.tree.entries }
-    ensures { OnOk result (string_bytes text.new ≡ string_bytes text.old ++ spec.byte_text dwarf.now m) }
-{
-    push_byte(text, byte_of(dwarf, m))?;
-    let is_said = is_there(dwarf, m, DW_AT_bit_offset);
-    push_offset(text, is_said, number_at(dwarf, m, DW_AT_bit_offset))
-}
-
-// Appends where a member begins.
-fn push_begin(text: &mut String, dwarf: &Dwarf, m: usize) -> Result<(), AllocError>
-    requires { m < length dwarf.now.tree.entries }
-    ensures { OnOk result (string_bytes text.new ≡ string_bytes text.old ++ spec.begin_text dwarf.now m) }
-{
-    if !is_there(dwarf, m, DW_AT_data_bit_offset) {
-        return push_byte_place(text, dwarf, m);
-    }
-    let bit = number_at(dwarf, m, DW_AT_data_bit_offset);
-    write!(text, " at bit {bit}")
-}
-
-// Appends where a member stands, and how wide it is where it is a bit field.
-#[tactic(auto, unfolding(crate::specs::DefinitionTexts::place_text))]
-fn push_place(text: &mut String, dwarf: &Dwarf, m: usize) -> Result<(), AllocError>
-    requires { m < length dwarf.now.tree.entries }
-    ensures { OnOk result (string_bytes text.new ≡ string_bytes text.old ++ spec.place_text dwarf.now m) }
-{
-    push_begin(text, dwarf, m)?;
-    let width = width_of(dwarf, m);
-    if width == 0 {
-        return Ok(());
-    }
-    write!(text, ", width {width}")
-}
-
 // A member by its name, its place and its type.
 #[tactic(auto, unfolding(crate::specs::DefinitionTexts::member_text))]
 fn member_text(alloc: Global, dwarf: &Dwarf, m: usize) -> Result<String, NoMemory>
@@ -306,4 +243,44 @@ pub(crate) fn size_text(alloc: Global, dwarf: &Dwarf, e: usize) -> Result<Vec<u8
     text.push_str("size ")?;
     push_size(&mut text, dwarf, e)?;
     Ok(text.into_bytes())
+}
+
+// Appends members or enumerators, each behind what stands between two of them.
+fn push_parts(
+    alloc: Global,
+    text: &mut Vec<u8>,
+    dwarf: &Dwarf,
+    parts: &[usize],
+) -> Result<(), NoMemory>
+    requires { All (λ m. m < length dwarf.now.tree.entries) parts.now }
+    ensures { OnOk result (text.new.items ≡ text.old.items ++ flat_map (spec.part_behind dwarf.now) parts.now) }
+{
+    for k in 0..parts.len() {
+        let part = parts[k];
+        push_part(alloc, text, dwarf, part)?;
+    }
+    Ok(())
+}
+
+// Appends a member or an enumerator behind what stands between two of them.
+fn push_part(alloc: Global, text: &mut Vec<u8>, dwarf: &Dwarf, m: usize) -> Result<(), NoMemory>
+    requires { m < length dwarf.now.tree.entries }
+    ensures { OnOk result (text.new.items ≡ text.old.items ++ spec.part_behind dwarf.now m) }
+{
+    let part = part_text(alloc, dwarf, m)?;
+    text.extend_from_slice(b", ")?;
+    text.extend_from_slice(part.as_slice())?;
+    Ok(())
+}
+
+/// All that a definition says, as a text.
+#[tactic(auto, unfolding(crate::specs::DefinitionTexts::definition_text))]
+pub(crate) fn definition_text(alloc: Global, dwarf: &Dwarf, e: usize) -> Result<List<u8>, NoMemory>
+    requires { e < length dwarf.now.tree.entries }
+    ensures { IfOk result (λ text. text ≡ spec.definition_text dwarf.now e) }
+{
+    let mut text = size_text(alloc, dwarf, e)?;
+    let parts = parts_of(alloc, dwarf, e)?;
+    push_parts(alloc, &mut text, dwarf, parts.as_slice())?;
+    Ok(List::of(text))
 }

@@ -1,15 +1,15 @@
 // The definitions of types by their names.
-ghost use Rattle.std.specs.Prelude.{◌≡◌, ◌<◌, ℕ, List, Some, None, find, if◌then◌else◌, length, All, IfOk, IfSome, OnOk};
-ghost use Rattle.std.specs.Option.{option_copied, option_or};
+ghost use Rattle.std.specs.Prelude.{◌≡◌, ◌<◌, ◌++◌, ◌∷◌, [], ℕ, List, filter, if◌then◌else◌, length, All, IfOk, IfSome, OnOk};
+ghost use Rattle.std.specs.Option.{option_copied};
 ghost use Rattle.std.specs.Str.{bytes_eq};
-ghost use Rattle.type_notes.specs.DefinedElsewhere.{AreDefinitions, place_under};
+ghost use Rattle.type_notes.specs.DefinedElsewhere.{AreDefinitions, places_under};
 ghost use Rattle.type_notes.specs.DefinedElsewhere as spec;
 
-use abi_base::NoMemory;
 use abi_base::dwarf::{
     DW_TAG_compile_unit, DW_TAG_enumeration_type, DW_TAG_partial_unit, DW_TAG_structure_type,
     DW_TAG_type_unit, DW_TAG_union_type,
 };
+use abi_base::{List, NoMemory};
 use dwarf_entries::Dwarf;
 use dwarf_tree::laws::children_stand_one_deeper;
 use std::alloc::Global;
@@ -18,9 +18,9 @@ use std::collections::HashMap;
 /// The positions of the definitions of a library's types, by their names.
 #[derive(Drop)]
 pub struct Definitions<'a> {
-    pub structures: HashMap<&'a [u8], usize>,
-    pub unions: HashMap<&'a [u8], usize>,
-    pub enumerations: HashMap<&'a [u8], usize>,
+    pub structures: HashMap<&'a [u8], List<usize>>,
+    pub unions: HashMap<&'a [u8], List<usize>>,
+    pub enumerations: HashMap<&'a [u8], List<usize>>,
 }
 
 /// The definitions of two libraries.
@@ -30,51 +30,69 @@ pub struct DefinitionPair<'x, 'o, 'n> {
     pub new: &'x Definitions<'n>,
 }
 
-// Puts a position under a name that has none yet.
-fn keep_first<'a>(
-    places: &mut HashMap<&'a [u8], usize>,
+// The positions under a name, which are taken out.
+fn taken<'a>(
+    alloc: Global,
+    places: &mut HashMap<&'a [u8], List<usize>>,
+    name: &'a [u8],
+) -> List<usize>
+    ensures list { result ≡ places_under places.old name.now }
+    ensures others { (q : List ℕ) → places_under places.new q ≡ (if bytes_eq name.now q then [] else places_under places.old q) }
+{
+    match places.remove(&name) {
+        Some(list) => list,
+        None => List::new(alloc),
+    }
+}
+
+// Puts a position behind those under a name.
+fn keep<'a>(
+    alloc: Global,
+    places: &mut HashMap<&'a [u8], List<usize>>,
     name: &'a [u8],
     place: usize,
 ) -> Result<(), NoMemory>
-    ensures { OnOk result ((q : List ℕ) → place_under places.new q ≡ option_or (place_under places.old q) (if bytes_eq name.now q then Some place else None)) }
+    ensures { OnOk result ((q : List ℕ) → places_under places.new q ≡ places_under places.old q ++ (if bytes_eq name.now q then place ∷ [] else [])) }
 {
-    if !places.contains_key(&name) {
-        places.insert(name, place)?;
-    }
+    let mut list = taken(alloc, places, name);
+    list.push(place)?;
+    places.insert(name, list)?;
     Ok(())
 }
 
-// Puts an entry under its name, where it is the first definition of that name.
+// Puts an entry under its name, where it is a definition.
 #[tactic(auto, unfolding(crate::specs::DefinedElsewhere::defines))]
 fn keep_definition<'a>(
-    places: &mut HashMap<&'a [u8], usize>,
+    alloc: Global,
+    places: &mut HashMap<&'a [u8], List<usize>>,
     dwarf: &Dwarf<'a>,
     e: usize,
 ) -> Result<(), NoMemory>
     requires { e < length dwarf.now.tree.entries }
-    ensures { OnOk result ((q : List ℕ) → place_under places.new q ≡ option_or (place_under places.old q) (if spec.defines dwarf.now q e then Some e else None)) }
+    ensures { OnOk result ((q : List ℕ) → places_under places.new q ≡ places_under places.old q ++ (if spec.defines dwarf.now q e then e ∷ [] else [])) }
 {
     if dwarf.is_declaration(e) {
         return Ok(());
     }
     match dwarf.name_of(e) {
-        Some(name) => keep_first(places, name, e),
+        Some(name) => keep(alloc, places, name, e),
         None => Ok(()),
     }
 }
 
-// Puts entries under their names, where they are the first definitions of these.
+// Puts entries under their names, where they are definitions.
 fn keep_definitions<'a>(
-    places: &mut HashMap<&'a [u8], usize>,
+    alloc: Global,
+    places: &mut HashMap<&'a [u8], List<usize>>,
     dwarf: &Dwarf<'a>,
     entries: &[usize],
 ) -> Result<(), NoMemory>
     requires { All (λ e. e < length dwarf.now.tree.entries) entries.now }
-    ensures { OnOk result ((q : List ℕ) → place_under places.new q ≡ option_or (place_under places.old q) (find (spec.defines dwarf.now q) entries.now)) }
+    ensures { OnOk result ((q : List ℕ) → places_under places.new q ≡ places_under places.old q ++ filter (spec.defines dwarf.now q) entries.now) }
 {
     for k in 0..entries.len() {
         let entry = entries[k];
-        keep_definition(places, dwarf, entry)?;
+        keep_definition(alloc, places, dwarf, entry)?;
     }
     Ok(())
 }
@@ -108,18 +126,18 @@ fn definitions_with<'a>(
     alloc: Global,
     dwarf: &Dwarf<'a>,
     tag: u64,
-) -> Result<HashMap<&'a [u8], usize>, NoMemory>
-    ensures { IfOk result (λ places. (q : List ℕ) → place_under places q ≡ spec.definition_of dwarf.now tag q) }
+) -> Result<HashMap<&'a [u8], List<usize>>, NoMemory>
+    ensures { IfOk result (λ places. (q : List ℕ) → places_under places q ≡ spec.definitions_of dwarf.now tag q) }
 {
     let mut places = HashMap::new(alloc);
     for root in 0..dwarf.len() {
         let tops = at_top_of(alloc, dwarf, root, tag)?;
-        keep_definitions(&mut places, dwarf, tops.as_slice())?;
+        keep_definitions(alloc, &mut places, dwarf, tops.as_slice())?;
     }
     Ok(places)
 }
 
-/// The definitions of a library's types: of each name the first entry that is no declaration, at the top of a unit.
+/// The definitions of a library's types: of each name the entries that are no declarations, at the top of a unit.
 pub(crate) fn definitions_of<'a>(
     alloc: Global,
     dwarf: &Dwarf<'a>,
@@ -136,36 +154,59 @@ pub(crate) fn definitions_of<'a>(
     })
 }
 
-// The position under a name.
-fn place_of(places: &HashMap<&[u8], usize>, name: &[u8]) -> Option<usize>
-    ensures { result ≡ place_under places.now name.now }
+// The positions under a name.
+fn listed<'x>(places: &'x HashMap<&[u8], List<usize>>, name: &'x [u8]) -> &'x [usize]
+    ensures { result.now ≡ places_under places.now name.now }
 {
-    places.get(&name).copied()
-}
-
-// The definition of a tag and a name.
-fn definition_named(
-    dwarf: &Dwarf,
-    definitions: &Definitions,
-    tag: u64,
-    name: Option<&[u8]>,
-) -> Option<usize>
-    requires { AreDefinitions dwarf.now definitions.now }
-    ensures { result ≡ spec.definition_named dwarf.now tag (option_copied name.entry) }
-{
-    let name = match name {
-        Some(name) => name,
-        None => return None,
-    };
-    match tag {
-        DW_TAG_structure_type => place_of(&definitions.structures, name),
-        DW_TAG_union_type => place_of(&definitions.unions, name),
-        DW_TAG_enumeration_type => place_of(&definitions.enumerations, name),
-        _ => None,
+    match places.get(&name) {
+        Some(list) => list.as_slice(),
+        None => &[],
     }
 }
 
-/// What defines the type of an entry: the entry itself, or where it is a declaration the definition of its tag and its name.
+// The definitions of a tag and a name.
+fn definitions_named<'x>(
+    dwarf: &Dwarf,
+    definitions: &'x Definitions,
+    tag: u64,
+    name: Option<&'x [u8]>,
+) -> &'x [usize]
+    requires { AreDefinitions dwarf.now definitions.now }
+    ensures { result.now ≡ spec.definitions_named dwarf.now tag (option_copied name.entry) }
+{
+    let name = match name {
+        Some(name) => name,
+        None => return &[],
+    };
+    match tag {
+        DW_TAG_structure_type => listed(&definitions.structures, name),
+        DW_TAG_union_type => listed(&definitions.unions, name),
+        DW_TAG_enumeration_type => listed(&definitions.enumerations, name),
+        _ => &[],
+    }
+}
+
+// The definitions of an entry's tag and name.
+#[tactic(auto, unfolding(crate::specs::DefinedElsewhere::definitions_like))]
+fn definitions_like<'x>(dwarf: &'x Dwarf, definitions: &'x Definitions, e: usize) -> &'x [usize]
+    requires inside { e < length dwarf.now.tree.entries }
+    requires definitions { AreDefinitions dwarf.now definitions.now }
+    ensures list { result.now ≡ spec.definitions_like dwarf.now e }
+    ensures inside { All (λ found. found < length dwarf.now.tree.entries) result.now }
+{
+    children_stand_one_deeper();
+    definitions_named(dwarf, definitions, dwarf.tag(e), dwarf.name_of(e))
+}
+
+// The first of some positions.
+fn first_in(places: &[usize]) -> Option<usize>
+    ensures { result ≡ spec.first_in places.now }
+{
+    places.first().copied()
+}
+
+/// What defines the type of an entry first: the entry itself, or where it is a declaration the first definition of its tag and its
+/// name.
 #[tactic(auto, unfolding(crate::specs::DefinedElsewhere::defined_by))]
 pub(crate) fn defined_by(dwarf: &Dwarf, definitions: &Definitions, e: usize) -> Option<usize>
     requires inside { e < length dwarf.now.tree.entries }
@@ -173,9 +214,28 @@ pub(crate) fn defined_by(dwarf: &Dwarf, definitions: &Definitions, e: usize) -> 
     ensures found { result ≡ spec.defined_by dwarf.now e }
     ensures inside { IfSome result (λ found. found < length dwarf.now.tree.entries) }
 {
-    children_stand_one_deeper();
     if !dwarf.is_declaration(e) {
         return Some(e);
     }
-    definition_named(dwarf, definitions, dwarf.tag(e), dwarf.name_of(e))
+    first_in(definitions_like(dwarf, definitions, e))
+}
+
+/// All definitions of the tag and name of a definition, or it alone where it stands at the top of no unit.
+#[tactic(auto, unfolding(crate::specs::DefinedElsewhere::kin_of))]
+pub(crate) fn kin_of(
+    alloc: Global,
+    dwarf: &Dwarf,
+    definitions: &Definitions,
+    e: usize,
+) -> Result<Vec<usize>, NoMemory>
+    requires inside { e < length dwarf.now.tree.entries }
+    requires definitions { AreDefinitions dwarf.now definitions.now }
+    ensures list { IfOk result (λ list. list.items ≡ spec.kin_of dwarf.now e) }
+    ensures inside { IfOk result (λ list. All (λ found. found < length dwarf.now.tree.entries) list.items) }
+{
+    let found = definitions_like(dwarf, definitions, e);
+    if found.is_empty() {
+        return Ok(Vec::from_slice(alloc, &[e])?);
+    }
+    Ok(Vec::from_slice(alloc, found)?)
 }

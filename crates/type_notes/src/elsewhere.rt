@@ -1,15 +1,16 @@
 // Types that are only declared, and defined in another unit.
 ghost use Rattle.std.specs.Prelude.{◌≡◌, ◌<◌, length, slice_get, All, IfOk, IfSome};
-ghost use Rattle.type_notes.specs.DefinedElsewhere.{AreOfBoth};
+ghost use Rattle.type_notes.specs.DefinedElsewhere.{AreKin, AreOfBoth};
 ghost use Rattle.type_notes.specs.DefinedElsewhere as spec;
 ghost use Rattle.type_notes.specs.Entries.{AreThere, plain};
 
-use crate::definition_texts::{part_text, parts_of, size_text};
+use crate::definition_texts::{definition_text, part_text, parts_of, size_text};
 use crate::definitions::{DefinitionPair, defined_by};
 use crate::difference::{Difference, differing};
 use crate::entries::EntryPair;
+use crate::lacking::first_lacking;
 use crate::note::NoteKind;
-use abi_base::NoMemory;
+use abi_base::{List, NoMemory};
 use dwarf_entries::Dwarf;
 use std::alloc::Global;
 
@@ -85,6 +86,84 @@ pub(crate) fn definition_change(
     let old = parts_of(alloc, pair.old_dwarf, pair.old)?;
     let new = parts_of(alloc, pair.new_dwarf, pair.new)?;
     first_part_change(alloc, pair, old.as_slice(), new.as_slice())
+}
+
+// What definitions say, as texts.
+fn texts_of(alloc: Global, dwarf: &Dwarf, entries: &[usize]) -> Result<List<List<u8>>, NoMemory>
+    requires { All (λ e. e < length dwarf.now.tree.entries) entries.now }
+    ensures { IfOk result (λ texts. texts ≡ spec.texts_of dwarf.now entries.now) }
+{
+    let mut texts = List::new(alloc);
+    for k in 0..entries.len() {
+        let entry = entries[k];
+        let text = definition_text(alloc, dwarf, entry)?;
+        texts.push(text)?;
+    }
+    Ok(texts)
+}
+
+// The entry at a place of a list.
+fn entry_at(dwarf: &Dwarf, entries: &[usize], place: usize) -> Option<usize>
+    requires { All (λ e. e < length dwarf.now.tree.entries) entries.now }
+    ensures found { result ≡ slice_get entries.now place }
+    ensures inside { IfSome result (λ e. e < length dwarf.now.tree.entries) }
+{
+    if place < entries.len() {
+        let entry = entries[place];
+        return Some(entry);
+    }
+    None
+}
+
+// The definitions of a tag and a name in two libraries.
+#[derive(Clone, Copy)]
+pub(crate) struct Kin<'x, 'o, 'n> {
+    pub old_dwarf: &'x Dwarf<'o>,
+    pub new_dwarf: &'x Dwarf<'n>,
+    pub old: &'x [usize],
+    pub new: &'x [usize],
+}
+
+// What differs between the definitions at two places.
+fn change_at(
+    alloc: Global,
+    kin: &Kin,
+    old_place: usize,
+    new_place: usize,
+) -> Result<Option<Difference>, NoMemory>
+    requires { AreKin kin.now }
+    ensures { IfOk result (λ found. found ≡ spec.change_between kin.now.old_dwarf.now kin.now.new_dwarf.now (slice_get kin.now.old.now old_place) (slice_get kin.now.new.now new_place)) }
+{
+    let old = entry_at(kin.old_dwarf, kin.old, old_place);
+    let new = entry_at(kin.new_dwarf, kin.new, new_place);
+    match (old, new) {
+        (Some(old), Some(new)) => {
+            let pair = EntryPair {
+                old_dwarf: kin.old_dwarf,
+                new_dwarf: kin.new_dwarf,
+                old,
+                new,
+            };
+            definition_change(alloc, &pair)
+        }
+        _ => Ok(None),
+    }
+}
+
+/// What differs between all old definitions of a tag and a name and all new ones: the first old one whose text no new one has, beside
+/// the first new one whose text no old one has, or the first of all new ones.
+#[tactic(auto, unfolding(crate::specs::DefinedElsewhere::kin_change))]
+pub(crate) fn kin_change(alloc: Global, kin: &Kin) -> Result<Option<Difference>, NoMemory>
+    requires { AreKin kin.now }
+    ensures { IfOk result (λ found. found ≡ spec.kin_change kin.now.old_dwarf.now kin.now.new_dwarf.now kin.now.old.now kin.now.new.now) }
+{
+    let old = texts_of(alloc, kin.old_dwarf, kin.old)?;
+    let new = texts_of(alloc, kin.new_dwarf, kin.new)?;
+    let Some(place) = first_lacking(alloc, old.as_slice(), new.as_slice())? else {
+        return Ok(None);
+    };
+    let other = first_lacking(alloc, new.as_slice(), old.as_slice())?;
+    change_at(alloc, kin, place, other.unwrap_or(0))
 }
 
 /// The definitions of the types of two entries, where one of the entries at least is a declaration.

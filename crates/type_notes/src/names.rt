@@ -13,7 +13,7 @@ use dwarf_entries::Dwarf;
 use std::alloc::{AllocError, Global};
 use type_reach::body_of;
 
-// Appends a name, or that there is none.
+// Appends a name, or that it is missing.
 pub(crate) fn push_name(
     alloc: Global,
     text: &mut String,
@@ -22,7 +22,7 @@ pub(crate) fn push_name(
     ensures { OnOk result (string_bytes text.new ≡ string_bytes text.old ++ name_text (option_copied name.entry)) }
 {
     match name {
-        None => text.push_str("none"),
+        None => text.push_str("without a name"),
         Some(name) => push_shown(alloc, text, name),
     }
 }

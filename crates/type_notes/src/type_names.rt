@@ -2,7 +2,7 @@
 ghost use Rattle.std.specs.Prelude.{◌≡◌, ◌++◌, map, IfOk, OnOk, string_bytes};
 ghost use Rattle.std.specs.List.{flat_map};
 ghost use Rattle.abi_types.specs.Plain.{plain_label};
-ghost use Rattle.type_notes.specs.TypeNames.{label_behind, labels_text};
+ghost use Rattle.type_notes.specs.TypeNames.{label_behind, labels_text, shown_or_none};
 ghost use Rattle.type_notes.specs.TypeNames as spec;
 ghost use Rattle.type_notes.specs.TypePairs.{AreNodes, new_node, old_node};
 
@@ -27,13 +27,23 @@ fn keyword(kind: LabelKind) -> &'static str
     }
 }
 
+// Appends a name, or that a type has no tag.
+fn push_shown_or_none(alloc: Global, text: &mut String, name: &[u8]) -> Result<(), AllocError>
+    ensures { OnOk result (string_bytes text.new ≡ string_bytes text.old ++ shown_or_none name.now) }
+{
+    if name.is_empty() {
+        return text.push_str("without a tag");
+    }
+    push_shown(alloc, text, name)
+}
+
 // Appends a name behind what stands between two names.
 fn push_label(alloc: Global, text: &mut String, label: &Label) -> Result<(), AllocError>
     ensures { OnOk result (string_bytes text.new ≡ string_bytes text.old ++ label_behind (plain_label label.now)) }
 {
     text.push_str(" = ")?;
     text.push_str(keyword(label.kind))?;
-    push_shown(alloc, text, label.name)
+    push_shown_or_none(alloc, text, label.name)
 }
 
 // Appends names, each behind what stands between two names.

@@ -7,14 +7,13 @@ ghost use Rattle.pair_explorer.specs.Visits.{AreEarlier};
 ghost use Rattle.pair_rules.specs.Steps as steps_spec;
 ghost use Rattle.cert_check.specs.Compatible.{task_of};
 ghost use Rattle.type_notes.specs.DefinedElsewhere.{AreOfBoth, definitions_behind};
-ghost use Rattle.type_notes.specs.DefinedElsewhere as elsewhere_spec;
-ghost use Rattle.type_notes.specs.NotedPairs.{AreCompared, AreNotes, AreReadable, IsReadable, change_unless, difference_note, differences_of, is_of, new_core, noted_at, noted_pair, notes_at, notes_below, old_core};
+ghost use Rattle.type_notes.specs.NotedPairs.{AreCompared, AreNotes, AreReadable, IsReadable, change_behind, change_unless, difference_note, differences_of, is_of, new_core, noted_at, noted_pair, notes_at, notes_below, old_core};
 
 use crate::between::{DwarfPair, push_differences};
 use crate::chain::core_at;
-use crate::definitions::{DefinitionPair, definitions_of};
+use crate::definitions::{DefinitionPair, definitions_of, kin_of};
 use crate::difference::{Difference, push_found};
-use crate::elsewhere::{definition_change, definitions_by};
+use crate::elsewhere::{Kin, definitions_by, kin_change};
 use crate::entries::EntryPair;
 use crate::note::Note;
 use crate::noted_pair::NotedPair;
@@ -137,26 +136,6 @@ fn definitions_of_types(
     }
 }
 
-// What differs between two definitions.
-fn change_of(
-    alloc: Global,
-    ground: &NotedPair,
-    found: (usize, usize),
-) -> Result<Option<Difference>, NoMemory>
-    requires old { found.0 < length ground.now.old_dwarf.now.tree.entries }
-    requires new { found.1 < length ground.now.new_dwarf.now.tree.entries }
-    ensures { IfOk result (λ change. change ≡ elsewhere_spec.definition_change ground.now.old_dwarf.now ground.now.new_dwarf.now found.0 found.1) }
-{
-    let (old, new) = found;
-    let pair = EntryPair {
-        old_dwarf: ground.old_dwarf,
-        new_dwarf: ground.new_dwarf,
-        old,
-        new,
-    };
-    definition_change(alloc, &pair)
-}
-
 // Adds the notes of differences at the visit of a number, under the path to it.
 fn push_under_path(
     alloc: Global,
@@ -177,17 +156,50 @@ fn push_under_path(
     push_all(alloc, notes, export.as_str(), path.as_str(), found)
 }
 
+// What is walked over: the libraries with their definitions, and what was explored.
+#[derive(Clone, Copy)]
+struct Walk<'w, 'x, 'o, 'n, 'd, 'e> {
+    ground: &'w NotedPair<'x, 'o, 'n, 'd, 'e>,
+    definitions: &'w DefinitionPair<'w, 'd, 'e>,
+    visits: &'w Visits,
+}
+
+// What differs between all definitions of the tags and names of two definitions.
+fn change_of(
+    alloc: Global,
+    walk: &Walk,
+    found: (usize, usize),
+) -> Result<Option<Difference>, NoMemory>
+    requires definitions { AreOfBoth walk.now.ground.now.old_dwarf.now walk.now.ground.now.new_dwarf.now walk.now.definitions.now }
+    requires old { found.0 < length walk.now.ground.now.old_dwarf.now.tree.entries }
+    requires new { found.1 < length walk.now.ground.now.new_dwarf.now.tree.entries }
+    ensures { IfOk result (λ change. change ≡ change_behind (noted_pair walk.now.ground.now) found.0 found.1) }
+{
+    let old_dwarf = walk.ground.old_dwarf;
+    let new_dwarf = walk.ground.new_dwarf;
+    let old = kin_of(alloc, old_dwarf, walk.definitions.old, found.0)?;
+    let new = kin_of(alloc, new_dwarf, walk.definitions.new, found.1)?;
+    let kin = Kin {
+        old_dwarf,
+        new_dwarf,
+        old: old.as_slice(),
+        new: new.as_slice(),
+    };
+    kin_change(alloc, &kin)
+}
+
 // Adds what differs between two definitions, where the old one was not compared before, and keeps that it is.
 fn push_definitions(
     alloc: Global,
     list: &mut List<Difference>,
     compared: &mut HashSet<usize>,
-    ground: &NotedPair,
+    walk: &Walk,
     found: Option<(usize, usize)>,
 ) -> Result<(), NoMemory>
-    requires old { IfSome found (λ found. found.0 < length ground.now.old_dwarf.now.tree.entries) }
-    requires new { IfSome found (λ found. found.1 < length ground.now.new_dwarf.now.tree.entries) }
-    ensures list { OnOk result (list.new ≡ list.old ++ change_unless (contains nat_eq compared.old) (noted_pair ground.now) found) }
+    requires definitions { AreOfBoth walk.now.ground.now.old_dwarf.now walk.now.ground.now.new_dwarf.now walk.now.definitions.now }
+    requires old { IfSome found (λ found. found.0 < length walk.now.ground.now.old_dwarf.now.tree.entries) }
+    requires new { IfSome found (λ found. found.1 < length walk.now.ground.now.new_dwarf.now.tree.entries) }
+    ensures list { OnOk result (list.new ≡ list.old ++ change_unless (contains nat_eq compared.old) (noted_pair walk.now.ground.now) found) }
     ensures compared { OnOk result ((a : ℕ) → contains nat_eq compared.new a ≡ (contains nat_eq compared.old a || is_of a found)) }
 {
     let found = match found {
@@ -197,15 +209,7 @@ fn push_definitions(
     if !compared.insert(found.0)? {
         return Ok(());
     }
-    push_found(list, change_of(alloc, ground, found)?)
-}
-
-// What is walked over: the libraries with their definitions, and what was explored.
-#[derive(Clone, Copy)]
-struct Walk<'w, 'x, 'o, 'n, 'd, 'e> {
-    ground: &'w NotedPair<'x, 'o, 'n, 'd, 'e>,
-    definitions: &'w DefinitionPair<'w, 'd, 'e>,
-    visits: &'w Visits,
+    push_found(list, change_of(alloc, walk, found)?)
 }
 
 // Adds the notes of the visit of a number.
@@ -230,7 +234,7 @@ fn push_visit(
     }
     let mut found = differences_at(alloc, walk.ground, &visit)?;
     let defined = definitions_of_types(walk.ground, walk.definitions, &visit);
-    push_definitions(alloc, &mut found, compared, walk.ground, defined)?;
+    push_definitions(alloc, &mut found, compared, walk, defined)?;
     if found.as_slice().is_empty() {
         return Ok(());
     }

@@ -1,18 +1,17 @@
 -- Unit by unit.
-use Rattle.std.proofs.Common.{◌≡◌, ◌∙◌, ℕ, List, length, ap, arith}
-use Rattle.std.specs.Prelude.{find}
-use Rattle.std.specs.Option.{option_or}
-use Rattle.type_notes.specs.DefinedElsewhere.{definition_of, defines, place_under, tops_below}
+use Rattle.std.proofs.Common.{◌≡◌, ◌++◌, ◌∙◌, ℕ, List, length, ap, arith}
+use Rattle.std.specs.Prelude.{filter}
+use Rattle.type_notes.specs.DefinedElsewhere.{definitions_of, defines, places_under, tops_below}
 use Rattle.type_notes.proofs.DefinitionLemmas.{tops_more}
 use Rattle.type_notes.proofs.definitions.definitions_with.Goals as goal
 
 pub loop-root-preserved : goal.loop-root-preserved
 loop-root-preserved c = λ q.
     tops_more (defines c.args.dwarf.now q) c.args.dwarf.now.tree c.args.tag c.loop-root.root _ _ (c.loop-root.invariant q)
-    (c.in_ok-keep_definitions.ensures q ∙ ap (λ (xs : List ℕ). option_or (place_under c.loop-root.places q) (find (defines c.args.dwarf.now q) xs)) (c.as_slice.ensures.value ∙ c.in_ok-tops.ensures.entries))
+    (c.in_ok-keep_definitions.ensures q ∙ ap (λ (xs : List ℕ). places_under c.loop-root.places q ++ filter (defines c.args.dwarf.now q) xs) (c.as_slice.ensures.value ∙ c.in_ok-tops.ensures.entries))
 
 pub returns : goal.returns
-unfolding definition_of
+unfolding definitions_of
 returns c = λ q.
     let e : c.loop-root.root ≡ length c.args.dwarf.now.tree.entries = omega arith in
-    c.loop-root.invariant q ∙ ap (λ (n : ℕ). find (defines c.args.dwarf.now q) (tops_below c.args.dwarf.now.tree c.args.tag n)) e
+    c.loop-root.invariant q ∙ ap (λ (n : ℕ). filter (defines c.args.dwarf.now q) (tops_below c.args.dwarf.now.tree c.args.tag n)) e
