@@ -4,8 +4,9 @@ usage: /usr/bin/python3 bench/report.py [--structures COUNT | --libraries OLD NE
 
 Makes a library of so many structures (2,500), builds it with gcc, and once more with a member of each structure widened, which breaks
 four rules in each. Or else it takes two libraries of which the second one may not replace the first one. Prints the seconds of
-`abi check`, of `abi-json check` without and with notes on what no rule judges, and of `tools/abi-report` for the document and the page,
-with and without these: the least of five runs, by the clock and of the processor, the latter also as a multiple of that of `abi check`.
+`abi check`, of `abi-json check` without digests, with these, and with notes on what no rule judges, of `abi-json notes`, and of
+`tools/abi-report` for the document and the page, with and without notes: the least of five runs, by the clock and of the processor,
+each also as a multiple of that of `abi check`.
 The page stands in `bench/made/report/page.html` then.
 """
 
@@ -48,14 +49,14 @@ def built(name: str, kind: str, count: int) -> Path:
     return _MADE / f"{name}.so"
 
 
-def timed(command: list[str], output: Path, notes: str) -> tuple[float, float]:
-    """The seconds of a run that must say no, by the clock and of the processor. `notes` is the value of ABI_NOTES."""
+def timed(command: list[str], output: Path, variables: dict[str, str], status: int) -> tuple[float, float]:
+    """The seconds of a run that must end with a status, by the clock and of the processor, with these variables in its environment."""
     before, start = resource.getrusage(resource.RUSAGE_CHILDREN), time.monotonic()
     with output.open("wb") as stream:
-        ended = subprocess.run(command, stdout=stream, stderr=subprocess.DEVNULL, check=False, env={**os.environ, "ABI_NOTES": notes})
+        ended = subprocess.run(command, stdout=stream, stderr=subprocess.DEVNULL, check=False, env={**os.environ, **variables})
     seconds, after = time.monotonic() - start, resource.getrusage(resource.RUSAGE_CHILDREN)
-    if ended.returncode != 1:
-        sys.exit(f"report.py: {command[0]} ended with status {ended.returncode}, not 1")
+    if ended.returncode != status:
+        sys.exit(f"report.py: {command[0]} ended with status {ended.returncode}, not {status}")
     return seconds, after.ru_utime + after.ru_stime - before.ru_utime - before.ru_stime
 
 
@@ -78,18 +79,25 @@ def main() -> int:
 def measure(abi: str, abi_json: str, old: str, new: str) -> None:
     """Prints a line for each program and its options."""
     report = str(_TOP / "tools" / "abi-report")
-    first = 0.0
-    for name, command, output, notes in (("abi check", [abi, "check"], "rows", "0"),
-                                         ("abi-json check", [abi_json, "check"], "json", "0"),
-                                         ("ABI_NOTES=1 abi-json check", [abi_json, "check"], "noted.json", "1"),
-                                         ("abi-report --format json", [report, "--format", "json"], "report.json", "0"),
-                                         ("abi-report --format html --fast", [report, "--format", "html", "--fast"], "fast.html", "0"),
-                                         ("abi-report --format html", [report, "--format", "html"], "page.html", "0")):
-        times = [timed([*command, old, new], _MADE / output, notes) for _ in range(_RUNS)]
+    first: tuple[float, ...] = ()
+    for name, command, output, variables in (
+            ("abi check", [abi, "check"], "rows", {"ABI_NOTES": "0"}),
+            ("ABI_DIGESTS=0 abi-json check", [abi_json, "check"], "undigested.json", {"ABI_NOTES": "0", "ABI_DIGESTS": "0"}),
+            ("abi-json check", [abi_json, "check"], "json", {"ABI_NOTES": "0"}),
+            ("abi-json notes", [abi_json, "notes"], "notes.json", {}),
+            ("ABI_NOTES=1 abi-json check", [abi_json, "check"], "noted.json", {"ABI_NOTES": "1"}),
+            ("abi-report", [report], "text", {}),
+            ("abi-report --format json --fast", [report, "--format", "json", "--fast"], "fast.json", {}),
+            ("abi-report --format json", [report, "--format", "json"], "report.json", {}),
+            ("abi-report --format html --fast", [report, "--format", "html", "--fast"], "fast.html", {}),
+            ("abi-report --format html", [report, "--format", "html"], "page.html", {})):
+        status = 0 if command[-1] == "notes" else 1
+        times = [timed([*command, old, new], _MADE / output, variables, status) for _ in range(_RUNS)]
         size = (_MADE / output).stat().st_size
-        clock, processor = (min(one[number] for one in times) for number in (0, 1))
-        first = first or processor
-        print(f"{name}: {clock:.2f} s, {processor:.2f} s of the processor ({processor / first:.2f}), {size:,} bytes")
+        least = tuple(min(one[number] for one in times) for number in (0, 1))
+        first = first or least
+        clock, processor = (f"{own:.2f} s ({own / other:.2f})" for own, other in zip(least, first))
+        print(f"{name}: {clock}, {processor} of the processor, {size:,} bytes")
 
 
 if __name__ == "__main__":

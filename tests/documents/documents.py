@@ -1,4 +1,4 @@
-"""Documents of `abi-json`: each is one by the schema, and the places in it are where the sources have the structures.
+"""Documents of `abi-json`: each is one by the schema, and the places and names in it are those that the sources have of the structures.
 
 usage: documents.py PROGRAM SCHEMA FOLDER COMPILER..
 """
@@ -6,6 +6,7 @@ usage: documents.py PROGRAM SCHEMA FOLDER COMPILER..
 from __future__ import annotations
 
 import json
+import os
 import subprocess
 import sys
 from pathlib import Path
@@ -17,18 +18,24 @@ COUNT = 12
 LINES = 5
 
 
+# The lines of the structures in the source and their names, by the ends of the names of their functions.
+OWN = {"": (2, "struct own"), "_plain": (3, "plain")}
+
+
 def sources(folder: Path, member: str) -> Path:
     """Writes a library whose structures each have a member of this type. Its header has a folder of its own, and structure k
-    begins there at line LINES * k + 1; one more stands in the source at line 2."""
+    begins there at line LINES * k + 1; one more stands in the source at line 2, and one without a tag at line 3."""
     (folder / "inc").mkdir(parents=True, exist_ok=True)
     header = "".join(
         f"struct s{k} {{\n    int first;\n    {member} second;\n}};\n\n" for k in range(COUNT)
     )
     (folder / "inc" / "types.h").write_text(header)
     own = f"struct own {{ int first; {member} second; }};\n"
+    plain = f"typedef struct {{ int first; {member} second; }} plain;\n"
     calls = "".join(f"int use{k}(struct s{k} *s) {{ return s->first; }}\n" for k in range(COUNT))
+    uses = "int use(struct own *s) { return s->first; }\nint use_plain(plain *s) { return s->first; }\n"
     source = folder / "library.c"
-    source.write_text(f'#include "types.h"\n{own}int use(struct own *s) {{ return s->first; }}\n{calls}')
+    source.write_text(f'#include "types.h"\n{own}{plain}{uses}{calls}')
     return source
 
 
@@ -46,9 +53,15 @@ def built(compiler: str, version: int, folder: Path, member: str, absolute: bool
 def place_of(export: str, folder: Path) -> dict[str, Any]:
     """Where the structure stands that a function is given."""
     number = export.removeprefix("use")
-    if number == "":
-        return {"file": str(folder / "library.c"), "line": 2}
+    if number in OWN:
+        return {"file": str(folder / "library.c"), "line": OWN[number][0]}
     return {"file": str(folder / "inc" / "types.h"), "line": LINES * int(number) + 1}
+
+
+def name_of(export: str) -> str:
+    """The name of the structure that a function is given."""
+    number = export.removeprefix("use")
+    return OWN[number][1] if number in OWN else f"struct s{number}"
 
 
 class Documents:
@@ -58,9 +71,9 @@ class Documents:
         self.program = program
         self.schema = json.loads(Path(schema).read_text())
 
-    def of(self, *words: object) -> dict[str, Any]:
-        """The document of a run."""
-        ended = subprocess.run([self.program, *map(str, words)], capture_output=True, check=False)
+    def of(self, *words: object, **variables: str) -> dict[str, Any]:
+        """The document of a run, with these variables in its environment."""
+        ended = subprocess.run([self.program, *map(str, words)], capture_output=True, check=False, env={**os.environ, **variables})
         document: dict[str, Any] = json.loads(ended.stdout)
         jsonschema.validate(document, self.schema)
         assert document["status"] == ended.returncode, (words, document)
@@ -68,12 +81,36 @@ class Documents:
 
 
 def hold_places(document: dict[str, Any], side: str, library: Path) -> int:
-    """The structure that each function is given has its place in the sources; how many there are."""
+    """The structure that each function is given has its place in the sources, and its name; how many there are."""
     rows = [row for row in document["breaks"] if row["steps"] == ["param 1", "target"] and row["rule"] == "L2"]
     for row in rows:
-        place = document["places"][side].get(str(row[f"{side}_entry"]))
+        entry = str(row[f"{side}_entry"])
+        place, name = document["places"][side].get(entry), document["types"][side].get(entry)
         assert place == place_of(row["export"], library.parent), (row, place)
+        assert name == name_of(row["export"]), (row, name)
     return len(rows)
+
+
+def hold_member_types(document: dict[str, Any]) -> None:
+    """The member that is an `int` in the old library and a `long` in the new one has these types, where a break names them."""
+    rows = [row for row in document["breaks"] if row["steps"][2:] == ["member second"]]
+    assert rows, document
+    for row in rows:
+        names = [document["types"][side][str(row[f"{side}_entry"])] for side in ("old", "new")]
+        assert names in (["int", "long"], ["int", "long int"]), (row, names)
+
+
+def hold_notes(documents: Documents, old: Path, new: Path) -> None:
+    """The notes alone are those beside the answer; without digests the inputs are the same but for these."""
+    noted = documents.of("check", old, new, ABI_NOTES="1")
+    alone = documents.of("notes", old, new)
+    assert alone["answer"] == "done" and alone["side_notes"] == noted["side_notes"] != [], alone
+    plain = documents.of("check", old, new, ABI_DIGESTS="0")
+    assert plain["side_notes"] is None and [one["sha256"] for one in plain["inputs"]] == [None, None], plain
+    assert [{**one, "sha256": None} for one in noted["inputs"]] == plain["inputs"] and noted["breaks"] == plain["breaks"], plain
+    assert documents.of("notes", old, old.with_name("missing"))["answer"] == "read fault"
+    assert documents.of("notes", old)["answer"] == "usage"
+    assert documents.of("notes", old, __file__)["side_notes"] == []
 
 
 # Each structure has an `int` and a member that is an `int` in the old library and a `long` in the new one (System V psABI, figure
@@ -107,11 +144,13 @@ def main() -> None:
                 document = documents.of("check", old, new)
                 assert document["answer"] == "no", document
                 found = hold_places(document, "old", old) + hold_places(document, "new", new)
-                assert found == 2 * (COUNT + 1), (compiler, version, found)
-                assert hold_values(document) == len(VALUES) * (COUNT + 1), document
+                assert found == 2 * (COUNT + len(OWN)), (compiler, version, found)
+                assert hold_values(document) == len(VALUES) * (COUNT + len(OWN)), document
+                hold_member_types(document)
                 held += found
                 assert documents.of("check", old, old)["answer"] == "yes"
                 assert documents.of("exports", old)["answer"] == "done"
+    hold_notes(documents, old, new)
     assert documents.of("check", old, work / "missing")["answer"] == "read fault"
     assert documents.of("check", old, __file__)["answer"] == "unreadable"
     assert documents.of("check")["answer"] == "usage"

@@ -24,10 +24,13 @@ import pytest
 from abi_release.clusters import LocalChoice
 from abi_release.judging import Part, Settings
 from abi_release.limited_program import Limits
+from abi_release.needs import version_and_depends
 from abi_release.progress import PlainProgress
-from abi_release.scheduling import Run, _Turn
+from abi_release.scheduling import Given, Run, _Turn, done_in_turn
+from abi_release.small_packages import SmallPackage, small_side
 from abi_release.sources import Work
 from abi_release.stored_files import Store
+from abi_tools.package_sides import Side
 from conftest import ROOT, TOOLS, Ended, build_id, done, run, split, system_place
 from distributed import KilledWorker
 
@@ -51,7 +54,8 @@ def library(folder: Path, name: str, kind: str = "int", number: int = 0) -> Path
     return compiled(folder, name, SHAPES.format(type=kind, number=number), "-shared", "-fPIC", f"-Wl,-soname,{name}")
 
 
-def deb(folder: Path, name: str, files: Mapping[str, Path], version: str = "1", depends: str = "", architecture: str = "amd64") -> Path:
+def deb(folder: Path, name: str, files: Mapping[str, Path], version: str = "1", depends: str = "", architecture: str = "amd64",
+        packing: str = "gzip") -> Path:
     """A .deb under the name that mirrors give it."""
     folder.mkdir(parents=True, exist_ok=True)
     tree = folder / f".{name}"
@@ -63,7 +67,7 @@ def deb(folder: Path, name: str, files: Mapping[str, Path], version: str = "1", 
     (tree / "DEBIAN/control").write_text(f"Package: {name}\nVersion: {version}\nArchitecture: {architecture}\n{more}"
                                          "Maintainer: a <a@example.org>\nDescription: a package\n")
     made = folder / f"{name}_{version}_{architecture}.deb"
-    done("dpkg-deb", "--root-owner-group", "-Zgzip", "-b", tree, made)
+    done("dpkg-deb", "--root-owner-group", f"-Z{packing}", "-b", tree, made)
     shutil.rmtree(tree)
     return made
 
@@ -113,7 +117,8 @@ def unmeasured(found: Json) -> list[Json]:
 def wrapper_of(folder: Path, text: str) -> Path:
     """A program `abi` that does something first, in `sh`; `$worker` is the process of the worker."""
     path = folder / "abi"
-    path.write_text(f"#!/bin/sh\nworker=$(cut -d ' ' -f 4 /proc/$PPID/stat)\n{text}\nexec '{Path(os.environ['ABI']).resolve()}' \"$@\"\n")
+    path.write_text(f"#!/bin/sh\nparent=$(cut -d ' ' -f 4 /proc/$PPID/stat)\n"
+                    f"worker=$(cut -d ' ' -f 4 /proc/$parent/stat)\n{text}\nexec '{Path(os.environ['ABI']).resolve()}' \"$@\"\n")
     path.chmod(0o755)
     return path
 
@@ -312,6 +317,70 @@ def test_a_package_that_waited_at_a_worker_that_died_is_not_blamed(tmp_path: Pat
     assert ended.status == 1 and answers(tmp_path) == {**THREE, "lib0 lib0.so.1": "not judged"}, ended
 
 
+def tree(root: Path) -> dict[str, bytes]:
+    """The files below a folder."""
+    return {str(path.relative_to(root)): path.read_bytes() for path in root.rglob("*") if path.is_file()}
+
+
+@pytest.mark.parametrize("packing", ["gzip", "xz", "zstd", "none"])
+def test_small_packages_are_read_as_all_are(tmp_path: Path, packing: str) -> None:
+    """In memory, in each way in which dpkg-deb packs."""
+    path = deb(tmp_path, "packed", {f"{LIBRARIES}/lib0.so.1": library(tmp_path, "lib0.so.1")}, depends="libc6", packing=packing)
+    small = SmallPackage.read(path)
+    assert small is not None
+    in_memory, on_disk = small_side([small], tmp_path / "memory"), Side.unpacked([path], tmp_path / "disk")
+    assert [one.soname for one in in_memory.libraries] == [one.soname for one in on_disk.libraries] == ["lib0.so.1"]
+    assert tree(tmp_path / "memory") == tree(tmp_path / "disk") != {}
+    assert version_and_depends(path, small.control) == version_and_depends(path) == ("1", ["libc6"])
+
+
+@pytest.mark.parametrize("packing", ["gzip", "xz", "zstd"])
+def test_packages_that_inflate_to_much_are_no_small_ones(tmp_path: Path, packing: str) -> None:
+    """Zeros, and a file with many names."""
+    (tmp_path / "zeros").write_bytes(bytes(64 << 20))
+    path = deb(tmp_path, "zeros", {"usr/lib/zeros": tmp_path / "zeros"}, packing=packing)
+    assert path.stat().st_size < 1 << 20 and SmallPackage.read(path) is None
+    control, data = tmp_path / "control.tar", tmp_path / "data.tar"
+    first, second = tmp_path / "first", tmp_path / "second"
+    first.write_bytes(bytes(1000))
+    second.hardlink_to(first)
+    (tmp_path / "control").write_text("Package: links\nVersion: 1\n")
+    (tmp_path / "debian-binary").write_text("2.0\n")
+    done("tar", "-cf", control, "./control", folder=tmp_path)
+    done("tar", "-cf", data, "./first", "./second", folder=tmp_path)
+    done("ar", "r", tmp_path / "links.deb", "debian-binary", "control.tar", "data.tar", folder=tmp_path)
+    assert SmallPackage.read(tmp_path / "links.deb") is None
+
+
+def test_a_damaged_package_is_no_small_one(tmp_path: Path) -> None:
+    path = deb(tmp_path, "cut", {f"{LIBRARIES}/lib0.so.1": library(tmp_path, "lib0.so.1")})
+    whole = path.read_bytes()
+    for size in (0, 7, 100, len(whole) // 2, len(whole) - 20):
+        path.write_bytes(whole[:size])
+        assert SmallPackage.read(path) is None
+    path.write_bytes(bytes(range(256)) * 64)
+    assert SmallPackage.read(path) is None
+
+
+def test_a_batch_ends_in_time_and_what_is_left_is_done_then(tmp_path: Path, monkeypatch: pytest.MonkeyPatch) -> None:
+    """Its first task is done however long it takes, and no result is lost."""
+    store = Store(tmp_path / "out")
+    os.close(store.open())
+    settings = Settings(str(tmp_path), str(tmp_path), str(store.folder), None, "", 0.0, Limits(100, 10))
+    parts = [Part(Work(f"lib{number}", ("old.deb",), ("new.deb",))) for number in range(3)]
+    given = [Given(part, ()) for part in parts]
+    assert len(done_in_turn(given, settings)) == 3
+    monkeypatch.setattr("abi_release.scheduling._LONGEST_BATCH", -1.0)
+    outcomes = done_in_turn(given, settings)
+    assert len(outcomes) == 1
+    turn = _Turn(Run(settings, store, LocalChoice(1, 100, store.folder), tries=1, patience=1), None, iter(()), deque(),
+                 PlainProgress(3, "packages", sys.stderr))
+    ended = LostResult()
+    monkeypatch.setattr(ended, "result", lambda: outcomes)
+    nexts = turn._next_after(parts, ended)  # pylint: disable=protected-access
+    assert [one.is_done for one in nexts] == [True, False] and nexts[-1].rest == parts[1:]
+
+
 class LostResult:
     """A task that ended, and did not end when Dask did it once more, since the worker had died that had the result."""
 
@@ -332,7 +401,7 @@ def test_a_result_that_is_lost_with_its_worker_is_made_again(tmp_path: Path) -> 
     part = Part(Work("lib0", ("old.deb",), ("new.deb",)))
     judging = Run(settings, store, LocalChoice(1, 100, store.folder), tries=2, patience=1)
     turn = _Turn(judging, None, iter(()), deque(), PlainProgress(1, "packages", sys.stderr))
-    assert turn._next_after(part, LostResult()).again == [part] and not judging.failures  # pylint: disable=protected-access
+    assert turn._next_after([part], LostResult())[0].again == [part] and not judging.failures  # pylint: disable=protected-access
 
 
 def started(folder: Path, *options: object, wrapper: Path) -> subprocess.Popen[str]:

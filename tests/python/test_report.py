@@ -294,15 +294,18 @@ def test_a_note_counts_for_all_breaks_of_its_two_types(project: Project, monkeyp
 
 
 def test_the_program_is_asked_for_notes_or_not(project: Project, monkeypatch: pytest.MonkeyPatch) -> None:
+    """They come from a run of their own, beside that of the answer, which leaves them and the digests out."""
     old = project.build("old")
     stand_in(project, monkeypatch, breaks=[])
     asked = project.folder / "asked"
     program = project.folder / "stand_in"
-    program.write_text(program.read_text().replace("cat", f"echo $ABI_NOTES >>'{asked}'\ncat", 1))
+    program.write_text(program.read_text().replace("cat", f"echo $1 $ABI_NOTES $ABI_DIGESTS >>'{asked}'\ncat", 1))
     monkeypatch.setenv("ABI_NOTES", "1")
     for options in ((), ("--fast",), ("--quiet",)):
+        asked.write_text("")
         report(*options, old, old)
-    assert asked.read_text().split() == ["1", "0", "0"]
+        lines = sorted(asked.read_text().splitlines())
+        assert lines == ["check 0 0", *(["notes 1"] if not options else [])], (options, lines)
 
 
 def test_successors_of_notes_stand_in_place_of_a_search(project: Project, monkeypatch: pytest.MonkeyPatch) -> None:
@@ -407,7 +410,7 @@ def test_sonames_and_rules_stand_at_the_head(project: Project) -> None:
     old, new = changed(project)
     lines = report(old, new).out.splitlines()
     assert lines[2] == "Both have the soname libstream.so.1: programs that were built with the old library load the new one."
-    assert lines[3].startswith("Rules: X2 export gone, L2 size changed")
+    assert lines[3].startswith("Broken rules: X2 export gone, L2 size changed")
     named = old.with_name("named.so")
     done("gcc", "-shared", "-fPIC", "-g", "-Wl,-soname,libstream.so.2", "-Iinclude", "-o", named, "src/stream.c", folder=old.with_suffix(""))
     assert "The old library has the soname libstream.so.1 and the new one the soname libstream.so.2" in report(old, named).out

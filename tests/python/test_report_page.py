@@ -73,7 +73,7 @@ def test_the_page_says_the_answer_and_which_line_to_look_at(project: Project) ->
     assert "old_name2" in page.text
     assert [found for tag, found in page.found if tag == "title"] and "may not replace" in page.text
     assert f"Files are below {old.with_suffix('')} ({old}) and {new.with_suffix('')} ({new})." in page.text
-    assert "X2 export gone L2 size changed L7 member moved Each two types are reported once" in page.text
+    assert "Broken rules: X2 export gone L2 size changed L7 member moved" in page.text
     assert "Both have the soname libstream.so.1" in page.text
 
 

@@ -13,8 +13,8 @@ from abi_report.subjects import Described, Side
 _OF_PLACES = ("L14",)
 _DEEPEST = 64
 
-# How a type of the old library is known in all units: its name and its place.
-_Key = tuple[str, Place]
+# How a type of the old library is known in all units: its name, and its place where the library says any.
+_Key = tuple[str, Optional[Place]]
 
 
 class Causes:
@@ -25,7 +25,7 @@ class Causes:
         self._old = old
         self._new = new
         self._blocks = blocks
-        self._by_type = {key: block for block in reversed(blocks) if (key := _key(block.subject.old)) is not None}
+        self._by_type = {key: block for block in reversed(blocks) if (key := _key(block.subject.old, old)) is not None}
         self._held = {id(block): list(self._held_by(block)) for block in blocks}
 
     def ordered(self) -> list[Block]:
@@ -109,12 +109,14 @@ class Causes:
             if core is None or core.tag != "array_type":
                 break
             offset = core.kind
-        key = _key(self._old.described(offset)) if offset is not None else None
+        key = _key(self._old.described(offset), self._old) if offset is not None else None
         return self._by_type.get(key) if key is not None else None
 
 
-def _key(described: Described) -> Optional[_Key]:
-    return None if described.name is None or described.place is None else (described.name, described.place)
+def _key(described: Described, side: Side) -> Optional[_Key]:
+    if described.name is None or (described.place is None and side.says_places):
+        return None
+    return (described.name, described.place)
 
 
 def _passed(side: Side, function: Entry) -> Iterator[Optional[int]]:

@@ -10,7 +10,7 @@ from abi_tools.faults import Fault
 from abi_tools.output_file import clear_output
 from abi_tools.verdicts import Verdict
 
-from abi_report.documents import AbiJson
+from abi_report.runs import AbiJson, Digests
 
 _DESCRIPTION = """\
 Says whether a new build of a library may replace an old one, and what changed: a block for each changed type, with the lines of
@@ -30,17 +30,18 @@ _FORMATS = ("text", "json", "html")
 def main(arguments: Sequence[str]) -> int:
     """Reports as the arguments say, and answers the verdict."""
     given = _parser().parse_args(arguments)
+    inputs = [path for path in (given.old, given.new, given.rules) if path is not None]
     if given.certificate is not None:
-        clear_output(given.certificate, [path for path in (given.old, given.new, given.rules) if path is not None])
+        clear_output(given.certificate, inputs)
     if given.headers is not None and not given.headers.is_dir():
         raise Fault(f"there is no folder {given.headers} of headers")
     with AbiJson().started(given.old, given.new, given.rules, not (given.fast or given.quiet)) as running:
-        # The program judges while Python takes in the rest of this tool.
-        from abi_report.reporting import Wanted, report_on, writer_of
+        digests = None if given.quiet or given.format == "text" else Digests(inputs)
+        # The program judges while Python takes in the rest of this tool and begins to read the libraries.
+        from abi_report.reporting import Wanted, reported
 
-        wanted = Wanted(given.old, given.new, given.headers, given.require_types, given.certificate)
-        write = writer_of(given.format, given.quiet)
-        return int(report_on(running.document(), wanted, write))
+        wanted = Wanted(given.old, given.new, given.headers, given.require_types, given.certificate, given.format, given.quiet)
+        return int(reported(running, digests, wanted))
 
 
 def _parser() -> Arguments:

@@ -3,20 +3,18 @@
 from __future__ import annotations
 
 import json
-import os
-import shutil
-import subprocess
 from dataclasses import dataclass, replace
 from functools import cached_property
-from pathlib import Path
 from typing import Any, Mapping, Optional, Sequence
 
 from abi_tools.faults import Fault
 
+from abi_report.runs import Running
+
 Json = dict[str, Any]
 FORMAT = 1
-# The variable by which notes on what no rule judges are asked for.
-_NOTES = "ABI_NOTES"
+# The exit statuses of yes and no.
+_JUDGED = (0, 1)
 # The kinds of notes that belong to breaks: another export that leads to types which break a rule, and what may have come in the place
 # of an export that is gone.
 _AFFECTED = "affected export"
@@ -198,61 +196,28 @@ def _with_exports(breaks: Sequence[Break], notes: Sequence[Json]) -> tuple[Break
     return tuple(replace(one, exports=tuple(leading[one.types])) for one in breaks)
 
 
-def read_document(text: bytes) -> Document:
+def _parsed(text: bytes) -> Json:
     """The document in a text. Raises a fault if that is none of a format that is known."""
     try:
-        whole = json.loads(text.decode("utf-8", "replace"))
+        whole: Json = json.loads(text.decode("utf-8", "replace"))
         if whole["format"] != FORMAT:
             raise Fault(f"abi-json prints the format {whole['format']}; this tool reads the format {FORMAT}")
-        breaks = tuple(map(_break, whole["breaks"]))
-        found = whole.get("side_notes")
-        sentences = [Note(str(one)) for one in whole.get("notes") or ()]
-        notes = [_note(one) for one in found or () if one["kind"] != _AFFECTED]
-        return Document(whole, breaks if found is None else _with_exports(breaks, found), (*sentences, *_shown(breaks, notes)))
-    except (ValueError, KeyError, TypeError, AttributeError) as error:
+        return whole
+    except (ValueError, KeyError, TypeError) as error:
         raise Fault("abi-json printed no document") from error
 
 
-class Running:
-    """A run of the program, which is ended where nobody waits for it any more."""
-
-    def __init__(self, process: subprocess.Popen[bytes]) -> None:
-        self._process = process
-
-    def __enter__(self) -> "Running":
-        return self
-
-    def __exit__(self, *_: object) -> None:
-        if self._process.poll() is None:
-            self._process.kill()
-        self._process.communicate()
-
-    def document(self) -> Document:
-        """The document that the program prints. Raises a fault if it prints none."""
-        printed, said = self._process.communicate()
-        status = self._process.returncode
-        if status < 0:
-            raise Fault(f"the signal {-status} ended abi-json")
-        if not printed:
-            words = said.decode("utf-8", "replace").strip()
-            raise Fault(f"abi-json ended with status {status} and printed nothing{': ' if words else ''}{words}")
-        return read_document(printed)
-
-
-class AbiJson:
-    """The program: the one that the variable ABI_JSON names, or else `abi-json` on the PATH."""
-
-    def __init__(self) -> None:
-        """Finds it. Raises a fault if there is none."""
-        named = os.environ.get("ABI_JSON") or "abi-json"
-        found = shutil.which(named)
-        if found is None:
-            raise Fault(f"there is no program {named}: put abi-json on the PATH, or name it by the variable ABI_JSON")
-        self._path = os.path.abspath(found)
-
-    def started(self, old: Path, new: Path, rules: Optional[Path], with_notes: bool) -> Running:
-        """A run that judges two libraries, and has notes on what no rule judges or none."""
-        options = [] if rules is None else [f"--rules={rules}"]
-        return Running(subprocess.Popen([self._path, "check", *options, "--", str(old), str(new)], stdin=subprocess.DEVNULL,
-                                        stdout=subprocess.PIPE, stderr=subprocess.PIPE,
-                                        env={**os.environ, _NOTES: "1" if with_notes else "0"}))
+def read_document(running: Running) -> Document:
+    """The document that a run prints, with the notes where two libraries were judged. Raises a fault if it is none of a format that is
+    known."""
+    whole = _parsed(running.printed())
+    if whole.get("status") in _JUDGED and (notes := running.noted()) is not None:
+        whole["side_notes"] = _parsed(notes).get("side_notes")
+    try:
+        breaks = tuple(map(_break, whole["breaks"]))
+        found = whole.get("side_notes")
+        sentences = [Note(str(one)) for one in whole.get("notes") or ()]
+        beside = [_note(one) for one in found or () if one["kind"] != _AFFECTED]
+        return Document(whole, breaks if found is None else _with_exports(breaks, found), (*sentences, *_shown(breaks, beside)))
+    except (ValueError, KeyError, TypeError, AttributeError) as error:
+        raise Fault("abi-json printed no document") from error

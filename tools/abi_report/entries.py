@@ -108,6 +108,10 @@ class Entries:
         self._indexes: dict[int, dict[str, list[Entry]]] = {}
         self._declarations: dict[str, Optional[Entry]] = {}
 
+    def prepare(self) -> None:
+        """Reads by what exports are found."""
+        _ = self._addresses, self._code
+
     def unit_at(self, offset: int) -> Optional[Unit]:
         """The unit in which an offset lies."""
         number = bisect.bisect_right(self._starts, offset) - 1

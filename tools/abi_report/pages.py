@@ -2,10 +2,12 @@
 
 from __future__ import annotations
 
+from contextlib import suppress
 from pathlib import Path
 from typing import Callable, Optional, Sequence, TextIO
 
-from jinja2 import Environment, FileSystemLoader, select_autoescape
+from jinja2 import Environment, FileSystemBytecodeCache, FileSystemLoader, select_autoescape
+from jinja2.bccache import Bucket
 
 from abi_report.blocks import Block
 from abi_report.layouts import BITS_OF_BYTE, Layouts, Room, layouts_of
@@ -78,10 +80,26 @@ class Page:
         return self.report.same_exports(block, _NAMED_AGAIN)
 
 
+class _Kept(FileSystemBytecodeCache):
+    """The compiled template, kept beside the compiled modules, where these are."""
+
+    def load_bytecode(self, bucket: Bucket) -> None:
+        """Takes it in, where it is there."""
+        with suppress(OSError):
+            super().load_bytecode(bucket)
+
+    def dump_bytecode(self, bucket: Bucket) -> None:
+        """Keeps it, where that can be done."""
+        with suppress(OSError):
+            super().dump_bytecode(bucket)
+
+
 def page_writer() -> Callable[[Report, TextIO], None]:
     """What writes the page of a report piece by piece."""
-    environment = Environment(loader=FileSystemLoader(Path(__file__).resolve().parent), trim_blocks=True, lstrip_blocks=True,
-                              autoescape=select_autoescape(default=True, default_for_string=True))
+    folder = Path(__file__).resolve().parent
+    environment = Environment(loader=FileSystemLoader(folder), trim_blocks=True, lstrip_blocks=True,
+                              autoescape=select_autoescape(default=True, default_for_string=True),
+                              bytecode_cache=_Kept(str(folder / "__pycache__")))
     environment.filters["arrows"] = lambda text: text.replace(" -> ", " → ")
     environment.filters["any"] = any
     environment.filters["counted"] = lambda count, thing: counted(count, thing)

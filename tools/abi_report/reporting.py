@@ -11,10 +11,12 @@ from typing import Callable, Iterator, Optional
 from abi_tools.output_file import write_whole
 from abi_tools.verdicts import Verdict
 
-from abi_report.documents import Document
+from abi_report.documents import Document, read_document
 from abi_report.judging import judge_document
 from abi_report.reports import Report
 from abi_report.rule_sections import Headers
+from abi_report.runs import Digests, Running
+from abi_report.subjects import Library
 
 Write = Callable[[Report], None]
 # The document, and its member `report`.
@@ -23,24 +25,40 @@ _OPENED = 2
 
 @dataclass(frozen=True)
 class Wanted:
-    """What the arguments ask for: both libraries, the folder of the public headers, the least share of exports with types, and where
-    the certificate is kept."""
+    """What the arguments ask for: both libraries, the folder of the public headers, the least share of exports with types, where the
+    certificate is kept, the form, and whether the answer alone is wanted."""
 
     old: Path
     new: Path
     headers: Optional[Path]
     require_types: float
     certificate: Optional[Path]
+    form: str
+    quiet: bool
 
 
-def report_on(document: Document, wanted: Wanted, write: Write) -> Verdict:
-    """Writes the report, and answers the verdict."""
+def reported(running: Running, digests: Optional[Digests], wanted: Wanted) -> Verdict:
+    """Writes the report of a run, and answers the verdict."""
+    write = writer_of(wanted.form, wanted.quiet)
+    libraries = (Library(wanted.old), Library(wanted.new))
+    if not wanted.quiet:
+        for library in libraries:
+            library.prepare()
+    document = read_document(running)
+    if digests is not None:
+        _put_digests(document, digests)
     judged = judge_document(document, wanted.old, wanted.new, wanted.require_types)
-    report = Report(document, judged, wanted.old, wanted.new, Headers(wanted.headers))
+    report = Report(document, judged, libraries, Headers(wanted.headers))
     if wanted.certificate is not None and judged.verdict == Verdict.YES:
         write_whole(wanted.certificate, document.text.encode())
     write(report)
     return judged.verdict
+
+
+def _put_digests(document: Document, digests: Digests) -> None:
+    """Adds the digests of the inputs, which `abi-json` was told to leave out."""
+    for one in document.whole["inputs"]:
+        one["sha256"] = one["sha256"] or digests.of(one["name"])
 
 
 def writer_of(form: str, quiet: bool) -> Write:

@@ -15,7 +15,7 @@ from abi_report.causes import Causes
 from abi_report.documents import SUCCESSOR, Break, Document, Json, Note, Place
 from abi_report.judging import Judged, labels_of
 from abi_report.rule_sections import Headers, rule_section
-from abi_report.subjects import Described, Side
+from abi_report.subjects import Described, Library, Side
 from abi_report.successors import Successors
 from abi_report.texts_shown import counted
 from abi_report.ways import Ways
@@ -41,11 +41,10 @@ class Gone:
 class Report:
     """A report on two libraries."""
 
-    def __init__(self, document: Document, judged: Judged, old: Path, new: Path, headers: Headers) -> None:
+    def __init__(self, document: Document, judged: Judged, libraries: tuple[Library, Library], headers: Headers) -> None:
         self.document = document
         self.judged = judged
-        self.old = Side(document, "old", old)
-        self.new = Side(document, "new", new)
+        self.old, self.new = (Side(document, side, library) for side, library in zip(("old", "new"), libraries))
         self.headers = headers
         self.blocks = blocks_of(document, self.old, self.new)
         ways = Ways(self.old, [(block, block.member_exports) for block in self.blocks if not block.is_exact])
@@ -102,6 +101,16 @@ class Report:
         return "also because" if self.causes.is_own(block) else "because"
 
     @cached_property
+    def has_ways(self) -> bool:
+        """Whether steps lead from an export to a type that is shown."""
+        return any(block.steps for block in self.types)
+
+    @cached_property
+    def has_lines_without_rules(self) -> bool:
+        """Whether a line of a block breaks no rule."""
+        return any(not line.breaks for block in self.blocks for line in block.lines)
+
+    @cached_property
     def others(self) -> list[Block]:
         """The blocks of the library and of exports that are there still."""
         return [block for block in self.blocks if block.subject.kind not in _KINDS and not block.is_gone]
@@ -152,7 +161,7 @@ class Report:
         words += ["the soname changed"] if exports < len(self.others) else []
         gone = sum(block.is_gone for block in self.blocks)
         words += [f"{counted(gone, 'symbol')} gone"] if gone else []
-        return f"{', '.join(words)}; {counted(len(self.document.breaks), 'break')}" if words else ""
+        return f"{', '.join(words)}: {counted(len(self.document.breaks), 'break')} of the rules" if words else ""
 
     @cached_property
     def compared(self) -> list[str]:
@@ -163,8 +172,18 @@ class Report:
         for side in (self.old, self.new):
             found = self.document.counted(side.side)
             if found is not None:
-                words.append(f"{side.path}: {found[1]:,} of {found[0]:,} exports with a size have types")
-        return words
+                words.append(f"{side.path}: debug information has the types of {found[1]:,} of {found[0]:,} exports")
+        return [*words, *self._without_places()]
+
+    def _without_places(self) -> Iterator[str]:
+        """Which libraries do not say where their sources declare anything, and where the places in this report come from then."""
+        lacking = [side for side in (self.old, self.new) if not side.says_places] if self.blocks else []
+        if len(lacking) == 1:
+            other = self.new if lacking[0] is self.old else self.old
+            yield (f"{lacking[0].path} has no line tables (a baseline has none): files and lines are taken from {other.path}, where it "
+                   "declares the same name")
+        elif lacking:
+            yield "neither library has line tables (baselines have none): there are no files and lines, and no rule sections"
 
     def section(self, block: Block) -> Optional[str]:
         """The rule section of a block whose type callers do not see."""
@@ -224,9 +243,10 @@ class Report:
         return next(filter(None, places), "")
 
     @cached_property
-    def folders(self) -> list[tuple[Path, str]]:
-        """Below which folder the places of each library are."""
-        return [(side.path, self._folders[side.side]) for side in (self.old, self.new) if self._folders[side.side]]
+    def folders(self) -> list[tuple[str, str]]:
+        """Below which folder the places of each library are, and the words that name the library where that of both is not the same."""
+        found = [(self._folders[side.side], f" ({side.path})") for side in (self.old, self.new) if self._folders[side.side]]
+        return [(found[0][0], "")] if len(found) == 2 and found[0][0] == found[1][0] else found
 
     @cached_property
     def rules(self) -> list[tuple[str, str]]:
@@ -251,11 +271,13 @@ class Report:
         return f"{_DEFINED if place.is_definition else ''}{file}:{place.line}"
 
     def places(self, old: Optional[Place], new: Optional[Place]) -> str:
-        """Two places, one where they are the same; one that only one library has says which."""
+        """Two places, one where they are the same; one that only one library has says which, unless the other one says no places."""
         first, second = self.place(self.old, old), self.place(self.new, new)
         if first is not None and second is not None:
             return first if first == second else f"{first}, now {second}"
-        return f"{first} (old)" if first is not None else f"{second} (new)" if second is not None else ""
+        if first is not None:
+            return f"{first} (old)" if self.new.says_places else first
+        return "" if second is None else f"{second} (new)" if self.old.says_places else second
 
     @cached_property
     def _folders(self) -> dict[str, str]:

@@ -43,11 +43,17 @@ class Headers:
 def rule_section(block: Block, headers: Headers) -> Optional[str]:
     """The section that leaves the type of a block out, where callers do not see it and only pointers lead to it."""
     name = _selector(block.subject.old)
-    if block.subject.kind != "record" or name is None or not headers.hides(block.subject.old.place):
+    if block.subject.kind != "record" or name is None or not headers.hides(_place(block)):
         return None
     if not all("target" in one.steps[:len(one.steps) - len(rest)] for one, rest in block.found):
         return None
     return f"[suppress_type]\nlabel = callers hold pointers to it, and never look inside\n{name}\naccessed_through = pointer\n"
+
+
+def _place(block: Block) -> Optional[Place]:
+    """Where the old type is declared; where the old library does not say it, where the new one declares the type of that name."""
+    old, new = block.subject.old, block.subject.new
+    return old.place or (new.place if new.name == old.name else None)
 
 
 def _selector(described: Described) -> Optional[str]:

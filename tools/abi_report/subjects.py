@@ -35,23 +35,51 @@ class Described:
     place: Optional[Place]
 
 
-class Side:
-    """One library of a report: what its document and its debug information say of it."""
+class Library:
+    """What the debug information of a library says, read where it is asked for."""
 
-    def __init__(self, document: Document, side: str, path: Path) -> None:
-        self._document = document
-        self._exports: dict[str, Optional[Entry]] = {}
-        self._described: dict[Optional[int], Described] = {}
-        self.side = side
+    def __init__(self, path: Path) -> None:
         self.path = path
 
     @cached_property
     def records(self) -> Optional[Records]:
-        """What the library declares, where that can be read."""
+        """What the library declares, where that can be read. What gives its bytes only once is left to `abi-json`."""
         try:
-            return Records(Entries(self.path))
+            return Records(Entries(self.path)) if self.path.is_file() else None
         except (*BROKEN, OSError):
             return None
+
+    def prepare(self) -> None:
+        """Reads what each report needs."""
+        if self.records is not None:
+            self.records.entries.prepare()
+
+    @cached_property
+    def says_places(self) -> bool:
+        """Whether the library says where its source declares anything: not if it lacks line tables, as a baseline does."""
+        return self.records is None or not self.records.entries.info or ".debug_line" in self.records.entries.sections
+
+
+class Side:
+    """One library of a report: what its document and its debug information say of it."""
+
+    def __init__(self, document: Document, side: str, library: Library) -> None:
+        self._document = document
+        self._exports: dict[str, Optional[Entry]] = {}
+        self._described: dict[Optional[int], Described] = {}
+        self._library = library
+        self.side = side
+        self.path = library.path
+
+    @property
+    def records(self) -> Optional[Records]:
+        """What the library declares, where that can be read."""
+        return self._library.records
+
+    @property
+    def says_places(self) -> bool:
+        """Whether the library says where its source declares anything."""
+        return self._library.says_places
 
     @property
     def names(self) -> Optional[Names]:
@@ -186,7 +214,7 @@ def _of_export(one: Break) -> Subject:
 
 def _record_key(old: Described, new: Described) -> tuple[object, ...]:
     """Types of one name and place are one for people, also where they are several entries."""
-    if old.name is None or old.place is None:
+    if old.name is None or (old.place is None and new.place is None):
         return ("record", old.offset, new.offset)
     return ("record", old.name, old.place, new.name, new.place)
 

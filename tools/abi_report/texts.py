@@ -19,6 +19,7 @@ Words = Sequence[Piece]
 _COLOURS = {Verdict.YES: "bold green", Verdict.NO: "bold red", Verdict.CANNOT_TELL: "bold yellow"}
 _RULES_WIDTH = 7
 _WIDTH = 110
+_WAYS = "Below, `f / param 1 / target` is what the first parameter of f points to."
 # So many exports are named again although an earlier block has the same ones.
 _NAMED_AGAIN = 12
 # So many exports that reach a type, and so many notes of a kind, are shown.
@@ -58,7 +59,9 @@ def _lines(report: Report) -> Iterator[Words]:
     if report.sonames:
         yield [(report.sonames, "")]
     if report.rules:
-        yield from _wrapped(f"Rules: {', '.join(f'{rule} {name}' for rule, name in report.rules)}", "", "  ")
+        yield from _wrapped(f"Broken rules: {', '.join(f'{rule} {name}' for rule, name in report.rules)}", "", "  ")
+    if report.has_ways:
+        yield [(_WAYS, "")]
     for block in [*report.types, *report.others]:
         yield []
         yield from _block(report, block)
@@ -125,7 +128,7 @@ def _named_exports(block: Block) -> str:
         return words
     verb = "reaches" if len(others) == 1 else "reach"
     perhaps = "" if block.is_exact else ", and perhaps the type itself"
-    return f"{words}; {counted(len(others), 'other')} {verb} types of members{perhaps}: {_cut(others)}"
+    return f"{words}; {counted(len(others), 'other')} {verb} types of its members{perhaps}: {_cut(others)}"
 
 
 def _cut(names: Sequence[str]) -> str:

@@ -1,4 +1,4 @@
-// The notes on what no rule judges, as objects, where they are wanted.
+// The notes on what no rule judges, as objects.
 ghost use Rattle.std.specs.Prelude.{◌≤◌, length};
 ghost use Rattle.abi_base.specs.Limits.{input_limit};
 
@@ -10,17 +10,9 @@ use explain::name_of;
 use serde_json::{Value, json};
 use side_notes::all_notes;
 use std::alloc::{AllocError, Global};
-use std::rt::{Env, Files};
-use std::{env, str};
+use std::rt::Files;
+use std::str;
 use type_notes::Note;
-
-/// Whether such notes are wanted: the environment variable `ABI_NOTES` is 1.
-pub(crate) fn are_wanted<R: Env + AllocGlobal>(rt: &R) -> bool {
-    match env::var(rt, "ABI_NOTES") {
-        Ok(value) => value.as_str() == "1",
-        Err(_) => false,
-    }
-}
 
 // The bytes of an input; none where it was not read under a name, or cannot be read again.
 fn input_bytes<R: Files + AllocGlobal>(rt: &R, ending: &Ending<'_>, which: Input) -> Vec<u8>
@@ -70,19 +62,17 @@ fn is_judged_check(ending: &Ending<'_>) -> bool {
     }
 }
 
-/// The notes on two libraries that `check` judged, as an array. Null where they are not wanted or memory is too little for them.
-pub(crate) fn side_notes_value<R: Files + AllocGlobal>(
-    rt: &R,
-    ending: &Ending<'_>,
-) -> Result<Value, NoMemory> {
-    if !ending.with_notes || !is_judged_check(ending) {
-        return Ok(Value::Null);
-    }
-    let alloc = rt.alloc();
-    let old = input_bytes(rt, ending, Input::Old);
-    let new = input_bytes(rt, ending, Input::New);
-    let rules = input_bytes(rt, ending, Input::Rules);
-    let Ok(notes) = all_notes(alloc, &old, &new, &rules) else {
+/// The notes on two libraries, by the bytes of both and of a rule file, as an array. Null where memory is too little for them.
+pub(crate) fn notes_value(
+    alloc: Global,
+    old: &[u8],
+    new: &[u8],
+    rules: &[u8],
+) -> Result<Value, NoMemory>
+    requires old_short { length old.now ≤ input_limit }
+    requires new_short { length new.now ≤ input_limit }
+{
+    let Ok(notes) = all_notes(alloc, old, new, rules) else {
         return Ok(Value::Null);
     };
     let mut list = Vec::new(alloc);
@@ -90,4 +80,18 @@ pub(crate) fn side_notes_value<R: Files + AllocGlobal>(
         list.push(note_value(alloc, note)?)?;
     }
     Ok(Value::Array(list))
+}
+
+/// The notes on two libraries that `check` judged, as an array. Null where they are not wanted or memory is too little for them.
+pub(crate) fn side_notes_value<R: Files + AllocGlobal>(
+    rt: &R,
+    ending: &Ending<'_>,
+) -> Result<Value, NoMemory> {
+    if !ending.wanted.notes || !is_judged_check(ending) {
+        return Ok(Value::Null);
+    }
+    let old = input_bytes(rt, ending, Input::Old);
+    let new = input_bytes(rt, ending, Input::New);
+    let rules = input_bytes(rt, ending, Input::Rules);
+    notes_value(rt.alloc(), &old, &new, &rules)
 }

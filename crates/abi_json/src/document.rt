@@ -3,10 +3,10 @@ ghost use Rattle.std.specs.Prelude.{◌≡◌, drop, IfOk};
 ghost use Rattle.abi_json.specs.Documents.{IsDocument};
 ghost use Rattle.abi_json.specs.Documents as spec;
 
-use crate::beside::side_notes_value;
 use crate::files::bytes_of;
-use crate::libraries::input_value;
-use crate::places::places_value;
+use crate::libraries::{InputFacts, input_facts};
+use crate::places::TypeFacts;
+use crate::wanted::Wanted;
 use abi_base::{Fault, NoMemory, Remark, SizedExports};
 use commands::{File, Input, Outcome, Verdict};
 use explain::{name_of, notes_on};
@@ -22,7 +22,7 @@ const FORMAT: u64 = 1;
 // The line with which a report begins.
 const NO: &[u8] = b"no\n";
 
-/// How a run ended, and whether notes on what no rule judges are wanted beside it.
+/// How a run ended, and what is wanted beside that.
 #[derive(Clone, Copy)]
 pub(crate) struct Ending<'e> {
     /// The words of the command line.
@@ -32,7 +32,7 @@ pub(crate) struct Ending<'e> {
     pub files: &'e [File<'e>],
     /// The text that `abi` prints, where the listener makes the breaks.
     pub text: &'e [u8],
-    pub with_notes: bool,
+    pub wanted: Wanted,
 }
 
 // The answer in words.
@@ -106,15 +106,6 @@ fn notes_value<R: Files + AllocGlobal>(
     Ok(Value::Array(list))
 }
 
-// The inputs, in their order.
-fn inputs_value<R: Files + AllocGlobal>(rt: &R, files: &[File<'_>]) -> Result<Value, NoMemory> {
-    let mut list = Vec::new(rt.alloc());
-    for file in files {
-        list.push(input_value(rt, *file)?)?;
-    }
-    Ok(Value::Array(list))
-}
-
 // The breaks of the text that the listener made.
 fn breaks_in(alloc: Global, text: &[u8]) -> Vec<Value> {
     match Value::from_slice(alloc, text) {
@@ -152,21 +143,69 @@ fn breaks_of<'t>(outcome: Outcome, text: &'t [u8]) -> &'t [u8]
     }
 }
 
-// The places of the types of breaks in both libraries.
-fn all_places<R: Files + AllocGlobal>(
-    rt: &R,
-    outcome: Outcome,
-    files: &[File<'_>],
-    text: &[u8],
-) -> Result<Value, NoMemory> {
-    let alloc = rt.alloc();
-    if !is_report(outcome) {
-        return Ok(Value::Null);
+// What a document says of the inputs: their objects in order, and the places and the names of the types of breaks by library.
+#[derive(Drop)]
+struct InputMembers {
+    inputs: Vec<Value>,
+    places: Map<String, Value>,
+    names: Map<String, Value>,
+}
+
+// Adds what a library says of the types that breaks name. A rule file and a certificate say nothing of them.
+fn put_types(
+    alloc: Global,
+    members: &mut InputMembers,
+    which: Input,
+    types: TypeFacts,
+) -> Result<(), NoMemory> {
+    if which != Input::Old && which != Input::New {
+        return Ok(());
     }
-    let breaks = breaks_in(alloc, breaks_of(outcome, text));
-    let old = places_value(rt, name_of(files, Input::Old), &breaks, "old_entry")?;
-    let new = places_value(rt, name_of(files, Input::New), &breaks, "new_entry")?;
-    Ok(json!(in alloc; {"old": old, "new": new})?)
+    let TypeFacts { places, names } = types;
+    let word = which.word();
+    put(&mut members.places, alloc, word, Value::Object(places))?;
+    put(&mut members.names, alloc, word, Value::Object(names))?;
+    Ok(())
+}
+
+// Adds what a document says of an input.
+fn push_input<R: Files + AllocGlobal>(
+    rt: &R,
+    members: &mut InputMembers,
+    file: File<'_>,
+    breaks: &[Value],
+    with_digests: bool,
+) -> Result<(), NoMemory> {
+    let InputFacts { input, types } = input_facts(rt, file, breaks, with_digests)?;
+    members.inputs.push(input)?;
+    put_types(rt.alloc(), members, file.which, types)
+}
+
+// What a document says of all inputs.
+fn input_members<R: Files + AllocGlobal>(
+    rt: &R,
+    ending: &Ending<'_>,
+) -> Result<InputMembers, NoMemory> {
+    let alloc = rt.alloc();
+    let breaks = breaks_in(alloc, breaks_of(ending.outcome, ending.text));
+    let mut members = InputMembers {
+        inputs: Vec::new(alloc),
+        places: Map::new(alloc),
+        names: Map::new(alloc),
+    };
+    for file in ending.files {
+        push_input(rt, &mut members, *file, &breaks, ending.wanted.digests)?;
+    }
+    Ok(members)
+}
+
+// A map of a report; of other answers null.
+fn of_report(outcome: Outcome, map: Map<String, Value>) -> Value {
+    if is_report(outcome) {
+        Value::Object(map)
+    } else {
+        Value::Null
+    }
 }
 
 // The text that `abi` prints, or null where it stands for the breaks.
@@ -181,8 +220,13 @@ fn text_of(alloc: Global, outcome: Outcome, text: &[u8]) -> Result<Value, AllocE
 }
 
 // All members but the breaks.
-fn head_of<R: Files + AllocGlobal>(rt: &R, ending: &Ending<'_>) -> Result<Value, NoMemory> {
+fn head_of<R: Files + AllocGlobal>(
+    rt: &R,
+    ending: &Ending<'_>,
+    side_notes: Value,
+) -> Result<Value, NoMemory> {
     let alloc = rt.alloc();
+    let members = input_members(rt, ending)?;
     let mut head = Map::new(alloc);
     let Ending {
         words,
@@ -211,22 +255,18 @@ fn head_of<R: Files + AllocGlobal>(rt: &R, ending: &Ending<'_>) -> Result<Value,
         "status",
         Value::from(u64::from(outcome.number())),
     )?;
-    put(&mut head, alloc, "inputs", inputs_value(rt, files)?)?;
+    put(&mut head, alloc, "inputs", Value::Array(members.inputs))?;
     put(&mut head, alloc, "fault", fault_of(alloc, outcome)?)?;
     put(&mut head, alloc, "untyped", untyped_of(alloc, outcome)?)?;
     put(&mut head, alloc, "notes", notes_value(rt, outcome, files)?)?;
-    put(
-        &mut head,
-        alloc,
-        "side_notes",
-        side_notes_value(rt, ending)?,
-    )?;
+    put(&mut head, alloc, "side_notes", side_notes)?;
     put(
         &mut head,
         alloc,
         "places",
-        all_places(rt, outcome, files, text)?,
+        of_report(outcome, members.places),
     )?;
+    put(&mut head, alloc, "types", of_report(outcome, members.names))?;
     put(&mut head, alloc, "text", text_of(alloc, outcome, text)?)?;
     Ok(Value::Object(head))
 }
@@ -241,14 +281,15 @@ fn opened(object: &str) -> &[u8] {
     }
 }
 
-/// The document of a run: its head, and last the breaks as the listener made them.
+/// The document of a run: its head, with the notes on what no rule judges, and last the breaks as the listener made them.
 pub(crate) fn document_of<R: Files + AllocGlobal>(
     rt: &R,
     ending: &Ending<'_>,
+    side_notes: Value,
 ) -> Result<Vec<u8>, NoMemory>
     ensures { IfOk result (λ document. IsDocument ending.now.outcome ending.now.text.now document.items) }
 {
-    let head = head_of(rt, ending)?.to_string(rt.alloc())?;
+    let head = head_of(rt, ending, side_notes)?.to_string(rt.alloc())?;
     with_member(
         rt.alloc(),
         opened(head.as_str()),

@@ -3,6 +3,7 @@ ghost use Rattle.std.specs.Prelude.{◌≤◌, length};
 ghost use Rattle.abi_base.specs.Limits.{input_limit};
 
 use crate::files::bytes_of;
+use crate::places::{TypeFacts, type_facts};
 use abi_base::NoMemory;
 use commands::{File, Input};
 use elf::file::read_elf;
@@ -12,6 +13,13 @@ use sha2::{Digest, Sha256};
 use std::alloc::{AllocError, Global};
 use std::rt::Files;
 use std::str;
+
+/// What a document says of an input: its object, and what the input says of the types that breaks name.
+#[derive(Drop)]
+pub(crate) struct InputFacts {
+    pub input: Value,
+    pub types: TypeFacts,
+}
 
 // The text of bytes, or null where they are no text.
 fn text_value(alloc: Global, bytes: &[u8]) -> Result<Value, AllocError> {
@@ -42,31 +50,68 @@ fn is_library(which: Input) -> bool {
     }
 }
 
-// An input that could not be read again.
+// The digest of bytes, or null where it is not wanted.
+fn digest_value(alloc: Global, bytes: &[u8], is_wanted: bool) -> Result<Value, AllocError> {
+    if !is_wanted {
+        return Ok(Value::Null);
+    }
+    let digest = Sha256::digest(bytes);
+    let digits = hex::encode(alloc, digest.as_slice())?;
+    Value::try_from_str(alloc, digits.as_str())
+}
+
+// The object of an input of these bytes: what it is to its command, its name, its digest, and the soname of a library.
+fn input_value(
+    alloc: Global,
+    file: File<'_>,
+    bytes: &[u8],
+    with_digests: bool,
+) -> Result<Value, AllocError>
+    requires { length bytes.now ≤ input_limit }
+{
+    let digest = digest_value(alloc, bytes, with_digests)?;
+    let name = if is_library(file.which) {
+        soname_value(alloc, bytes)?
+    } else {
+        Value::Null
+    };
+    json!(in alloc; {"input": file.which.word(), "name": file.name, "sha256": digest, "soname": name})
+}
+
+// The object of an input that could not be read again.
 fn unread_value(alloc: Global, file: File<'_>) -> Result<Value, AllocError> {
     json!(in alloc; {"input": file.which.word(), "name": file.name, "sha256": null, "soname": null})
 }
 
-/// The object of an input: what it is to its command, its name, its digest, and the soname of a library.
-pub(crate) fn input_value<R: Files + AllocGlobal>(
+// The word under which breaks name entries of an input, where they name some.
+fn entry_word(which: Input) -> Option<&'static str> {
+    match which {
+        Input::Old => Some("old_entry"),
+        Input::New => Some("new_entry"),
+        _ => None,
+    }
+}
+
+/// Reads an input once more, and answers what the document says of it.
+pub(crate) fn input_facts<R: Files + AllocGlobal>(
     rt: &R,
     file: File<'_>,
-) -> Result<Value, NoMemory> {
+    breaks: &[Value],
+    with_digests: bool,
+) -> Result<InputFacts, NoMemory> {
     let alloc = rt.alloc();
     let Some(bytes) = bytes_of(rt, file.name) else {
-        return Ok(unread_value(alloc, file)?);
+        return Ok(InputFacts {
+            input: unread_value(alloc, file)?,
+            types: TypeFacts::none(alloc),
+        });
     };
-    let digest = Sha256::digest(&bytes);
-    let digits = hex::encode(alloc, digest.as_slice())?;
-    let name = if is_library(file.which) {
-        soname_value(alloc, &bytes)?
-    } else {
-        Value::Null
+    let types = match entry_word(file.which) {
+        Some(word) => type_facts(alloc, &bytes, breaks, word)?,
+        None => TypeFacts::none(alloc),
     };
-    Ok(json!(in alloc; {
-        "input": file.which.word(),
-        "name": file.name,
-        "sha256": digits.as_str(),
-        "soname": name
-    })?)
+    Ok(InputFacts {
+        input: input_value(alloc, file, &bytes, with_digests)?,
+        types,
+    })
 }

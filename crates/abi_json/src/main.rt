@@ -2,16 +2,20 @@
 //! numbers.
 #![tactic(auto)]
 
+mod alone;
 mod beside;
 mod document;
 mod files;
 mod libraries;
+mod names;
 mod places;
 mod told;
+mod wanted;
 mod words;
 
-use crate::beside::are_wanted;
-use crate::told::told_of;
+use crate::alone::{is_for_notes, notes_told};
+use crate::told::{Told, told_of};
+use crate::wanted::{Wanted, wanted_by};
 use crate::words::words_of;
 use abi_base::{FileInputs, NoMemory, StdSink, write_all};
 use commands::Outcome;
@@ -35,7 +39,7 @@ fn outcome_of_process<R: Files + Print + Env + AllocGlobal>(rt: &R) -> Outcome {
             Vec::new(rt.alloc())
         }
     };
-    outcome_of(rt, &arguments, are_wanted(rt)).unwrap_or(Outcome::NoMemory)
+    outcome_of(rt, &arguments, wanted_by(rt)).unwrap_or(Outcome::NoMemory)
 }
 
 // The arguments after the program's name.
@@ -47,15 +51,27 @@ fn arguments_of<R: Env + AllocGlobal>(rt: &R) -> io::Result<Vec<String>> {
     Ok(arguments)
 }
 
+// How the run of words ends, and its document.
+fn told_by_words<R: Files + AllocGlobal>(
+    rt: &R,
+    words: &[&str],
+    wanted: Wanted,
+) -> Result<Told, NoMemory> {
+    if is_for_notes(words) {
+        return notes_told(rt, words);
+    }
+    let mut inputs = FileInputs::new(rt);
+    told_of(rt, words, &mut inputs, wanted)
+}
+
 // Prints the document of the words' run. How the run ended stands, unless the document cannot be made or printed.
 fn outcome_of<R: Files + Print + AllocGlobal>(
     rt: &R,
     arguments: &[String],
-    with_notes: bool,
+    wanted: Wanted,
 ) -> Result<Outcome, NoMemory> {
     let words = words_of(rt.alloc(), arguments)?;
-    let mut inputs = FileInputs::new(rt);
-    let told = told_of(rt, &words, &mut inputs, with_notes)?;
+    let told = told_by_words(rt, &words, wanted)?;
     let mut sink = StdSink::new(rt);
     match write_all(&mut sink, &told.document) {
         Ok(()) => Ok(told.outcome),

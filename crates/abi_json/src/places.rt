@@ -1,16 +1,33 @@
-// Where the types of breaks are declared.
+// What the types of breaks are called, and where they are declared.
 ghost use Rattle.std.specs.Prelude.{◌≤◌, length};
 ghost use Rattle.abi_base.specs.Limits.{input_limit};
 
-use crate::files::bytes_of;
+use crate::names::{NamedEntries, Typedefs, lacks_tag, type_name, typedefs_in};
 use abi_base::NoMemory;
 use elf::file::read_elf;
 use elf::sections::debug_sections;
 use entry_places::EntryPlaces;
 use serde_json::{Map, Value, json, put};
-use std::alloc::{AllocError, Global};
-use std::rt::Files;
+use std::alloc::Global;
+use std::collections::{HashMap, HashSet};
 use std::str;
+
+/// The places and the names of types, by the offsets of their entries.
+#[derive(Drop)]
+pub(crate) struct TypeFacts {
+    pub places: Map<String, Value>,
+    pub names: Map<String, Value>,
+}
+
+impl TypeFacts {
+    /// Of no types.
+    pub(crate) fn none(alloc: Global) -> TypeFacts {
+        TypeFacts {
+            places: Map::new(alloc),
+            names: Map::new(alloc),
+        }
+    }
+}
 
 // The object of a place, or null.
 fn place_value(alloc: Global, places: &EntryPlaces<'_>, offset: u64) -> Result<Value, NoMemory> {
@@ -38,49 +55,90 @@ fn put_place(
     Ok(put(map, alloc, key.as_str(), place)?)
 }
 
-// The entry that a break names.
-fn entry_of(row: &Value, name: &str) -> Option<u64> {
-    row.get(name).and_then(Value::as_u64)
+// Puts the name of a type under the offset of its entry, where the type has a name.
+fn put_name(
+    alloc: Global,
+    map: &mut Map<String, Value>,
+    entries: &NamedEntries<'_, '_>,
+    typedefs: &Typedefs,
+    offset: u64,
+) -> Result<(), NoMemory> {
+    let Some(name) = type_name(alloc, entries, typedefs, offset)? else {
+        return Ok(());
+    };
+    let key = format!(in alloc; "{offset}")?;
+    let name = Value::try_from_str(alloc, name.as_str())?;
+    Ok(put(map, alloc, key.as_str(), name)?)
 }
 
-// The places of the entries that breaks name, by their offsets.
-fn places_in(
+// The entries that breaks name under a word, each once.
+fn entries_of(alloc: Global, breaks: &[Value], word: &str) -> Result<Vec<u64>, NoMemory> {
+    let mut known: HashSet<u64> = HashSet::new(alloc);
+    let mut offsets = Vec::new(alloc);
+    for row in breaks {
+        if let Some(offset) = row.get(word).and_then(Value::as_u64) {
+            if known.insert(offset)? {
+                offsets.push(offset)?;
+            }
+        }
+    }
+    Ok(offsets)
+}
+
+// The typedefs of a library, where a type without a tag may have its name from one.
+fn wanted_typedefs(
+    alloc: Global,
+    entries: &NamedEntries<'_, '_>,
+    offsets: &[u64],
+) -> Result<Typedefs, NoMemory> {
+    for offset in offsets {
+        if lacks_tag(entries, *offset) {
+            return typedefs_in(alloc, entries.tree);
+        }
+    }
+    Ok(HashMap::new(alloc))
+}
+
+// Puts the places and the names of entries into maps.
+fn put_all(
+    alloc: Global,
+    facts: &mut TypeFacts,
+    places: &EntryPlaces<'_>,
+    entries: &NamedEntries<'_, '_>,
+    offsets: &[u64],
+) -> Result<(), NoMemory> {
+    let typedefs = wanted_typedefs(alloc, entries, offsets)?;
+    for offset in offsets {
+        put_place(alloc, &mut facts.places, places, *offset)?;
+        put_name(alloc, &mut facts.names, entries, &typedefs, *offset)?;
+    }
+    Ok(())
+}
+
+/// The places and the names of the entries that breaks name under this word, in a library of these bytes.
+pub(crate) fn type_facts(
     alloc: Global,
     bytes: &[u8],
     breaks: &[Value],
-    name: &str,
-) -> Result<Map<String, Value>, NoMemory>
+    word: &str,
+) -> Result<TypeFacts, NoMemory>
     requires { length bytes.now ≤ input_limit }
 {
-    let mut map = Map::new(alloc);
+    let mut facts = TypeFacts::none(alloc);
+    let offsets = entries_of(alloc, breaks, word)?;
     let Ok(file) = read_elf(bytes) else {
-        return Ok(map);
+        return Ok(facts);
     };
+    if offsets.is_empty() {
+        return Ok(facts);
+    }
+    let sections = debug_sections(&file);
     let line = file.section(b".debug_line").unwrap_or(&[]);
-    let Some(places) = EntryPlaces::read(alloc, &debug_sections(&file), line)? else {
-        return Ok(map);
+    let Some(places) = EntryPlaces::read(alloc, &sections, line)? else {
+        return Ok(facts);
     };
-    for row in breaks {
-        if let Some(offset) = entry_of(row, name) {
-            put_place(alloc, &mut map, &places, offset)?;
-        }
-    }
-    Ok(map)
-}
-
-/// The places of the entries that breaks name under this word, by their offsets, in the library at a path.
-pub(crate) fn places_value<R: Files + AllocGlobal>(
-    rt: &R,
-    path: Option<&str>,
-    breaks: &[Value],
-    name: &str,
-) -> Result<Value, NoMemory> {
-    let alloc = rt.alloc();
-    let mut map = Map::new(alloc);
-    if let Some(path) = path {
-        if let Some(bytes) = bytes_of(rt, path) {
-            map = places_in(alloc, &bytes, breaks, name)?;
-        }
-    }
-    Ok(Value::Object(map))
+    let tree = places.tree();
+    let entries = NamedEntries { tree, sections };
+    put_all(alloc, &mut facts, &places, &entries, &offsets)?;
+    Ok(facts)
 }

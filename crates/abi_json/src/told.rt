@@ -5,7 +5,9 @@ ghost use Rattle.abi_json.specs.Documents.{TellsBreaks};
 ghost use Rattle.abi_top.specs.Answer.{Call, call_of};
 ghost use Rattle.json_report.specs.Breaks.{json_voice};
 
+use crate::beside::side_notes_value;
 use crate::document::{Ending, document_of};
+use crate::wanted::Wanted;
 use abi_base::{Inputs, NoMemory};
 use abi_top::run;
 use commands::{Outcome, Verdict};
@@ -36,13 +38,13 @@ fn add_alone(
     Ok(())
 }
 
-/// Runs the words over inputs with a listener that makes JSON of the breaks, and makes the document of the run, with notes on what no
-/// rule judges where they are wanted.
+/// Runs the words over inputs with a listener that makes JSON of the breaks, and makes the document of the run, with what is wanted
+/// beside the answer.
 pub(crate) fn told_of<R: Files + AllocGlobal, I: Inputs>(
     rt: &R,
     words: &[&str],
     inputs: &mut I,
-    with_notes: bool,
+    wanted: Wanted,
 ) -> Result<Told, NoMemory>
     // No: all inputs are readable, and the breaks of the document are the rows of the right report on the two libraries, or on what
     // the application uses of them, in their order.
@@ -60,8 +62,9 @@ pub(crate) fn told_of<R: Files + AllocGlobal, I: Inputs>(
         outcome,
         files: &ended.files,
         text: answer.held(),
-        with_notes,
+        wanted,
     };
-    let document = document_of(rt, &ending)?;
+    let side_notes = side_notes_value(rt, &ending)?;
+    let document = document_of(rt, &ending, side_notes)?;
     Ok(Told { outcome, document })
 }

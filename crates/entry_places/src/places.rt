@@ -72,6 +72,13 @@ impl<'a> EntryPlaces<'a> {
         }
     }
 
+    /// The entries themselves.
+    pub fn tree(&self) -> &Tree<'a>
+        ensures { result.now ≡ entries_in self.now }
+    {
+        &self.tree
+    }
+
     // The text that a value is.
     fn text(&self, value: Option<Value>) -> Option<&'a [u8]>
         ensures { option_copied result ≡ text_of self.now value }

@@ -1,0 +1,141 @@
+// The notes on what no rule judges, alone in a document: `abi-json notes`. A program that wants them beside an answer makes both at
+// the same time.
+ghost use Rattle.std.specs.Prelude.{◌≤◌, length, IfOk};
+ghost use Rattle.abi_base.specs.Limits.{input_limit};
+
+use crate::beside::notes_value;
+use crate::document::{Ending, document_of};
+use crate::files::bytes_of;
+use crate::told::Told;
+use crate::wanted::Wanted;
+use abi_base::NoMemory;
+use cli_args::{ParsedArguments, Request, parse_arguments};
+use commands::{File, Input, Outcome, Verdict};
+use serde_json::Value;
+use std::alloc::Global;
+use std::rt::Files;
+
+// The word that asks for notes alone.
+const NOTES: &str = "notes";
+
+/// Whether words ask for notes alone.
+pub(crate) fn is_for_notes(words: &[&str]) -> bool {
+    words.first().is_some_and(|word| *word == NOTES)
+}
+
+// The words of the check whose notes are asked for.
+fn check_words<'a>(alloc: Global, words: &[&'a str]) -> Result<Vec<&'a str>, NoMemory> {
+    let mut check: Vec<&'a str> = Vec::new(alloc);
+    check.push("check")?;
+    for word in words.iter().skip(1) {
+        check.push(*word)?;
+    }
+    Ok(check)
+}
+
+// The files that words of a check name, or how the run ends that has no right ones.
+fn named_files<'a>(
+    alloc: Global,
+    words: &'a [&'a str],
+) -> Result<Result<Vec<File<'a>>, Outcome>, NoMemory> {
+    let (rules, old, new) = match parse_arguments(alloc, words)? {
+        ParsedArguments::Request(
+            Request::Check {
+                rules,
+                old,
+                new,
+                ..
+            },
+        ) => (rules, old, new),
+        ParsedArguments::Help => return Ok(Err(Outcome::Help)),
+        _ => return Ok(Err(Outcome::Usage)),
+    };
+    let mut files = Vec::new(alloc);
+    files.push(File {
+        which: Input::Old,
+        name: old,
+    })?;
+    files.push(File {
+        which: Input::New,
+        name: new,
+    })?;
+    if let Some(name) = rules {
+        files.push(File {
+            which: Input::Rules,
+            name,
+        })?;
+    }
+    Ok(Ok(files))
+}
+
+// The bytes of an input. None of a rule file that is not named.
+fn bytes_in<R: Files + AllocGlobal>(
+    rt: &R,
+    files: &[File<'_>],
+    which: Input,
+) -> Result<Vec<u8>, Outcome>
+    ensures { IfOk result (λ bytes. length bytes.items ≤ input_limit) }
+{
+    for file in files {
+        if file.which == which {
+            return match bytes_of(rt, file.name) {
+                Some(bytes) => Ok(bytes),
+                None => Err(Outcome::ReadFault(which)),
+            };
+        }
+    }
+    Ok(Vec::new(rt.alloc()))
+}
+
+// The notes on files, and how the run ends.
+fn notes_on_files<R: Files + AllocGlobal>(
+    rt: &R,
+    files: &[File<'_>],
+) -> Result<(Value, Outcome), NoMemory> {
+    let old = match bytes_in(rt, files, Input::Old) {
+        Ok(old) => old,
+        Err(outcome) => return Ok((Value::Null, outcome)),
+    };
+    let new = match bytes_in(rt, files, Input::New) {
+        Ok(new) => new,
+        Err(outcome) => return Ok((Value::Null, outcome)),
+    };
+    let rules = match bytes_in(rt, files, Input::Rules) {
+        Ok(rules) => rules,
+        Err(outcome) => return Ok((Value::Null, outcome)),
+    };
+    let notes = notes_value(rt.alloc(), &old, &new, &rules)?;
+    Ok((notes, Outcome::Judged(Verdict::Done, None)))
+}
+
+// The document of notes, or of why there are none. It says nothing of the files, which the document of the answer does.
+fn told_with<R: Files + AllocGlobal>(
+    rt: &R,
+    words: &[&str],
+    notes: Value,
+    outcome: Outcome,
+) -> Result<Told, NoMemory> {
+    let ending = Ending {
+        words,
+        outcome,
+        files: &[],
+        text: b"",
+        wanted: Wanted {
+            notes: true,
+            digests: false,
+        },
+    };
+    let document = document_of(rt, &ending, notes)?;
+    Ok(Told { outcome, document })
+}
+
+/// The document of the notes on the libraries that words name.
+pub(crate) fn notes_told<R: Files + AllocGlobal>(rt: &R, words: &[&str]) -> Result<Told, NoMemory> {
+    let check = check_words(rt.alloc(), words)?;
+    let files = match named_files(rt.alloc(), &check)? {
+        Ok(files) => files,
+        Err(outcome) => return told_with(rt, words, Value::Null, outcome),
+    };
+    let (notes, outcome) = notes_on_files(rt, &files)?;
+    told_with(rt, words, notes, outcome)
+}

@@ -1,0 +1,148 @@
+// The names of the types of breaks.
+ghost use Rattle.std.specs.Prelude.{◌<◌, length};
+
+use abi_base::NoMemory;
+use abi_base::dwarf::{
+    DW_AT_name, DW_AT_str_offsets_base, DW_AT_type, DW_TAG_base_type, DW_TAG_enumeration_type,
+    DW_TAG_structure_type, DW_TAG_typedef, DW_TAG_union_type,
+};
+use dwarf_forms::{Sections, Value as Attribute};
+use dwarf_text::{Bases, text};
+use dwarf_tree::Tree;
+use std::alloc::{AllocError, Global};
+use std::collections::HashMap;
+use std::str;
+
+/// The entries of a library, and the sections in which their names stand.
+#[derive(Clone, Copy)]
+pub(crate) struct NamedEntries<'x, 'a> {
+    pub tree: &'x Tree<'a>,
+    pub sections: Sections<'a>,
+}
+
+/// The first typedef of each type that typedefs name: both by the offsets of their entries.
+pub(crate) type Typedefs = HashMap<u64, u64>;
+
+// What stands before the name of a type with this tag in C; none where such a type has no name of its own.
+fn keyword(tag: u64) -> Option<&'static str> {
+    match tag {
+        DW_TAG_structure_type => Some("struct "),
+        DW_TAG_union_type => Some("union "),
+        DW_TAG_enumeration_type => Some("enum "),
+        DW_TAG_typedef | DW_TAG_base_type => Some(""),
+        _ => None,
+    }
+}
+
+// Where the texts of an entry's unit begin.
+fn bases_of(tree: &Tree<'_>, e: usize) -> Bases
+    requires { e < length tree.now.entries }
+{
+    tree.known();
+    let root = tree.root(tree.unit(e));
+    let str_offsets = match tree.own(root, DW_AT_str_offsets_base) {
+        Some(Attribute::SectionOffset(place)) => Some(place),
+        _ => None,
+    };
+    Bases {
+        str_offsets,
+        addr: None,
+        rnglists: None,
+        low: 0,
+    }
+}
+
+// The name that an entry says of itself.
+fn own_name<'a>(entries: &NamedEntries<'_, 'a>, e: usize) -> Option<&'a [u8]>
+    requires { e < length entries.now.tree.now.entries }
+{
+    let tree = entries.tree;
+    let Some(value) = tree.own(e, DW_AT_name) else {
+        return None;
+    };
+    let bases = bases_of(tree, e);
+    match text(&value, &bases, &entries.sections, tree.offset(e)) {
+        Ok(name) => Some(name),
+        Err(_) => None,
+    }
+}
+
+// The name of the first typedef of an entry.
+fn name_by_typedef<'a>(
+    entries: &NamedEntries<'_, 'a>,
+    typedefs: &Typedefs,
+    offset: u64,
+) -> Option<&'a [u8]> {
+    let Some(typedef) = typedefs.get(&offset).copied() else {
+        return None;
+    };
+    match entries.tree.find(typedef) {
+        Some(e) => own_name(entries, e),
+        None => None,
+    }
+}
+
+// A name behind what stands before it, where it is a text.
+fn written(alloc: Global, keyword: &str, name: &[u8]) -> Result<Option<String>, AllocError> {
+    match str::from_utf8(name) {
+        Ok(name) => Ok(Some(format!(in alloc; "{keyword}{name}")?)),
+        Err(_) => Ok(None),
+    }
+}
+
+/// Whether the entry that begins at an offset may have its name from a typedef alone: it is a structure, a union or an enumeration
+/// without a tag.
+pub(crate) fn lacks_tag(entries: &NamedEntries<'_, '_>, offset: u64) -> bool {
+    let Some(e) = entries.tree.find(offset) else {
+        return false;
+    };
+    keyword(entries.tree.tag(e)).is_some() && own_name(entries, e).is_none()
+}
+
+/// The type of the entry that begins at an offset as C names it: a tag behind its keyword, a typedef, or a word as `unsigned int`.
+/// None for types without such a name, as pointers and arrays.
+pub(crate) fn type_name(
+    alloc: Global,
+    entries: &NamedEntries<'_, '_>,
+    typedefs: &Typedefs,
+    offset: u64,
+) -> Result<Option<String>, NoMemory> {
+    let Some(e) = entries.tree.find(offset) else {
+        return Ok(None);
+    };
+    let Some(keyword) = keyword(entries.tree.tag(e)) else {
+        return Ok(None);
+    };
+    if let Some(name) = own_name(entries, e) {
+        return Ok(written(alloc, keyword, name)?);
+    }
+    match name_by_typedef(entries, typedefs, offset) {
+        Some(name) => Ok(written(alloc, "", name)?),
+        None => Ok(None),
+    }
+}
+
+// Keeps an entry, if it is the first typedef of its type.
+fn keep_typedef(typedefs: &mut Typedefs, tree: &Tree<'_>, e: usize) -> Result<(), NoMemory>
+    requires { e < length tree.now.entries }
+{
+    if tree.tag(e) != DW_TAG_typedef {
+        return Ok(());
+    }
+    let Some(Attribute::Reference(target)) = tree.own(e, DW_AT_type) else {
+        return Ok(());
+    };
+    if !typedefs.contains_key(&target) {
+        typedefs.insert(target, tree.offset(e))?;
+    }
+    Ok(())
+}
+
+/// The typedefs among all entries.
+pub(crate) fn typedefs_in(alloc: Global, tree: &Tree<'_>) -> Result<Typedefs, NoMemory> {
+    let mut typedefs = HashMap::new(alloc);
+    for e in 0..tree.len() {
+        keep_typedef(&mut typedefs, tree, e)?;
+    }
+    Ok(typedefs)
+}
