@@ -5,7 +5,8 @@ usage: python3 bench/made_release.py [--distinct N] [--maker TRIAL_LIBRARY] FOLD
 FOLDER/old and FOLDER/new get COUNT packages each, a hundred a folder. The libraries are those that the program TRIAL_LIBRARY (of
 crates/tool_trial_library) writes, of 1 to 60 functions, or, without it, such that gcc makes; a number in the header of each (e_flags,
 which nothing reads) makes it another file, or, after N of them, one that stood before. In the new release every tenth library has
-lost exports.
+lost exports. All processors compile and write: 30,000 pairs take two minutes of processor time, and half a gigabyte of disk with
+libraries of gcc.
 """
 
 from __future__ import annotations
@@ -13,9 +14,12 @@ from __future__ import annotations
 import argparse
 import gzip
 import io
+import itertools
+import os
 import struct
 import subprocess
 import tarfile
+from concurrent.futures import ProcessPoolExecutor, ThreadPoolExecutor
 from pathlib import Path
 from typing import Callable
 
@@ -39,15 +43,39 @@ def main() -> None:
     given = parser.parse_args()
     folder, count = given.folder, given.count
     maker = _by_program(given.maker) if given.maker else _by_gcc(folder)
-    made = {side: [maker(1 + kind, side) for kind in range(_KINDS)] for side in ("old", "new")}
-    for number in range(count):
-        for side in ("old", "new"):
+    with ThreadPoolExecutor(os.cpu_count()) as threads:
+        made = {side: list(threads.map(maker, range(1, _KINDS + 1), itertools.repeat(side))) for side in ("old", "new")}
+    numbers = [range(first, min(first + _IN_A_FOLDER, count)) for first in range(0, count, _IN_A_FOLDER)]
+    with ProcessPoolExecutor(initializer=_Made.take, initargs=(folder, made, given.distinct or count)) as pool:
+        for _ in pool.map(_write_packages, numbers):
+            pass
+
+
+class _Made:
+    """What each process that writes packages has: the folder, the libraries of each side, and how many packages differ."""
+
+    folder: Path
+    libraries: dict[str, list[bytes]]
+    distinct: int
+
+    @classmethod
+    def take(cls, folder: Path, libraries: dict[str, list[bytes]], distinct: int) -> None:
+        """Takes it."""
+        cls.folder, cls.libraries, cls.distinct = folder, libraries, distinct
+
+
+def _write_packages(numbers: range) -> None:
+    """Writes the packages of these numbers, on both sides."""
+    for side in ("old", "new"):
+        folder = _Made.folder / side / f"{numbers.start // _IN_A_FOLDER:04d}"
+        folder.mkdir(parents=True, exist_ok=True)
+        for number in numbers:
             # a library of fewer functions has lost some of the old one's
             is_broken = side == "new" and number % _BROKEN == _BROKEN - 1
             kind = (number % _KINDS) // (2 if is_broken else 1)
-            library = bytearray(made[side][kind])
-            _FLAGS_AT[0].pack_into(library, _FLAGS_AT[1], number % (given.distinct or count))
-            _write_deb(folder / side / f"{number // _IN_A_FOLDER:04d}", number, side, bytes(library))
+            library = bytearray(_Made.libraries[side][kind])
+            _FLAGS_AT[0].pack_into(library, _FLAGS_AT[1], number % _Made.distinct)
+            _write_deb(folder, number, side, bytes(library))
 
 
 def _by_program(program: str) -> Maker:
@@ -64,17 +92,19 @@ def _by_gcc(folder: Path) -> Maker:
     folder.mkdir(parents=True, exist_ok=True)
 
     def make(functions: int, side: str) -> bytes:
-        source, output = folder / "made.c", folder / "made.so"
+        source, output = folder / f"{side}{functions}.c", folder / f"{side}{functions}.so"
         source.write_text("".join(_STRUCTURE.format(number, ("int", "long", "short")[number % 3]) for number in range(functions)))
         subprocess.run(["gcc", "-O1" if side == "old" else "-O2", "-g", "-shared", "-fPIC", "-o", output, source], check=True)
-        return output.read_bytes()
+        made = output.read_bytes()
+        for file in (source, output):
+            file.unlink()
+        return made
 
     return make
 
 
 def _write_deb(folder: Path, number: int, side: str, library: bytes) -> None:
     """Writes the package of a library, which depends on the one before."""
-    folder.mkdir(parents=True, exist_ok=True)
     name, version = f"libmade{number:05d}", "1" if side == "old" else "2"
     depends = f"Depends: libmade{number - 1:05d}\n" if number else ""
     control = f"Package: {name}\nVersion: {version}\nArchitecture: amd64\nMaintainer: a <a@example.org>\n{depends}Description: made\n"

@@ -23,11 +23,14 @@ from abi_tools.faults import Fault
 
 _TOOLS = str(Path(__file__).resolve().parent.parent)
 _MEGABYTE = 1 << 20
+# Where Linux has files in memory.
+_IN_MEMORY = Path("/dev/shm")
 # Seconds that a client may take to leave a cluster.
 _CLOSES_IN = 2
 # What Dask's scheduler keeps of the past, and how it deals: one task a worker at a time, so that only one is suspected when a worker
 # dies, which is reported at once. On a machine that is taken it may last long until a worker is started again, or says that it lives.
-# Workers have a hard limit of memory, so that Dask has no need to spill or to pause.
+# Workers have a hard limit of memory, so that Dask has no need to spill or to pause. It looks at its loops and processes seldom, since
+# each look takes of what a worker has.
 _LOCAL_SETTINGS = {
     "distributed.comm.timeouts.connect": "5 minutes",
     "distributed.scheduler.worker-ttl": "1 hour",
@@ -36,6 +39,9 @@ _LOCAL_SETTINGS = {
     "distributed.deploy.lost-worker-timeout": "1 hour",
     "distributed.scheduler.transition-log-length": 100,
     "distributed.scheduler.events-log-length": 100,
+    "distributed.admin.tick.interval": "500ms",
+    "distributed.admin.system-monitor.interval": "5s",
+    "distributed.worker.memory.monitor-interval": "1s",
     "distributed.worker.memory.target": False,
     "distributed.worker.memory.spill": False,
     "distributed.worker.memory.pause": False,
@@ -59,34 +65,46 @@ class LocalChoice:
     @contextlib.contextmanager
     def client(self) -> Iterator[Client]:
         """The cluster, for a while. Raises NotStarted where it does not start."""
-        folder = self._folder()
-        shutil.rmtree(folder, ignore_errors=True)
+        folder = Path(tempfile.gettempdir(), self._name())
+        memory = _IN_MEMORY / self._name()
+        for one in (folder, memory):
+            shutil.rmtree(one, ignore_errors=True)
         with dask.config.set(_LOCAL_SETTINGS):
             parts = contextlib.ExitStack()
             try:
-                yield self._started(parts, folder)
+                yield self._started(parts, folder, memory)
             finally:
                 # What is done is kept; a worker that does not end in time is no reason to lose it.
                 with contextlib.suppress(OSError, TimeoutError, RuntimeError):
                     parts.close()
-                shutil.rmtree(folder, ignore_errors=True)
+                for one in (folder, memory):
+                    shutil.rmtree(one, ignore_errors=True)
 
-    def _started(self, parts: contextlib.ExitStack, folder: Path) -> Client:
+    def _started(self, parts: contextlib.ExitStack, folder: Path, memory: Path) -> Client:
         """A client of the cluster, both of which `parts` ends."""
         try:
             cluster = parts.enter_context(LocalCluster(
                 n_workers=self.workers, threads_per_worker=1, processes=True, dashboard_address=":0",
                 memory_limit=2 * self.megabytes * _MEGABYTE, local_directory=str(folder), silence_logs=logging.CRITICAL))
             client = parts.enter_context(Client(cluster))
-            client.register_worker_plugin(LimitPlugin(self.megabytes))
+            client.register_worker_plugin(LimitPlugin(self.megabytes, _made(memory)))
         except (OSError, TimeoutError, RuntimeError) as error:
             raise NotStarted(f"this machine's cluster did not start: {error}") from error
         return client
 
-    def _folder(self) -> Path:
-        """Where the workers unpack: a folder of this run's own, which the next run of the same results clears."""
+    def _name(self) -> str:
+        """The folder where the workers unpack: of this run's own, which the next run of the same results clears."""
         mark = hashlib.sha256(os.fsencode(self.out.resolve())).hexdigest()[:16]
-        return Path(tempfile.gettempdir(), f"abi-release-{os.getuid()}-{mark}")
+        return f"abi-release-{os.getuid()}-{mark}"
+
+
+def _made(folder: Path) -> Optional[str]:
+    """A folder, made; none where that cannot be."""
+    try:
+        folder.mkdir(mode=0o700)
+    except OSError:
+        return None
+    return str(folder)
 
 
 @dataclass(frozen=True)

@@ -10,14 +10,17 @@ from typing import Sequence
 
 from abi_release.unpacked import tree_names
 
+_PART = 1 << 20
 OF_NOTHING = hashlib.sha256(b"").hexdigest()
 
 
 def digest_of_file(path: Path) -> str:
     """The SHA-256 of a file."""
     digest = hashlib.sha256()
-    with path.open("rb") as stream:
-        while part := stream.read(1 << 20):
+    with path.open("rb", buffering=0) as stream:
+        # No more memory is taken than the file needs.
+        part_size = min(_PART, os.fstat(stream.fileno()).st_size + 1)
+        while part := stream.read(part_size):
             digest.update(part)
     return digest.hexdigest()
 

@@ -177,7 +177,7 @@ class _Task:
         """What is kept of two packages."""
         versions, depends = [], []
         for places in packages.places:
-            version, needed = version_and_depends(places[0]) if places else (None, [])
+            version, needed = version_and_depends(places[0], packages.controls.get(places[0])) if places else (None, [])
             versions.append(version)
             depends.append(needed)
         return {"name": self.part.name, "identity": identity, "versions": versions, "depends": depends[0],
@@ -197,7 +197,7 @@ class _Task:
         except _NotJudged as reason:
             return self._failed(pair.name, str(reason))
         except Fault as fault:
-            return {"library": pair.name, "answer": Verdict.CANNOT_TELL.words(), "reason": str(fault).replace(f"{packages.folder}/", "")}
+            return {"library": pair.name, "answer": Verdict.CANNOT_TELL.words(), "reason": packages.plain(str(fault))}
         except OSError as error:
             return self._failed(pair.name, error.strerror or str(error))
         except MemoryError:

@@ -5,11 +5,14 @@ from __future__ import annotations
 import os
 import resource
 import select
+import shlex
 import signal
 import subprocess
 import tempfile
+import threading
 from dataclasses import dataclass
 from pathlib import Path
+from typing import BinaryIO, Optional, Sequence
 
 from abi_tools.abi_program import NO, Abi, Answer
 from abi_tools.faults import ENDED_BY_SIGNAL, Fault
@@ -40,6 +43,19 @@ def check_time() -> None:
         raise Fault(f"there is no {_TIME}: install the package time")
 
 
+# Runs that one shell does, one after another. What each prints ends with a line that begins with a mark which no run knows. The first
+# run decides whether the others are done.
+_LIMITS = "ulimit -S -v {kilobytes} && ulimit -S -t {seconds} && ulimit -S -f {blocks} && ulimit -S -c 0 || exit 125\n"
+_RUN = """\
+{command}
+status=$?
+echo "{mark} $status"
+echo "{mark}" >&2
+"""
+_NEXT = "[ $status -le 1 ] || exit 0\n"
+_BLOCK = 512
+
+
 class LimitedAbi(Abi):
     """The program, each run of which is under the limits. It keeps what the runs took, and why one of them says nothing of its
     inputs."""
@@ -47,30 +63,54 @@ class LimitedAbi(Abi):
     def __init__(self, folder: Path, limits: Limits) -> None:
         super().__init__(folder)
         self._limits = limits
+        self._known: dict[tuple[str, ...], Answer] = {}
         self.seconds = 0.0
         self.megabytes = 0.0
         self.trouble = ""
 
+    def check(self, old: Path, new: Path, rules: Optional[Path]) -> Answer:
+        """Its answer to whether a library may replace another one. Where that is a yes or a no, what the program says of the exports
+        of both is known then: to start three processes for each run takes longer than the runs on small libraries."""
+        options = [] if rules is None else [f"--rules={rules}"]
+        runs = [("check", *options, "--", str(old), str(new)), *(("exports", "--", str(library)) for library in (old, new))]
+        answers = self._answers(runs)
+        self._known = dict(zip(runs[1:], answers[1:]))
+        return self._told(answers[0])
+
     def run(self, *arguments: str) -> Answer:
         """What the program says of its arguments."""
-        limits = self._limits
-        with tempfile.NamedTemporaryFile(dir=self.folder) as took, tempfile.TemporaryFile(dir=self.folder) as out, \
-                tempfile.TemporaryFile(dir=self.folder) as errors:
-            command = [_TIME, "--quiet", "--format=%U %S %M", f"--output={took.name}", "prlimit",
-                       f"--as={_at_most(resource.RLIMIT_AS, limits.megabytes * _MEGABYTE)}:",
-                       f"--cpu={_at_most(resource.RLIMIT_CPU, limits.seconds)}:",
-                       f"--fsize={_at_most(resource.RLIMIT_FSIZE, _LONGEST_TEXT)}:", "--core=0:", "--", self.path, *arguments]
-            with subprocess.Popen(command, stdin=subprocess.DEVNULL, stdout=out, stderr=errors, cwd=self.folder,
-                                  start_new_session=True) as process:
-                status = self._waited(process)
-            self._take(took.read().decode("ascii", "replace").split())
-            texts = []
-            for stream in (out, errors):
-                stream.seek(0)
-                texts.append(stream.read().decode("utf-8", "surrogateescape"))
-        answer = Answer(status, *texts)
+        known = self._known.pop(arguments, None)
+        return self._told(known or self._answers([arguments])[0])
+
+    def _told(self, answer: Answer) -> Answer:
         self.trouble = self.trouble or self._trouble(answer)
         return answer
+
+    def _answers(self, runs: Sequence[tuple[str, ...]]) -> list[Answer]:
+        """What the program says in runs, of which the others are not done where the first one answers neither yes nor no."""
+        limits = self._limits
+        mark = os.urandom(16).hex()
+        script = _LIMITS.format(kilobytes=_at_most(resource.RLIMIT_AS, limits.megabytes * _MEGABYTE) // 1024,
+                                seconds=_at_most(resource.RLIMIT_CPU, limits.seconds),
+                                blocks=_at_most(resource.RLIMIT_FSIZE, _LONGEST_TEXT) // _BLOCK)
+        script += _NEXT.join(_RUN.format(command=shlex.join([self.path, *run]), mark=mark) for run in runs)
+        out, errors, took = files = _files(self.folder)
+        # GNU time writes to its output by a name.
+        command = [_TIME, "--quiet", "--format=%U %S %M", f"--output=/proc/self/fd/{took.fileno()}", "/bin/sh", "-c", script]
+        try:
+            with subprocess.Popen(command, stdin=subprocess.DEVNULL, stdout=out, stderr=errors, cwd=self.folder,
+                                  start_new_session=True, pass_fds=[took.fileno()]) as process:
+                status = self._waited(process)
+            text, notes, said = (_contents(file) for file in files)
+        finally:
+            for file in files:
+                os.ftruncate(file.fileno(), 0)
+                os.lseek(file.fileno(), 0, os.SEEK_SET)
+        if status == -signal.SIGKILL:
+            # What may still write there must not write to those of the next run.
+            del _FILES[os.getpid(), threading.get_ident(), self.folder]
+        self._take(said.split())
+        return _parted(mark, status, text, notes)
 
     def _waited(self, process: subprocess.Popen[bytes]) -> int:
         """The exit status of the process; below 0, the signal that ended it."""
@@ -78,8 +118,7 @@ class LimitedAbi(Abi):
             os.killpg(process.pid, signal.SIGKILL)
             process.wait()
             return -signal.SIGKILL
-        status = process.wait()
-        return ENDED_BY_SIGNAL - status if status > ENDED_BY_SIGNAL else status
+        return _signal_or_status(process.wait())
 
     def _take(self, took: list[str]) -> None:
         """Takes what a run took: seconds of its own and of the system, and kilobytes."""
@@ -93,10 +132,33 @@ class LimitedAbi(Abi):
             return f"abi ran out of memory under its limit of {self._limits.megabytes} MB"
         if answer.status == -signal.SIGXCPU or answer.status == -signal.SIGKILL:
             return f"abi was ended: its limit is {self._limits.seconds} seconds of processor time"
-        # Where a limit cannot be set, `prlimit` ends with the status of a no, and prints nothing.
         if answer.status not in _TOLD or (answer.status == NO and not answer.text):
             return answer.why()
         return ""
+
+
+# The files of each thread for what runs print, and for what they took: to make files takes longer than to empty them.
+_FILES: dict[tuple[int, int, Path], tuple[BinaryIO, BinaryIO, BinaryIO]] = {}
+
+
+def _files(folder: Path) -> tuple[BinaryIO, BinaryIO, BinaryIO]:
+    """The files of this thread, which have nothing now."""
+    key = os.getpid(), threading.get_ident(), folder
+    if key not in _FILES:
+        out, errors, took = (tempfile.TemporaryFile(dir=folder, buffering=0) for _ in range(3))
+        _FILES[key] = out, errors, took
+    return _FILES[key]
+
+
+def _contents(file: BinaryIO) -> str:
+    """What stands in a file."""
+    size = os.fstat(file.fileno()).st_size
+    return os.pread(file.fileno(), size, 0).decode("utf-8", "surrogateescape")
+
+
+def _signal_or_status(status: int) -> int:
+    """An exit status, or below 0 the signal that ended a process, as a shell tells both."""
+    return ENDED_BY_SIGNAL - status if status > ENDED_BY_SIGNAL else status
 
 
 def _ends_within(process: subprocess.Popen[bytes], seconds: int) -> bool:
@@ -115,3 +177,18 @@ def _at_most(limit: int, value: int) -> int:
     """A value, or what the process may set at most, where that is less."""
     most = resource.getrlimit(limit)[1]
     return value if most == resource.RLIM_INFINITY else min(value, most)
+
+
+def _parted(mark: str, status: int, text: str, notes: str) -> list[Answer]:
+    """The answers of runs, by the mark that ends each. A run without one was ended, as the status of the shell says."""
+    texts, all_notes = text.split(f"{mark} "), notes.split(f"{mark}\n")
+    answers = []
+    for number, (said, noted) in enumerate(zip(texts, all_notes)):
+        if number:
+            _, _, said = said.partition("\n")
+        if number + 1 < len(texts):
+            ended = int(texts[number + 1].partition("\n")[0])
+            answers.append(Answer(_signal_or_status(ended), said, noted))
+        elif not answers:
+            answers.append(Answer(status, said, noted))
+    return answers

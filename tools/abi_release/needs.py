@@ -4,10 +4,10 @@ from __future__ import annotations
 
 import subprocess
 from pathlib import Path, PurePosixPath
-from typing import Iterable, Iterator
+from typing import Iterable, Iterator, Optional
 
 from debian.arfile import ArError
-from debian.deb822 import PkgRelation
+from debian.deb822 import Deb822, PkgRelation
 from debian.debfile import DebError, DebFile
 
 from abi_tools.debug_files import DEBUG_FOLDER
@@ -22,18 +22,23 @@ ANY_LIBRARY = ""
 Imports = dict[str, list[str]]
 
 
-def version_and_depends(package: Path) -> tuple[str, list[str]]:
+def version_and_depends(package: Path, control: Optional[bytes] = None) -> tuple[str, list[str]]:
     """The version of a package, and the names of the packages of which one of its `Depends` and `Pre-Depends` speaks; empty for an
-    unpacked tree. Raises a fault if the package is damaged."""
+    unpacked tree. The text of its control file may be known. Raises a fault if the package is damaged."""
+    if control is not None:
+        return _of_control(Deb822(control))
     if package.is_dir():
         return "", []
     if package.suffix == ".rpm":
         return _of_rpm(package)
     try:
         with DebFile(filename=str(package)) as file:
-            control = file.debcontrol()
+            return _of_control(file.debcontrol())
     except (ArError, DebError, OSError, ValueError, EOFError) as error:
         raise Fault(f"{package.name} is damaged: {error}") from error
+
+
+def _of_control(control: Deb822) -> tuple[str, list[str]]:
     names: set[str] = set()
     for relations in (control.get("Depends", ""), control.get("Pre-Depends", "")):
         for alternatives in PkgRelation.parse_relations(relations) if relations else ():

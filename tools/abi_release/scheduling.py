@@ -1,9 +1,11 @@
 """The tasks of a run: a bounded number of them at a time, each tried again where it failed, and none forgotten. Packages with one pair
-of libraries are one task; those with more are one that opens them, and then one for each pair."""
+of libraries are one task; those with more are one that opens them, and then one for each pair. What Dask does is a batch of tasks,
+since a task of Dask costs more than the judging of a small library."""
 
 from __future__ import annotations
 
 import itertools
+import operator
 import threading
 import time
 from collections import Counter, deque
@@ -24,6 +26,11 @@ from abi_tools.faults import Fault
 # How many tasks the scheduler has for each thread of a worker, and at least.
 _TASKS_FOR_A_THREAD = 4
 _LEAST_TASKS = 16
+# How many tasks a batch has at most, and how many batches for each thread of a worker are left when batches become smaller. A worker
+# begins no other task of a batch after so many seconds.
+_LARGEST_BATCH = 32
+_LEAST_BATCHES = 16
+_LONGEST_BATCH = 5.0
 # How often a cluster that was lost is looked for again.
 _MOST_CLUSTERS = 10
 _LOOKS_EVERY = 1.0
@@ -33,6 +40,24 @@ DIED = "the worker died over it"
 
 
 Task = Part | Ask
+
+
+class Given(NamedTuple):
+    """A task of a batch, and the libraries that are passed over."""
+
+    task: Task
+    passed_over: tuple[str, ...]
+
+
+def done_in_turn(batch: Sequence[Given], settings: Settings) -> list[Outcome]:
+    """Does the tasks of a batch, one after another, and answers what came of those for which there was time: of the first at least."""
+    end = time.monotonic() + _LONGEST_BATCH
+    outcomes: list[Outcome] = []
+    for task, passed_over in batch:
+        if outcomes and time.monotonic() > end:
+            break
+        outcomes.append((done if isinstance(task, Part) else asked)(task, settings, passed_over))
+    return outcomes
 
 
 class Failure(NamedTuple):
@@ -66,12 +91,13 @@ class Run:
     _waits: Counter[str] = field(default_factory=Counter)
 
     def __post_init__(self) -> None:
+        self._source: Iterator[Task] = iter(())
         self._openings = Openings(self.store)
 
     def over(self, tasks: Sequence[Task], progress: Progress) -> None:
         """Does all tasks, which open packages or ask; those that could not be done are failures then."""
         left: deque[Task] = deque()
-        source = iter(tasks)
+        source = self._source = iter(tasks)
         for _ in range(_MOST_CLUSTERS):
             reason = ""
             try:
@@ -90,6 +116,10 @@ class Run:
             if part.name not in self.failures:
                 self.failures[part.name] = Failure(reason, self._tried[part.name, part.library] + 1)
                 progress.advance()
+
+    def waiting(self) -> int:
+        """How many tasks were not given out yet."""
+        return operator.length_hint(self._source)
 
     def came_of(self, part: Task, outcome: Outcome) -> "Next":
         """Takes an outcome, and answers what is to be done then."""
@@ -144,10 +174,12 @@ class Run:
 
 
 class Next(NamedTuple):
-    """What is to be done after a task: others at once, others at the end; and whether its packages are done."""
+    """What is to be done after a task: others at once, others at the end, others that were not tried; and whether its packages are
+    done."""
 
     first: Sequence[Task] = ()
     again: Sequence[Task] = ()
+    rest: Sequence[Task] = ()
     is_done: bool = False
 
 
@@ -156,8 +188,9 @@ class _Turn:
 
     def __init__(self, run: Run, client: Client, source: Iterator[Task], left: deque[Task], progress: Progress) -> None:
         self._run, self._client, self._source, self._left, self._progress = run, client, source, left, progress
-        self._under_way: dict[str, Task] = {}
+        self._under_way: dict[str, list[Task]] = {}
         self._numbers = itertools.count()
+        self._threads = 1
         self._first: deque[Task] = deque()
         self._again: deque[Task] = deque()
 
@@ -166,76 +199,90 @@ class _Turn:
         watch = _Watch(self._client, self._run.patience)
         try:
             with watch:
+                self._look_for_threads()
                 ended = as_completed(self._submitted(self._most()), loop=self._client.loop, raise_errors=False)
-                for future in ended:
+                for number, future in enumerate(ended):
                     self._take(future, watch)
+                    # To ask the scheduler takes as long as a task of its own.
+                    if number % _LEAST_TASKS == 0:
+                        self._look_for_threads()
                     for more in self._submitted(max(1, self._most() - len(self._under_way))):
                         ended.add(more)
         except OSError as error:
             raise _Lost("the scheduler is gone") from error
         finally:
-            for parts in (self._under_way.values(), self._first, self._again):
+            for parts in (*self._under_way.values(), self._first, self._again):
                 self._left.extend(parts)
 
-    def _most(self) -> int:
-        """How many tasks the scheduler is to have."""
-        return max(_LEAST_TASKS, _TASKS_FOR_A_THREAD * self._threads())
+    def _look_for_threads(self) -> None:
+        workers = self._client.scheduler_info()["workers"].values()
+        self._threads = max(1, sum(worker["nthreads"] for worker in workers))
 
-    def _threads(self) -> int:
-        return sum(worker["nthreads"] for worker in self._client.scheduler_info()["workers"].values())
+    def _most(self) -> int:
+        """How many batches the scheduler is to have."""
+        return max(_LEAST_TASKS, _TASKS_FOR_A_THREAD * self._threads)
 
     def _submitted(self, count: int) -> list[Future]:
-        """The next tasks, up to a count."""
-        return [self._submit(part) for part in itertools.islice(self._next(), count)]
+        """The next batches, up to a count."""
+        batches = itertools.takewhile(bool, (self._batch() for _ in range(count)))
+        return [self._submit(batch) for batch in batches]
 
-    def _next(self) -> Iterator[Task]:
+    def _batch(self) -> list[Task]:
         """What is to be done next: libraries of packages that are open, what another cluster left, what was not tried yet, and then
-        what is tried again."""
-        for parts in (self._first, self._left):
-            while parts:
-                yield parts.popleft()
-        yield from self._source
-        while self._again:
-            yield self._again.popleft()
+        what is tried again. A library of many is a batch of its own, and so is what is tried again."""
+        if self._first:
+            return [self._first.popleft()]
+        waiting = len(self._left) + self._run.waiting()
+        size = max(1, min(_LARGEST_BATCH, waiting // (_LEAST_BATCHES * self._threads)))
+        batch: list[Task] = []
+        while self._left and len(batch) < size:
+            batch.append(self._left.popleft())
+        batch += itertools.islice(self._source, size - len(batch))
+        if not batch and self._again:
+            batch.append(self._again.popleft())
+        return batch
 
-    def _submit(self, part: Task) -> Future:
+    def _submit(self, batch: list[Task]) -> Future:
         key = f"judged-{next(self._numbers)}"
-        self._under_way[key] = part
-        function = done if isinstance(part, Part) else asked
+        self._under_way[key] = batch
+        given = [Given(task, self._run.passed_over(task)) for task in batch]
         try:
-            future: Future = self._client.submit(function, part, self._run.settings, self._run.passed_over(part), key=key, pure=False,
-                                                 priority=1 if part.library else 0)
+            future: Future = self._client.submit(done_in_turn, given, self._run.settings, key=key, pure=False,
+                                                 priority=1 if batch[0].library else 0)
         except Exception as error:
             raise _Lost("the scheduler is gone") from error
         return future
 
     def _take(self, future: Future, watch: "_Watch") -> None:
-        """Takes what came of a task."""
+        """Takes what came of a batch."""
         if future.status in ("cancelled", "lost"):
             if watch.reason:
                 raise _NoWorkers(watch.reason)
             raise _Lost("the scheduler is gone")
-        then = self._next_after(self._under_way[future.key], future)
+        nexts = self._next_after(self._under_way[future.key], future)
         del self._under_way[future.key]
         future.release()
-        self._first.extend(then.first)
-        self._again.extend(then.again)
-        if then.is_done:
-            self._progress.advance()
+        for then in nexts:
+            self._first.extend(then.first)
+            self._again.extend(then.again)
+            self._left.extend(then.rest)
+            if then.is_done:
+                self._progress.advance()
 
-    def _next_after(self, part: Task, future: Future) -> Next:
+    def _next_after(self, batch: Sequence[Task], future: Future) -> list[Next]:
         error = future.exception() if future.status == "error" else None
         if error is None:
             try:
-                return self._run.came_of(part, future.result())
+                outcomes = future.result()
+                return [*map(self._run.came_of, batch, outcomes), Next(rest=batch[len(outcomes):])]
             except (KilledWorker, CancelledError) as ended:
-                # Where the worker dies that has the result, Dask does the task again, and that may end in another way.
+                # Where the worker dies that has the result, Dask does the batch again, and that may end in another way.
                 error = ended
         if isinstance(error, KilledWorker):
-            return self._run.died(part)
+            return [self._run.died(task) for task in batch]
         if isinstance(error, CancelledError):
             raise _Lost("the scheduler is gone") from error
-        return self._run.came_of(part, Outcome(reason=f"{type(error).__name__}: {error}"))
+        return [self._run.came_of(task, Outcome(reason=f"{type(error).__name__}: {error}")) for task in batch]
 
 
 class _Watch:

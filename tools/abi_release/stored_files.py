@@ -2,12 +2,13 @@
 
 from __future__ import annotations
 
+import contextlib
 import fcntl
 import hashlib
 import io
+import itertools
 import json
 import os
-import tempfile
 from pathlib import Path
 from typing import Any, BinaryIO, Callable, Optional, TextIO
 
@@ -17,6 +18,9 @@ Json = dict[str, Any]
 _PERMISSIONS = 0o644
 # Folders of what a run has begun, which the next run clears.
 _BEGUN = ("started", "opened", "unfinished")
+# Names of files that are written: no other process has one of these, on no machine.
+_OWN_NAME = os.urandom(8).hex()
+_NUMBERS = itertools.count()
 _SUFFIXES = {"certificate": "cert", "report": "report"}
 
 
@@ -66,17 +70,16 @@ class Store:
         self._put(name, write, is_forced=True)
 
     def _put(self, name: str, write: Callable[[BinaryIO], object], is_forced: bool) -> None:
-        place = self.folder / name
-        place.parent.mkdir(exist_ok=True)
-        file, temporary = tempfile.mkstemp(dir=self._unfinished)
+        temporary = f"{self._unfinished}/{_OWN_NAME}-{os.getpid()}-{next(_NUMBERS)}"
+        file = os.open(temporary, os.O_WRONLY | os.O_CREAT | os.O_EXCL | os.O_CLOEXEC, _PERMISSIONS)
         try:
             with os.fdopen(file, "wb") as stream:
+                os.fchmod(file, _PERMISSIONS)
                 write(stream)
                 if is_forced:
                     stream.flush()
                     os.fsync(stream.fileno())
-            os.chmod(temporary, _PERMISSIONS)
-            os.rename(temporary, place)
+            _rename(temporary, f"{self.folder}/{name}")
         except BaseException:
             Path(temporary).unlink(missing_ok=True)
             raise
@@ -118,25 +121,40 @@ class Store:
 
     def begin(self, task: str, library: str) -> None:
         """Notes that a task has begun, and which library it judges now, for the case that the worker dies over it."""
-        self._started(task).write_text(library)
+        file = os.open(self._started(task), os.O_WRONLY | os.O_CREAT | os.O_TRUNC | os.O_CLOEXEC, _PERMISSIONS)
+        try:
+            if library:
+                os.write(file, os.fsencode(library))
+        finally:
+            os.close(file)
 
     def begun(self, task: str) -> Optional[str]:
         """Which library a task was judging: an empty name where it was none yet, and none where the task had not begun."""
         try:
-            return self._started(task).read_text()
+            return os.fsdecode(Path(self._started(task)).read_bytes())
         except OSError:
             return None
 
     def end(self, task: str) -> None:
         """Notes that a task is done."""
-        self._started(task).unlink(missing_ok=True)
+        with contextlib.suppress(FileNotFoundError):
+            os.unlink(self._started(task))
 
-    def _started(self, task: str) -> Path:
-        return self.folder / "started" / hashlib.sha256(os.fsencode(task)).hexdigest()
+    def _started(self, task: str) -> str:
+        return f"{self.folder}/started/{hashlib.sha256(os.fsencode(task)).hexdigest()}"
 
     def drop(self, name: str) -> None:
         """Takes a file away."""
         (self.folder / name).unlink(missing_ok=True)
+
+
+def _rename(temporary: str, place: str) -> None:
+    """Gives a file its name. A folder of results is made once it is needed."""
+    try:
+        os.rename(temporary, place)
+    except FileNotFoundError:
+        os.makedirs(os.path.dirname(place), exist_ok=True)
+        os.rename(temporary, place)
 
 
 def record_name(work: str) -> str:

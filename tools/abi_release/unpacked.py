@@ -6,12 +6,13 @@ import os
 import tempfile
 import threading
 from pathlib import Path, PurePosixPath
-from typing import Sequence
+from typing import Optional, Sequence
 
 from abi_tools.package_judging import put_joined
 from abi_tools.package_sides import Pair, Side, libraries, pairs
 from abi_tools.unpacking import Package
 from abi_release import workers
+from abi_release.small_packages import SmallPackage, small_side
 from abi_release.sources import Work
 
 _SIDES = ("old", "new")
@@ -19,19 +20,58 @@ _Key = tuple[str, Work, tuple[str, ...]]
 
 
 class Unpacked:
-    """Two packages in a folder of the worker: `work` of a release with these folders, and the pairs of their libraries that count."""
+    """Two packages on a worker: `work` of a release with these files, and the pairs of their libraries that count. `folder` is where
+    libraries stand that are judged."""
 
     def __init__(self, work: Work, places: Sequence[Sequence[Path]]) -> None:
         self.places = places
-        self._folder = tempfile.TemporaryDirectory(prefix="abi-release-", dir=workers.folder())
-        self.folder = Path(self._folder.name)
+        self.folder = _work_folder()
+        self.controls: dict[Path, bytes] = {}
+        self._trees: Optional[tempfile.TemporaryDirectory[str]] = None
         try:
-            self.sides = tuple(_side(of_side, self.folder / f"{name}-packages") for name, of_side in zip(_SIDES, places))
+            self.sides = self._small_sides() or self._sides()
         except BaseException:
-            self._folder.cleanup()
+            self.close()
             raise
         self._kept: dict[str, tuple[Path, Path]] = {}
         self.pairs = {pair.name: pair for pair in pairs(*self.sides) if not work.only or pair.name in work.only}
+
+    def _small_sides(self) -> Optional[tuple[Side, ...]]:
+        """Both sides, unpacked to memory; none where they are not small, or no memory is there for files."""
+        memory = workers.memory_folder()
+        if memory is None:
+            return None
+        sides = [[SmallPackage.read(place) for place in of_side] for of_side in self.places]
+        packages = [[one for one in side if one is not None] for side in sides]
+        if packages != sides:
+            return None
+        try:
+            root = self._new_trees(memory)
+            found = tuple(small_side(of_side, root / name) for name, of_side in zip(_SIDES, packages))
+        except OSError:
+            self._drop_trees()
+            return None
+        self.controls = {one.file: one.control for side in packages for one in side}
+        return found
+
+    def _sides(self) -> tuple[Side, ...]:
+        """Both sides, unpacked to the disk."""
+        root = self._new_trees(workers.folder())
+        return tuple(_side(of_side, root / name) for name, of_side in zip(_SIDES, self.places))
+
+    def _new_trees(self, folder: str) -> Path:
+        self._trees = tempfile.TemporaryDirectory(prefix="abi-release-", dir=folder)
+        return Path(self._trees.name)
+
+    def _drop_trees(self) -> None:
+        if self._trees is not None:
+            self._trees.cleanup()
+            self._trees = None
+
+    def plain(self, reason: str) -> str:
+        """A reason without the names of folders of the worker."""
+        trees = reason if self._trees is None else reason.replace(f"{self._trees.name}/", "")
+        return trees.replace(f"{self.folder}/", "")
 
     def joined(self, pair: Pair) -> tuple[Path, Path, list[str]]:
         """The files of two libraries, joined with their debug information, by their names in the folder, and why that was not done."""
@@ -52,8 +92,26 @@ class Unpacked:
         return tree_names(self.sides[0].root) if self.places[0] else []
 
     def close(self) -> None:
-        """Takes the folder away."""
-        self._folder.cleanup()
+        """Takes away what was unpacked, and the files in the folder."""
+        self._drop_trees()
+        for folder in (self.folder, *(self.folder / side for side in _SIDES)):
+            for entry in os.scandir(folder):
+                if not entry.is_dir():
+                    os.unlink(entry)
+
+
+# The folder of each thread, in which libraries are judged. To make and remove one for each pair takes longer than to unpack.
+_FOLDERS: dict[tuple[int, int, str], tempfile.TemporaryDirectory[str]] = {}
+
+
+def _work_folder() -> Path:
+    """The folder of this thread, which has no files now."""
+    key = os.getpid(), threading.get_ident(), workers.folder()
+    if key not in _FOLDERS or not os.path.isdir(_FOLDERS[key].name):
+        _FOLDERS[key] = tempfile.TemporaryDirectory(prefix="abi-release-", dir=workers.folder())
+        for side in _SIDES:
+            os.mkdir(os.path.join(_FOLDERS[key].name, side))
+    return Path(_FOLDERS[key].name)
 
 
 # What each thread unpacked last.

@@ -5,6 +5,7 @@ from __future__ import annotations
 import resource
 import tempfile
 import time
+from typing import Optional
 
 from distributed import Worker, WorkerPlugin, get_worker
 
@@ -13,18 +14,20 @@ _PAGE = resource.getpagesize()
 
 
 class _Own:
-    """Whether the worker belongs to this run alone, so that its process may be limited."""
+    """Whether the worker belongs to this run alone, so that its process may be limited, and the run's folder in memory."""
 
     is_limited = False
+    memory: Optional[str] = None
 
 
 class LimitPlugin(WorkerPlugin):
     """Limits a worker of a run's own cluster, which has one thread: so many megabytes beside those that it has at the start, and the
-    time that tasks allow."""
+    time that tasks allow; and tells it where small packages may be unpacked to memory."""
 
-    def __init__(self, megabytes: int) -> None:
+    def __init__(self, megabytes: int, memory: Optional[str]) -> None:
         self.name = "abi-release-limits"
         self._megabytes = megabytes
+        self._memory = memory
 
     def setup(self, worker: Worker) -> None:
         """Limits the process."""
@@ -34,6 +37,7 @@ class LimitPlugin(WorkerPlugin):
         resource.setrlimit(resource.RLIMIT_AS, (at_start + self._megabytes * _MEGABYTE, most))
         resource.setrlimit(resource.RLIMIT_CORE, (0, 0))
         _Own.is_limited = True
+        _Own.memory = self._memory
 
 
 def allow_more_time(seconds: int) -> None:
@@ -41,6 +45,11 @@ def allow_more_time(seconds: int) -> None:
     if _Own.is_limited:
         most = resource.getrlimit(resource.RLIMIT_CPU)[1]
         resource.setrlimit(resource.RLIMIT_CPU, (int(time.process_time()) + 1 + seconds, most))
+
+
+def memory_folder() -> Optional[str]:
+    """A folder in memory, which the run takes away; none where there is none."""
+    return _Own.memory
 
 
 def folder() -> str:

@@ -85,11 +85,7 @@ def _unpack_deb(file: Path, root: Path) -> Iterator[PurePosixPath]:
     """Unpacks a .deb, and yields what it brought."""
     try:
         with DebFile(filename=str(file)) as package:
-            archive = package.data.tgz()
-            for member in archive:
-                name = _parts(member.name, file)
-                if _place(archive, member, _folder(root, name.parent, file) / name.name, file):
-                    yield name
+            yield from place_members(package.data.tgz(), root, file)
     except (ArError, DebError, tarfile.TarError, lzma.LZMAError, zlib.error, EOFError, ValueError) as error:
         raise Fault(f"{file} is damaged: {error}") from error
     except OSError as error:
@@ -97,6 +93,15 @@ def _unpack_deb(file: Path, root: Path) -> Iterator[PurePosixPath]:
         if error.errno is not None:
             raise
         raise Fault(f"{file} is damaged: {error}") from error
+
+
+def place_members(archive: tarfile.TarFile, root: Path, file: Path) -> Iterator[PurePosixPath]:
+    """Puts the members of an archive, which the package `file` brings, below `root`, and yields the names of those that the tools
+    read. Raises a fault if one lies outside, or stands there already."""
+    for member in archive:
+        name = _parts(member.name, file)
+        if _place(archive, member, _folder(root, name.parent, file) / name.name, file):
+            yield name
 
 
 def _place(archive: tarfile.TarFile, member: tarfile.TarInfo, place: Path, file: Path) -> bool:

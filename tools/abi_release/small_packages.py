@@ -1,0 +1,113 @@
+"""Small .deb files: read once, inflated in memory as far as they may be, and unpacked from there. All that is not small, not plain or
+damaged is left to the reader of all packages, which also says what is wrong."""
+
+from __future__ import annotations
+
+import io
+import lzma
+import tarfile
+import zlib
+from dataclasses import dataclass
+from pathlib import Path
+from typing import Optional
+
+from debian.arfile import ArError
+from debian.debfile import DebFile
+
+from abi_tools.package_sides import Side, libraries
+from abi_tools.unpacking import Package, place_members
+
+# What a package that is read so has at most, packed and with all its files unpacked.
+_LARGEST_PACKED = 1 << 20
+_LARGEST = 16 << 20
+_LARGEST_CONTROL = 1 << 20
+# What inflating may take beside: the dictionary of `xz -9` has 64 MiB.
+_MOST_FOR_XZ = 80 << 20
+# A wbits of zlib for a file of gzip.
+_GZIP = 31
+_CONTROL = "control"
+# What the readers raise where a package is damaged.
+_DAMAGED = (ArError, tarfile.TarError, lzma.LZMAError, zlib.error, OSError, EOFError, ValueError, KeyError, StopIteration)
+
+
+@dataclass(frozen=True)
+class SmallPackage:
+    """A .deb in memory: its file, the text of its control file, and the archive of its files."""
+
+    file: Path
+    control: bytes
+    archive: tarfile.TarFile
+
+    @classmethod
+    def read(cls, file: Path) -> Optional["SmallPackage"]:
+        """The package; none where it is no small one, or damaged."""
+        if file.suffix not in (".deb", ".ddeb") or not file.is_file() or file.stat().st_size > _LARGEST_PACKED:
+            return None
+        try:
+            with DebFile(fileobj=io.BytesIO(file.read_bytes())) as package:
+                control = _archive(package, "control.tar", _LARGEST_CONTROL)
+                archive = _archive(package, "data.tar", _LARGEST)
+                if archive is not None and not _is_small(archive):
+                    return None
+            text = None if control is None else _text(control)
+        except _DAMAGED:
+            return None
+        return None if archive is None or text is None else cls(file, text, archive)
+
+
+def small_side(packages: list[SmallPackage], root: Path) -> Side:
+    """The packages, unpacked. Raises a fault if two bring the same file, or a file lies outside."""
+    root.mkdir()
+    found = [Package(one.file, tuple(place_members(one.archive, root, one.file))) for one in packages]
+    return Side(root, tuple(library for package in found for library in libraries(package, root)))
+
+
+def _is_small(archive: tarfile.TarFile) -> bool:
+    """Whether the files of an archive take no more than they may. A file with holes takes more than the archive has, and so does each
+    other name of a file."""
+    return sum(_LARGEST + 1 if member.islnk() else member.size for member in archive.getmembers()) <= _LARGEST
+
+
+def _archive(package: DebFile, name: str, most: int) -> Optional[tarfile.TarFile]:
+    """An archive of a package, inflated; none where it takes more memory than it may."""
+    member = package.getmember(next(one for one in package.getnames() if one.startswith(name)))
+    plain = _inflated(member.read(), member.name.removeprefix(name), most)
+    return None if plain is None else tarfile.open(fileobj=io.BytesIO(plain), mode="r:")
+
+
+def _inflated(packed: bytes, suffix: str, most: int) -> Optional[bytes]:
+    """Inflated bytes; none where there are more of them, where something stands behind them, or where nobody knows how."""
+    if suffix == "":
+        return packed if len(packed) <= most else None
+    if suffix == ".gz":
+        gzip = zlib.decompressobj(_GZIP)
+        plain = gzip.decompress(packed, most)
+        return plain if gzip.eof and not gzip.unused_data else None
+    if suffix == ".xz":
+        xz = lzma.LZMADecompressor(lzma.FORMAT_XZ, memlimit=_MOST_FOR_XZ)
+        plain = xz.decompress(packed, most)
+        return plain if xz.eof and not xz.unused_data else None
+    if suffix == ".zst":
+        return _inflated_zstandard(packed, most)
+    return None
+
+
+def _inflated_zstandard(packed: bytes, most: int) -> Optional[bytes]:
+    """The same of zstd, where its library is there."""
+    try:
+        import zstandard  # pylint: disable=import-outside-toplevel
+    except ImportError:
+        return None
+    try:
+        with zstandard.ZstdDecompressor(max_window_size=_LARGEST).stream_reader(io.BytesIO(packed), read_across_frames=True) as stream:
+            plain: bytes = stream.read(most + 1)
+    except zstandard.ZstdError:
+        return None
+    return plain if len(plain) <= most else None
+
+
+def _text(archive: tarfile.TarFile) -> Optional[bytes]:
+    """The control file of a package."""
+    member = next((one for one in archive.getmembers() if one.name in (_CONTROL, f"./{_CONTROL}")), None)
+    stream = None if member is None else archive.extractfile(member)
+    return None if stream is None else stream.read()
