@@ -33,8 +33,10 @@ impl Effort {
         }
     }
 
-    /// A budget for a table and its string table.
-    pub fn for_table(table: &[u8], strings: &[u8]) -> Effort {
+    /// A budget for a table and its string table, each byte of which may be read 64 times.
+    pub fn for_table(table: &[u8], strings: &[u8]) -> Effort
+        ensures { result ≡ min (64 * (length table.now + length strings.now)) (2 ^ 64 - 1) }
+    {
         Effort::for_bytes(table.len().saturating_add(strings.len()))
     }
 
