@@ -3,25 +3,24 @@ use Rattle.std.specs.Prelude.{◌≡◌, ℕ, Bool, ◌&&◌, List, Option, Some
 use Rattle.std.specs.Borrow.{Bor}
 use Rattle.std.specs.List.{list_any}
 use Rattle.std.specs.Str.{bytes_eq}
-use Rattle.std.specs.HashSet.{HashSet, contains_by}
-use Rattle.std.specs.declared.hash.FoldHasher.{FoldHasher}
-use Rattle.std.specs.declared.hash.BuildHasherDefault.{BuildHasherDefault}
+use Rattle.std.specs.BTreeSet.{BTreeSet, contains_by}
 use Rattle.abi_types.specs.Exports.{PlainExport}
 use Rattle.elf_bind.specs.Exports.{same_name}
+use Rattle.elf_bind.specs.NameOrder.{name_cmp, version_cmp}
 
--- sets of names, and of names with versions
+-- sets of names, and of names with versions, in order
 abbrev pub Names : Type 0
-Names = HashSet (Bor (List ℕ)) (BuildHasherDefault FoldHasher)
+Names = BTreeSet (Bor (List ℕ))
 
 abbrev pub Versioned : Type 0
-Versioned = HashSet (Bor (List ℕ) × Bor (List ℕ)) (BuildHasherDefault FoldHasher)
+Versioned = BTreeSet (Bor (List ℕ) × Bor (List ℕ))
 
 -- whether a name is in such a set, and a name with a version
 abbrev pub has_name : Names → List ℕ → Bool
-has_name names name = contains_by (λ k. bytes_eq name k.now) names
+has_name names name = contains_by (λ k. name_cmp name k.now) names
 
 abbrev pub has_version : Versioned → List ℕ → List ℕ → Bool
-has_version names name version = contains_by (λ k. bytes_eq name k.0.now && bytes_eq version k.1.now) names
+has_version names name version = contains_by (λ k. version_cmp name version k.0.now k.1.now) names
 
 -- an export has this name and this version, or no version
 abbrev pub is_like : List ℕ → Option (List ℕ) → PlainExport → Bool

@@ -1,5 +1,6 @@
 pub mod Binding
 pub mod Exports
+pub mod NameOrder
 pub mod Named
 pub mod Offers
 pub mod Placed

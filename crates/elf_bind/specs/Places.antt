@@ -2,36 +2,35 @@
 use Rattle.std.specs.Prelude.{ℕ, ◌==◌, Bool, ◌&&◌, if◌then◌else◌, List, count_by, Option, Some, None}
 use Rattle.std.specs.Borrow.{Bor}
 use Rattle.std.specs.Str.{bytes_eq}
-use Rattle.std.specs.HashMap.{HashMap, get_by}
-use Rattle.std.specs.declared.hash.FoldHasher.{FoldHasher}
-use Rattle.std.specs.declared.hash.BuildHasherDefault.{BuildHasherDefault}
+use Rattle.std.specs.BTreeMap.{BTreeMap, get_by}
 use Rattle.abi_types.specs.Exports.{PlainExport}
 use Rattle.elf_bind.specs.Binding.{is_default_version, only_default_version}
+use Rattle.elf_bind.specs.NameOrder.{name_cmp, version_cmp}
 
 -- a map from names to places
 abbrev pub Places : Type 0
-Places = HashMap (Bor (List ℕ)) ℕ (BuildHasherDefault FoldHasher)
+Places = BTreeMap (Bor (List ℕ)) ℕ
 
 -- a map from names and versions to places
 abbrev pub VersionPlaces : Type 0
-VersionPlaces = HashMap (Bor (List ℕ) × Bor (List ℕ)) ℕ (BuildHasherDefault FoldHasher)
+VersionPlaces = BTreeMap (Bor (List ℕ) × Bor (List ℕ)) ℕ
 
 -- a map from names to the place of the only export of a name, and `None` where there are several
 abbrev pub OnlyPlaces : Type 0
-OnlyPlaces = HashMap (Bor (List ℕ)) (Option ℕ) (BuildHasherDefault FoldHasher)
+OnlyPlaces = BTreeMap (Bor (List ℕ)) (Option ℕ)
 
 -- a name and a version are these
 abbrev pub names_version : List ℕ → List ℕ → List ℕ → List ℕ → Bool
 names_version name version n v = bytes_eq name n && bytes_eq version v
 
 abbrev pub place_under : Places → List ℕ → Option ℕ
-place_under places name = get_by (λ k. bytes_eq name k.now) places
+place_under places name = get_by (λ k. name_cmp name k.now) places
 
 abbrev pub place_under_version : VersionPlaces → List ℕ → List ℕ → Option ℕ
-place_under_version places name version = get_by (λ k. bytes_eq name k.0.now && bytes_eq version k.1.now) places
+place_under_version places name version = get_by (λ k. version_cmp name version k.0.now k.1.now) places
 
 abbrev pub only_under : OnlyPlaces → List ℕ → Option (Option ℕ)
-only_under places name = get_by (λ k. bytes_eq name k.now) places
+only_under places name = get_by (λ k. name_cmp name k.now) places
 
 -- the only place, where there is one
 abbrev pub the_only : Option (Option ℕ) → Option ℕ

@@ -10,13 +10,13 @@ ghost use Rattle.elf_bind.specs.EarlierExports.{EarlierExports};
 use abi_base::{Fault, FaultKind};
 use abi_types::Export;
 use std::alloc::{AllocError, Global};
-use std::collections::HashSet;
+use std::collections::BTreeSet;
 
 // Adds an export to those that stood before, and says whether one of them has its name and its version, or its name and
 // no version.
 fn stood_before<'a>(
-    unversioned: &mut HashSet<&'a [u8]>,
-    versioned: &mut HashSet<(&'a [u8], &'a [u8])>,
+    unversioned: &mut BTreeSet<&'a [u8]>,
+    versioned: &mut BTreeSet<(&'a [u8], &'a [u8])>,
     export: &Export<'a>,
 ) -> Result<bool, AllocError>
     ensures says { IfOk result (λ stood. (before : List PlainExport) → EarlierExports unversioned.old versioned.old before → stood ≡ list_any (is_same (plain_export export.now)) before) }
@@ -33,8 +33,8 @@ fn stood_before<'a>(
 pub fn duplicate_fault(alloc: Global, exports: &[Export]) -> Result<Option<Fault>, AllocError>
     ensures { IfOk result (λ fault. fault ≡ first (duplicate_faults [] (plain_exports exports.now))) }
 {
-    let mut unversioned = HashSet::new(alloc);
-    let mut versioned = HashSet::new(alloc);
+    let mut unversioned = BTreeSet::new(alloc);
+    let mut versioned = BTreeSet::new(alloc);
     for export in exports {
         if stood_before(&mut unversioned, &mut versioned, export)? {
             return Ok(Some(Fault {

@@ -10,19 +10,19 @@ use crate::places::{
 use abi_base::NoMemory;
 use abi_types::Export;
 use std::alloc::Global;
-use std::collections::HashMap;
+use std::collections::BTreeMap;
 
 /// The places of the exports that a library offers.
 #[derive(Drop)]
 pub struct Offers<'a> {
     /// The first place of each name and version.
-    pub versioned: HashMap<(&'a [u8], &'a [u8]), usize>,
+    pub versioned: BTreeMap<(&'a [u8], &'a [u8]), usize>,
     /// The first place of each name among those without a version.
-    pub unversioned: HashMap<&'a [u8], usize>,
+    pub unversioned: BTreeMap<&'a [u8], usize>,
     /// The first place of each name among those of the first version.
-    pub first_version: HashMap<&'a [u8], usize>,
+    pub first_version: BTreeMap<&'a [u8], usize>,
     /// The place of the only one of each name whose version is the default one, or that there are several.
-    pub defaults: HashMap<&'a [u8], Option<usize>>,
+    pub defaults: BTreeMap<&'a [u8], Option<usize>>,
 }
 
 /// The places of the exports offered.
@@ -42,24 +42,24 @@ pub fn offers_of<'a>(alloc: Global, offered: &[Export<'a>]) -> Result<Offers<'a>
 }
 
 // The place under a name and a version.
-fn place_of_version(offers: &Offers, name: &[u8], version: &[u8]) -> Option<usize>
+fn place_of_version<'a>(offers: &Offers<'a>, name: &'a [u8], version: &'a [u8]) -> Option<usize>
     ensures { result ≡ place_under_version offers.now.versioned name.now version.now }
 {
     offers.versioned.get(&(name, version)).copied()
 }
 
 // The place under a name.
-fn place_of(places: &HashMap<&[u8], usize>, name: &[u8]) -> Option<usize>
+fn place_of(places: &BTreeMap<&[u8], usize>, name: &[u8]) -> Option<usize>
     ensures { result ≡ place_under places.now name.now }
 {
-    places.get(&name).copied()
+    places.get(name).copied()
 }
 
 // The place of the only one under a name.
-fn only_place_of(places: &HashMap<&[u8], Option<usize>>, name: &[u8]) -> Option<usize>
+fn only_place_of(places: &BTreeMap<&[u8], Option<usize>>, name: &[u8]) -> Option<usize>
     ensures { result ≡ the_only (only_under places.now name.now) }
 {
-    match places.get(&name) {
+    match places.get(name) {
         Some(only) => *only,
         None => None,
     }
@@ -79,7 +79,7 @@ fn unversioned_place(offers: &Offers, name: &[u8]) -> Option<usize>
 }
 
 /// The place that an export binds to.
-pub fn offered_place(offers: &Offers, wanted: &Export) -> Option<usize>
+pub fn offered_place<'a>(offers: &Offers<'a>, wanted: &Export<'a>) -> Option<usize>
     ensures { result ≡ bind_by offers.now (plain_export wanted.now) }
 {
     match wanted.version {
