@@ -6,21 +6,28 @@ use Rattle.std.specs.Str.{bytes_eq}
 use Rattle.std.specs.BTreeSet.{BTreeSet, contains_by}
 use Rattle.abi_types.specs.Exports.{PlainExport}
 use Rattle.elf_bind.specs.Exports.{same_name}
-use Rattle.elf_bind.specs.NameOrder.{name_cmp, version_cmp}
+use Rattle.elf_bind.specs.NameOrder.{code_of, name_cmp, version_cmp}
 
--- sets of names, and of names with versions, in order
+-- sets of names, each with its code, and of names with versions
 abbrev pub Names : Type 0
-Names = BTreeSet (Bor (List ℕ))
+Names = BTreeSet (ℕ × Bor (List ℕ))
 
 abbrev pub Versioned : Type 0
-Versioned = BTreeSet (Bor (List ℕ) × Bor (List ℕ))
+Versioned = BTreeSet (ℕ × Bor (List ℕ) × Bor (List ℕ))
+
+-- whether a code with a name is in such a set, and with a version
+abbrev pub has_code : Names → ℕ → List ℕ → Bool
+has_code names code name = contains_by (λ k. name_cmp code name k.0 k.1.now) names
+
+abbrev pub has_code_version : Versioned → ℕ → List ℕ → List ℕ → Bool
+has_code_version names code name version = contains_by (λ k. version_cmp code name version k.0 k.1.now k.2.now) names
 
 -- whether a name is in such a set, and a name with a version
 abbrev pub has_name : Names → List ℕ → Bool
-has_name names name = contains_by (λ k. name_cmp name k.now) names
+has_name names name = has_code names (code_of name) name
 
 abbrev pub has_version : Versioned → List ℕ → List ℕ → Bool
-has_version names name version = contains_by (λ k. version_cmp name version k.0.now k.1.now) names
+has_version names name version = has_code_version names (code_of name) name version
 
 -- an export has this name and this version, or no version
 abbrev pub is_like : List ℕ → Option (List ℕ) → PlainExport → Bool

@@ -5,32 +5,40 @@ use Rattle.std.specs.Str.{bytes_eq}
 use Rattle.std.specs.BTreeMap.{BTreeMap, get_by}
 use Rattle.abi_types.specs.Exports.{PlainExport}
 use Rattle.elf_bind.specs.Binding.{is_default_version, only_default_version}
-use Rattle.elf_bind.specs.NameOrder.{name_cmp, version_cmp}
+use Rattle.elf_bind.specs.NameOrder.{code_of, name_cmp, version_cmp}
 
--- a map from names to places
+-- a map from names, each with its code, to places
 abbrev pub Places : Type 0
-Places = BTreeMap (Bor (List ℕ)) ℕ
+Places = BTreeMap (ℕ × Bor (List ℕ)) ℕ
 
 -- a map from names and versions to places
 abbrev pub VersionPlaces : Type 0
-VersionPlaces = BTreeMap (Bor (List ℕ) × Bor (List ℕ)) ℕ
+VersionPlaces = BTreeMap (ℕ × Bor (List ℕ) × Bor (List ℕ)) ℕ
 
 -- a map from names to the place of the only export of a name, and `None` where there are several
 abbrev pub OnlyPlaces : Type 0
-OnlyPlaces = BTreeMap (Bor (List ℕ)) (Option ℕ)
+OnlyPlaces = BTreeMap (ℕ × Bor (List ℕ)) (Option ℕ)
 
 -- a name and a version are these
 abbrev pub names_version : List ℕ → List ℕ → List ℕ → List ℕ → Bool
 names_version name version n v = bytes_eq name n && bytes_eq version v
 
+-- what stands under a code and a name
+abbrev pub under_code : {X : Type 0} → BTreeMap (ℕ × Bor (List ℕ)) X → ℕ → List ℕ → Option X
+under_code places code name = get_by (λ k. name_cmp code name k.0 k.1.now) places
+
+-- what stands under a code, a name and a version
+abbrev pub under_code_version : VersionPlaces → ℕ → List ℕ → List ℕ → Option ℕ
+under_code_version places code name version = get_by (λ k. version_cmp code name version k.0 k.1.now k.2.now) places
+
 abbrev pub place_under : Places → List ℕ → Option ℕ
-place_under places name = get_by (λ k. name_cmp name k.now) places
+place_under places name = under_code places (code_of name) name
 
 abbrev pub place_under_version : VersionPlaces → List ℕ → List ℕ → Option ℕ
-place_under_version places name version = get_by (λ k. version_cmp name version k.0.now k.1.now) places
+place_under_version places name version = under_code_version places (code_of name) name version
 
 abbrev pub only_under : OnlyPlaces → List ℕ → Option (Option ℕ)
-only_under places name = get_by (λ k. name_cmp name k.now) places
+only_under places name = under_code places (code_of name) name
 
 -- the only place, where there is one
 abbrev pub the_only : Option (Option ℕ) → Option ℕ
