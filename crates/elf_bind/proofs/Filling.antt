@@ -17,7 +17,7 @@ use Rattle.abi_types.specs.Exports.{PlainExport}
 use Rattle.abi_types.specs.Plain.{plain_export, plain_exports}
 use Rattle.elf_bind.specs.Binding.{is_default_version}
 use Rattle.elf_bind.specs.NameOrder.{code_of, name_cmp, version_cmp}
-use Rattle.elf_bind.specs.Places.{Places, VersionPlaces, OnlyPlaces, under_code, under_code_version, place_under, place_under_version, only_under, names_version, only_seen}
+use Rattle.elf_bind.specs.NameTrees.{Places, VersionPlaces, OnlyPlaces, under_code, under_code_version, place_under, place_under_version, only_under, names_version, only_seen}
 use Rattle.elf_bind.proofs.NameOrderLemmas.{same_name_where_equal, same_version_where_equal}
 
 pub bool_cases : {P : Type 0} (b : Bool) → (b ≡ true → P) → (b ≡ false → P) → P

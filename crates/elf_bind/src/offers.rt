@@ -1,7 +1,7 @@
 // The exports of a library by their names and versions, and which of them an export binds to.
 ghost use Rattle.std.specs.Prelude.{◌≡◌, IfOk};
 ghost use Rattle.abi_types.specs.Plain.{plain_export, plain_exports};
-ghost use Rattle.elf_bind.specs.Places.{under_code, under_code_version, place_under, place_under_version, only_under, the_only};
+ghost use Rattle.elf_bind.specs.NameTrees.{under_code, under_code_version, place_under, place_under_version, only_under, the_only};
 ghost use Rattle.elf_bind.specs.Offers.{IsOffers, bind_by, unversioned_by};
 
 use crate::codes::code_of;

@@ -4,7 +4,7 @@ ghost use Rattle.std.specs.Option.{option_or};
 ghost use Rattle.std.specs.Str.{bytes_eq};
 ghost use Rattle.abi_types.specs.Plain.{plain_export, plain_exports};
 ghost use Rattle.elf_bind.specs.Binding.{has_version, has_first_version, is_default_version};
-ghost use Rattle.elf_bind.specs.Places.{place_under, place_under_version, only_under, names_version, only_seen};
+ghost use Rattle.elf_bind.specs.NameTrees.{place_under, place_under_version, only_under, names_version, only_seen};
 
 use crate::bind_one::FIRST_VERSION;
 use crate::codes::code_of;

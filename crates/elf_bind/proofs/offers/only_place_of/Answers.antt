@@ -1,5 +1,5 @@
 use Rattle.std.proofs.Common.{ℕ, ◌∙◌, ap}
-use Rattle.elf_bind.specs.Places.{under_code, the_only}
+use Rattle.elf_bind.specs.NameTrees.{under_code, the_only}
 use Rattle.elf_bind.proofs.offers.only_place_of.Goals as goal
 
 pub returns : goal.returns

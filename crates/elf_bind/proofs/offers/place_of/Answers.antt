@@ -1,5 +1,5 @@
 use Rattle.std.proofs.Common.{ℕ, ◌∙◌, ap}
-use Rattle.elf_bind.specs.Places.{under_code}
+use Rattle.elf_bind.specs.NameTrees.{under_code}
 use Rattle.elf_bind.proofs.offers.place_of.Goals as goal
 
 pub returns : goal.returns

@@ -1,5 +1,5 @@
 use Rattle.std.proofs.Common.{ℕ, ◌∙◌, ap}
-use Rattle.elf_bind.specs.Places.{under_code_version}
+use Rattle.elf_bind.specs.NameTrees.{under_code_version}
 use Rattle.elf_bind.proofs.offers.place_of_version.Goals as goal
 
 pub returns : goal.returns
