@@ -4,6 +4,7 @@ use Rattle.std.specs.Prelude.{position, count_by, not, nat_lt, is_some, ◌&&◌
 use Rattle.std.specs.Borrow.{Bor}
 use Rattle.std.specs.List.{position_or_len}
 use Rattle.std.specs.Option.{option_or}
+use Rattle.std.specs.Ordering.{is_eq}
 use Rattle.std.specs.Str.{bytes_eq}
 use Rattle.std.proofs.lemmas.Bool.Decides.{nat_tests}
 use Rattle.std.proofs.lemmas.Bool.{cases_lt, eqb-true}
@@ -15,7 +16,9 @@ use Rattle.abi_types.specs.declared.export.Export.{Export}
 use Rattle.abi_types.specs.Exports.{PlainExport}
 use Rattle.abi_types.specs.Plain.{plain_export, plain_exports}
 use Rattle.elf_bind.specs.Binding.{is_default_version}
-use Rattle.elf_bind.specs.Places.{Places, VersionPlaces, OnlyPlaces, place_under, place_under_version, only_under, names_version, only_seen}
+use Rattle.elf_bind.specs.NameOrder.{code_of, name_cmp, version_cmp}
+use Rattle.elf_bind.specs.NameTrees.{Places, VersionPlaces, OnlyPlaces, under_code, under_code_version, place_under, place_under_version, only_under, names_version, only_seen}
+use Rattle.elf_bind.proofs.NameOrderLemmas.{same_name_where_equal, same_version_where_equal}
 
 pub bool_cases : {P : Type 0} (b : Bool) → (b ≡ true → P) → (b ≡ false → P) → P
 bool_cases true here other = here refl
@@ -34,13 +37,15 @@ pub absent : {X : Type 0} (o : Option X) (b : Bool) → b ≡ is_some o → b �
 absent None b is none = refl
 absent (Some x) b is none = absurd cc
 
-pub first_kept : (old new : Places) (name : List ℕ) (place : ℕ) → place_under old name ≡ None
-    → ((q : Bor (List ℕ)) → place_under new q.now ≡ cond (bytes_eq name q.now) (Some place) (place_under old q.now))
+pub first_kept : (old new : Places) (code : ℕ) (name : List ℕ) (place : ℕ) → code ≡ code_of name → under_code old code name ≡ None
+    → ((q : ℕ × Bor (List ℕ)) → under_code new q.0 q.1.now ≡ cond (is_eq (name_cmp code name q.0 q.1.now)) (Some place) (under_code old q.0 q.1.now))
     → (q : List ℕ) → place_under new q ≡ option_or (place_under old q) (if bytes_eq name q then Some place else None)
-first_kept old new name place none adds q =
-    adds (key q) ∙ bool_cases (bytes_eq name q) (λ same.
+first_kept old new code name place coded none adds q =
+    adds (code_of q, key q) ∙ ap (λ (b : Bool). cond b (Some place) (place_under old q)) (same_name_where_equal code name q coded)
+    ∙ bool_cases (bytes_eq name q) (λ same.
     let is : name ≡ q = (bytes_eq-Decides name q).0 same in
-    let here : place_under old q ≡ None = subst (λ (n : List ℕ). place_under old n ≡ None) is none in
+    let none_there : place_under old name ≡ None = subst (λ (c : ℕ). under_code old c name ≡ None) coded none in
+    let here : place_under old q ≡ None = subst (λ (n : List ℕ). place_under old n ≡ None) is none_there in
     rw (same, here) refl) (λ apart. rw apart (or_none (place_under old q)))
 
 -- ---- positions
@@ -91,27 +96,31 @@ and_splits true true is = (refl, refl)
 and_splits true false is = absurd cc
 and_splits false b is = absurd cc
 
-pub first_version_kept : (old new : VersionPlaces) (name version : List ℕ) (place : ℕ) → place_under_version old name version ≡ None
-    → ((q : Bor (List ℕ) × Bor (List ℕ)) → place_under_version new q.0.now q.1.now ≡ cond (names_version name version q.0.now q.1.now) (Some place) (place_under_version old q.0.now q.1.now))
+pub first_version_kept : (old new : VersionPlaces) (code : ℕ) (name version : List ℕ) (place : ℕ) → code ≡ code_of name → under_code_version old code name version ≡ None
+    → ((q : ℕ × Bor (List ℕ) × Bor (List ℕ)) → under_code_version new q.0 q.1.now q.2.now ≡ cond (is_eq (version_cmp code name version q.0 q.1.now q.2.now)) (Some place) (under_code_version old q.0 q.1.now q.2.now))
     → (q v : List ℕ) → place_under_version new q v ≡ option_or (place_under_version old q v) (if names_version name version q v then Some place else None)
-first_version_kept old new name version place none adds q v =
-    adds (key q, key v) ∙ bool_cases (names_version name version q v) (λ same.
+first_version_kept old new code name version place coded none adds q v =
+    adds (code_of q, key q, key v) ∙ ap (λ (b : Bool). cond b (Some place) (place_under_version old q v)) (same_version_where_equal code name version q v coded)
+    ∙ bool_cases (names_version name version q v) (λ same.
     let both = and_splits (bytes_eq name q) (bytes_eq version v) same in
     let is : name ≡ q = (bytes_eq-Decides name q).0 both.0 in
     let iv : version ≡ v = (bytes_eq-Decides version v).0 both.1 in
-    let half : place_under_version old q version ≡ None = subst (λ (n : List ℕ). place_under_version old n version ≡ None) is none in
+    let none_there : place_under_version old name version ≡ None = subst (λ (c : ℕ). under_code_version old c name version ≡ None) coded none in
+    let half : place_under_version old q version ≡ None = subst (λ (n : List ℕ). place_under_version old n version ≡ None) is none_there in
     let here : place_under_version old q v ≡ None = subst (λ (n : List ℕ). place_under_version old q n ≡ None) iv half in
     rw (same, here) refl) (λ apart. rw apart (or_none (place_under_version old q v)))
 
 -- ---- several
 
-pub only_kept : (old new : OnlyPlaces) (name : List ℕ) (only : Option ℕ) (place : ℕ) → only ≡ (if is_some (only_under old name) then None else Some place)
-    → ((q : Bor (List ℕ)) → only_under new q.now ≡ cond (bytes_eq name q.now) (Some only) (only_under old q.now))
+pub only_kept : (old new : OnlyPlaces) (code : ℕ) (name : List ℕ) (only : Option ℕ) (place : ℕ) → code ≡ code_of name → only ≡ (if is_some (under_code old code name) then None else Some place)
+    → ((q : ℕ × Bor (List ℕ)) → under_code new q.0 q.1.now ≡ cond (is_eq (name_cmp code name q.0 q.1.now)) (Some only) (under_code old q.0 q.1.now))
     → (q : List ℕ) → only_under new q ≡ (if bytes_eq name q then Some (if is_some (only_under old q) then None else Some place) else only_under old q)
-only_kept old new name only place chosen adds q =
-    adds (key q) ∙ bool_cases (bytes_eq name q) (λ same.
+only_kept old new code name only place coded chosen adds q =
+    adds (code_of q, key q) ∙ ap (λ (b : Bool). cond b (Some only) (only_under old q)) (same_name_where_equal code name q coded)
+    ∙ bool_cases (bytes_eq name q) (λ same.
     let is : name ≡ q = (bytes_eq-Decides name q).0 same in
-    let here : only ≡ (if is_some (only_under old q) then None else Some place) = subst (λ (n : List ℕ). only ≡ (if is_some (only_under old n) then None else Some place)) is chosen in
+    let chosen_there : only ≡ (if is_some (only_under old name) then None else Some place) = subst (λ (c : ℕ). only ≡ (if is_some (under_code old c name) then None else Some place)) coded chosen in
+    let here : only ≡ (if is_some (only_under old q) then None else Some place) = subst (λ (n : List ℕ). only ≡ (if is_some (only_under old n) then None else Some place)) is chosen_there in
     rw (same, here) refl) (λ apart. rw apart refl)
 
 -- ---- the exports of the code, one by one

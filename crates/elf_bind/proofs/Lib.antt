@@ -1,6 +1,7 @@
 mod Among
 mod Filling
 mod InOrder
+mod NameOrderLemmas
 mod NamedLemmas
 mod Offering
 mod Placing

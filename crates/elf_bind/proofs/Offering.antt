@@ -10,7 +10,7 @@ use Rattle.abi_types.specs.Plain.{plain_export, plain_exports}
 use Rattle.elf_bind.specs.declared.offers.Offers.{Offers}
 use Rattle.elf_bind.specs.Binding.{has_version, has_first_version, is_default_version, only_default_version, bind_to, bind_each}
 use Rattle.elf_bind.specs.Offers.{IsOffers, place_by, bind_by}
-use Rattle.elf_bind.specs.Places.{the_only, only_seen}
+use Rattle.elf_bind.specs.NameTrees.{the_only, only_seen}
 use Rattle.elf_bind.proofs.Filling.{bool_cases, next_export}
 
 not_one : (c : ℕ) → (c == 0) ≡ true → (c == 1) ≡ false

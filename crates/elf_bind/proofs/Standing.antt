@@ -2,8 +2,9 @@
 use Rattle.std.proofs.Common.{◌≡◌, ℕ, ◌+◌, ◌<◌, Bool, true, false, cond, List, [], ◌∷◌, ◌++◌, length, take, drop, get_or, Option, Some, None, refl, sym, ◌∙◌, ap, subst, arith}
 use Rattle.std.specs.Prelude.{not, ◌||◌, ◌&&◌}
 use Rattle.std.specs.Borrow.{Bor}
-use Rattle.std.specs.HashSet.{IsEmpty}
+use Rattle.std.specs.BTreeSet.{IsEmpty}
 use Rattle.std.specs.List.{list_any}
+use Rattle.std.specs.Ordering.{is_eq}
 use Rattle.std.specs.Str.{bytes_eq}
 use Rattle.std.proofs.lemmas.List.Folds.{list_any-append}
 use Rattle.std.proofs.lemmas.Slice.Eq.{bytes_eq-Decides}
@@ -14,8 +15,10 @@ use Rattle.abi_types.specs.declared.export.Export.{Export}
 use Rattle.abi_types.specs.Exports.{PlainExport}
 use Rattle.abi_types.specs.Plain.{plain_export, plain_exports}
 use Rattle.elf_bind.specs.Exports.{duplicate_faults, is_same, same_name}
-use Rattle.elf_bind.specs.EarlierExports.{Names, Versioned, has_name, has_version, is_like, EarlierExports}
+use Rattle.elf_bind.specs.EarlierExports.{Names, Versioned, has_code, has_code_version, has_name, has_version, is_like, EarlierExports}
+use Rattle.elf_bind.specs.NameOrder.{code_of, name_cmp, version_cmp}
 use Rattle.elf_bind.proofs.InOrder.{taken, dropped}
+use Rattle.elf_bind.proofs.NameOrderLemmas.{same_name_where_equal, same_version_where_equal}
 
 bool_cases : {P : Type 0} (b : Bool) → (b ≡ true → P) → (b ≡ false → P) → P
 bool_cases true here other = here refl
@@ -50,12 +53,12 @@ put false true = refl
 put false false = refl
 
 -- what an insert gives
-abbrev pub AddsName : Names → Names → PlainExport → Type 0
-AddsName names next e = (q : Bor (List ℕ)) → has_name next q.now ≡ cond (bytes_eq e.name q.now) true (has_name names q.now)
+abbrev pub AddsName : Names → Names → ℕ → PlainExport → Type 0
+AddsName names next code e = (q : ℕ × Bor (List ℕ)) → has_code next q.0 q.1.now ≡ cond (is_eq (name_cmp code e.name q.0 q.1.now)) true (has_code names q.0 q.1.now)
 
-abbrev pub AddsVersion : Versioned → Versioned → List ℕ → List ℕ → Type 0
-AddsVersion names next name version =
-    (q : Bor (List ℕ) × Bor (List ℕ)) → has_version next q.0.now q.1.now ≡ cond (bytes_eq name q.0.now && bytes_eq version q.1.now) true (has_version names q.0.now q.1.now)
+abbrev pub AddsVersion : Versioned → Versioned → ℕ → List ℕ → List ℕ → Type 0
+AddsVersion names next code name version =
+    (q : ℕ × Bor (List ℕ) × Bor (List ℕ)) → has_code_version next q.0 q.1.now q.2.now ≡ cond (is_eq (version_cmp code name version q.0 q.1.now q.2.now)) true (has_code_version names q.0 q.1.now q.2.now)
 
 abbrev pub borrowed : List ℕ → Bor (List ℕ)
 borrowed name = record { ref_ptr = (0, 0); now = name }
@@ -66,13 +69,15 @@ module _ (unversioned : Names) (versioned : Versioned) (before : List PlainExpor
 
   -- ---- an export without a version
 
-  pub said_bare : (is_new : Bool) → e.version ≡ None → is_new ≡ not (has_name unversioned e.name) → not is_new ≡ list_any (is_same e) before
-  said_bare is_new none is = ap not is ∙ not_not (has_name unversioned e.name) ∙ so_far.bare e.name ∙ ap (λ (v : Option (List ℕ)). list_any (is_like e.name v) before) (sym none)
+  pub said_bare : (is_new : Bool) (code : ℕ) → code ≡ code_of e.name → e.version ≡ None → is_new ≡ not (has_code unversioned code e.name) → not is_new ≡ list_any (is_same e) before
+  said_bare is_new code coded none is =
+      ap not is ∙ not_not (has_code unversioned code e.name) ∙ ap (λ (c : ℕ). has_code unversioned c e.name) coded ∙ so_far.bare e.name ∙ ap (λ (v : Option (List ℕ)). list_any (is_like e.name v) before) (sym none)
 
-  pub added_bare : (next : Names) → e.version ≡ None → AddsName unversioned next e → EarlierExports next versioned (before ++ e ∷ [])
-  added_bare next none adds = record {
+  pub added_bare : (next : Names) (code : ℕ) → code ≡ code_of e.name → e.version ≡ None → AddsName unversioned next code e → EarlierExports next versioned (before ++ e ∷ [])
+  added_bare next code coded none adds = record {
     bare = λ name.
-        adds (borrowed name) ∙ put (bytes_eq e.name name) (has_name unversioned name)
+        adds (code_of name, borrowed name) ∙ ap (λ (b : Bool). cond b true (has_name unversioned name)) (same_name_where_equal code e.name name coded)
+        ∙ put (bytes_eq e.name name) (has_name unversioned name)
         ∙ ap (λ (b : Bool). b || (bytes_eq e.name name || false)) (so_far.bare name)
         ∙ ap (λ (b : Bool). list_any (is_like name None) before || (b || false)) (turned e.name name ∙ sym (and_true (bytes_eq name e.name)) ∙ ap (λ (v : Option (List ℕ)). bytes_eq name e.name && same_name None v) (sym none))
         ∙ sym (one_more name None);
@@ -84,17 +89,19 @@ module _ (unversioned : Names) (versioned : Versioned) (before : List PlainExpor
 
   -- ---- an export with a version
 
-  pub said_paired : (is_new : Bool) (version : List ℕ) → e.version ≡ Some version → is_new ≡ not (has_version versioned e.name version) → not is_new ≡ list_any (is_same e) before
-  said_paired is_new version some is = ap not is ∙ not_not (has_version versioned e.name version) ∙ so_far.paired e.name version ∙ ap (λ (v : Option (List ℕ)). list_any (is_like e.name v) before) (sym some)
+  pub said_paired : (is_new : Bool) (code : ℕ) (version : List ℕ) → code ≡ code_of e.name → e.version ≡ Some version → is_new ≡ not (has_code_version versioned code e.name version) → not is_new ≡ list_any (is_same e) before
+  said_paired is_new code version coded some is =
+      ap not is ∙ not_not (has_code_version versioned code e.name version) ∙ ap (λ (c : ℕ). has_code_version versioned c e.name version) coded ∙ so_far.paired e.name version ∙ ap (λ (v : Option (List ℕ)). list_any (is_like e.name v) before) (sym some)
 
-  pub added_paired : (next : Versioned) (version : List ℕ) → e.version ≡ Some version → AddsVersion versioned next e.name version → EarlierExports unversioned next (before ++ e ∷ [])
-  added_paired next version some adds = record {
+  pub added_paired : (next : Versioned) (code : ℕ) (version : List ℕ) → code ≡ code_of e.name → e.version ≡ Some version → AddsVersion versioned next code e.name version → EarlierExports unversioned next (before ++ e ∷ [])
+  added_paired next code version coded some adds = record {
     bare = λ name.
         so_far.bare name ∙ sym (or_nothing (list_any (is_like name None) before) (bytes_eq name e.name))
         ∙ ap (λ (v : Option (List ℕ)). list_any (is_like name None) before || ((bytes_eq name e.name && same_name None v) || false)) (sym some)
         ∙ sym (one_more name None);
     paired = λ name other.
-        adds (borrowed name, borrowed other) ∙ put (bytes_eq e.name name && bytes_eq version other) (has_version versioned name other)
+        adds (code_of name, borrowed name, borrowed other) ∙ ap (λ (b : Bool). cond b true (has_version versioned name other)) (same_version_where_equal code e.name version name other coded)
+        ∙ put (bytes_eq e.name name && bytes_eq version other) (has_version versioned name other)
         ∙ ap (λ (b : Bool). b || ((bytes_eq e.name name && bytes_eq version other) || false)) (so_far.paired name other)
         ∙ ap (λ (b : Bool). list_any (is_like name (Some other)) before || ((b && bytes_eq version other) || false)) (turned e.name name)
         ∙ ap (λ (b : Bool). list_any (is_like name (Some other)) before || ((bytes_eq name e.name && b) || false)) (turned version other)

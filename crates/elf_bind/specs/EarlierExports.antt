@@ -3,25 +3,31 @@ use Rattle.std.specs.Prelude.{◌≡◌, ℕ, Bool, ◌&&◌, List, Option, Some
 use Rattle.std.specs.Borrow.{Bor}
 use Rattle.std.specs.List.{list_any}
 use Rattle.std.specs.Str.{bytes_eq}
-use Rattle.std.specs.HashSet.{HashSet, contains_by}
-use Rattle.std.specs.declared.hash.FoldHasher.{FoldHasher}
-use Rattle.std.specs.declared.hash.BuildHasherDefault.{BuildHasherDefault}
+use Rattle.std.specs.BTreeSet.{BTreeSet, contains_by}
 use Rattle.abi_types.specs.Exports.{PlainExport}
 use Rattle.elf_bind.specs.Exports.{same_name}
+use Rattle.elf_bind.specs.NameOrder.{code_of, name_cmp, version_cmp}
 
--- sets of names, and of names with versions
+-- sets of names, each with its code, and of names with versions
 abbrev pub Names : Type 0
-Names = HashSet (Bor (List ℕ)) (BuildHasherDefault FoldHasher)
+Names = BTreeSet (ℕ × Bor (List ℕ))
 
 abbrev pub Versioned : Type 0
-Versioned = HashSet (Bor (List ℕ) × Bor (List ℕ)) (BuildHasherDefault FoldHasher)
+Versioned = BTreeSet (ℕ × Bor (List ℕ) × Bor (List ℕ))
+
+-- whether a code with a name is in such a set, and with a version
+abbrev pub has_code : Names → ℕ → List ℕ → Bool
+has_code names code name = contains_by (λ k. name_cmp code name k.0 k.1.now) names
+
+abbrev pub has_code_version : Versioned → ℕ → List ℕ → List ℕ → Bool
+has_code_version names code name version = contains_by (λ k. version_cmp code name version k.0 k.1.now k.2.now) names
 
 -- whether a name is in such a set, and a name with a version
 abbrev pub has_name : Names → List ℕ → Bool
-has_name names name = contains_by (λ k. bytes_eq name k.now) names
+has_name names name = has_code names (code_of name) name
 
 abbrev pub has_version : Versioned → List ℕ → List ℕ → Bool
-has_version names name version = contains_by (λ k. bytes_eq name k.0.now && bytes_eq version k.1.now) names
+has_version names name version = has_code_version names (code_of name) name version
 
 -- an export has this name and this version, or no version
 abbrev pub is_like : List ℕ → Option (List ℕ) → PlainExport → Bool

@@ -4,7 +4,7 @@ use Rattle.std.specs.Option.{option_or}
 use Rattle.abi_types.specs.Exports.{PlainExport}
 use Rattle.elf_bind.specs.declared.offers.Offers.{Offers}
 use Rattle.elf_bind.specs.Binding.{has_version, has_first_version}
-use Rattle.elf_bind.specs.Places.{place_under, place_under_version, only_under, the_only, only_seen}
+use Rattle.elf_bind.specs.NameTrees.{place_under, place_under_version, only_under, the_only, only_seen}
 
 -- each map has the places of its exports
 pub record IsOffers (offers : Offers) (offered : List PlainExport) : Type 0 where

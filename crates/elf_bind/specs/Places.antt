@@ -1,43 +1,13 @@
--- Maps from the names of exports to their places.
-use Rattle.std.specs.Prelude.{ℕ, ◌==◌, Bool, ◌&&◌, if◌then◌else◌, List, count_by, Option, Some, None}
+-- Hash maps from names to places, as crates above keep them.
+use Rattle.std.specs.Prelude.{ℕ, List, Option}
 use Rattle.std.specs.Borrow.{Bor}
 use Rattle.std.specs.Str.{bytes_eq}
 use Rattle.std.specs.HashMap.{HashMap, get_by}
 use Rattle.std.specs.declared.hash.FoldHasher.{FoldHasher}
 use Rattle.std.specs.declared.hash.BuildHasherDefault.{BuildHasherDefault}
-use Rattle.abi_types.specs.Exports.{PlainExport}
-use Rattle.elf_bind.specs.Binding.{is_default_version, only_default_version}
 
--- a map from names to places
 abbrev pub Places : Type 0
 Places = HashMap (Bor (List ℕ)) ℕ (BuildHasherDefault FoldHasher)
 
--- a map from names and versions to places
-abbrev pub VersionPlaces : Type 0
-VersionPlaces = HashMap (Bor (List ℕ) × Bor (List ℕ)) ℕ (BuildHasherDefault FoldHasher)
-
--- a map from names to the place of the only export of a name, and `None` where there are several
-abbrev pub OnlyPlaces : Type 0
-OnlyPlaces = HashMap (Bor (List ℕ)) (Option ℕ) (BuildHasherDefault FoldHasher)
-
--- a name and a version are these
-abbrev pub names_version : List ℕ → List ℕ → List ℕ → List ℕ → Bool
-names_version name version n v = bytes_eq name n && bytes_eq version v
-
 abbrev pub place_under : Places → List ℕ → Option ℕ
 place_under places name = get_by (λ k. bytes_eq name k.now) places
-
-abbrev pub place_under_version : VersionPlaces → List ℕ → List ℕ → Option ℕ
-place_under_version places name version = get_by (λ k. bytes_eq name k.0.now && bytes_eq version k.1.now) places
-
-abbrev pub only_under : OnlyPlaces → List ℕ → Option (Option ℕ)
-only_under places name = get_by (λ k. bytes_eq name k.now) places
-
--- the only place, where there is one
-abbrev pub the_only : Option (Option ℕ) → Option ℕ
-the_only None = None
-the_only (Some o) = o
-
--- what stands for the default exports of a name: nothing where there is none
-abbrev pub only_seen : List ℕ → List PlainExport → Option (Option ℕ)
-only_seen name offered = if count_by (is_default_version name) offered == 0 then None else Some (only_default_version name offered)

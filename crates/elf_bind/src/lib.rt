@@ -3,6 +3,7 @@
 
 mod all;
 mod bind_one;
+mod codes;
 mod duplicates;
 mod exporting;
 mod named;

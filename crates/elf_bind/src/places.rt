@@ -1,41 +1,45 @@
-// The places of exports by their names, in maps.
+// The places of exports by their names, in search trees: no choice of names makes a look-up long.
 ghost use Rattle.std.specs.Prelude.{◌≡◌, ℕ, List, Option, Some, None, if◌then◌else◌, is_some, position, OnOk, IfOk};
 ghost use Rattle.std.specs.Option.{option_or};
 ghost use Rattle.std.specs.Str.{bytes_eq};
 ghost use Rattle.abi_types.specs.Plain.{plain_export, plain_exports};
 ghost use Rattle.elf_bind.specs.Binding.{has_version, has_first_version, is_default_version};
-ghost use Rattle.elf_bind.specs.Places.{place_under, place_under_version, only_under, names_version, only_seen};
+ghost use Rattle.elf_bind.specs.NameTrees.{place_under, place_under_version, only_under, names_version, only_seen};
 
 use crate::bind_one::FIRST_VERSION;
+use crate::codes::code_of;
 use abi_base::NoMemory;
 use abi_types::Export;
 use std::alloc::Global;
-use std::collections::HashMap;
+use std::collections::BTreeMap;
 
 // Puts a place under a name that has none yet.
 fn keep_first<'a>(
-    places: &mut HashMap<&'a [u8], usize>,
+    places: &mut BTreeMap<(u64, &'a [u8]), usize>,
     name: &'a [u8],
     place: usize,
 ) -> Result<(), NoMemory>
     ensures { OnOk result ((q : List ℕ) → place_under places.new q ≡ option_or (place_under places.old q) (if bytes_eq name.now q then Some place else None)) }
 {
-    if !places.contains_key(&name) {
-        places.insert(name, place)?;
+    let code = code_of(name);
+    let key = (code, name);
+    if !places.contains_key(&key) {
+        places.insert(key, place)?;
     }
     Ok(())
 }
 
 // Puts a place under a name and a version that have none yet.
 fn keep_first_version<'a>(
-    places: &mut HashMap<(&'a [u8], &'a [u8]), usize>,
+    places: &mut BTreeMap<(u64, &'a [u8], &'a [u8]), usize>,
     name: &'a [u8],
     version: &'a [u8],
     place: usize,
 ) -> Result<(), NoMemory>
     ensures { OnOk result ((q v : List ℕ) → place_under_version places.new q v ≡ option_or (place_under_version places.old q v) (if names_version name.now version.now q v then Some place else None)) }
 {
-    let key = (name, version);
+    let code = code_of(name);
+    let key = (code, name, version);
     if !places.contains_key(&key) {
         places.insert(key, place)?;
     }
@@ -51,20 +55,22 @@ fn only_after(is_there: bool, place: usize) -> Option<usize>
 
 // Puts a place under a name that has nothing yet, and under one that has that there are several.
 fn keep_only<'a>(
-    places: &mut HashMap<&'a [u8], Option<usize>>,
+    places: &mut BTreeMap<(u64, &'a [u8]), Option<usize>>,
     name: &'a [u8],
     place: usize,
 ) -> Result<(), NoMemory>
     ensures { OnOk result ((q : List ℕ) → only_under places.new q ≡ (if bytes_eq name.now q then Some (if is_some (only_under places.old q) then None else Some place) else only_under places.old q)) }
 {
-    let only = only_after(places.contains_key(&name), place);
-    places.insert(name, only)?;
+    let code = code_of(name);
+    let key = (code, name);
+    let only = only_after(places.contains_key(&key), place);
+    places.insert(key, only)?;
     Ok(())
 }
 
 // Adds an export by its name and version.
 fn add_version<'a>(
-    places: &mut HashMap<(&'a [u8], &'a [u8]), usize>,
+    places: &mut BTreeMap<(u64, &'a [u8], &'a [u8]), usize>,
     export: &Export<'a>,
     place: usize,
 ) -> Result<(), NoMemory>
@@ -78,7 +84,7 @@ fn add_version<'a>(
 
 // Adds an export without a version by its name.
 fn add_unversioned<'a>(
-    places: &mut HashMap<&'a [u8], usize>,
+    places: &mut BTreeMap<(u64, &'a [u8]), usize>,
     export: &Export<'a>,
     place: usize,
 ) -> Result<(), NoMemory>
@@ -92,7 +98,7 @@ fn add_unversioned<'a>(
 
 // Adds an export of the first version by its name.
 fn add_first_version<'a>(
-    places: &mut HashMap<&'a [u8], usize>,
+    places: &mut BTreeMap<(u64, &'a [u8]), usize>,
     export: &Export<'a>,
     place: usize,
 ) -> Result<(), NoMemory>
@@ -107,7 +113,7 @@ fn add_first_version<'a>(
 
 // Adds an export whose version is the default one by its name.
 fn add_default_version<'a>(
-    places: &mut HashMap<&'a [u8], Option<usize>>,
+    places: &mut BTreeMap<(u64, &'a [u8]), Option<usize>>,
     export: &Export<'a>,
     place: usize,
 ) -> Result<(), NoMemory>
@@ -124,10 +130,10 @@ fn add_default_version<'a>(
 pub fn places_of_versions<'a>(
     alloc: Global,
     offered: &[Export<'a>],
-) -> Result<HashMap<(&'a [u8], &'a [u8]), usize>, NoMemory>
+) -> Result<BTreeMap<(u64, &'a [u8], &'a [u8]), usize>, NoMemory>
     ensures { IfOk result (λ places. (q v : List ℕ) → place_under_version places q v ≡ position (has_version q (Some v)) (plain_exports offered.now)) }
 {
-    let mut places = HashMap::new(alloc);
+    let mut places = BTreeMap::new(alloc);
     for place in 0..offered.len() {
         add_version(&mut places, &offered[place], place)?;
     }
@@ -138,10 +144,10 @@ pub fn places_of_versions<'a>(
 pub fn places_without_version<'a>(
     alloc: Global,
     offered: &[Export<'a>],
-) -> Result<HashMap<&'a [u8], usize>, NoMemory>
+) -> Result<BTreeMap<(u64, &'a [u8]), usize>, NoMemory>
     ensures { IfOk result (λ places. (q : List ℕ) → place_under places q ≡ position (has_version q None) (plain_exports offered.now)) }
 {
-    let mut places = HashMap::new(alloc);
+    let mut places = BTreeMap::new(alloc);
     for place in 0..offered.len() {
         add_unversioned(&mut places, &offered[place], place)?;
     }
@@ -152,10 +158,10 @@ pub fn places_without_version<'a>(
 pub fn places_of_first_version<'a>(
     alloc: Global,
     offered: &[Export<'a>],
-) -> Result<HashMap<&'a [u8], usize>, NoMemory>
+) -> Result<BTreeMap<(u64, &'a [u8]), usize>, NoMemory>
     ensures { IfOk result (λ places. (q : List ℕ) → place_under places q ≡ position (has_first_version q) (plain_exports offered.now)) }
 {
-    let mut places = HashMap::new(alloc);
+    let mut places = BTreeMap::new(alloc);
     for place in 0..offered.len() {
         add_first_version(&mut places, &offered[place], place)?;
     }
@@ -166,10 +172,10 @@ pub fn places_of_first_version<'a>(
 pub fn places_of_default_versions<'a>(
     alloc: Global,
     offered: &[Export<'a>],
-) -> Result<HashMap<&'a [u8], Option<usize>>, NoMemory>
+) -> Result<BTreeMap<(u64, &'a [u8]), Option<usize>>, NoMemory>
     ensures { IfOk result (λ places. (q : List ℕ) → only_under places q ≡ only_seen q (plain_exports offered.now)) }
 {
-    let mut places = HashMap::new(alloc);
+    let mut places = BTreeMap::new(alloc);
     for place in 0..offered.len() {
         add_default_version(&mut places, &offered[place], place)?;
     }

@@ -1,5 +1,5 @@
 use Rattle.std.proofs.Common.{◌∙◌, ap}
-use Rattle.elf_bind.specs.Places.{only_seen}
+use Rattle.elf_bind.specs.NameTrees.{only_seen}
 use Rattle.elf_bind.proofs.Filling.{only_more, whole}
 use Rattle.elf_bind.proofs.places.places_of_default_versions.Goals as goal
 

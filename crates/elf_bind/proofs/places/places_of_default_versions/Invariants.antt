@@ -1,6 +1,6 @@
 use Rattle.std.proofs.Common.{◌≡◌, ℕ, List, take}
 use Rattle.abi_types.specs.Plain.{plain_exports}
-use Rattle.elf_bind.specs.Places.{only_under, only_seen}
+use Rattle.elf_bind.specs.NameTrees.{only_under, only_seen}
 use Rattle.elf_bind.proofs.places.places_of_default_versions.Given as goal
 
 abbrev pub invariant-loop-place : goal.invariant-loop-place

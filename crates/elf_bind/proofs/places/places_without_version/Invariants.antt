@@ -1,7 +1,7 @@
 use Rattle.std.proofs.Common.{◌≡◌, ℕ, List, None, take, position}
 use Rattle.abi_types.specs.Plain.{plain_exports}
 use Rattle.elf_bind.specs.Binding.{has_version}
-use Rattle.elf_bind.specs.Places.{place_under}
+use Rattle.elf_bind.specs.NameTrees.{place_under}
 use Rattle.elf_bind.proofs.places.places_without_version.Given as goal
 
 abbrev pub invariant-loop-place : goal.invariant-loop-place

@@ -3,7 +3,7 @@ use Rattle.abi_types.specs.Plain.{plain_exports}
 use Rattle.elf_bind.specs.Offers.{bind_by}
 use Rattle.elf_bind.proofs.Filling.{whole}
 use Rattle.elf_bind.proofs.Offering.{each_is, bound_more}
-use Rattle.elf_bind.proofs.all.bind_all.Goals as goal
+use Rattle.elf_bind.proofs.all.bind_each_of.Goals as goal
 
 pub loop-export-preserved : goal.loop-export-preserved
 loop-export-preserved c =
