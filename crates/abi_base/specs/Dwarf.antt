@@ -1,8 +1,8 @@
--- The numbers of DWARF 5 that definitions speak of, as section 7 "Data Representation" gives them, with those of DWARF 4,
--- of the later list of languages and of GNU that stand beside them. A name is the standard's own, in lower case.
+-- The constants of DWARF 5 that definitions use, from section 7 "Data Representation", with some of DWARF 4, of the later
+-- list of language codes, and of GNU extensions. Names are the standard's own, in lower case.
 use Rattle.std.specs.Prelude.{ℕ}
 
--- ---- how a value is spelled (section 7.5.6 "Form Encodings")
+-- ---- forms of attribute values (section 7.5.6 "Form Encodings")
 
 abbrev pub dw_form_addr : ℕ
 dw_form_addr = 0x01
@@ -139,7 +139,7 @@ dw_form_gnu_ref_alt = 0x1f20
 abbrev pub dw_form_gnu_strp_alt : ℕ
 dw_form_gnu_strp_alt = 0x1f21
 
--- ---- what an entry is (section 7.5.3 "Abbreviations Tables")
+-- ---- tags of entries (section 7.5.3 "Abbreviations Tables")
 
 abbrev pub dw_tag_array_type : ℕ
 dw_tag_array_type = 0x01
@@ -207,7 +207,7 @@ dw_tag_type_unit = 0x41
 abbrev pub dw_tag_atomic_type : ℕ
 dw_tag_atomic_type = 0x47
 
--- ---- what an attribute says (section 7.5.4 "Attribute Encodings")
+-- ---- attributes (section 7.5.4 "Attribute Encodings")
 
 abbrev pub dw_at_location : ℕ
 dw_at_location = 0x02
@@ -284,7 +284,7 @@ dw_at_alignment = 0x88
 abbrev pub dw_at_gnu_vector : ℕ
 dw_at_gnu_vector = 0x2107
 
--- ---- the languages that are read (section 7.12 "Source Languages"): C, and assembler as binutils names it
+-- ---- the supported languages (section 7.12 "Source Languages"): C, and assembler under the code that binutils writes
 
 abbrev pub dw_lang_c89 : ℕ
 dw_lang_c89 = 0x0001
@@ -304,7 +304,7 @@ dw_lang_c17 = 0x002c
 abbrev pub dw_lang_mips_assembler : ℕ
 dw_lang_mips_assembler = 0x8001
 
--- ---- the types of units that are read (section 7.5.1 "Unit Headers")
+-- ---- the supported unit types (section 7.5.1 "Unit Headers")
 
 abbrev pub dw_ut_compile : ℕ
 dw_ut_compile = 0x01
@@ -315,7 +315,7 @@ dw_ut_type = 0x02
 abbrev pub dw_ut_partial : ℕ
 dw_ut_partial = 0x03
 
--- ---- whether an entry has children (section 7.5.3)
+-- ---- whether entries of an abbreviation have children (section 7.5.3)
 
 abbrev pub dw_children_no : ℕ
 dw_children_no = 0x00
@@ -323,28 +323,28 @@ dw_children_no = 0x00
 abbrev pub dw_children_yes : ℕ
 dw_children_yes = 0x01
 
--- ---- unit headers (section 7.5.1 "Unit Headers"; DWARF 4, section 7.5.1.1 "Compilation Unit Header"), in the 32-bit form
+-- ---- unit headers (section 7.5.1 "Unit Headers"; DWARF 4, section 7.5.1.1 "Compilation Unit Header"), in the 32-bit format
 
--- the versions of DWARF that are read
+-- the supported versions of DWARF
 abbrev pub dwarf_4 : ℕ
 dwarf_4 = 4
 
 abbrev pub dwarf_5 : ℕ
 dwarf_5 = 5
 
--- the size of the length field, after which the length counts
+-- the size of the unit length field, which the length does not count
 abbrev pub length_size : ℕ
 length_size = 4
 
--- the length that opens the 64-bit form
+-- the escape value of the length that marks the 64-bit format
 abbrev pub dwarf64_length : ℕ
 dwarf64_length = 0xffffffff
 
--- the least length that is reserved
+-- the least reserved length
 abbrev pub reserved_length : ℕ
 reserved_length = 0xfffffff0
 
--- the sizes of headers: of version 4, of a type unit of version 5, and of any other unit of version 5
+-- the sizes of unit headers: of version 4, of a type unit of version 5, and of any other unit of version 5
 abbrev pub header_size_4 : ℕ
 header_size_4 = 11
 
@@ -354,18 +354,18 @@ type_header_size = 24
 abbrev pub header_size : ℕ
 header_size = 12
 
--- where the version stands in a header
+-- the offset of the version in a unit header
 abbrev pub version_at : ℕ
 version_at = 4
 
--- where the place of the abbreviations and the address size stand in version 4
+-- the offsets of the abbreviation offset and of the address size in a header of version 4
 abbrev pub debug_abbrev_offset_4_at : ℕ
 debug_abbrev_offset_4_at = 6
 
 abbrev pub address_size_4_at : ℕ
 address_size_4_at = 10
 
--- where the unit type, the address size and the place of the abbreviations stand in version 5
+-- the offsets of the unit type, the address size and the abbreviation offset in a header of version 5
 abbrev pub unit_type_at : ℕ
 unit_type_at = 6
 
@@ -375,7 +375,7 @@ address_size_at = 7
 abbrev pub debug_abbrev_offset_at : ℕ
 debug_abbrev_offset_at = 8
 
--- where the signature and the place of the type's entry stand in a type unit
+-- the offsets of the signature and of the type offset in the header of a type unit
 abbrev pub type_signature_at : ℕ
 type_signature_at = 12
 
@@ -386,7 +386,7 @@ type_offset_at = 20
 abbrev pub x86_64_address_size : ℕ
 x86_64_address_size = 8
 
--- ---- how a base type is encoded (section 7.8 "Base Type Attribute Encodings")
+-- ---- encodings of base types (section 7.8 "Base Type Attribute Encodings")
 
 abbrev pub dw_ate_boolean : ℕ
 dw_ate_boolean = 0x02
@@ -425,7 +425,7 @@ dw_op_addr = 0x03
 abbrev pub dw_op_addrx : ℕ
 dw_op_addrx = 0xa1
 
--- the operation that adds its operand to the address of the whole
+-- the operation that adds its operand to the address on the stack
 abbrev pub dw_op_plus_uconst : ℕ
 dw_op_plus_uconst = 0x23
 
@@ -455,6 +455,6 @@ dw_rle_start_end = 0x06
 abbrev pub dw_rle_start_length : ℕ
 dw_rle_start_length = 0x07
 
--- the largest address, which opens a pair that selects a base (DWARF 4, section 2.17.3)
+-- the largest address, which marks a base address selection entry (DWARF 4, section 2.17.3)
 abbrev pub base_selection : ℕ
 base_selection = 0xffffffffffffffff

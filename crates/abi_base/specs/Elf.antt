@@ -1,5 +1,5 @@
--- The numbers of the System V gABI (ELF-64, x86-64) that definitions speak of, as the standard gives them, with the
--- symbol binding and the symbol type that GNU adds. A name is the standard's own, in lower case.
+-- The constants of the System V gABI (ELF-64, x86-64) that definitions use, with the symbol binding and the symbol type
+-- that GNU adds. Names are the standard's own, in lower case.
 use Rattle.std.specs.Prelude.{ℕ, List, ◌∷◌, codes}
 
 -- ---- the file header ("ELF Header") and section headers ("Sections")
@@ -12,47 +12,47 @@ ehdr_size = 64
 abbrev pub shdr_size : ℕ
 shdr_size = 64
 
--- the first four bytes of a file
+-- the magic number: the first four bytes of a file
 abbrev pub elfmag : List ℕ
 elfmag = 0x7f ∷ codes "ELF"
 
--- the byte of a file that says its class: how wide its addresses are
+-- the index of the identification byte for the class, which is the width of addresses
 abbrev pub ei_class : ℕ
 ei_class = 4
 
--- the byte of a file that says its byte order
+-- the index of the identification byte for the byte order
 abbrev pub ei_data : ℕ
 ei_data = 5
 
--- the byte of a file that says the version of its identification
+-- the index of the identification byte for the version of the identification
 abbrev pub ei_version : ℕ
 ei_version = 6
 
--- where the file's type stands in the file header
+-- the offset of the object file type in the file header
 abbrev pub e_type : ℕ
 e_type = 16
 
--- where the machine stands in the file header
+-- the offset of the machine in the file header
 abbrev pub e_machine : ℕ
 e_machine = 18
 
--- where the version of the format stands in the file header
+-- the offset of the format version in the file header
 abbrev pub e_version : ℕ
 e_version = 20
 
--- where the file header says where the section table begins
+-- the offset, in the file header, of the offset of the section header table
 abbrev pub e_shoff : ℕ
 e_shoff = 40
 
--- where the file header says how many bytes a section header has
+-- the offset, in the file header, of the size of a section header
 abbrev pub e_shentsize : ℕ
 e_shentsize = 58
 
--- where the file header says how many section headers there are: 0 where section 0 says it
+-- the offset, in the file header, of the number of section headers; where that is 0, section 0 has it
 abbrev pub e_shnum : ℕ
 e_shnum = 60
 
--- where the file header says the number of the section of names: `SHN_XINDEX` where section 0 says it
+-- the offset, in the file header, of the index of the section name string table; `SHN_XINDEX` where section 0 has it
 abbrev pub e_shstrndx : ℕ
 e_shstrndx = 62
 
@@ -64,7 +64,7 @@ elfclass64 = 2
 abbrev pub elfdata2lsb : ℕ
 elfdata2lsb = 1
 
--- the one version of the format
+-- the only version of the format
 abbrev pub ev_current : ℕ
 ev_current = 1
 
@@ -76,43 +76,43 @@ et_dyn = 3
 abbrev pub em_x86_64 : ℕ
 em_x86_64 = 62
 
--- an `e_shstrndx` that says that the index stands in the link of section 0
+-- the `e_shstrndx` that refers to the `sh_link` of section 0
 abbrev pub shn_xindex : ℕ
 shn_xindex = 0xffff
 
--- where a section header says where its name begins in the section of names
+-- the offset, in a section header, of the offset of its name in the section name string table
 abbrev pub sh_name : ℕ
 sh_name = 0
 
--- where a section header says its type
+-- the offset of the type in a section header
 abbrev pub sh_type : ℕ
 sh_type = 4
 
--- where a section header says its flags
+-- the offset of the flags in a section header
 abbrev pub sh_flags : ℕ
 sh_flags = 8
 
--- where a section header says where its contents begin
+-- the offset, in a section header, of the file offset of the section's contents
 abbrev pub sh_offset : ℕ
 sh_offset = 24
 
--- where a section header says how many bytes the section has
+-- the offset, in a section header, of the section's size
 abbrev pub sh_size : ℕ
 sh_size = 32
 
--- where a section header says the number of a section that goes with it
+-- the offset, in a section header, of the index of a linked section
 abbrev pub sh_link : ℕ
 sh_link = 40
 
--- where a section header says what its type needs besides
+-- the offset, in a section header, of further information, which depends on the type
 abbrev pub sh_info : ℕ
 sh_info = 44
 
--- where a section header says how many bytes an entry has
+-- the offset, in a section header, of the size of one table entry
 abbrev pub sh_entsize : ℕ
 sh_entsize = 56
 
--- a section header that is not used
+-- an inactive section header
 abbrev pub sht_null : ℕ
 sht_null = 0
 
@@ -136,11 +136,11 @@ sht_dynsym = 11
 abbrev pub shf_compressed : ℕ
 shf_compressed = 0x800
 
--- how the names of debug sections begin
+-- the prefix of the names of debug sections
 abbrev pub debug_prefix : List ℕ
 debug_prefix = codes ".debug_"
 
--- how the names of debug sections begin that an older form of compression packed
+-- the prefix of the names of debug sections that are compressed in the older GNU style
 abbrev pub zdebug_prefix : List ℕ
 zdebug_prefix = codes ".zdebug_"
 
@@ -150,35 +150,35 @@ zdebug_prefix = codes ".zdebug_"
 abbrev pub sym_size : ℕ
 sym_size = 24
 
--- where a symbol says where its name begins in the string table
+-- the offset, in a symbol, of the offset of its name in the string table
 abbrev pub st_name : ℕ
 st_name = 0
 
--- where a symbol says its binding, in the high half of a byte, and its type, in the low half
+-- the offset, in a symbol, of the byte with its binding in the high four bits and its type in the low four
 abbrev pub st_info : ℕ
 st_info = 4
 
--- where a symbol says its visibility, in the two lowest bits of a byte
+-- the offset, in a symbol, of the byte with its visibility in the two lowest bits
 abbrev pub st_other : ℕ
 st_other = 5
 
--- where a symbol says the number of the section that it stands in
+-- the offset, in a symbol, of the index of its section
 abbrev pub st_shndx : ℕ
 st_shndx = 6
 
--- where a symbol says its value
+-- the offset of the value in a symbol
 abbrev pub st_value : ℕ
 st_value = 8
 
--- where a symbol says how many bytes it has
+-- the offset of the size in a symbol
 abbrev pub st_size : ℕ
 st_size = 16
 
--- a symbol that only its own file sees
+-- a symbol that is visible only in its own file
 abbrev pub stb_local : ℕ
 stb_local = 0
 
--- a symbol that all files see
+-- a symbol that is visible to all files
 abbrev pub stb_global : ℕ
 stb_global = 1
 
@@ -186,11 +186,11 @@ stb_global = 1
 abbrev pub stb_weak : ℕ
 stb_weak = 2
 
--- a global symbol of which a process has one
+-- a global symbol that is unique in a process
 abbrev pub stb_gnu_unique : ℕ
 stb_gnu_unique = 10
 
--- a symbol whose type is not said
+-- a symbol without a type
 abbrev pub stt_notype : ℕ
 stt_notype = 0
 
@@ -202,7 +202,7 @@ stt_object = 1
 abbrev pub stt_func : ℕ
 stt_func = 2
 
--- a common block that is not initialized
+-- an uninitialized common block
 abbrev pub stt_common : ℕ
 stt_common = 5
 
@@ -210,23 +210,23 @@ stt_common = 5
 abbrev pub stt_tls : ℕ
 stt_tls = 6
 
--- a function that a resolver picks when the file is loaded
+-- a function whose resolver runs when the file is loaded
 abbrev pub stt_gnu_ifunc : ℕ
 stt_gnu_ifunc = 10
 
--- the visibility that the binding says
+-- the visibility that the binding implies
 abbrev pub stv_default : ℕ
 stv_default = 0
 
--- seen by other files, and not replaced by them
+-- visible to other files, but not preempted by them
 abbrev pub stv_protected : ℕ
 stv_protected = 3
 
--- the section of a symbol that is not defined
+-- the section index of an undefined symbol
 abbrev pub shn_undef : ℕ
 shn_undef = 0
 
--- the section of a symbol whose value is no address of the file
+-- the section index of a symbol with an absolute value
 abbrev pub shn_abs : ℕ
 shn_abs = 0xfff1
 
@@ -234,11 +234,11 @@ shn_abs = 0xfff1
 abbrev pub dyn_size : ℕ
 dyn_size = 16
 
--- where an entry of the dynamic table says its tag
+-- the offset of the tag in an entry of the dynamic table
 abbrev pub d_tag : ℕ
 d_tag = 0
 
--- where an entry of the dynamic table says its value
+-- the offset of the value in an entry of the dynamic table
 abbrev pub d_val : ℕ
 d_val = 8
 

@@ -1,14 +1,14 @@
--- Numbers of variable length (DWARF 5, section 7.6 "Variable Length Data"): seven bits a byte, the lowest first, and the
--- last byte is the first one below 128.
+-- LEB128 numbers (DWARF 5, section 7.6 "Variable Length Data"): seven bits a byte, the lowest first. The last byte is the
+-- first one below 128.
 use Rattle.std.specs.Prelude.{ℕ, ◌+◌, ◌-◌, ◌^◌, ◌%◌, ℤ, pos, ◌-ℤ◌, nat_lt, nat_le, Bool, if◌then◌else◌, List, take, drop, map, position, slice_index, Option, Some, None}
 use Rattle.std.specs.Option.{option_map}
 use Rattle.abi_base.specs.Numbers.{number_of}
 
--- a byte that ends a LEB
+-- whether a byte ends a LEB128
 abbrev pub is_last : ℕ → Bool
 is_last b = nat_lt b 128
 
--- how many bytes the LEB from a place on has: it ends with the first byte below 128, which is one of the first ten
+-- the length in bytes of the LEB128 at `at`: it ends with the first byte below 128, which is one of the first ten
 unfoldable pub leb_length : List ℕ → ℕ → Option ℕ
 leb_length bytes at = option_map (λ more. more + 1) (position is_last (take 10 (drop at bytes)))
 
@@ -16,7 +16,7 @@ leb_length bytes at = option_map (λ more. more + 1) (position is_last (take 10 
 abbrev pub low_digits : List ℕ → List ℕ
 low_digits bytes = map (λ b. b % 128) bytes
 
--- the sum of the digits of so many bytes
+-- the sum of the digits of the first n bytes
 abbrev pub leb_sum : List ℕ → ℕ → ℕ → ℕ
 leb_sum bytes at n = number_of 128 (low_digits (take n (drop at bytes)))
 
@@ -24,11 +24,11 @@ abbrev pub uleb_of_length : List ℕ → ℕ → Option ℕ → Option (ℕ × �
 uleb_of_length bytes at None = None
 uleb_of_length bytes at (Some n) = if nat_lt (leb_sum bytes at n) (2 ^ 64) then Some (leb_sum bytes at n, at + n) else None
 
--- The unsigned LEB at a place, and the place after it. It has to be below 2^64.
+-- The unsigned LEB128 at `at`, and the offset after it. It must be below 2^64.
 unfoldable pub uleb_at : List ℕ → ℕ → Option (ℕ × ℕ)
 uleb_at bytes at = uleb_of_length bytes at (leb_length bytes at)
 
--- A sum of n digits as a signed number: less 128 ^ n where the last byte is 64 or more. It has to fit 64 bits.
+-- The sum of n digits as a signed number: less 128 ^ n where the last byte is 64 or more. It must fit 64 bits.
 abbrev pub signed_sum : ℕ → ℕ → ℕ → Option ℤ
 signed_sum last n value =
     if nat_le 64 last
@@ -40,6 +40,6 @@ sleb_of_length bytes at None = None
 sleb_of_length bytes at (Some n) =
     option_map (λ value. (value, at + n)) (signed_sum (slice_index bytes (at + n - 1)) n (leb_sum bytes at n))
 
--- the signed LEB at a place, and the place after it
+-- the signed LEB128 at `at`, and the offset after it
 unfoldable pub sleb_at : List ℕ → ℕ → Option (ℤ × ℕ)
 sleb_at bytes at = sleb_of_length bytes at (leb_length bytes at)

@@ -1,15 +1,15 @@
--- The limits of this checker's own that definitions speak of.
+-- The limits that this checker sets itself and that definitions use.
 use Rattle.std.specs.Prelude.{ℕ}
 
--- the most bytes that an input may have
+-- the largest allowed size of an input in bytes
 abbrev pub input_limit : ℕ
 input_limit = 268435456
 
--- the most links of a chain of origins
+-- the most links in a chain of origins
 abbrev pub chain_limit : ℕ
 chain_limit = 8
 
--- the most steps by value that lead on from a type
+-- the greatest depth of types nested by value
 abbrev pub depth_limit : ℕ
 depth_limit = 512
 
@@ -17,6 +17,6 @@ depth_limit = 512
 abbrev pub weight_limit : ℕ
 weight_limit = 1048576
 
--- how many bytes a sink in memory has room for
+-- the capacity of a sink in memory, in bytes
 abbrev pub sink_room : ℕ
 sink_room = 1048576

@@ -1,33 +1,32 @@
--- What a reader answers against what its definition says: one fault of a place, the first of a list of places, and how a
--- result agrees with it.
+-- How a reader's answer agrees with its definition: the fault of one place, the first fault of a list of places, and the
+-- relations between results and faults.
 use Rattle.std.specs.Prelude.{◌≡◌, ℕ, Bool, if◌then◌else◌, List, [], ◌∷◌, Option, Some, None, Result, Ok, Err}
 use Rattle.abi_base.specs.declared.fault.FaultKind.{FaultKind}
 use Rattle.abi_base.specs.declared.fault.Fault.{Fault}
 use Rattle.abi_base.specs.declared.fault.Refusal.{Refusal}
 use Rattle.abi_base.specs.declared.fault.Refusal.TheVariants as refusal
 
--- the fault of a kind at a place, where its condition holds
+-- the fault with this kind and place, if the condition holds
 abbrev pub fault_if : Bool → FaultKind → ℕ → Option Fault
 fault_if holds kind at = if holds then Some (record { kind = kind; at = at }) else None
 
--- the first fault of a list of places
+-- the first fault in a list
 abbrev pub first : List (Option Fault) → Option Fault
 first [] = None
 first (None ∷ others) = first others
 first (Some fault ∷ others) = Some fault
 
--- A refusal is the fault that the definition says, or that memory ran out.
+-- The refusal is the fault of the definition, or memory ran out.
 abbrev pub Refuses : Refusal → Option Fault → Type 0
 Refuses (refusal.Fault answered) fault = fault ≡ Some answered
 Refuses refusal.NoMemory fault = Unit {0}
 
--- Ok comes exactly where there is no fault, and a fault exactly where it is this one, unless memory runs out.
+-- The result is Ok exactly where there is no fault, and else this fault, unless memory runs out.
 abbrev pub Judges : {T : Type 0} → Result T Refusal → Option Fault → Type 0
 Judges (Ok x) fault = fault ≡ None
 Judges (Err e) fault = Refuses e fault
 
--- The same of a call that takes no memory: Ok comes exactly where there is no fault, and a fault exactly where it is
--- this one.
+-- The same for a call that allocates nothing: the result is Ok exactly where there is no fault, and else this fault.
 abbrev pub Settles : {T : Type 0} → Result T Fault → Option Fault → Type 0
 Settles (Ok x) fault = fault ≡ None
 Settles (Err answered) fault = fault ≡ Some answered
@@ -39,12 +38,12 @@ abbrev pub ◌>>=◌ : {A B E : Type 0} → Result A E → (A → Result B E) �
 (Ok x) >>= f = f x
 (Err e) >>= f = Err e
 
--- what is read, or the end e where it cannot be
+-- what was read, or the end e where nothing could be
 abbrev pub or_end : {A E : Type 0} → Option A → E → Result A E
 or_end None e = Err e
 or_end (Some x) e = Ok x
 
--- What a call returned is what reading gives, unless memory runs out.
+-- The result of the call is that of reading, unless memory runs out.
 abbrev pub Gives : {T : Type 0} → Result T Refusal → Result T Fault → Type 0
 Gives (Ok x) read = read ≡ Ok x
 Gives (Err (refusal.Fault answered)) read = read ≡ Err answered

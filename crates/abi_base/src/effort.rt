@@ -1,15 +1,15 @@
-//! How much may be read of a table, a list or a text. Records, lists and names may share their bytes, so that a small file can ask
-//! for far more steps than it has bytes. Steps are counted here, and where they are too many, memory counts as run out.
+//! A budget for reading tables and strings. Records, lists and names may share bytes, so a small file can demand far more steps
+//! than it has bytes. `Effort` counts those steps. Where the budget is spent, the reader answers as if memory had run out.
 ghost use Rattle.std.specs.Prelude.{◌≡◌, ◌+◌, ◌*◌, ◌^◌, ◌-◌, ◌<◌, ℕ, min, length, OnOk, OnErr};
 
 use crate::NoMemory;
 use std::marker::Model;
 
-// How often the bytes of a table and of its names may be read, on average. Where no record and no name is shared, each is read
-// once; a linker that merges the ends of names shares a few.
+// How often the bytes of a table and of its names may be read on average. Where records and names share nothing, each byte is read
+// once; a linker that merges the tails of names shares a few.
 const MOST_TIMES: u64 = 64;
 
-/// How many bytes may still be read. Contracts see their number.
+/// How many more bytes may be read. Contracts see that number.
 #[derive(Drop)]
 pub struct Effort {
     left: u64,
@@ -24,7 +24,7 @@ impl Model for Effort {
 }
 
 impl Effort {
-    /// The effort for so many bytes, each of which may be read 64 times.
+    /// A budget for this many bytes: 64 reads of each.
     pub fn for_bytes(bytes: usize) -> Effort
         ensures { result ≡ min (64 * bytes) (2 ^ 64 - 1) }
     {
@@ -33,12 +33,12 @@ impl Effort {
         }
     }
 
-    /// The effort for a table with its names.
+    /// A budget for a table and its string table.
     pub fn for_table(table: &[u8], strings: &[u8]) -> Effort {
         Effort::for_bytes(table.len().saturating_add(strings.len()))
     }
 
-    /// Takes the effort for so many bytes. It fails exactly where less is left, and then takes nothing.
+    /// Spends this many bytes. Fails exactly where the budget is smaller, and then spends nothing.
     pub fn spend(&mut self, bytes: usize) -> Result<(), NoMemory>
         ensures ok { OnOk result (self.old ≡ self.new + bytes) }
         ensures err { OnErr result (self.old < bytes) }
@@ -52,7 +52,7 @@ impl Effort {
         Ok(())
     }
 
-    /// Takes the effort for a record of a size and its name. It fails where less is left.
+    /// Spends a record of this size and its name. Fails exactly where the budget is smaller.
     pub fn spend_named(&mut self, size: usize, name: &[u8]) -> Result<(), NoMemory>
         ensures { OnOk result (self.old ≡ self.new + size + length name.now) }
     {

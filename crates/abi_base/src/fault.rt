@@ -1,4 +1,4 @@
-// What is wrong with an input, and why a call gives up.
+// The faults of inputs, and the reasons for which a call gives up.
 ghost use Rattle.std.specs.Prelude.{◌≡◌};
 ghost use Rattle.abi_base.specs.Fault.{fault_number, fault_name};
 ghost use Rattle.abi_base.specs.declared.fault.Refusal.TheVariants.{NoMemory as OutOfMemory};
@@ -13,11 +13,11 @@ pub struct NoMemory;
 #[derive(Clone, Copy, Debug, PartialEq, Eq)]
 pub struct Failed;
 
-/// A sink failed before it held the whole text.
+/// A sink failed before the whole text was written.
 #[derive(Clone, Copy, Debug, PartialEq, Eq)]
 pub struct WriteFailed;
 
-/// What may be wrong with an input. Each kind has a number and a name, which texts print.
+/// The kinds of faults of an input. Each has a number and a name, which the program prints.
 #[derive(Clone, Copy, Debug, PartialEq, Eq)]
 pub enum FaultKind {
     /// The file has fewer bytes than an ELF-64 header.
@@ -34,63 +34,63 @@ pub enum FaultKind {
     NotShared,
     /// The file's machine is not EM_X86_64.
     Machine,
-    /// There is no section table, or it or its name section does not lie in the file.
+    /// There is no section header table, or it or the section name string table lies outside the file.
     SectionTable,
-    /// A section does not lie in the file.
+    /// The contents of a section lie outside the file.
     SectionRange,
-    /// A section's name does not end in the name section.
+    /// The name of a section has no end in the section name string table.
     SectionName,
     /// A debug section is compressed.
     Compressed,
-    /// There is no section of dynamic symbols.
+    /// There is no dynamic symbol table.
     NoDynamicSymbols,
     /// The dynamic symbol table is malformed.
     SymbolTable,
     /// The dynamic table is malformed.
     DynamicTable,
-    /// The version table does not fit the symbols.
+    /// The symbol version table does not fit the symbol table.
     VersionTable,
     /// A version definition is malformed.
     VersionDefinition,
     /// A symbol's version is not defined.
     VersionIndex,
-    /// Two exports have one name and one version.
+    /// Two exports have the same name and version.
     DuplicateExport,
     /// A unit header is malformed.
     UnitHeader,
-    /// A unit's DWARF version is not read.
+    /// A unit's DWARF version is not supported.
     DwarfVersion,
-    /// A unit's type is not read.
+    /// A unit's type is not supported.
     UnitType,
-    /// A unit's addresses do not have eight bytes.
+    /// A unit's address size is not eight bytes.
     AddressSize,
-    /// A unit has the 64-bit form of DWARF.
+    /// A unit is in the 64-bit DWARF format.
     Dwarf64,
-    /// An abbreviation is malformed.
+    /// An abbreviation declaration is malformed.
     Abbrev,
-    /// An entry's abbreviation code is not in its table.
+    /// An entry's abbreviation code is not in the abbreviation table.
     AbbrevCode,
     /// An attribute has an unknown form.
     Form,
-    /// An entry does not end in its unit.
+    /// An entry runs past the end of its unit.
     Cut,
-    /// The entries of a unit are no tree.
+    /// The entries of a unit do not form a tree.
     Tree,
-    /// A name is no text, or does not end in its section.
+    /// A name is not a string, or has no end in its section.
     Text,
-    /// An index has no base, or lies outside its section.
+    /// An index has no base, or leads outside its section.
     Index,
     /// A range list is malformed.
     Ranges,
-    /// A unit's language is not read.
+    /// A unit's language is not supported.
     Language,
     /// A reference leads to no entry.
     Reference,
-    /// A type entry lacks what describes it.
+    /// A type entry lacks a required attribute or child.
     Shape,
-    /// A type holds others by value too deep.
+    /// The nesting of types by value is too deep.
     TooDeep,
-    /// A type or a place in it is too large.
+    /// A type, or an offset in it, is too large.
     TooLarge,
     /// An attribute refers to a supplementary file.
     Supplementary,
@@ -98,40 +98,40 @@ pub enum FaultKind {
     OriginTooDeep,
     /// An input is longer than the limit.
     TooLong,
-    /// A version need is malformed.
+    /// A version requirement is malformed.
     VersionNeed,
     /// An import's version is not defined.
     ImportVersion,
-    /// A type unit's type offset leads to no entry.
+    /// The type offset of a type unit leads to no entry.
     TypeOffset,
-    /// A rule text is not UTF-8.
+    /// A rule file is not UTF-8.
     BadText,
-    /// A line of a rule text has no form that a rule text has.
+    /// A line of a rule file is malformed.
     RuleLine,
-    /// A section of a rule text is unknown.
+    /// A section of a rule file is unknown.
     Section,
-    /// A property is none of its section's, or has another value.
+    /// A property does not belong to its section, or its value is not allowed.
     Property,
-    /// A section of a rule text has no property that selects.
+    /// A section of a rule file has no property that selects.
     EmptyRule,
-    /// A pattern is no regular expression.
+    /// A pattern is not a regular expression.
     BadPattern,
     /// A pattern is too long.
     LongPattern,
-    /// A property stands twice in its section.
+    /// A property occurs twice in its section.
     Repeated,
-    /// A pattern has a brace.
+    /// A pattern contains a brace.
     Brace,
-    /// A line of a certificate has no form that a certificate has at its place.
+    /// A line of a certificate has none of the forms that its place allows.
     CertLine,
-    /// A line of a certificate stands out of order.
+    /// A line of a certificate is out of order.
     Order,
     /// A certificate does not end with its last line.
     End,
 }
 
 impl FaultKind {
-    /// The number of the kind, which no other kind has.
+    /// The number of the kind. No two kinds share one.
     pub fn number(self) -> u64
         ensures { result ≡ fault_number self }
     {
@@ -193,7 +193,7 @@ impl FaultKind {
         }
     }
 
-    /// The name of the kind. A line of a rule text and one of a certificate have one name, `Line`.
+    /// The name of the kind. `RuleLine` and `CertLine` share the name `Line`.
     pub fn name(self) -> &'static str
         ensures { result.now ≡ fault_name self }
     {
@@ -261,16 +261,16 @@ impl FaultKind {
 pub struct Fault {
     /// What is wrong.
     pub kind: FaultKind,
-    /// Where it is: a byte from the start, or the number of a section, a symbol, an entry or a line.
+    /// Where it is: the offset of a byte, or the number of a section, a symbol, an entry or a line.
     pub at: u64,
 }
 
-/// Why a reader gives nothing.
+/// Why a reader has no result.
 #[derive(Clone, Copy, Debug, PartialEq, Eq)]
 pub enum Refusal {
     /// The input has this fault.
     Fault(Fault),
-    /// Memory ran out, which says nothing of the input.
+    /// Memory ran out, which is no fault of the input.
     NoMemory,
 }
 

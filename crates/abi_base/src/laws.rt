@@ -1,4 +1,4 @@
-// The numbers of the code are those of the standards, as the tables of `specs/` give them.
+// Laws: the constants of the code are those of the standards, which the tables in `specs/` give.
 ghost use Rattle.std.specs.Prelude.{◌≡◌};
 ghost use Rattle.abi_base.specs.Dwarf.{dw_form_addr, dw_form_block2, dw_form_block4, dw_form_data2, dw_form_data4, dw_form_data8, dw_form_string, dw_form_block, dw_form_block1, dw_form_data1, dw_form_flag, dw_form_sdata, dw_form_strp, dw_form_udata, dw_form_ref_addr, dw_form_ref1, dw_form_ref2, dw_form_ref4, dw_form_ref8, dw_form_ref_udata, dw_form_indirect, dw_form_sec_offset, dw_form_exprloc, dw_form_flag_present, dw_form_strx, dw_form_addrx, dw_form_ref_sup4, dw_form_strp_sup, dw_form_data16, dw_form_line_strp, dw_form_ref_sig8, dw_form_implicit_const, dw_form_loclistx, dw_form_rnglistx, dw_form_ref_sup8, dw_form_strx1, dw_form_strx2, dw_form_strx3, dw_form_strx4, dw_form_addrx1, dw_form_addrx2, dw_form_addrx3, dw_form_addrx4, dw_form_gnu_ref_alt, dw_form_gnu_strp_alt, dw_tag_array_type, dw_tag_enumeration_type, dw_tag_formal_parameter, dw_tag_member, dw_tag_pointer_type, dw_tag_compile_unit, dw_tag_structure_type, dw_tag_subroutine_type, dw_tag_typedef, dw_tag_union_type, dw_tag_unspecified_parameters, dw_tag_subrange_type, dw_tag_base_type, dw_tag_const_type, dw_tag_enumerator, dw_tag_subprogram, dw_tag_variable, dw_tag_volatile_type, dw_tag_restrict_type, dw_tag_partial_unit, dw_tag_type_unit, dw_tag_atomic_type, dw_at_location, dw_at_name, dw_at_byte_size, dw_at_bit_offset, dw_at_bit_size, dw_at_low_pc, dw_at_language, dw_at_const_value, dw_at_upper_bound, dw_at_abstract_origin, dw_at_count, dw_at_data_member_location, dw_at_declaration, dw_at_encoding, dw_at_specification, dw_at_type, dw_at_entry_pc, dw_at_ranges, dw_at_signature, dw_at_data_bit_offset, dw_at_str_offsets_base, dw_at_addr_base, dw_at_rnglists_base, dw_at_alignment, dw_at_gnu_vector, dw_lang_c89, dw_lang_c, dw_lang_c99, dw_lang_c11, dw_lang_c17, dw_lang_mips_assembler, dw_ut_compile, dw_ut_type, dw_ut_partial, dw_children_no, dw_children_yes, dw_ate_boolean, dw_ate_complex_float, dw_ate_float, dw_ate_signed, dw_ate_signed_char, dw_ate_unsigned, dw_ate_unsigned_char, dw_ate_decimal_float, dw_ate_utf, dw_op_plus_uconst};
 ghost use Rattle.abi_base.specs.Limits.{input_limit};
@@ -6,12 +6,12 @@ ghost use Rattle.abi_base.specs.Limits.{input_limit};
 use crate::INPUT_LIMIT;
 use crate::dwarf::*;
 
-/// The limit of inputs is the one that definitions speak of.
+/// The limit on inputs is the one in the definitions.
 pub fn the_limit_of_inputs_is_as_said()
     ensures { INPUT_LIMIT ≡ input_limit }
 {}
 
-/// Each form has its number of DWARF 5, section 7.5.6 "Form Encodings", and those of GNU theirs.
+/// Each form has its code of DWARF 5, section 7.5.6 "Form Encodings", and each GNU form that of GNU.
 pub fn forms_have_their_numbers()
     ensures { (DW_FORM_addr ≡ dw_form_addr)
         × (DW_FORM_block2 ≡ dw_form_block2)
@@ -60,7 +60,7 @@ pub fn forms_have_their_numbers()
         × (DW_FORM_GNU_strp_alt ≡ dw_form_gnu_strp_alt) }
 {}
 
-/// Each tag has its number of DWARF 5, section 7.5.3 "Abbreviations Tables".
+/// Each tag has its code of DWARF 5, section 7.5.3 "Abbreviations Tables".
 pub fn tags_have_their_numbers()
     ensures { (DW_TAG_array_type ≡ dw_tag_array_type)
         × (DW_TAG_enumeration_type ≡ dw_tag_enumeration_type)
@@ -86,7 +86,7 @@ pub fn tags_have_their_numbers()
         × (DW_TAG_atomic_type ≡ dw_tag_atomic_type) }
 {}
 
-/// Each attribute has its number of DWARF 5, section 7.5.4 "Attribute Encodings", and that of GNU its own.
+/// Each attribute has its code of DWARF 5, section 7.5.4 "Attribute Encodings", and that of GNU its own.
 pub fn attributes_have_their_numbers()
     ensures { (DW_AT_location ≡ dw_at_location)
         × (DW_AT_name ≡ dw_at_name)
@@ -115,7 +115,7 @@ pub fn attributes_have_their_numbers()
         × (DW_AT_GNU_vector ≡ dw_at_gnu_vector) }
 {}
 
-/// Each language has its number of DWARF 5, section 7.12 "Source Languages", and those that came later theirs.
+/// Each language has its code of DWARF 5, section 7.12 "Source Languages", or of the later list of language codes.
 pub fn languages_have_their_numbers()
     ensures { (DW_LANG_C89 ≡ dw_lang_c89)
         × (DW_LANG_C ≡ dw_lang_c)
@@ -125,20 +125,20 @@ pub fn languages_have_their_numbers()
         × (DW_LANG_Mips_Assembler ≡ dw_lang_mips_assembler) }
 {}
 
-/// Each type of unit has its number of DWARF 5, section 7.5.1 "Unit Headers".
+/// Each unit type has its code of DWARF 5, section 7.5.1 "Unit Headers".
 pub fn unit_types_have_their_numbers()
     ensures { (DW_UT_compile ≡ dw_ut_compile)
         × (DW_UT_type ≡ dw_ut_type)
         × (DW_UT_partial ≡ dw_ut_partial) }
 {}
 
-/// Whether an entry has children is said by the numbers of DWARF 5, section 7.5.3 "Abbreviations Tables".
+/// The codes for entries with and without children are those of DWARF 5, section 7.5.3 "Abbreviations Tables".
 pub fn children_have_their_numbers()
     ensures { (DW_CHILDREN_no ≡ dw_children_no)
         × (DW_CHILDREN_yes ≡ dw_children_yes) }
 {}
 
-/// Each encoding of a base type has its number of DWARF 5, section 7.8 "Base Type Attribute Encodings".
+/// Each encoding of a base type has its code of DWARF 5, section 7.8 "Base Type Attribute Encodings".
 pub fn encodings_have_their_numbers()
     ensures { (DW_ATE_boolean ≡ dw_ate_boolean)
         × (DW_ATE_complex_float ≡ dw_ate_complex_float)
@@ -151,7 +151,7 @@ pub fn encodings_have_their_numbers()
         × (DW_ATE_UTF ≡ dw_ate_utf) }
 {}
 
-/// The operation that adds has its number of DWARF 5, section 7.7.1 "DWARF Expressions".
+/// `DW_OP_plus_uconst` has its code of DWARF 5, section 7.7.1 "DWARF Expressions".
 pub fn operations_have_their_numbers()
     ensures { DW_OP_plus_uconst ≡ dw_op_plus_uconst }
 {}

@@ -1,10 +1,10 @@
-// Numbers of variable length, as DWARF writes them.
+// LEB128 numbers, DWARF's variable-length encoding.
 ghost use Rattle.std.specs.Prelude.{◌≡◌, ◌+◌, ◌-◌, ◌^◌, ◌<◌, ◌≤◌, ◌-ℤ◌, pos, length, take, drop, position, if◌then◌else◌, nat_lt, Some, None, IfSome};
 ghost use Rattle.abi_base.specs.Numbers.{number_of};
 ghost use Rattle.abi_base.specs.Leb.{leb_length, low_digits, signed_sum, sleb_at, uleb_at};
 ghost use Rattle.abi_base.specs.Leb as spec;
 
-// A byte from this one on has another one after it. The low seven bits of a byte are a digit.
+// A byte of this value or more continues the number. The low seven bits of each byte are a digit.
 const MORE: u8 = 0x80;
 
 // The base of the digits.
@@ -12,13 +12,13 @@ const BASE: u64 = 128;
 
 const WIDE_BASE: u128 = 128;
 
-// The sign stands in this bit of the last byte of a signed number.
+// This bit of the last byte is the sign of a signed number.
 const NEGATIVE: u8 = 0x40;
 
-// No number of 64 bits has to be longer.
+// Ten bytes hold any number of 64 bits.
 const MOST_BYTES: usize = 10;
 
-// The bytes from a place on, ten of them at most.
+// The bytes from `at` on, at most ten.
 fn ten_from(bytes: &[u8], at: usize) -> &[u8]
     ensures { result.now ≡ take 10 (drop at bytes.now) }
 {
@@ -40,7 +40,7 @@ fn last_in(front: &[u8]) -> Option<usize>
     front.iter().position(|b| *b < MORE)
 }
 
-// How many bytes the LEB at a place has.
+// The length in bytes of the LEB128 at `at`.
 #[tactic(auto, using(crate::proofs::ReadNumbers::slices), unfolding(crate::specs::Leb::leb_length))]
 fn leb_len(bytes: &[u8], at: usize) -> Option<usize>
     ensures found { result ≡ leb_length bytes.now at }
@@ -54,7 +54,7 @@ fn leb_len(bytes: &[u8], at: usize) -> Option<usize>
     }
 }
 
-// The number whose seven-bit digits these bytes hold, the lowest first.
+// The number with these seven-bit digits, lowest first.
 fn digits_value(digits: &[u8]) -> Option<u64>
     ensures { result ≡ (let value = number_of 128 (low_digits digits.now) in if nat_lt value (2 ^ 64) then Some value else None) }
 {
@@ -70,7 +70,7 @@ fn digits_value(digits: &[u8]) -> Option<u64>
     Some(value)
 }
 
-// The unsigned LEB at a place, whatever its length.
+// The unsigned LEB128 at `at`, of any length.
 #[tactic(auto, unfolding(crate::specs::Leb::uleb_at))]
 fn uleb_of_any_length(bytes: &[u8], at: usize) -> Option<(u64, usize)>
     ensures found { result ≡ uleb_at bytes.now at }
@@ -86,21 +86,21 @@ fn uleb_of_any_length(bytes: &[u8], at: usize) -> Option<(u64, usize)>
     }
 }
 
-/// The unsigned LEB128 number at a place, and the place after it (DWARF 5, section 7.6). Bytes that add nothing are taken
-/// too. None exactly where no byte below 128 stands among the first ten inside, or the number is 2^64 or more.
+/// The unsigned LEB128 number at `at`, and the offset after it (DWARF 5, section 7.6). Padding bytes are allowed. None
+/// exactly where none of the ten bytes from `at` on ends the number (is below 128), or the number is 2^64 or more.
 pub fn uleb(bytes: &[u8], at: usize) -> Option<(u64, usize)>
     ensures found { result ≡ uleb_at bytes.now at }
     ensures after { IfSome result (λ r. at < r.1) }
     ensures inside { IfSome result (λ r. r.1 ≤ length bytes.now) }
 {
-    // Most numbers have one byte.
+    // A fast path, since most numbers have one byte.
     match bytes.get(at) {
         Some(byte) if *byte < MORE => Some((u64::from(*byte), at + 1)),
         _ => uleb_of_any_length(bytes, at),
     }
 }
 
-// The number whose seven-bit digits these bytes hold, the lowest first, and 128 to the power of their count.
+// The number with these seven-bit digits, lowest first, and 128 to the power of their count.
 fn digits_sum(digits: &[u8]) -> (u128, u128)
     requires { length digits.now ≤ 10 }
     ensures sum { result.0 ≡ number_of 128 (low_digits digits.now) }
@@ -119,7 +119,7 @@ fn digits_sum(digits: &[u8]) -> (u128, u128)
     (sum, scale)
 }
 
-// A number below 0, by how far it is below.
+// The negative number that lies `below` below 0.
 fn minus(below: u64) -> i64
     requires some { 0 < below }
     requires fits { below ≤ 2 ^ 63 }
@@ -147,8 +147,8 @@ fn signed_value(last: u8, digits: &[u8]) -> Option<i64>
     }
 }
 
-/// The signed LEB128 number at a place, and the place after it (DWARF 5, section 7.6). Bytes that add nothing are taken
-/// too. None exactly where no byte below 128 stands among the first ten inside, or the number does not fit 64 bits.
+/// The signed LEB128 number at `at`, and the offset after it (DWARF 5, section 7.6). Padding bytes are allowed. None
+/// exactly where none of the ten bytes from `at` on ends the number (is below 128), or the number does not fit 64 bits.
 #[tactic(auto, unfolding(crate::specs::Leb::sleb_at))]
 pub fn sleb(bytes: &[u8], at: usize) -> Option<(i64, usize)>
     ensures found { result ≡ sleb_at bytes.now at }

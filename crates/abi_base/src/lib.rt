@@ -1,5 +1,5 @@
-//! What every crate of the checker shares: what it reads from and writes to, faults and refusals, numbers and texts
-//! in bytes, and lists that contracts see as lists.
+//! What every crate of the checker shares: inputs and sinks, faults and refusals, numbers and strings in bytes, and
+//! lists that contracts see as mathematical lists.
 #![tactic(auto)]
 
 pub mod dwarf;
@@ -30,7 +30,7 @@ pub use sink::{Sink, write_all};
 pub use tables::{table_address, table_offset};
 pub use take::Take;
 
-/// The most bytes that an input may have. A longer one is `FaultKind::TooLong`.
+/// The largest allowed size of an input in bytes. A larger one is refused with `FaultKind::TooLong`.
 pub const INPUT_LIMIT: usize = 268_435_456;
 
 #[cfg(test)]

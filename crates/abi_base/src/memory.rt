@@ -1,4 +1,4 @@
-// Inputs and a sink in memory, some of whose calls fail.
+// Inputs and a sink in memory. Chosen calls fail.
 ghost use Rattle.std.specs.Prelude.{◌≡◌, ◌+◌, ◌-◌, ◌^◌, ◌≤◌, ◌<◌, ℕ, List, [], length, drop, Some, None, if◌then◌else◌, option_and_then, MatchOption, IfOk, is_some, vec_capacity, vec_len, string_bytes};
 ghost use Rattle.abi_base.specs.Causes.{count_after, is_listed};
 ghost use Rattle.abi_base.specs.Limits.{sink_room};
@@ -8,7 +8,7 @@ use crate::inputs::given_after;
 use crate::{Failed, Inputs, NoMemory, Sink};
 use std::alloc::Global;
 
-// The calls that are made to fail, counted from 1, and how many calls there were.
+// The calls that are set up to fail, counted from 1, and the number of calls so far.
 #[derive(Drop)]
 struct Calls {
     failing: Vec<u64>,
@@ -16,7 +16,7 @@ struct Calls {
 }
 
 impl Calls {
-    // Whether the next call is made to fail: the call is counted.
+    // Counts the next call, and answers whether it is set up to fail.
     #[tactic(auto, using(crate::proofs::Loops::listed_later))]
     fn next_fails(&mut self) -> bool
         ensures listed { result ≡ is_listed self.old.failing.items self.old.so_far 0 }
@@ -27,10 +27,10 @@ impl Calls {
     }
 }
 
-/// Named files in memory, some of whose calls fail. The first file of a name counts.
+/// Named files in memory, with chosen calls that fail. Of several files with one name the first counts.
 ///
-/// A listed call that fails raises the count of every name. A start on a name that is not held fails too, and raises
-/// the counts of the names that are not held alone. The current input answers to its own name alone.
+/// A call that is set up to fail raises the fault count of every name. A start on an unknown name fails too, and raises
+/// only the counts of unknown names. The current input answers only to its own name.
 #[derive(Drop)]
 pub struct MemInputs {
     files: Vec<(String, Vec<u8>)>,
@@ -44,13 +44,13 @@ pub struct MemInputs {
 }
 
 impl MemInputs {
-    /// These files, each a name and its bytes, with no current input yet. `failing` lists the calls that are to fail,
+    /// Makes inputs of these files, given as name and bytes, with no current input yet. `failing` lists the calls that fail,
     /// counted from 1 over `start` and `read` together.
     pub fn new(files: Vec<(String, Vec<u8>)>, failing: Vec<u64>) -> MemInputs
         ensures told { (name : List ℕ) → ⟦<MemInputs as Inputs>⟧.told result name ≡ file_of files.items name }
         ensures faults { (name : List ℕ) → ⟦<MemInputs as Inputs>⟧.faults result name ≡ 0 }
 
-        // Nothing is left before a first start.
+        // Before the first start there is nothing to read.
         ensures left { ⟦<MemInputs as Inputs>⟧.left result ≡ Some [] }
         ensures given { ⟦<MemInputs as Inputs>⟧.given result ≡ 0 }
         ensures started { ⟦<MemInputs as Inputs>⟧.started result ≡ 0 }
@@ -70,7 +70,7 @@ impl MemInputs {
     }
 }
 
-// The place of the first file of a name.
+// The index of the first file of this name.
 fn place_of(files: &[(String, Vec<u8>)], name: &str) -> Option<usize>
     ensures { MatchOption result (file_of files.now name.now ≡ None) (IsFileAt files.now name.now) }
 {
@@ -129,7 +129,7 @@ impl Inputs for MemInputs {
     }
 }
 
-// Copies what is left of a file, at most as much as there is room for.
+// Copies the rest of a file, up to the size of the buffer.
 fn copy_rest(
     files: &[(String, Vec<u8>)],
     current: Option<usize>,
@@ -160,11 +160,11 @@ fn copy_front(bytes: &[u8], at: usize, into: &mut [u8]) -> usize
     count
 }
 
-// How many bytes a sink in memory has room for.
+// The capacity of a sink in memory, in bytes.
 const ROOM: usize = 1_048_576;
 
-/// A sink in memory, some of whose calls fail. It has room for 1,048,576 bytes, which it takes as it is made, and takes
-/// no memory after. Once the room is full, it fails at each piece that is not empty.
+/// A sink in memory, with chosen calls that fail. Its capacity of 1,048,576 bytes is allocated at creation, and nothing
+/// later. Once it is full, each write of a nonempty piece fails.
 #[derive(Drop)]
 pub struct MemSink {
     bytes: Vec<u8>,
@@ -177,8 +177,8 @@ pub struct MemSink {
 }
 
 impl MemSink {
-    /// A sink that holds nothing and takes at most `take` bytes in one call, at least 1, or `NoMemory` where there is no
-    /// room. `failing` lists the calls of `write` that are to fail, counted from 1.
+    /// An empty sink that accepts at most `take` bytes in one call, at least 1; `NoMemory` where its buffer cannot be
+    /// allocated. `failing` lists the calls of `write` that fail, counted from 1.
     pub fn new(alloc: Global, take: usize, failing: Vec<u64>) -> Result<MemSink, NoMemory>
         requires { 0 < take }
         ensures held { IfOk result (λ sink. ⟦<MemSink as Sink>⟧.held sink ≡ Some []) }
@@ -195,7 +195,7 @@ impl MemSink {
         })
     }
 
-    /// The bytes that it holds: all that it took, in order.
+    /// The bytes in the sink: all that were written, in order.
     pub fn held(&self) -> &[u8]
         ensures { ⟦<MemSink as Sink>⟧.held self.now ≡ Some result.now }
     {

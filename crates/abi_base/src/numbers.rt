@@ -1,4 +1,4 @@
-// Numbers and texts in bytes.
+// Little-endian numbers and zero-terminated strings in bytes.
 ghost use Rattle.std.specs.Prelude.{◌≡◌, ◌+◌, ◌<◌, ◌≤◌, length, position, IfSome};
 ghost use Rattle.std.specs.Option.{option_copied};
 ghost use Rattle.abi_base.specs.Numbers.{number, number_at, is_zero};
@@ -6,8 +6,7 @@ ghost use Rattle.abi_base.specs.Numbers as spec;
 
 use byteorder::{ByteOrder, LittleEndian};
 
-/// The number in the two bytes at a place, which lie inside. The lowest byte stands first (System V gABI, "Data
-/// Representation").
+/// The little-endian number in the two bytes at `at`, which lie in bounds (System V gABI, "Data Representation").
 pub fn u16_in(bytes: &[u8], at: usize) -> u16
     requires { at + 2 ≤ length bytes.now }
     ensures { result ≡ number 2 bytes.now at }
@@ -15,8 +14,8 @@ pub fn u16_in(bytes: &[u8], at: usize) -> u16
     LittleEndian::read_u16(&bytes[at..])
 }
 
-/// The number in the two bytes at a place, with the lowest byte first (System V gABI, "Data Representation"). None
-/// exactly where the two bytes do not all lie inside.
+/// The little-endian number in the two bytes at `at` (System V gABI, "Data Representation"). None exactly where they are
+/// not all in bounds.
 pub fn u16_at(bytes: &[u8], at: usize) -> Option<u16>
     ensures { result ≡ number_at 2 bytes.now at }
 {
@@ -27,8 +26,7 @@ pub fn u16_at(bytes: &[u8], at: usize) -> Option<u16>
     }
 }
 
-/// The number in the four bytes at a place, which lie inside. The lowest byte stands first (System V gABI, "Data
-/// Representation").
+/// The little-endian number in the four bytes at `at`, which lie in bounds (System V gABI, "Data Representation").
 pub fn u32_in(bytes: &[u8], at: usize) -> u32
     requires { at + 4 ≤ length bytes.now }
     ensures { result ≡ number 4 bytes.now at }
@@ -36,8 +34,8 @@ pub fn u32_in(bytes: &[u8], at: usize) -> u32
     LittleEndian::read_u32(&bytes[at..])
 }
 
-/// The number in the four bytes at a place, with the lowest byte first (System V gABI, "Data Representation"). None
-/// exactly where the four bytes do not all lie inside.
+/// The little-endian number in the four bytes at `at` (System V gABI, "Data Representation"). None exactly where they are
+/// not all in bounds.
 pub fn u32_at(bytes: &[u8], at: usize) -> Option<u32>
     ensures { result ≡ number_at 4 bytes.now at }
 {
@@ -48,8 +46,7 @@ pub fn u32_at(bytes: &[u8], at: usize) -> Option<u32>
     }
 }
 
-/// The number in the eight bytes at a place, which lie inside. The lowest byte stands first (System V gABI, "Data
-/// Representation").
+/// The little-endian number in the eight bytes at `at`, which lie in bounds (System V gABI, "Data Representation").
 pub fn u64_in(bytes: &[u8], at: usize) -> u64
     requires { at + 8 ≤ length bytes.now }
     ensures { result ≡ number 8 bytes.now at }
@@ -57,8 +54,8 @@ pub fn u64_in(bytes: &[u8], at: usize) -> u64
     LittleEndian::read_u64(&bytes[at..])
 }
 
-/// The number in the eight bytes at a place, with the lowest byte first (System V gABI, "Data Representation"). None
-/// exactly where the eight bytes do not all lie inside.
+/// The little-endian number in the eight bytes at `at` (System V gABI, "Data Representation"). None exactly where they are
+/// not all in bounds.
 pub fn u64_at(bytes: &[u8], at: usize) -> Option<u64>
     ensures { result ≡ number_at 8 bytes.now at }
 {
@@ -69,8 +66,8 @@ pub fn u64_at(bytes: &[u8], at: usize) -> Option<u64>
     }
 }
 
-/// The number in so many bytes at a place, one to eight, with the lowest byte first (System V gABI, "Data
-/// Representation"). None exactly where the bytes do not all lie inside.
+/// The little-endian number in the `size` bytes at `at`, one to eight (System V gABI, "Data Representation"). None exactly
+/// where they are not all in bounds.
 #[tactic(auto, using(crate::proofs::ReadNumbers::number_is))]
 pub fn uint_at(bytes: &[u8], at: usize, size: usize) -> Option<u64>
     requires some { 0 < size }
@@ -85,7 +82,7 @@ pub fn uint_at(bytes: &[u8], at: usize, size: usize) -> Option<u64>
     }
 }
 
-// The place of the first 0 byte.
+// The index of the first zero byte.
 fn first_zero(rest: &[u8]) -> Option<usize>
     ensures found { result ≡ position is_zero rest.now }
     ensures inside { IfSome result (λ k. k < length rest.now) }
@@ -93,8 +90,8 @@ fn first_zero(rest: &[u8]) -> Option<usize>
     rest.iter().position(|b| *b == 0)
 }
 
-/// The text at a place of a string table: the bytes from there up to the first 0 byte, without it (System V gABI,
-/// "String Table"). None exactly where no 0 byte stands from the place on, as at a place outside.
+/// The string at an offset of a string table: the bytes up to the first zero byte, without it (System V gABI, "String
+/// Table"). None exactly where no zero byte follows, as at an offset outside the table.
 #[tactic(auto, using(crate::proofs::ReadNumbers::slices), unfolding(crate::specs::Numbers::text_at))]
 pub fn text_at(table: &[u8], at: u64) -> Option<&[u8]>
     ensures found { option_copied result ≡ spec.text_at table.now at }

@@ -1,5 +1,5 @@
 // Real files and standard output. No contract of the runtime says which bytes a path has or what a terminal holds, so
-// no contract here does; of what is left of a file, only what the type of a file says is known.
+// none here does. All that is known of the rest of a file is what its type says.
 ghost use Rattle.std.specs.Prelude.{◌≡◌, ◌<◌, List, [], ℕ, length, Option, Some, None, OnErr, IfOk};
 ghost use Rattle.std.specs.Option.{option_map_or};
 ghost use Rattle.std.specs.Io.{ReadsAtMost, WritesAtMost};
@@ -11,10 +11,10 @@ use std::fs;
 use std::io::{ErrorKind, Read};
 use std::rt::Files;
 
-// A call that a signal interrupts is made again, at most so often.
+// How often an interrupted call is made again.
 const TRIES: u64 = u64::MAX;
 
-// What one read gives. A read that is interrupted gives nothing and is tried again.
+// One read. A read that a signal interrupts gives nothing and is made again.
 #[tactic(auto, using(crate::proofs::Loops::kept))]
 pub(crate) fn read_some<F: Read>(file: &mut F, into: &mut [u8]) -> Result<usize, Failed>
     ensures bound { ReadsAtMost result into.new }
@@ -30,8 +30,7 @@ pub(crate) fn read_some<F: Read>(file: &mut F, into: &mut [u8]) -> Result<usize,
     Err(Failed)
 }
 
-// What one write takes, some of the bytes where there are any. A write that is interrupted takes nothing and is tried
-// again.
+// One write, which takes at least one byte where there are any. A write that a signal interrupts takes nothing and is made again.
 fn write_some<P: Print>(rt: &P, bytes: &[u8]) -> Result<usize, Failed>
     ensures bound { WritesAtMost result bytes.now }
     ensures progress { IfOk result (λ count. 0 < length bytes.now → 0 < count) }
@@ -46,8 +45,8 @@ fn write_some<P: Print>(rt: &P, bytes: &[u8]) -> Result<usize, Failed>
     Err(Failed)
 }
 
-/// Files by their paths. One count of faults, which each call that fails raises, serves for every name, and the
-/// current input answers to every name, since one file may have several. A read that a signal interrupts is tried again.
+/// Files by path. All names share one fault count, which rises with each call that fails. The current input answers to
+/// every name, since a file may have several. A read that a signal interrupts is made again.
 #[derive(Drop)]
 pub struct FileInputs<'a, R: Files> {
     rt: &'a R,
@@ -58,13 +57,13 @@ pub struct FileInputs<'a, R: Files> {
 }
 
 impl<'a, R: Files> FileInputs<'a, R> {
-    /// The files that the runtime reaches, none of them started. A name is a path.
+    /// Inputs over the runtime's files, none of them started. A name is a path.
     pub fn new(rt: &'a R) -> Self
         ensures faults { (name : List ℕ) → ⟦<FileInputs<'a, R> as Inputs>⟧.faults result name ≡ 0 }
         ensures given { ⟦<FileInputs<'a, R> as Inputs>⟧.given result ≡ 0 }
         ensures started { ⟦<FileInputs<'a, R> as Inputs>⟧.started result ≡ 0 }
 
-        // Nothing is left before a first start.
+        // Before the first start there is nothing to read.
         ensures left { ⟦<FileInputs<'a, R> as Inputs>⟧.left result ≡ Some [] }
     {
         FileInputs {
@@ -123,9 +122,8 @@ impl<R: Files> Inputs for FileInputs<'_, R> {
     }
 }
 
-/// Standard output, written without a buffer. Its count of faults rises with each call that fails, and with one that
-/// takes none of a piece that is not empty, which is answered as a failure. A write that a signal interrupts is tried
-/// again.
+/// Standard output, unbuffered. The fault count rises with each call that fails. A call that takes none of a nonempty
+/// piece counts as a failure. A write that a signal interrupts is made again.
 #[derive(Drop)]
 pub struct StdSink<'a, P: Print> {
     rt: &'a P,

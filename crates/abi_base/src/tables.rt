@@ -1,4 +1,4 @@
-// Entries of tables of numbers, each counted from a base.
+// Tables of numbers that are indexed from a base.
 ghost use Rattle.std.specs.Prelude.{◌≡◌};
 ghost use Rattle.abi_base.specs.Tables.{entry_of_table};
 
@@ -9,9 +9,9 @@ const OFFSET_SIZE: u128 = 4;
 
 const ADDRESS_SIZE: u128 = 8;
 
-/// The offset of four bytes at an index of the part of a table that begins at a base (DWARF 5, sections 7.26 "String
-/// Offsets Table" and 7.28 "Range List Table"). None exactly without a base and where the four bytes do not all lie
-/// inside; its place may pass 64 bits, and lies outside then.
+/// The four-byte offset with this index in the part of a table that begins at `base` (DWARF 5, sections 7.26 "String
+/// Offsets Table" and 7.28 "Range List Table"). None exactly where there is no base or the bytes are not all in bounds. An
+/// offset beyond 64 bits is out of bounds too.
 pub fn table_offset(table: &[u8], base: Option<u64>, index: u64) -> Option<u32>
     ensures { result ≡ entry_of_table 4 table.now base index }
 {
@@ -28,9 +28,8 @@ pub fn table_offset(table: &[u8], base: Option<u64>, index: u64) -> Option<u32>
     }
 }
 
-/// The address of eight bytes at an index of the part of a table that begins at a base (DWARF 5, section 7.27 "Address
-/// Table"). None exactly without a base and where the eight bytes do not all lie inside; its place may pass 64 bits, and
-/// lies outside then.
+/// The eight-byte address with this index in the part of a table that begins at `base` (DWARF 5, section 7.27 "Address Table").
+/// None exactly where there is no base or the bytes are not all in bounds. An offset beyond 64 bits is out of bounds too.
 pub fn table_address(table: &[u8], base: Option<u64>, index: u64) -> Option<u64>
     ensures { result ≡ entry_of_table 8 table.now base index }
 {

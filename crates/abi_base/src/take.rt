@@ -1,4 +1,4 @@
-// Why an input is not taken whole.
+// Why an input cannot be read whole.
 ghost use Rattle.std.specs.Prelude.{◌≡◌};
 ghost use Rattle.abi_base.specs.declared.take.Take.TheVariants.{Failed as InputFailed, NoMemory as OutOfMemory};
 
@@ -6,10 +6,10 @@ use crate::Failed;
 use std::alloc::AllocError;
 use thiserror::Error;
 
-/// Why an input is not read whole: its reading failed, it is longer than the limit, or memory ran out.
+/// Why an input cannot be read whole: reading failed, it is longer than the limit, or memory ran out.
 #[derive(Clone, Copy, Debug, PartialEq, Eq, Error)]
 pub enum Take {
-    /// Its start or a read failed.
+    /// `start` or `read` failed.
     #[error("the input failed")]
     Failed,
     /// It gave more bytes than the limit.

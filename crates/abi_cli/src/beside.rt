@@ -1,4 +1,4 @@
-// The notes on what no rule judges, on standard error beside the answer of `check`, for people.
+// The notes on differences that no rule judges, printed on standard error beside the answer of `check`.
 ghost use Rattle.std.specs.Prelude.{◌≤◌, length};
 ghost use Rattle.abi_base.specs.Limits.{input_limit};
 
@@ -22,7 +22,7 @@ pub(crate) fn are_wanted<R: Env + AllocGlobal>(rt: &R, is_terminal: bool) -> boo
     }
 }
 
-// The bytes of an input, or none where it was not read under a name.
+// The bytes of an input, or none if it was not read under a name.
 fn input_bytes<R: Files + AllocGlobal>(rt: &R, ended: &Ended<'_>, which: Input) -> Vec<u8>
     ensures { length result.items ≤ input_limit }
 {
@@ -32,7 +32,7 @@ fn input_bytes<R: Files + AllocGlobal>(rt: &R, ended: &Ended<'_>, which: Input) 
     }
 }
 
-// What is said beside what was judged.
+// The notes beside a verdict, from the inputs that were read.
 fn beside_of_inputs<R: Files + AllocGlobal>(rt: &R, ended: &Ended<'_>) -> Result<Beside, NoMemory> {
     let old = input_bytes(rt, ended, Input::Old);
     let new = input_bytes(rt, ended, Input::New);
@@ -40,12 +40,12 @@ fn beside_of_inputs<R: Files + AllocGlobal>(rt: &R, ended: &Ended<'_>) -> Result
     all_beside(rt.alloc(), &old, &new, &rules)
 }
 
-// How many exports of a size above 0 have a type.
+// The number of exports with a nonzero size that have a type.
 fn typed(exports: SizedExports) -> usize {
     exports.all.saturating_sub(exports.untyped)
 }
 
-// The line of how many exports of the old library are compared, how many the rule file drops, and how many are gone.
+// The line with the numbers of exports of the old library that are compared, that the rule file drops, and that are gone.
 fn compared_line(alloc: Global, counts: &Counts) -> Result<String, AllocError> {
     let compared = counts.compared;
     let dropped = counts.dropped;
@@ -55,7 +55,7 @@ fn compared_line(alloc: Global, counts: &Counts) -> Result<String, AllocError> {
     )
 }
 
-// The line of types: how many exports of a size above 0 each library has, and how many of these have a type.
+// The line about types: the number of exports with a nonzero size in each library, and the number of those with a type.
 fn types_line(alloc: Global, remark: Remark) -> Result<String, AllocError> {
     let old_typed = typed(remark.old);
     let old_all = remark.old.all;
@@ -66,7 +66,7 @@ fn types_line(alloc: Global, remark: Remark) -> Result<String, AllocError> {
     )
 }
 
-/// The notes as lines, and last two lines of counts, where `check` judged two libraries.
+/// The notes as lines, followed by two lines of counts, if `check` judged two libraries; else nothing.
 pub(crate) fn text_beside<R: Files + AllocGlobal>(
     rt: &R,
     words: &[&str],

@@ -1,5 +1,5 @@
-//! The program `abi`: the words of the command line, files and standard output in, and the exit number of the outcome out. Beside
-//! the answer it says on standard error what is wrong with an input.
+//! The program `abi`: it takes the arguments of the command line, files and standard output, and returns the exit number of the
+//! outcome. Beside the answer, it prints on standard error what is wrong with an input.
 #![tactic(auto)]
 
 mod beside;
@@ -20,7 +20,7 @@ fn main(rt: HostRuntime) -> ExitCode {
     ExitCode::from(outcome_of_process(&rt, is_terminal).number())
 }
 
-// Arguments that are no text are taken as no words, which are wrong ones.
+// Arguments that are not UTF-8 are replaced by none, which makes them wrong arguments.
 fn outcome_of_process<R: Files + Print + Eprint + Env + AllocGlobal>(
     rt: &R,
     is_terminal: bool,
@@ -46,10 +46,10 @@ fn arguments_of<R: Env + AllocGlobal>(rt: &R) -> io::Result<Vec<String>> {
     Ok(arguments)
 }
 
-// How many rows the style of the first rows prints.
+// The number of rows that the style `first` prints.
 const FIRST_ROWS: u32 = 10;
 
-// The listeners are made here, as a function that handed them out could promise nothing of them.
+// The listeners are made in this function, because a contract can promise nothing about listeners that a function returns.
 fn outcome_of<R: Files + Print + Eprint + AllocGlobal>(
     rt: &R,
     arguments: &[String],
@@ -61,7 +61,7 @@ fn outcome_of<R: Files + Print + Eprint + AllocGlobal>(
     }
     let mut inputs = FileInputs::new(rt);
     let mut sink = StdSink::new(rt);
-    // A listener for each style of a report but one's own.
+    // A listener for each style of a report except `own`.
     let alloc = rt.alloc();
     let mut listeners: Vec<Box<dyn Listener>> = Vec::new(alloc);
     add_listener(&mut listeners, Box::new(alloc, TextListener::new(alloc))?)?;
@@ -79,7 +79,7 @@ fn outcome_of<R: Files + Print + Eprint + AllocGlobal>(
     Ok(ended.outcome)
 }
 
-// Says on standard error what the answer does not say. Where that fails, the answer stands.
+// Prints the notes on standard error. If that fails, the answer stands.
 fn tell<R: Files + Eprint + AllocGlobal>(rt: &R, words: &[&str], ended: &Ended<'_>) {
     let Ok(notes) = notes_of(rt, words, ended) else {
         return;
@@ -89,7 +89,7 @@ fn tell<R: Files + Eprint + AllocGlobal>(rt: &R, words: &[&str], ended: &Ended<'
     }
 }
 
-// Says on standard error what no rule judges, for people. Where that fails, the answer stands.
+// Prints on standard error the differences that no rule judges. If that fails, the answer stands.
 fn tell_notes<R: Files + Eprint + AllocGlobal>(rt: &R, words: &[&str], ended: &Ended<'_>) {
     let Ok(bytes) = text_beside(rt, words, ended) else {
         return;

@@ -1,4 +1,4 @@
--- Documents, by what stands last in them: the breaks.
+-- Documents, by their last member: the breaks.
 use Rattle.std.specs.Prelude.{◌≡◌, ◌⊎◌, ℕ, List, drop, codes}
 use Rattle.abi_top.specs.Answer.{Call}
 use Rattle.abi_top.specs.Headline.{OnApp, OnCheck}
@@ -13,7 +13,7 @@ use Rattle.pair_compare.specs.Judged.{IsRefuted}
 use Rattle.report.specs.declared.row.Row.{Row}
 use Rattle.report.specs.declared.styles.report_option.ReportStyle.TheVariants.{Own}
 
--- The array of breaks: on no what stands behind the line `no`, which is what the listener made, byte by byte, and else an empty one.
+-- The array of breaks: on no it is the text after the line `no`, which the listener made, byte by byte; else it is empty.
 abbrev pub breaks_of : Outcome → List ℕ → List ℕ
 breaks_of (outcome.Judged verdict.No remark) text = drop 3 text
 breaks_of other text = codes "[]"
@@ -22,15 +22,16 @@ breaks_of other text = codes "[]"
 abbrev pub IsDocument : Outcome → List ℕ → List ℕ → Type 0
 IsDocument outcome text document = (opened : List ℕ) × (document ≡ with_member opened (codes "breaks") (breaks_of outcome text))
 
--- the breaks of a document are the rows of the right report on two libraries, which has some
+-- the breaks of a document are the rows of the right report on two libraries, which has at least one
 pub record HasBreaks (s : Sides) (document : List ℕ) : Type 0 where
   pub rows : List Row
   pub refuted : IsRefuted s rows
   pub opened : List ℕ
   pub is : document ≡ with_member opened (codes "breaks") (breaks_text rows)
 
--- The words are `check` or `app`, their inputs are readable, and with the style `own` the document has the breaks of the two
--- libraries that the rule file does not leave out; with `app` those of exports that the application uses, and of their types.
+-- The command is `check` or `app`, its inputs are readable, and with the style `own` the document has those breaks between the
+-- two libraries that the rule file does not suppress; with `app` these are the breaks of exports that the application uses, and of
+-- their types.
 abbrev pub TellsBreaks : Call → List ℕ → Type 0
 TellsBreaks call document =
     OnCheck call (λ report old new rules. report ≡ Own → HasBreaks (sides_of old new rules) document)

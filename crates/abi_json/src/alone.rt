@@ -1,5 +1,5 @@
-// The notes on what no rule judges, alone in a document: `abi-json notes`. A program that wants them beside an answer makes both at
-// the same time.
+// The notes on differences that no rule judges, as a document of their own: `abi-json notes`. A program that wants them beside an
+// answer can make both documents at the same time.
 ghost use Rattle.std.specs.Prelude.{◌≤◌, length, IfOk};
 ghost use Rattle.abi_base.specs.Limits.{input_limit};
 
@@ -15,15 +15,15 @@ use serde_json::Value;
 use std::alloc::Global;
 use std::rt::Files;
 
-// The word that asks for notes alone.
+// The command for notes only.
 const NOTES: &str = "notes";
 
-/// Whether words ask for notes alone.
+/// Whether the arguments request notes only.
 pub(crate) fn is_for_notes(words: &[&str]) -> bool {
     words.first().is_some_and(|word| *word == NOTES)
 }
 
-// The words of the check whose notes are asked for.
+// The arguments of the `check` to which the notes belong.
 fn check_words<'a>(alloc: Global, words: &[&'a str]) -> Result<Vec<&'a str>, NoMemory> {
     let mut check: Vec<&'a str> = Vec::new(alloc);
     check.push("check")?;
@@ -33,7 +33,7 @@ fn check_words<'a>(alloc: Global, words: &[&'a str]) -> Result<Vec<&'a str>, NoM
     Ok(check)
 }
 
-// The files that words of a check name, or how the run ends that has no right ones.
+// The files that the arguments of a `check` name, or the outcome if these are wrong or request the help.
 fn named_files<'a>(
     alloc: Global,
     words: &'a [&'a str],
@@ -68,7 +68,7 @@ fn named_files<'a>(
     Ok(Ok(files))
 }
 
-// The bytes of an input. None of a rule file that is not named.
+// The bytes of an input; for a rule file that is not named, no bytes.
 fn bytes_in<R: Files + AllocGlobal>(
     rt: &R,
     files: &[File<'_>],
@@ -87,7 +87,7 @@ fn bytes_in<R: Files + AllocGlobal>(
     Ok(Vec::new(rt.alloc()))
 }
 
-// The notes on files, and how the run ends.
+// The notes on files, and the outcome.
 fn notes_on_files<R: Files + AllocGlobal>(
     rt: &R,
     files: &[File<'_>],
@@ -108,7 +108,7 @@ fn notes_on_files<R: Files + AllocGlobal>(
     Ok((notes, Outcome::Judged(Verdict::Done, None)))
 }
 
-// The document of notes, or of why there are none. It says nothing of the files, which the document of the answer does.
+// The document of notes, or of the reason why there are none. It leaves out the files, which are in the document of the answer.
 fn told_with<R: Files + AllocGlobal>(
     rt: &R,
     words: &[&str],
@@ -129,7 +129,7 @@ fn told_with<R: Files + AllocGlobal>(
     Ok(Told { outcome, document })
 }
 
-/// The document of the notes on the libraries that words name.
+/// The document of the notes on the libraries that the arguments name.
 pub(crate) fn notes_told<R: Files + AllocGlobal>(rt: &R, words: &[&str]) -> Result<Told, NoMemory> {
     let check = check_words(rt.alloc(), words)?;
     let files = match named_files(rt.alloc(), &check)? {

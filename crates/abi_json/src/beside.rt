@@ -1,4 +1,4 @@
-// The notes on what no rule judges, as objects.
+// The notes on differences that no rule judges, as JSON objects.
 ghost use Rattle.std.specs.Prelude.{◌≤◌, length};
 ghost use Rattle.abi_base.specs.Limits.{input_limit};
 
@@ -14,7 +14,7 @@ use std::rt::Files;
 use std::str;
 use type_notes::Note;
 
-// The bytes of an input; none where it was not read under a name, or cannot be read again.
+// The bytes of an input; none if it was not read under a name, or cannot be read again.
 fn input_bytes<R: Files + AllocGlobal>(rt: &R, ending: &Ending<'_>, which: Input) -> Vec<u8>
     ensures { length result.items ≤ input_limit }
 {
@@ -27,7 +27,7 @@ fn input_bytes<R: Files + AllocGlobal>(rt: &R, ending: &Ending<'_>, which: Input
     }
 }
 
-// A text, or null where there is none.
+// A text, or null if it is empty.
 fn text_value(alloc: Global, text: &[u8]) -> Result<Value, AllocError> {
     if text.is_empty() {
         return Ok(Value::Null);
@@ -62,7 +62,7 @@ fn is_judged_check(ending: &Ending<'_>) -> bool {
     }
 }
 
-/// The notes on two libraries, by the bytes of both and of a rule file, as an array. Null where memory is too little for them.
+/// The notes on two libraries, given the bytes of both and of a rule file, as an array. It is null if memory runs out for them.
 pub(crate) fn notes_value(
     alloc: Global,
     old: &[u8],
@@ -82,7 +82,7 @@ pub(crate) fn notes_value(
     Ok(Value::Array(list))
 }
 
-/// The notes on two libraries that `check` judged, as an array. Null where they are not wanted or memory is too little for them.
+/// The notes on two libraries that `check` judged, as an array. It is null if they are not wanted, or if memory runs out for them.
 pub(crate) fn side_notes_value<R: Files + AllocGlobal>(
     rt: &R,
     ending: &Ending<'_>,

@@ -1,4 +1,4 @@
-// The document.
+// The document of a run.
 ghost use Rattle.std.specs.Prelude.{◌≡◌, drop, IfOk};
 ghost use Rattle.abi_json.specs.Documents.{IsDocument};
 ghost use Rattle.abi_json.specs.Documents as spec;
@@ -16,26 +16,28 @@ use std::alloc::{AllocError, Global};
 use std::rt::Files;
 use std::str;
 
-// The version of the format. It changes where a member is left out or means something else.
+// The version of the format. It changes if a member is removed or gets another meaning.
 const FORMAT: u64 = 1;
 
-// The line with which a report begins.
+// The line that begins a report.
 const NO: &[u8] = b"no\n";
 
-/// How a run ended, and what is wanted beside that.
+/// How a run ended, and what the document has besides.
 #[derive(Clone, Copy)]
 pub(crate) struct Ending<'e> {
-    /// The words of the command line.
+    /// The arguments of the command line.
     pub words: &'e [&'e str],
+    /// How the run ended.
     pub outcome: Outcome,
-    /// The names of the inputs.
+    /// The inputs that were read, with their names.
     pub files: &'e [File<'e>],
-    /// The text that `abi` prints, where the listener makes the breaks.
+    /// The text that `abi` prints, with the breaks as the JSON listener makes them.
     pub text: &'e [u8],
+    /// The optional members of the document.
     pub wanted: Wanted,
 }
 
-// The answer in words.
+// The word for an outcome.
 fn answer_word(outcome: Outcome) -> &'static str {
     match outcome {
         Outcome::Judged(Verdict::Yes, _) => "yes",
@@ -73,7 +75,7 @@ fn sized_value(alloc: Global, exports: SizedExports) -> Result<Value, AllocError
     json!(in alloc; {"all": exports.all as u64, "untyped": exports.untyped as u64})
 }
 
-// How many exports of both libraries have no type, or null.
+// The number of exports of both libraries without a type, or null.
 fn untyped_of(alloc: Global, outcome: Outcome) -> Result<Value, AllocError> {
     match outcome {
         Outcome::Judged(_, Some(Remark { old, new })) => {
@@ -85,7 +87,7 @@ fn untyped_of(alloc: Global, outcome: Outcome) -> Result<Value, AllocError> {
     }
 }
 
-// The sentences beside the answer.
+// The sentences beside the answer, as an array.
 fn notes_value<R: Files + AllocGlobal>(
     rt: &R,
     outcome: Outcome,
@@ -106,7 +108,7 @@ fn notes_value<R: Files + AllocGlobal>(
     Ok(Value::Array(list))
 }
 
-// The breaks of the text that the listener made.
+// The breaks, parsed from the text that the listener made.
 fn breaks_in(alloc: Global, text: &[u8]) -> Vec<Value> {
     match Value::from_slice(alloc, text) {
         Ok(Value::Array(breaks)) => breaks,
@@ -114,7 +116,7 @@ fn breaks_in(alloc: Global, text: &[u8]) -> Vec<Value> {
     }
 }
 
-// Whether the text is the array of the breaks.
+// Whether the text is a report, which has the array of the breaks.
 fn is_report(outcome: Outcome) -> bool {
     match outcome {
         Outcome::Judged(Verdict::No, _) => true,
@@ -122,7 +124,7 @@ fn is_report(outcome: Outcome) -> bool {
     }
 }
 
-// What stands behind the line `no`.
+// The text after the line `no`.
 fn behind_answer(text: &[u8]) -> &[u8]
     ensures { result.now ≡ drop 3 text.now }
 {
@@ -143,7 +145,8 @@ fn breaks_of<'t>(outcome: Outcome, text: &'t [u8]) -> &'t [u8]
     }
 }
 
-// What a document says of the inputs: their objects in order, and the places and the names of the types of breaks by library.
+// The members of a document about the inputs: their objects in order, and by library the positions and the names of the types in
+// breaks.
 #[derive(Drop)]
 struct InputMembers {
     inputs: Vec<Value>,
@@ -151,7 +154,7 @@ struct InputMembers {
     names: Map<String, Value>,
 }
 
-// Adds what a library says of the types that breaks name. A rule file and a certificate say nothing of them.
+// Adds the facts of a library about the types that breaks name. A rule file and a certificate have none.
 fn put_types(
     alloc: Global,
     members: &mut InputMembers,
@@ -168,7 +171,7 @@ fn put_types(
     Ok(())
 }
 
-// Adds what a document says of an input.
+// Adds the members about an input.
 fn push_input<R: Files + AllocGlobal>(
     rt: &R,
     members: &mut InputMembers,
@@ -181,7 +184,7 @@ fn push_input<R: Files + AllocGlobal>(
     put_types(rt.alloc(), members, file.which, types)
 }
 
-// What a document says of all inputs.
+// The members about all inputs.
 fn input_members<R: Files + AllocGlobal>(
     rt: &R,
     ending: &Ending<'_>,
@@ -199,7 +202,7 @@ fn input_members<R: Files + AllocGlobal>(
     Ok(members)
 }
 
-// A map of a report; of other answers null.
+// A map, if the answer is a report; else null.
 fn of_report(outcome: Outcome, map: Map<String, Value>) -> Value {
     if is_report(outcome) {
         Value::Object(map)
@@ -208,7 +211,7 @@ fn of_report(outcome: Outcome, map: Map<String, Value>) -> Value {
     }
 }
 
-// The text that `abi` prints, or null where it stands for the breaks.
+// The text that `abi` prints, or null if the breaks replace it.
 fn text_of(alloc: Global, outcome: Outcome, text: &[u8]) -> Result<Value, AllocError> {
     if is_report(outcome) {
         return Ok(Value::Null);
@@ -219,7 +222,7 @@ fn text_of(alloc: Global, outcome: Outcome, text: &[u8]) -> Result<Value, AllocE
     }
 }
 
-// All members but the breaks.
+// All members except the breaks.
 fn head_of<R: Files + AllocGlobal>(
     rt: &R,
     ending: &Ending<'_>,
@@ -271,7 +274,7 @@ fn head_of<R: Files + AllocGlobal>(
     Ok(Value::Object(head))
 }
 
-// The text of an object without its last brace.
+// The text of an object without its closing brace.
 fn opened(object: &str) -> &[u8] {
     let bytes = object.as_bytes();
     if bytes.is_empty() {
@@ -281,7 +284,8 @@ fn opened(object: &str) -> &[u8] {
     }
 }
 
-/// The document of a run: its head, with the notes on what no rule judges, and last the breaks as the listener made them.
+/// The document of a run: its head, with the notes on differences that no rule judges, and the breaks at the end, as the listener
+/// made them.
 pub(crate) fn document_of<R: Files + AllocGlobal>(
     rt: &R,
     ending: &Ending<'_>,

@@ -1,4 +1,4 @@
-// What a document says of the inputs.
+// The facts about inputs in a document.
 ghost use Rattle.std.specs.Prelude.{◌≤◌, length};
 ghost use Rattle.abi_base.specs.Limits.{input_limit};
 
@@ -14,14 +14,16 @@ use std::alloc::{AllocError, Global};
 use std::rt::Files;
 use std::str;
 
-/// What a document says of an input: its object, and what the input says of the types that breaks name.
+/// The facts about an input in a document: its object, and the facts about the types that breaks name.
 #[derive(Drop)]
 pub(crate) struct InputFacts {
+    /// The object of the input.
     pub input: Value,
+    /// The facts about its types.
     pub types: TypeFacts,
 }
 
-// The text of bytes, or null where they are no text.
+// Bytes as a text, or null if they are not UTF-8.
 fn text_value(alloc: Global, bytes: &[u8]) -> Result<Value, AllocError> {
     match str::from_utf8(bytes) {
         Ok(text) => Value::try_from_str(alloc, text),
@@ -50,7 +52,7 @@ fn is_library(which: Input) -> bool {
     }
 }
 
-// The digest of bytes, or null where it is not wanted.
+// The SHA-256 of bytes, or null if it is not wanted.
 fn digest_value(alloc: Global, bytes: &[u8], is_wanted: bool) -> Result<Value, AllocError> {
     if !is_wanted {
         return Ok(Value::Null);
@@ -60,7 +62,7 @@ fn digest_value(alloc: Global, bytes: &[u8], is_wanted: bool) -> Result<Value, A
     Value::try_from_str(alloc, digits.as_str())
 }
 
-// The object of an input of these bytes: what it is to its command, its name, its digest, and the soname of a library.
+// The object of an input with these bytes: its role, its name, its SHA-256, and the soname of a library.
 fn input_value(
     alloc: Global,
     file: File<'_>,
@@ -83,7 +85,7 @@ fn unread_value(alloc: Global, file: File<'_>) -> Result<Value, AllocError> {
     json!(in alloc; {"input": file.which.word(), "name": file.name, "sha256": null, "soname": null})
 }
 
-// The word under which breaks name entries of an input, where they name some.
+// The member of breaks that holds entries of this input, if there is one.
 fn entry_word(which: Input) -> Option<&'static str> {
     match which {
         Input::Old => Some("old_entry"),
@@ -92,7 +94,7 @@ fn entry_word(which: Input) -> Option<&'static str> {
     }
 }
 
-/// Reads an input once more, and answers what the document says of it.
+/// Reads an input again, and returns the facts about it.
 pub(crate) fn input_facts<R: Files + AllocGlobal>(
     rt: &R,
     file: File<'_>,

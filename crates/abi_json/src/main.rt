@@ -1,5 +1,5 @@
-//! The program `abi-json`: what `abi` does, with one JSON document on standard output in place of its text, and the same exit
-//! numbers.
+//! The program `abi-json`: it does the same as `abi`, with a JSON document on standard output in place of the text, and with the
+//! same exit numbers.
 #![tactic(auto)]
 
 mod alone;
@@ -28,7 +28,7 @@ fn main(rt: HostRuntime) -> ExitCode {
     ExitCode::from(outcome_of_process(&rt).number())
 }
 
-// Arguments that are no text are taken as no words, which are wrong ones.
+// Arguments that are not UTF-8 are replaced by none, which makes them wrong arguments.
 fn outcome_of_process<R: Files + Print + Env + AllocGlobal>(rt: &R) -> Outcome {
     let arguments = match arguments_of(rt) {
         Ok(arguments) => arguments,
@@ -51,7 +51,7 @@ fn arguments_of<R: Env + AllocGlobal>(rt: &R) -> io::Result<Vec<String>> {
     Ok(arguments)
 }
 
-// How the run of words ends, and its document.
+// The outcome and the document of a run with these arguments.
 fn told_by_words<R: Files + AllocGlobal>(
     rt: &R,
     words: &[&str],
@@ -64,7 +64,7 @@ fn told_by_words<R: Files + AllocGlobal>(
     told_of(rt, words, &mut inputs, wanted)
 }
 
-// Prints the document of the words' run. How the run ended stands, unless the document cannot be made or printed.
+// Prints the document of a run with these arguments. The outcome is that of the run, unless the document cannot be made or printed.
 fn outcome_of<R: Files + Print + AllocGlobal>(
     rt: &R,
     arguments: &[String],

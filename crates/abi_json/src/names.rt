@@ -1,4 +1,4 @@
-// The names of the types of breaks.
+// The names of the types in breaks.
 ghost use Rattle.std.specs.Prelude.{◌<◌, length};
 
 use abi_base::NoMemory;
@@ -13,17 +13,19 @@ use std::alloc::{AllocError, Global};
 use std::collections::HashMap;
 use std::str;
 
-/// The entries of a library, and the sections in which their names stand.
+/// The entries of a library, and the sections that hold their names.
 #[derive(Clone, Copy)]
 pub(crate) struct NamedEntries<'x, 'a> {
+    /// The tree of entries.
     pub tree: &'x Tree<'a>,
+    /// The sections.
     pub sections: Sections<'a>,
 }
 
-/// The first typedef of each type that typedefs name: both by the offsets of their entries.
+/// For each type that typedefs name, the first one of them: both by the offsets of their entries.
 pub(crate) type Typedefs = HashMap<u64, u64>;
 
-// What stands before the name of a type with this tag in C; none where such a type has no name of its own.
+// The keyword in front of the name of a type with this tag in C; `None` if such a type has no name of its own.
 fn keyword(tag: u64) -> Option<&'static str> {
     match tag {
         DW_TAG_structure_type => Some("struct "),
@@ -34,7 +36,7 @@ fn keyword(tag: u64) -> Option<&'static str> {
     }
 }
 
-// Where the texts of an entry's unit begin.
+// The bases of the strings in an entry's unit.
 fn bases_of(tree: &Tree<'_>, e: usize) -> Bases
     requires { e < length tree.now.entries }
 {
@@ -52,7 +54,7 @@ fn bases_of(tree: &Tree<'_>, e: usize) -> Bases
     }
 }
 
-// The name that an entry says of itself.
+// The name in an entry's own attributes.
 fn own_name<'a>(entries: &NamedEntries<'_, 'a>, e: usize) -> Option<&'a [u8]>
     requires { e < length entries.now.tree.now.entries }
 {
@@ -82,7 +84,7 @@ fn name_by_typedef<'a>(
     }
 }
 
-// A name behind what stands before it, where it is a text.
+// A name after its keyword, if the name is UTF-8.
 fn written(alloc: Global, keyword: &str, name: &[u8]) -> Result<Option<String>, AllocError> {
     match str::from_utf8(name) {
         Ok(name) => Ok(Some(format!(in alloc; "{keyword}{name}")?)),
@@ -90,8 +92,7 @@ fn written(alloc: Global, keyword: &str, name: &[u8]) -> Result<Option<String>, 
     }
 }
 
-/// Whether the entry that begins at an offset may have its name from a typedef alone: it is a structure, a union or an enumeration
-/// without a tag.
+/// Whether only a typedef can name the entry at an offset: it is a structure, a union or an enumeration without a tag.
 pub(crate) fn lacks_tag(entries: &NamedEntries<'_, '_>, offset: u64) -> bool {
     let Some(e) = entries.tree.find(offset) else {
         return false;
@@ -99,8 +100,8 @@ pub(crate) fn lacks_tag(entries: &NamedEntries<'_, '_>, offset: u64) -> bool {
     keyword(entries.tree.tag(e)).is_some() && own_name(entries, e).is_none()
 }
 
-/// The type of the entry that begins at an offset as C names it: a tag behind its keyword, a typedef, or a word as `unsigned int`.
-/// None for types without such a name, as pointers and arrays.
+/// The C name of the type at an offset: a keyword and a tag, a typedef, or words such as `unsigned int`. It is `None` for types
+/// without such a name, such as pointers and arrays.
 pub(crate) fn type_name(
     alloc: Global,
     entries: &NamedEntries<'_, '_>,
@@ -122,7 +123,7 @@ pub(crate) fn type_name(
     }
 }
 
-// Keeps an entry, if it is the first typedef of its type.
+// Records an entry, if it is the first typedef of its type.
 fn keep_typedef(typedefs: &mut Typedefs, tree: &Tree<'_>, e: usize) -> Result<(), NoMemory>
     requires { e < length tree.now.entries }
 {
@@ -138,7 +139,7 @@ fn keep_typedef(typedefs: &mut Typedefs, tree: &Tree<'_>, e: usize) -> Result<()
     Ok(())
 }
 
-/// The typedefs among all entries.
+/// The first typedef of each type, among all entries.
 pub(crate) fn typedefs_in(alloc: Global, tree: &Tree<'_>) -> Result<Typedefs, NoMemory> {
     let mut typedefs = HashMap::new(alloc);
     for e in 0..tree.len() {

@@ -1,4 +1,4 @@
-// What the types of breaks are called, and where they are declared.
+// The names of the types in breaks, and the source positions of their declarations.
 ghost use Rattle.std.specs.Prelude.{◌≤◌, length};
 ghost use Rattle.abi_base.specs.Limits.{input_limit};
 
@@ -12,15 +12,17 @@ use std::alloc::Global;
 use std::collections::{HashMap, HashSet};
 use std::str;
 
-/// The places and the names of types, by the offsets of their entries.
+/// The source positions and the names of types, by the offsets of their entries.
 #[derive(Drop)]
 pub(crate) struct TypeFacts {
+    /// The source positions.
     pub places: Map<String, Value>,
+    /// The names.
     pub names: Map<String, Value>,
 }
 
 impl TypeFacts {
-    /// Of no types.
+    /// No facts.
     pub(crate) fn none(alloc: Global) -> TypeFacts {
         TypeFacts {
             places: Map::new(alloc),
@@ -29,7 +31,7 @@ impl TypeFacts {
     }
 }
 
-// The object of a place, or null.
+// The object of a source position, or null.
 fn place_value(alloc: Global, places: &EntryPlaces<'_>, offset: u64) -> Result<Value, NoMemory> {
     let Some(place) = places.place_of(alloc, offset)? else {
         return Ok(Value::Null);
@@ -40,7 +42,7 @@ fn place_value(alloc: Global, places: &EntryPlaces<'_>, offset: u64) -> Result<V
     }
 }
 
-// Puts the place of an entry under its offset, where the entry has a place.
+// Adds the source position of an entry under its offset, if it has one.
 fn put_place(
     alloc: Global,
     map: &mut Map<String, Value>,
@@ -55,7 +57,7 @@ fn put_place(
     Ok(put(map, alloc, key.as_str(), place)?)
 }
 
-// Puts the name of a type under the offset of its entry, where the type has a name.
+// Adds the name of a type under the offset of its entry, if it has one.
 fn put_name(
     alloc: Global,
     map: &mut Map<String, Value>,
@@ -71,7 +73,7 @@ fn put_name(
     Ok(put(map, alloc, key.as_str(), name)?)
 }
 
-// The entries that breaks name under a word, each once.
+// The entries in a member of the breaks, each once.
 fn entries_of(alloc: Global, breaks: &[Value], word: &str) -> Result<Vec<u64>, NoMemory> {
     let mut known: HashSet<u64> = HashSet::new(alloc);
     let mut offsets = Vec::new(alloc);
@@ -85,7 +87,7 @@ fn entries_of(alloc: Global, breaks: &[Value], word: &str) -> Result<Vec<u64>, N
     Ok(offsets)
 }
 
-// The typedefs of a library, where a type without a tag may have its name from one.
+// The typedefs of a library, if some type without a tag may have its name from one.
 fn wanted_typedefs(
     alloc: Global,
     entries: &NamedEntries<'_, '_>,
@@ -99,7 +101,7 @@ fn wanted_typedefs(
     Ok(HashMap::new(alloc))
 }
 
-// Puts the places and the names of entries into maps.
+// Adds the source positions and the names of entries to maps.
 fn put_all(
     alloc: Global,
     facts: &mut TypeFacts,
@@ -115,7 +117,7 @@ fn put_all(
     Ok(())
 }
 
-/// The places and the names of the entries that breaks name under this word, in a library of these bytes.
+/// The source positions and the names of the entries in this member of the breaks, for a library with these bytes.
 pub(crate) fn type_facts(
     alloc: Global,
     bytes: &[u8],

@@ -1,4 +1,4 @@
-// A run whose answer is a document.
+// A run that makes a document.
 ghost use Rattle.std.specs.Prelude.{◌≡◌, ◌∷◌, [], Option, All, IfOk, OnOk, map};
 ghost use Rattle.abi_base.specs.declared.remark.Remark.{Remark as AnyRemark};
 ghost use Rattle.abi_json.specs.Documents.{TellsBreaks};
@@ -18,11 +18,13 @@ use std::rt::Files;
 /// How a run ended, and its document.
 #[derive(Drop)]
 pub(crate) struct Told {
+    /// How the run ended.
     pub outcome: Outcome,
+    /// The bytes of the document.
     pub document: Vec<u8>,
 }
 
-// Puts the listener that makes JSON into a list of none.
+// Adds the JSON listener to an empty list.
 #[tactic(auto, using(crate::proofs::NoLemmas::only_voice))]
 fn add_alone(
     listeners: &mut Vec<Box<dyn Listener>>,
@@ -38,16 +40,16 @@ fn add_alone(
     Ok(())
 }
 
-/// Runs the words over inputs with a listener that makes JSON of the breaks, and makes the document of the run, with what is wanted
-/// beside the answer.
+/// Runs the arguments over inputs with a listener that makes JSON of the breaks, and makes the document of the run, with the wanted
+/// optional members.
 pub(crate) fn told_of<R: Files + AllocGlobal, I: Inputs>(
     rt: &R,
     words: &[&str],
     inputs: &mut I,
     wanted: Wanted,
 ) -> Result<Told, NoMemory>
-    // No: all inputs are readable, and the breaks of the document are the rows of the right report on the two libraries, or on what
-    // the application uses of them, in their order.
+    // No: all inputs are readable, and the breaks of the document are the rows, in order, of the right report on the two libraries,
+    // or on the exports that the application uses.
     ensures { let call : Call = call_of I.told I.faults I.given I.started (json_voice ∷ []) words.entry.now inputs.old inputs.new in
         IfOk result (λ told. (untyped : Option AnyRemark) → told.outcome ≡ Outcome.Judged Verdict.No untyped → TellsBreaks call told.document.items) }
 {

@@ -1,13 +1,13 @@
-// What a document has only where it is asked for.
+// The optional members of a document.
 use std::env;
 use std::rt::Env;
 
-/// What a document has beside the answer.
+/// The optional members that a document has.
 #[derive(Clone, Copy)]
 pub(crate) struct Wanted {
-    /// The notes on what no rule judges, where the environment variable `ABI_NOTES` is 1.
+    /// The notes on differences that no rule judges: present if the environment variable `ABI_NOTES` is 1.
     pub notes: bool,
-    /// The digests of the inputs, unless the environment variable `ABI_DIGESTS` is 0.
+    /// The SHA-256 of the inputs: present unless the environment variable `ABI_DIGESTS` is 0.
     pub digests: bool,
 }
 
@@ -19,7 +19,7 @@ fn is_set<R: Env + AllocGlobal>(rt: &R, name: &str, value: &str) -> bool {
     }
 }
 
-/// What the environment asks for.
+/// The optional members that the environment requests.
 pub(crate) fn wanted_by<R: Env + AllocGlobal>(rt: &R) -> Wanted {
     Wanted {
         notes: is_set(rt, "ABI_NOTES", "1"),

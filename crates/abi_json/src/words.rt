@@ -1,8 +1,8 @@
-// The words of a run.
+// The arguments of a run.
 use abi_base::NoMemory;
 use std::alloc::Global;
 
-/// The words of the arguments, with the style that asks for the listener of this program behind the commands that report breaks.
+/// The arguments, with the option for this program's listener inserted after commands that report breaks.
 pub(crate) fn words_of<'a>(
     alloc: Global,
     arguments: &'a [String],

@@ -1,4 +1,4 @@
--- Over inputs that tell their bytes a call has one answer.
+-- If the bytes of all inputs are known, a call has one answer.
 use Rattle.std.specs.Prelude.{◌≡◌, ◌⊎◌, ◌≤◌, ℕ, List, [], ◌∷◌, length, All, Option}
 use Rattle.abi_base.specs.Limits.{input_limit}
 use Rattle.abi_base.specs.declared.remark.Remark.{Remark}
@@ -22,28 +22,27 @@ use Rattle.report.specs.declared.styles.report_option.ReportStyle.{ReportStyle}
 abbrev pub IsNoReadFault : Outcome → Type 0
 IsNoReadFault outcome = (which : Input) → outcome ≡ ReadFault which → ⊥
 
--- the rows decide the texts of the listeners that are asked for
+-- the rows determine the texts of the wanted listeners
 abbrev pub AreTextsDecided : List Voice → PlainRequest → Type 0
 AreTextsDecided voices (check rules report old new) = All TellsItsText (wanted_voices report voices)
 AreTextsDecided voices (app rules report program old new) = All TellsItsText (wanted_voices report voices)
 AreTextsDecided voices other = Unit {0}
 
--- the words ask for something whose inputs tell their bytes, and for listeners whose texts the rows decide
+-- the arguments make a request whose inputs have known bytes, and the rows determine the texts of its wanted listeners
 abbrev pub TellsAll : Call → Type 0
 TellsAll call =
     (asked : PlainRequest) × (arguments_by call.words ≡ request asked) × AreTextsDecided call.voices asked
     × (all : List (List ℕ)) × TellsEach call.reading.told (places_of (row_of call asked).inputs) all
 
--- Of a call whose words are wrong, ask for help, or ask for inputs that tell their bytes, two answers are one: their outcomes and
--- their texts are equal. A read fault is left out, since it depends on what fails in the call.
+-- If the arguments of a call are wrong, request the help, or make a request whose inputs have known bytes, any two answers have
+-- equal outcomes and equal texts. A read fault is left out, because it depends on what fails in the call.
 abbrev pub OneAnswer : Type 0
 OneAnswer =
     (call : Call) → (arguments_by call.words ≡ usage) ⊎ ((arguments_by call.words ≡ help) ⊎ TellsAll call) → (one two : Outcome) (text other : List ℕ) → IsNoReadFault one → IsNoReadFault two
     → Answers call one text → Answers call two other → (one ≡ two) × (text ≡ other)
 
--- What `check` prints on yes is accepted by `verify`: where a call answers `check` with yes and this text, which is no longer than
--- the limit, any other call of `verify` on the same bytes with this text as its certificate is answered with yes, but where
--- reading fails.
+-- `verify` accepts what `check` prints on yes: if a call answers `check` with yes and this text, which is within the limit, then
+-- any other call answers `verify` on the same bytes, with this text as the certificate, with yes, unless reading fails.
 abbrev pub AcceptsWhatCheckPrints : Type 0
 AcceptsWhatCheckPrints =
     (call other : Call) (rules_name : Option (List ℕ)) (report : ReportStyle) (old_name new_name certificate_name old new rules text : List ℕ) (untyped : Option Remark)
@@ -55,8 +54,9 @@ AcceptsWhatCheckPrints =
     → (outcome : Outcome) (answer : List ℕ) → IsNoReadFault outcome → Answers other outcome answer
     → (u : Option Remark) × (outcome ≡ Judged Yes u) × (answer ≡ accepted_text)
 
--- Two calls of `app` with listeners of the same voices and in the same style, whose texts the rows decide, and with inputs that tell the
--- same bytes but for applications that import the same: where each answers with a verdict, the verdicts and the texts are equal.
+-- Two calls of `app` have the same style and listeners with the same voices, whose texts the rows determine. The known bytes of
+-- their inputs are the same, except for the applications, which import the same. If both calls are answered with a verdict, the
+-- verdicts and the texts are equal.
 abbrev pub AnswersAlike : Type 0
 AnswersAlike =
     (call other : Call) (rules_name other_rules_name : Option (List ℕ)) (report : ReportStyle) (app_name old_name new_name other_app_name other_old_name other_new_name program another old new rules : List ℕ)

@@ -1,4 +1,4 @@
--- The commands, a row for each: the inputs that it wants, and what it says of their bytes.
+-- The commands, a row for each: the inputs that it wants, and what it says about their bytes.
 use Rattle.std.specs.Prelude.{ℕ, List, [], ◌∷◌, Option}
 use Rattle.trial_libraries.specs.Libraries.{library as made_library}
 use Rattle.trial_libraries.specs.declared.making.Side.TheVariants as side
@@ -17,11 +17,11 @@ use Rattle.report.specs.declared.styles.report_option.ReportStyle.TheVariants.{T
 use Rattle.report.specs.styles.Wanted.{wanted_voices}
 use Rattle.suppression_text.specs.Faults.{rule_fault}
 
--- a library that must have no fault at all
+-- a library, which must have no fault at all
 abbrev pub library_at : Input → PlainSource → Wanted
 library_at which source = record { which = which; source = source; fault_in = library_fault }
 
--- the rule file, which is empty where the words name none
+-- the rule file, which is empty if the arguments name none
 abbrev pub rules_at : Option (List ℕ) → Wanted
 rules_at name = record { which = Rules; source = named_or_empty name; fault_in = rule_fault }
 
@@ -45,7 +45,7 @@ abbrev pub compose_inputs : (first middle last certificate1 certificate2 : List 
 compose_inputs first middle last certificate1 certificate2 =
     library_at First (named first) ∷ library_at Middle (named middle) ∷ library_at Last (named last) ∷ certificate_at Certificate1 certificate1 ∷ certificate_at Certificate2 certificate2 ∷ []
 
--- only the faults that keep entries from being listed
+-- an input of `entries` is checked only for the faults that prevent a listing of entries
 abbrev pub entries_inputs : List ℕ → List Wanted
 entries_inputs library = record { which = Library; source = named library; fault_in = listing_fault } ∷ []
 
@@ -55,16 +55,16 @@ exports_inputs library = library_at Library (named library) ∷ []
 abbrev pub layout_inputs : List ℕ → List Wanted
 layout_inputs library = library_at Library (named library) ∷ []
 
--- the application must have no fault that keeps its imports from being read
+-- the application is checked only for the faults that prevent reading its imports
 abbrev pub app_inputs : (rules : Option (List ℕ)) (program old new : List ℕ) → List Wanted
 app_inputs rules program old new =
     record { which = App; source = named program; fault_in = app_fault } ∷ library_at Old (named old) ∷ library_at New (named new) ∷ rules_at rules ∷ []
 
--- the two libraries that a trial makes
+-- the two libraries that a trial generates
 abbrev pub trial_inputs : ℕ → List Wanted
 trial_inputs count = library_at Old (own (made_library count side.Old)) ∷ library_at New (own (made_library count side.New)) ∷ []
 
--- The row of a request, where listeners of these voices are handed in: those of the style in the words hear the breaks.
+-- The row of a request, if the caller passes listeners with these voices. Those of the requested style hear the breaks.
 abbrev pub command_of : List Voice → PlainRequest → Command
 command_of voices (check rules report old new) = record { inputs = check_inputs rules old new; says = check_says (wanted_voices report voices) }
 command_of voices (verify rules old new certificate) = record { inputs = verify_inputs rules old new certificate; says = verify_says }

@@ -1,4 +1,4 @@
--- What each command says of the readable bytes of its inputs.
+-- What each command says about the readable bytes of its inputs.
 use Rattle.std.specs.Prelude.{◌≡◌, ◌⊎◌, ℕ, List, [], ◌∷◌, Option, Some, None}
 use Rattle.abi_base.specs.declared.remark.Remark.{Remark}
 use Rattle.abi_top.specs.Text.{accepted_text, no_tag_text, refused_first_text, refused_second_text, refused_text}
@@ -23,7 +23,8 @@ use Rattle.library_check.specs.trial.Trials.{IsTrialText}
 use Rattle.library_layout.specs.Covers.{CoversEachBit}
 use Rattle.library_layout.specs.Layouts.{HasNoTag, IsLayoutText}
 
--- ---- check: yes with the certificate, which tells such a relation as a yes asks for, or no with the report that listeners of these voices make
+-- ---- check: yes with the certificate, which shows a relation that proves the yes, or no with the report that listeners of these
+-- voices make
 
 abbrev pub CheckSays : List Voice → List ℕ → List ℕ → List ℕ → Verdict → List ℕ → Type 0
 CheckSays voices old new rules Yes text = Compatible old new rules × IsCertificateText old new rules text × IsRelationText old new rules text
@@ -35,7 +36,7 @@ abbrev pub check_says : List Voice → List (List ℕ) → Verdict → Option Re
 check_says voices (old ∷ new ∷ rules ∷ []) v untyped text = CheckSays voices old new rules v text × (untyped ≡ Some (remark_on old new))
 check_says voices all v untyped text = ⊥
 
--- ---- verify: yes where the certificate is accepted, or refused with the first condition that it does not meet
+-- ---- verify: yes if the certificate is accepted, else refused with the first condition that it does not meet
 
 abbrev pub VerifySays : List ℕ → List ℕ → List ℕ → List ℕ → Verdict → List ℕ → Type 0
 VerifySays old new rules certificate Yes text = Compatible old new rules × IsAcceptedText old new rules certificate × IsRelationText old new rules certificate × (text ≡ accepted_text)
@@ -62,7 +63,7 @@ abbrev pub exports_says : List (List ℕ) → Verdict → Option Remark → List
 exports_says (library ∷ []) v untyped text = IsListed (exports_text (library_of library)) v untyped text
 exports_says all v untyped text = ⊥
 
--- ---- trial: the lines of a trial of so many functions
+-- ---- trial: the lines of a trial with this number of functions
 
 pub record IsTried (voices : List Voice) (count : ℕ) (v : Verdict) (untyped : Option Remark) (text : List ℕ) : Type 0 where
   pub done : v ≡ Done
@@ -72,7 +73,7 @@ pub record IsTried (voices : List Voice) (count : ℕ) (v : Verdict) (untyped : 
 abbrev pub trial_says : List Voice → ℕ → List (List ℕ) → Verdict → Option Remark → List ℕ → Type 0
 trial_says voices count all v untyped text = IsTried voices count v untyped text
 
--- ---- migrate: done with the migrated certificate where it is accepted, or refused with the first condition that it does not meet
+-- ---- migrate: done with the migrated certificate if it is accepted, else refused with the first condition that it does not meet
 
 abbrev pub MigrateSays : List ℕ → List ℕ → List ℕ → List ℕ → Verdict → List ℕ → Type 0
 MigrateSays old new rules certificate Done text = Compatible old new rules × IsMigratedText old new rules certificate text
@@ -85,16 +86,16 @@ migrate_says (old ∷ new ∷ rules ∷ certificate ∷ []) v untyped text = Mig
 migrate_says all v untyped text = ⊥
 
 -- ---- compose: yes with the certificate that both compose, or refused with the certificate that is not accepted, or with what is
--- ---- lost between two accepted ones
+-- lost between two accepted ones
 
--- the two certificates compose none, and P holds of the line that says why
+-- the two certificates do not compose, and P holds for the line that says why
 abbrev pub ComposesNone : PlainFiles → (List ℕ → Type 0) → Type 0
 ComposesNone files P =
     (refusal : Refusal)
     × ((IsComposition files (First refusal) × P (refused_first_text refusal))
     ⊎ ((IsComposition files (Second refusal) × P (refused_second_text refusal)) ⊎ (IsComposition files (Between refusal) × P (refused_text refusal))))
 
--- the verdict and the text of what `compose` says
+-- the verdict and the text for a result of `compose`
 abbrev pub IsComposedAs : Composed → Verdict → List ℕ → Type 0
 IsComposedAs (composed.Yes certificate) v text = (v ≡ Yes) × (text ≡ certificate.items)
 IsComposedAs (First refusal) v text = (v ≡ Refused) × (text ≡ refused_first_text refusal)
@@ -111,7 +112,8 @@ compose_says (first ∷ middle ∷ last ∷ certificate1 ∷ certificate2 ∷ []
     ComposeSays (record { first = first; middle = middle; last = last; certificate1 = certificate1; certificate2 = certificate2 }) v text × (untyped ≡ None)
 compose_says all v untyped text = ⊥
 
--- ---- layout: done with the layout of the structure with this tag, in which each bit has its row, or refused where there is none
+-- ---- layout: done with the layout of the structure with this tag, where each bit has its row, or refused if there is no such
+-- structure
 
 abbrev pub LayoutSays : List ℕ → List ℕ → Verdict → List ℕ → Type 0
 LayoutSays library tag Done text = IsLayoutText library tag text × CoversEachBit library tag text
@@ -123,7 +125,7 @@ abbrev pub layout_says : List ℕ → List (List ℕ) → Verdict → Option Rem
 layout_says tag (library ∷ []) v untyped text = LayoutSays library tag v text × (untyped ≡ None)
 layout_says tag all v untyped text = ⊥
 
--- ---- app: yes with the exports that the application uses, or no with the report on these that listeners of these voices make
+-- ---- app: yes with the exports that the application uses, or no with the report on them that listeners of these voices make
 
 abbrev pub AppSays : List Voice → List ℕ → List ℕ → List ℕ → List ℕ → Verdict → List ℕ → Type 0
 AppSays voices app old new rules Yes text = IsCompatibleFor app old new rules × (text ≡ uses_for app old new rules)

@@ -17,19 +17,23 @@ use report::Listener;
 use report::styles::{ReportStyle, wanted_listeners};
 use std::alloc::Global;
 
-/// `app` of an application and two libraries, with a rule file or none. The listeners of its style hear all breaks where it ends with
-/// no.
+/// `app` for an application and two libraries, with an optional rule file. On no, the listeners of its style hear all breaks.
 #[derive(Clone, Copy)]
 pub struct App<'a> {
+    /// The name of the rule file, if there is one.
     pub rules: Option<&'a str>,
+    /// The style of the report.
     pub report: ReportStyle,
+    /// The name of the application.
     pub program: &'a str,
+    /// The name of the old library.
     pub old: &'a str,
+    /// The name of the new library.
     pub new: &'a str,
 }
 
 impl<'a> App<'a> {
-    /// Where its inputs stand. It fails only when memory runs out.
+    /// The inputs and the sources of their bytes. It fails only if memory runs out.
     pub fn places(&self, alloc: Global) -> Result<Vec<Place<'a>>, NoMemory>
         ensures { IfOk result (λ places. map plain_place places.items ≡ places_of (app_inputs (plain_word self.now.rules) self.now.program.now self.now.old.now self.now.new.now)) }
     {
@@ -65,7 +69,7 @@ impl Command for App<'_> {
     }
 }
 
-// The judgement that says the same.
+// The judgement with the same verdict and text.
 fn judgement_of(said: AppResult) -> Judgement
     ensures says { (voices : List Voice) (app old new rules : List ℕ) → IsAppJudged voices app old new rules said.judged → AppSays voices app old new rules result.verdict result.text.items }
     ensures untyped { result.untyped ≡ Some said.remark }
@@ -85,8 +89,8 @@ fn judgement_of(said: AppResult) -> Judgement
     }
 }
 
-// The judgement of `app` on the bytes of an application, of an old library, of a new one and of a rule file, whose faults come in
-// this order.
+// The judgement of `app` on the bytes of an application, an old library, a new one and a rule file. Faults are reported in this
+// order of the inputs.
 fn judge_app(
     alloc: Global,
     files: &AppFiles,
@@ -108,7 +112,7 @@ fn judge_app(
     }
 }
 
-// Why nothing is said, by the input that cannot be read.
+// Why there is no verdict, by the input that cannot be read.
 const fn stop_of(not_judged: NotJudged) -> Stop
     ensures { (rules_name : _) (app_name old_name new_name app old new rules : List ℕ) → IsNotJudged app old new rules not_judged
         → StopsAt (asks_of (app_inputs rules_name app_name old_name new_name)) (app ∷ old ∷ new ∷ rules ∷ []) result }

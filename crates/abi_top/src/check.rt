@@ -20,17 +20,21 @@ use report::Listener;
 use report::styles::{ReportStyle, wanted_listeners};
 use std::alloc::Global;
 
-/// `check` of two libraries, with a rule file or none. The listeners of its style hear all breaks where it ends with no.
+/// `check` of two libraries, with an optional rule file. On no, the listeners of its style hear all breaks.
 #[derive(Clone, Copy)]
 pub struct Check<'a> {
+    /// The name of the rule file, if there is one.
     pub rules: Option<&'a str>,
+    /// The style of the report.
     pub report: ReportStyle,
+    /// The name of the old library.
     pub old: &'a str,
+    /// The name of the new library.
     pub new: &'a str,
 }
 
 impl<'a> Check<'a> {
-    /// Where its inputs stand. It fails only when memory runs out.
+    /// The inputs and the sources of their bytes. It fails only if memory runs out.
     pub fn places(&self, alloc: Global) -> Result<Vec<Place<'a>>, NoMemory>
         ensures { IfOk result (λ places. map plain_place places.items ≡ places_of (check_inputs (plain_word self.now.rules) self.now.old.now self.now.new.now)) }
     {
@@ -59,7 +63,7 @@ impl Command for Check<'_> {
     }
 }
 
-// The judgement that says the same.
+// The judgement with the same verdict and text.
 fn judgement_of(said: CheckResult) -> Judgement
     ensures says { (voices : List Voice) (old new rules : List ℕ) → IsChecked voices old new rules said.checked → PrintsSuchRelation old new rules said.checked → CheckSays voices old new rules result.verdict result.text.items }
     ensures untyped { result.untyped ≡ Some said.remark }
@@ -79,7 +83,8 @@ fn judgement_of(said: CheckResult) -> Judgement
     }
 }
 
-// The judgement of `check` on the bytes of an old library, of a new one and of a rule file, whose faults come in this order.
+// The judgement of `check` on the bytes of an old library, a new one and a rule file. Faults are reported in this order of the
+// inputs.
 fn check_pair(
     alloc: Global,
     old: &[u8],

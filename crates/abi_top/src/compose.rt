@@ -1,4 +1,4 @@
-// `compose`: the certificate that two certificates compose, which share the middle library.
+// `compose`: the certificate that two certificates with a common middle library compose.
 ghost use Rattle.std.specs.Prelude.{◌≡◌, ◌≤◌, ℕ, List, [], ◌∷◌, length, OnOk, IfOk, IfErr, map};
 ghost use Rattle.abi_base.specs.Limits.{input_limit};
 ghost use Rattle.abi_top.specs.Rows.{compose_inputs};
@@ -17,15 +17,20 @@ use std::alloc::Global;
 /// `compose` of two certificates: one for the first and the middle library, one for the middle and the last.
 #[derive(Clone, Copy)]
 pub struct Compose<'a> {
+    /// The name of the first library.
     pub first: &'a str,
+    /// The name of the middle library.
     pub middle: &'a str,
+    /// The name of the last library.
     pub last: &'a str,
+    /// The name of the certificate for the first and the middle library.
     pub certificate1: &'a str,
+    /// The name of the certificate for the middle and the last library.
     pub certificate2: &'a str,
 }
 
 impl<'a> Compose<'a> {
-    /// Where its inputs stand. It fails only when memory runs out.
+    /// The inputs and the sources of their bytes. It fails only if memory runs out.
     pub fn places(&self, alloc: Global) -> Result<Vec<Place<'a>>, NoMemory>
         ensures { IfOk result (λ places. map plain_place places.items ≡ places_of (compose_inputs self.now.first.now self.now.middle.now self.now.last.now self.now.certificate1.now self.now.certificate2.now)) }
     {
@@ -64,7 +69,7 @@ impl Command for Compose<'_> {
     }
 }
 
-// The judgement of `compose` on the bytes of three libraries and of two certificates, whose faults come in this order.
+// The judgement of `compose` on the bytes of three libraries and two certificates. Faults are reported in this order of the inputs.
 fn compose_certificates(alloc: Global, files: &ChainFiles) -> Result<Judgement, Stop>
     requires first_short { length files.now.first.now ≤ input_limit }
     requires middle_short { length files.now.middle.now ≤ input_limit }
@@ -93,7 +98,7 @@ fn compose_certificates(alloc: Global, files: &ChainFiles) -> Result<Judgement, 
     })
 }
 
-// Why nothing is composed, by the input that cannot be read.
+// Why there is no verdict, by the input that cannot be read.
 const fn stop_of(uncomposed: Uncomposed) -> Stop
     ensures { (first middle last certificate1 certificate2 : List ℕ) (files : PlainFiles) → IsUncomposed files uncomposed
         → StopsAt (asks_of (compose_inputs first middle last certificate1 certificate2)) (files.first ∷ files.middle ∷ files.last ∷ files.certificate1 ∷ files.certificate2 ∷ []) result }

@@ -10,15 +10,16 @@ use listings::entries::entry_lines;
 use report::Listener;
 use std::alloc::Global;
 
-/// `entries` of a library: a line for each debugging information entry, in order of offset. Only the faults of the header, the
-/// sections, the units and the entries are asked.
+/// `entries` of a library: a line for each debugging information entry, in order of offset. It checks only for faults of the
+/// header, the sections, the units and the entries.
 #[derive(Clone, Copy)]
 pub struct Entries<'a> {
+    /// The name of the library.
     pub library: &'a str,
 }
 
 impl<'a> Entries<'a> {
-    /// Where its inputs stand. It fails only when memory runs out.
+    /// The inputs and the sources of their bytes. It fails only if memory runs out.
     pub fn places(&self, alloc: Global) -> Result<Vec<Place<'a>>, NoMemory>
         ensures { IfOk result (λ places. map plain_place places.items ≡ places_of (entries_inputs self.now.library.now)) }
     {

@@ -17,15 +17,16 @@ use listings::exports::export_lines;
 use report::Listener;
 use std::alloc::Global;
 
-/// `exports` of a library: a line for each export, in order of their symbols, with the places of its arguments and of its result.
-/// All faults of a library are asked.
+/// `exports` of a library: a line for each export, in order of symbols, with the places of its arguments and of its result. It
+/// checks for all faults of a library.
 #[derive(Clone, Copy)]
 pub struct Exports<'a> {
+    /// The name of the library.
     pub library: &'a str,
 }
 
 impl<'a> Exports<'a> {
-    /// Where its inputs stand. It fails only when memory runs out.
+    /// The inputs and the sources of their bytes. It fails only if memory runs out.
     pub fn places(&self, alloc: Global) -> Result<Vec<Place<'a>>, NoMemory>
         ensures { IfOk result (λ places. map plain_place places.items ≡ places_of (exports_inputs self.now.library.now)) }
     {

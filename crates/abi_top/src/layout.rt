@@ -1,4 +1,4 @@
-// `layout`: where each member of a structure stands, with its holes and its padding.
+// `layout`: the position of each member of a structure, with its holes and its padding.
 ghost use Rattle.std.specs.Prelude.{◌≡◌, ◌≤◌, ℕ, List, [], ◌∷◌, length, OnOk, IfOk, IfErr, map};
 ghost use Rattle.abi_base.specs.Limits.{input_limit};
 ghost use Rattle.abi_top.specs.Rows.{layout_inputs};
@@ -13,15 +13,17 @@ use library_layout::{Layout as Laid, NoLayout, layout_of};
 use report::Listener;
 use std::alloc::Global;
 
-/// `layout` of the structure with this tag in a library.
+/// `layout` of the structure with a tag in a library.
 #[derive(Clone, Copy)]
 pub struct Layout<'a> {
+    /// The name of the library.
     pub library: &'a str,
+    /// The tag of the structure.
     pub tag: &'a str,
 }
 
 impl<'a> Layout<'a> {
-    /// Where its inputs stand. It fails only when memory runs out.
+    /// The inputs and the sources of their bytes. It fails only if memory runs out.
     pub fn places(&self, alloc: Global) -> Result<Vec<Place<'a>>, NoMemory>
         ensures { IfOk result (λ places. map plain_place places.items ≡ places_of (layout_inputs self.now.library.now)) }
     {

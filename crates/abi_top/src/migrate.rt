@@ -1,4 +1,4 @@
-// `migrate`: the certificate of version 2 that one of version 1 becomes.
+// `migrate`: the certificate of version 2 to which one of version 1 is migrated.
 ghost use Rattle.std.specs.Prelude.{◌≡◌, ◌≤◌, ℕ, List, [], ◌∷◌, length, OnOk, IfOk, IfErr, map};
 ghost use Rattle.abi_base.specs.Limits.{input_limit};
 ghost use Rattle.abi_top.specs.Rows.{migrate_inputs};
@@ -14,17 +14,21 @@ use library_check::{Migrated, Unverified};
 use report::Listener;
 use std::alloc::Global;
 
-/// `migrate` of a certificate of version 1 for two libraries, with a rule file or none.
+/// `migrate` of a certificate of version 1 for two libraries, with an optional rule file.
 #[derive(Clone, Copy)]
 pub struct Migrate<'a> {
+    /// The name of the rule file, if there is one.
     pub rules: Option<&'a str>,
+    /// The name of the old library.
     pub old: &'a str,
+    /// The name of the new library.
     pub new: &'a str,
+    /// The name of the certificate.
     pub certificate: &'a str,
 }
 
 impl<'a> Migrate<'a> {
-    /// Where its inputs stand. It fails only when memory runs out.
+    /// The inputs and the sources of their bytes. It fails only if memory runs out.
     pub fn places(&self, alloc: Global) -> Result<Vec<Place<'a>>, NoMemory>
         ensures { IfOk result (λ places. map plain_place places.items ≡ places_of (migrate_inputs (plain_word self.now.rules) self.now.old.now self.now.new.now self.now.certificate.now)) }
     {
@@ -54,8 +58,8 @@ impl Command for Migrate<'_> {
     }
 }
 
-// The judgement of `migrate` on the bytes of an old library, of a new one, of a rule file and of a certificate, whose faults come
-// in this order.
+// The judgement of `migrate` on the bytes of an old library, a new one, a rule file and a certificate. Faults are reported in this
+// order of the inputs.
 fn migrate_certificate(
     alloc: Global,
     old: &[u8],

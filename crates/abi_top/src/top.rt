@@ -53,22 +53,24 @@ use library_check::laws::{a_file_may_replace_itself, compatible_is_that_accesses
 use report::Listener;
 use std::alloc::Global;
 
-/// How a run ends, and under which names the words had it read its inputs.
+/// How a run ended, and the names of the inputs that it read.
 #[derive(Drop)]
 pub struct Ended<'a> {
+    /// How the run ended.
     pub outcome: Outcome,
+    /// The inputs that were read, with the names from the arguments, in order.
     pub files: Vec<File<'a>>,
 }
 
-/// Does what the words ask for, and says how it ended. The words are those after the program's name. The inputs that they
-/// name are read whole, in order; then the first one with a fault decides; then the command gives its verdict. All that
-/// is to be printed is built before the first write.
+/// Runs the command that the arguments request, and returns how it ended. `words` are the arguments after the program's name. The
+/// inputs that they name are read whole, in order; the first one with a fault decides; if there is none, the command gives its
+/// verdict. All output is built before the first write.
 ///
-/// The listeners of the style in the words hear all breaks, in the order in which they were handed in; the others are dropped
-/// unheard.
+/// The listeners of the requested style hear all breaks, in the order in which they are passed; the others are dropped without
+/// hearing any.
 ///
-/// In the clauses `call` is this call: its words, the voices of its listeners, and what is known of its inputs; `row_of call` is the
-/// request's row in the table of commands.
+/// In the clauses, `call` is this call: its arguments, the voices of its listeners, and what is known about its inputs.
+/// `row_of call` is the row of the request in the table of commands.
 pub fn run<'a, I: Inputs, S: Sink>(
     alloc: Global,
     words: &'a [&'a str],
@@ -78,18 +80,19 @@ pub fn run<'a, I: Inputs, S: Sink>(
 ) -> Ended<'a>
     requires { All (λ listener. heard listener ≡ []) listeners.items }
 
-    // Every outcome but `NoMemory` and `WriteFault` comes with its row of the table `Answers`, whose text was appended whole.
+    // Every outcome except `NoMemory` and `WriteFault` has its row in the table `Answers`, and the text of the row was appended
+    // whole.
     ensures answered { let call : Call = call_of I.told I.faults I.given I.started (map voice listeners.items) words.entry.now inputs.old inputs.new in
         result.outcome ≢ Outcome.NoMemory → result.outcome ≢ Outcome.WriteFault
         → (text : List ℕ) × Answers call result.outcome text × Appends (S.held sink.old) (S.held sink.new) text }
 
-    // Yes: all inputs are readable, and the new library may replace the old one in all that the rule file does not leave out. The
-    // answer to `check` is the certificate, which a checker accepts; the answer to `verify` says that the certificate is accepted.
-    // Either certificate tells a relation between types that proves the yes: it is closed under the rules of types, and holds the
-    // types of all exports that are compared. The answer to `compose` is the certificate that two accepted ones compose: it is
-    // accepted for the first and the last library, of which the last may replace the first. The answer to `app` names the exports of
-    // the old library that the application uses and that the rule file does not drop: the new library may replace the old one in
-    // these, where all others are taken as dropped.
+    // Yes: all inputs are readable, and the new library may replace the old one in all that the rule file does not suppress. For
+    // `check` the text is the certificate, which the checker accepts; for `verify` it says that the certificate is accepted. Either
+    // certificate shows a relation between types that proves the yes: it is closed under the rules of types, and holds the types of
+    // all compared exports. For `compose` the text is the certificate that two accepted ones compose; it is accepted for the first
+    // and the last library, and the last may replace the first. For `app` the text names the exports of the old library that the
+    // application uses and that the rule file does not drop; the new library may replace the old one in these, if all others are
+    // taken as dropped.
     ensures yes { let call : Call = call_of I.told I.faults I.given I.started (map voice listeners.items) words.entry.now inputs.old inputs.new in
         (untyped : Option AnyRemark) → result.outcome ≡ Outcome.Judged Verdict.Yes untyped
         → OnCheck call (λ report old new rules. Compatible old new rules × (untyped ≡ Some (remark_on old new)) × (text : List ℕ) × IsCertificateText old new rules text × IsRelationText old new rules text × Appends (S.held sink.old) (S.held sink.new) text)
@@ -97,20 +100,20 @@ pub fn run<'a, I: Inputs, S: Sink>(
         ⊎ (OnCompose call (λ files. Compatible files.first files.last [] × (text : List ℕ) × IsComposedText files text × Appends (S.held sink.old) (S.held sink.new) text)
         ⊎ OnApp call (λ report program old new rules. IsCompatibleFor program old new rules × (untyped ≡ Some (remark_on old new)) × Appends (S.held sink.old) (S.held sink.new) (uses_for program old new rules)))) }
 
-    // No: all inputs are readable, the new library may not replace the old one, or may not for the application, and what the listeners
-    // of the style in the words make of all breaks was printed, in their order: each heard all breaks, up to the first at which it has
-    // enough, each break of types with the first path to it from an export. Those of `app` are breaks of exports that the application
-    // uses, and of their types.
+    // No: all inputs are readable, and the new library may not replace the old one, or may not for the application. The texts of
+    // the listeners of the requested style were printed, in order. Each listener heard all breaks, up to the first after which it
+    // had heard enough; each break of types comes with the first path to it from an export. For `app` the breaks are those of
+    // exports that the application uses, and of their types.
     ensures no { let call : Call = call_of I.told I.faults I.given I.started (map voice listeners.items) words.entry.now inputs.old inputs.new in
         (untyped : Option AnyRemark) → result.outcome ≡ Outcome.Judged Verdict.No untyped
         → OnCheck call (λ report old new rules. (Compatible old new rules → ⊥) × (untyped ≡ Some (remark_on old new)) × (text : List ℕ) × IsReportText (wanted_voices report call.voices) old new rules text × Appends (S.held sink.old) (S.held sink.new) text)
         ⊎ OnApp call (λ report program old new rules. (IsCompatibleFor program old new rules → ⊥) × (untyped ≡ Some (remark_on old new)) × (text : List ℕ) × IsAppReportText (wanted_voices report call.voices) program old new rules text × Appends (S.held sink.old) (S.held sink.new) text) }
 
-    // Yes, as a program sees it that was compiled against the old library: the sonames are equal, each export that is compared binds
-    // to one that keeps the rules of exports, and whatever the program may reach from the type of such an export, by results,
-    // parameters, pointers, elements and members, it finds in the new library at the same bit of the same object, in agreement. And
-    // on no this is not so. With `complete`, `check` says yes exactly where the libraries agree on all such accesses, and `app` where
-    // they agree on all from the exports that the application uses.
+    // What yes means for a program that was compiled against the old library: the sonames are equal, each compared export binds to
+    // one that keeps the rules of exports, and whatever the program may reach from the type of such an export, through results,
+    // parameters, pointers, elements and members, it finds in the new library at the same bit of the same object, in agreement. On
+    // no, this does not hold. Together with `complete`: `check` says yes exactly if the libraries agree on all such accesses, and
+    // `app` exactly if they agree on all accesses from the exports that the application uses.
     ensures yes_agreed { let call : Call = call_of I.told I.faults I.given I.started (map voice listeners.items) words.entry.now inputs.old inputs.new in
         (untyped : Option AnyRemark) → result.outcome ≡ Outcome.Judged Verdict.Yes untyped
         → OnCheck call (λ report old new rules. Agreed old new rules)
@@ -120,13 +123,14 @@ pub fn run<'a, I: Inputs, S: Sink>(
         (untyped : Option AnyRemark) → result.outcome ≡ Outcome.Judged Verdict.No untyped
         → OnCheck call (λ report old new rules. Agreed old new rules → ⊥) ⊎ OnApp call (λ report program old new rules. AgreedFor program old new rules → ⊥) }
 
-    // A library may replace itself, whatever a rule file leaves out: where both names tell the same bytes, the answer is not no.
+    // A library may replace itself, whatever a rule file suppresses: if the known bytes of both names are the same, the answer is
+    // not no.
     ensures itself { (rules : Option (List ℕ)) (report : AnyStyle) (old_name new_name bytes : List ℕ) (untyped : Option AnyRemark) → arguments_by (texts words.entry.now) ≡ requested (check rules report old_name new_name)
         → I.told inputs.old old_name ≡ Some bytes → I.told inputs.old new_name ≡ Some bytes → result.outcome ≢ Outcome.Judged Verdict.No untyped }
 
-    // Refused: all inputs are readable, and the text names the first condition that the certificate does not meet; or that the
-    // migrated certificate does not meet; or the first of two certificates that is not accepted, with its condition, or what is
-    // lost between two accepted ones; or no structure of the library has the tag.
+    // Refused: all inputs are readable, and the text names the first condition that the certificate, or the migrated certificate,
+    // does not meet; or the first of two certificates that is not accepted, with its condition; or what is lost between two
+    // accepted ones; or it says that no structure of the library has the tag.
     ensures refused { let call : Call = call_of I.told I.faults I.given I.started (map voice listeners.items) words.entry.now inputs.old inputs.new in
         (untyped : Option AnyRemark) → result.outcome ≡ Outcome.Judged Verdict.Refused untyped
         → OnVerify call (λ old new rules certificate. (refusal : Refusal) × IsRefusedText old new rules certificate refusal × Appends (S.held sink.old) (S.held sink.new) (refused_text refusal))
@@ -134,10 +138,11 @@ pub fn run<'a, I: Inputs, S: Sink>(
         ⊎ (OnCompose call (λ files. ComposesNone files (λ line. Appends (S.held sink.old) (S.held sink.new) line))
         ⊎ OnLayout call (λ library tag. HasNoTag library tag × Appends (S.held sink.old) (S.held sink.new) no_tag_text))) }
 
-    // Done: the library is readable, and a line was printed for each of its entries, or for each of its exports; or the lines of
-    // a trial were printed; or the migrated certificate, which is accepted for two readable libraries, so that the new one may
-    // replace the old one; or the layout of the structure with the tag. Where its rows have no overlap and no member that ends outside,
-    // each bit below the size of the structure lies in exactly one member, hole or padding; where there is such a clash, a row names it.
+    // Done: the library is readable, and a line was printed for each of its entries, or for each of its exports; or the lines of a
+    // trial were printed; or the migrated certificate, which is accepted for two readable libraries, so that the new one may
+    // replace the old one; or the layout of the structure with the tag. In a layout without an overlap and without a member that
+    // ends outside, each bit below the size of the structure lies in exactly one member, hole or padding; any such clash is named
+    // by a row.
     ensures done { let call : Call = call_of I.told I.faults I.given I.started (map voice listeners.items) words.entry.now inputs.old inputs.new in
         (untyped : Option AnyRemark) → result.outcome ≡ Outcome.Judged Verdict.Done untyped
         → OnListing call (λ text. Appends (S.held sink.old) (S.held sink.new) text)
@@ -145,15 +150,15 @@ pub fn run<'a, I: Inputs, S: Sink>(
         ⊎ (OnMigrate call (λ old new rules certificate. Compatible old new rules × (text : List ℕ) × IsMigratedText old new rules certificate text × Appends (S.held sink.old) (S.held sink.new) text)
         ⊎ OnLayout call (λ library tag. (text : List ℕ) × IsLayoutText library tag text × CoversEachBit library tag text × Appends (S.held sink.old) (S.held sink.new) text))) }
 
-    // Where the words are right, all inputs that the command wants tell readable bytes and did not fail, and the sink did not fail,
-    // the outcome is a verdict that the command's row allows, with the text that was appended; or memory ran out.
+    // If the arguments make a request, the bytes of all its inputs are known and readable, and neither reading nor the sink failed,
+    // then the outcome is a verdict that the command's row allows, with the text that was appended; or memory ran out.
     ensures complete { let call : Call = call_of I.told I.faults I.given I.started (map voice listeners.items) words.entry.now inputs.old inputs.new in
         (asked : PlainRequest) (all : List (List ℕ)) → arguments_by (texts words.entry.now) ≡ requested asked → AreServed call.reading (row_of call asked).inputs all
         → (Rose (S.faults sink.old) (S.faults sink.new) → ⊥) → result.outcome ≢ Outcome.NoMemory
         → IsVerdict (row_of call asked).says all result.outcome (λ text. Appends (S.held sink.old) (S.held sink.new) text) }
 
-    // Where the words are right, all inputs that the command wants tell their bytes, no reading failed and the sink did not fail,
-    // the first fault of the inputs is the outcome; or memory ran out.
+    // If the arguments make a request, the bytes of all its inputs are known, and neither reading nor the sink failed, then the
+    // first fault of the inputs is the outcome; or memory ran out.
     ensures first_fault { let call : Call = call_of I.told I.faults I.given I.started (map voice listeners.items) words.entry.now inputs.old inputs.new in
         (asked : PlainRequest) (all : List (List ℕ)) (which : AnyInput) (fault : AnyFault) → arguments_by (texts words.entry.now) ≡ requested asked
         → TellsEach call.reading.told (places_of (row_of call asked).inputs) all → AreUnfailed call.reading (row_of call asked).inputs
@@ -161,50 +166,51 @@ pub fn run<'a, I: Inputs, S: Sink>(
         → (Rose (S.faults sink.old) (S.faults sink.new) → ⊥) → result.outcome ≢ Outcome.NoMemory
         → result.outcome ≡ Outcome.Unreadable which fault }
 
-    // Where no call of the inputs is made to fail and all inputs that the words name tell their bytes, no count of theirs rises.
+    // If no call of the inputs is made to fail, and the bytes of all inputs that the arguments name are known, no fault count of
+    // the inputs rises.
     ensures steady_inputs { Unfailing I.is_made_to_fail inputs.old
         → AsksForTold (call_of I.told I.faults I.given I.started (map voice listeners.items) words.entry.now inputs.old inputs.new)
         → SameCounts (I.faults inputs.old) (I.faults inputs.new) }
 
-    // Where no call of the sink is made to fail and it has room for any answer to the call, its count stands still.
+    // If no call of the sink is made to fail, and it has room for any answer to the call, its fault count does not rise.
     ensures steady_sink { (room : ℕ) → Unfailing S.is_made_to_fail sink.old → S.room sink.old ≡ Some room
         → HasRoom (call_of I.told I.faults I.given I.started (map voice listeners.items) words.entry.now inputs.old inputs.new) room
         → S.faults sink.new ≡ S.faults sink.old }
 
-    // Unreadable: this input has this fault, by its length or by its bytes, and none before it has one; a length goes before all
-    // bytes. The text names both. An input that is too long is the one that was started last.
+    // Unreadable: this input has this fault, by its length or by its bytes, and no input before it has one; lengths are checked
+    // before all bytes. The text names both. If an input is too long, it is the one that was started last.
     ensures unreadable { let call : Call = call_of I.told I.faults I.given I.started (map voice listeners.items) words.entry.now inputs.old inputs.new in
         (which : AnyInput) (fault : AnyFault) → result.outcome ≡ Outcome.Unreadable which fault
         → Asks call (λ asked. IsFaulty call.reading (row_of call asked).inputs which fault)
         × Appends (S.held sink.old) (S.held sink.new) (unreadable_text which fault) }
 
-    // Read fault: the count of the name that the words give for this input rose in this call, the input is the one that was started
-    // last, and no input before it tells too many bytes.
+    // Read fault: in this call the fault count rose for the name that the arguments give for this input, the input was started
+    // last, and no input before it is known to have too many bytes.
     ensures read_fault { let call : Call = call_of I.told I.faults I.given I.started (map voice listeners.items) words.entry.now inputs.old inputs.new in
         (which : AnyInput) → result.outcome ≡ Outcome.ReadFault which
         → Asks call (λ asked. FailsToRead call.reading (places_of (row_of call asked).inputs) which)
         × Appends (S.held sink.old) (S.held sink.new) (read_fault_text which) }
 
-    // Usage comes exactly where the words are wrong, but where memory runs out or writing fails.
+    // The outcome is the usage exactly if the arguments are wrong, unless memory runs out or writing fails.
     ensures usage { result.outcome ≡ Outcome.Usage → (arguments_by (texts words.entry.now) ≡ usage) × Appends (S.held sink.old) (S.held sink.new) usage_text }
     ensures wrong_words { arguments_by (texts words.entry.now) ≡ usage
         → (result.outcome ≡ Outcome.Usage) ⊎ ((result.outcome ≡ Outcome.NoMemory) ⊎ (result.outcome ≡ Outcome.WriteFault)) }
 
-    // And help comes exactly where the words ask for it.
+    // The outcome is the help exactly if the arguments request it, unless memory runs out or writing fails.
     ensures help { result.outcome ≡ Outcome.Help → (arguments_by (texts words.entry.now) ≡ help) × Appends (S.held sink.old) (S.held sink.new) usage_text }
     ensures help_words { arguments_by (texts words.entry.now) ≡ help
         → (result.outcome ≡ Outcome.Help) ⊎ ((result.outcome ≡ Outcome.NoMemory) ⊎ (result.outcome ≡ Outcome.WriteFault)) }
 
-    // A write failed in this call, after a prefix of a text with which another outcome could have come.
+    // Write fault: a write failed in this call, after a prefix of a text that belongs to another possible outcome.
     ensures write_fault { result.outcome ≡ Outcome.WriteFault → Rose (S.faults sink.old) (S.faults sink.new) }
     ensures front { let call : Call = call_of I.told I.faults I.given I.started (map voice listeners.items) words.entry.now inputs.old inputs.new in
         result.outcome ≡ Outcome.WriteFault
         → (outcome : AnyOutcome) × (text : List ℕ) × Answers call outcome text × AppendsFront (S.held sink.old) (S.held sink.new) text }
 
-    // Where memory runs out, the sink is as before.
+    // If memory runs out, the sink is unchanged.
     ensures no_memory { result.outcome ≡ Outcome.NoMemory → sink.new ≡ sink.old }
 
-    // The names of the inputs are those that the words give, in the order of the command's row.
+    // The names of the inputs are those in the arguments, in the order of the command's row.
     ensures files { (asked : PlainRequest) → arguments_by (texts words.entry.now) ≡ requested asked → result.outcome ≢ Outcome.NoMemory
         → map plain_file result.files.items ≡ files_of (places_of (command_of (map voice listeners.items) asked).inputs) }
 {
@@ -228,7 +234,7 @@ pub fn run<'a, I: Inputs, S: Sink>(
     }
 }
 
-// The answer to the words, built whole.
+// The answer to the arguments, built in memory.
 fn answer_to<'a, I: Inputs>(
     alloc: Global,
     words: &'a [&'a str],
@@ -258,7 +264,7 @@ fn answer_to<'a, I: Inputs>(
     }
 }
 
-// The answer to a request: that of its command.
+// The answer to a request, which is that of its command.
 fn answer_of<'a, I: Inputs>(
     alloc: Global,
     request: Request<'a>,

@@ -1,4 +1,4 @@
-// `trial`: two libraries that are made, and checked.
+// `trial`: two libraries that are generated and checked.
 ghost use Rattle.std.specs.Prelude.{◌≡◌, ◌≤◌, ◌<◌, List, [], ◌∷◌, map, All, IfOk, length};
 ghost use Rattle.abi_base.specs.Limits.{input_limit};
 ghost use Rattle.trial_libraries.specs.Libraries.{library as made_library};
@@ -21,16 +21,17 @@ use std::alloc::Global;
 use trial_libraries::laws::made_libraries_are_no_longer_than_inputs;
 use trial_libraries::{GenRefusal, Side, make};
 
-/// `trial` of so many functions: two libraries of so many are made and checked, with an empty rule file and these listeners.
-/// Where one of them had a fault, it would be told as if they were read.
+/// `trial` with a number of functions: two libraries with so many are generated and checked, with an empty rule file and these
+/// listeners. A fault in one of them would be reported as if it had been read from a file.
 #[derive(Clone, Copy)]
 pub struct Trial {
+    /// The number of functions.
     pub count: u32,
     ghost some: { 0 < count },
     ghost few: { count ≤ most_functions },
 }
 
-// The made library of a side. It fails only when memory runs out.
+// Generates the library of one side. It fails only if memory runs out.
 fn make_one(alloc: Global, count: u32, side: Side) -> Result<Vec<u8>, NoMemory>
     requires some { 0 < count }
     requires few { count ≤ most_functions }
@@ -44,7 +45,7 @@ fn make_one(alloc: Global, count: u32, side: Side) -> Result<Vec<u8>, NoMemory>
 }
 
 impl Trial {
-    /// Where its inputs stand. It fails only when memory runs out.
+    /// The inputs and the sources of their bytes. It fails only if memory runs out.
     pub fn places<'a>(&self, alloc: Global) -> Result<Vec<Place<'a>>, NoMemory>
         ensures places { IfOk result (λ places. map plain_place places.items ≡ places_of (trial_inputs self.now.count)) }
         ensures short { AreOwnShort (places_of (trial_inputs self.now.count)) }

@@ -14,17 +14,21 @@ use library_check::{Unverified, Verified};
 use report::Listener;
 use std::alloc::Global;
 
-/// `verify` of a certificate for two libraries, with a rule file or none.
+/// `verify` of a certificate for two libraries, with an optional rule file.
 #[derive(Clone, Copy)]
 pub struct Verify<'a> {
+    /// The name of the rule file, if there is one.
     pub rules: Option<&'a str>,
+    /// The name of the old library.
     pub old: &'a str,
+    /// The name of the new library.
     pub new: &'a str,
+    /// The name of the certificate.
     pub certificate: &'a str,
 }
 
 impl<'a> Verify<'a> {
-    /// Where its inputs stand. It fails only when memory runs out.
+    /// The inputs and the sources of their bytes. It fails only if memory runs out.
     pub fn places(&self, alloc: Global) -> Result<Vec<Place<'a>>, NoMemory>
         ensures { IfOk result (λ places. map plain_place places.items ≡ places_of (verify_inputs (plain_word self.now.rules) self.now.old.now self.now.new.now self.now.certificate.now)) }
     {
@@ -54,8 +58,8 @@ impl Command for Verify<'_> {
     }
 }
 
-// The judgement of `verify` on the bytes of an old library, of a new one, of a rule file and of a certificate, whose faults come
-// in this order.
+// The judgement of `verify` on the bytes of an old library, a new one, a rule file and a certificate. Faults are reported in this
+// order of the inputs.
 fn verify_certificate(
     alloc: Global,
     old: &[u8],

@@ -1,4 +1,4 @@
--- What a node looks like, with other numbers for the nodes that its parts name.
+-- The look of a node, with other numbers for the nodes that its parts name.
 use Rattle.std.specs.Prelude.{ℕ, List, map}
 use Rattle.abi_types.specs.Types.{PlainPart, Member, Enumerator, Target, Element, Outcome, Param, PlainView, PlainLabel, PlainNode}
 
@@ -21,6 +21,6 @@ pub record Look : Type 0 where
 abbrev pub look_of : (ℕ → ℕ) → PlainNode → Look
 look_of f n = record { labels = n.labels; view = view_seen f n.view }
 
--- the look of a node in all but the nodes that its parts name
+-- the look of a node without the nodes that its parts name
 abbrev pub shape_of : PlainNode → Look
 shape_of = look_of (λ _. 0)

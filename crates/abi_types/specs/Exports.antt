@@ -2,7 +2,7 @@
 use Rattle.std.specs.Prelude.{ℕ, Bool, List, Option}
 use Rattle.abi_types.specs.declared.export.SymbolKind.{SymbolKind}
 
--- an export, without where its names lie in memory
+-- an export without the addresses of its names in memory
 pub record PlainExport : Type 0 where
   pub symbol : ℕ
   pub name : List ℕ

@@ -1,4 +1,4 @@
--- What a view of each kind looks like.
+-- The form that a view has for each kind.
 use Rattle.std.specs.Prelude.{◌≡◌, ℕ, Bool, true, false, List, [], ◌∷◌, Option, Some, None, IfSome}
 use Rattle.std.specs.List.{list_all}
 use Rattle.abi_types.specs.declared.kind.Kind.{Kind}
@@ -8,7 +8,7 @@ use Rattle.abi_types.specs.declared.place.Place.TheVariants as place
 use Rattle.abi_types.specs.declared.place.CallShape.{CallShape}
 use Rattle.abi_types.specs.Types.{PlainPart, Member, Enumerator, Target, Element, Outcome, Param, PlainView}
 
--- the kinds that have a tag, and that a declaration alone may name
+-- the kinds that have a tag and can be declared without a definition
 abbrev pub has_tag : Kind → Bool
 has_tag kind.Enumeration = true
 has_tag kind.Structure = true
@@ -19,7 +19,7 @@ abbrev pub is_scalar : Kind → Bool
 is_scalar kind.Scalar = true
 is_scalar other = false
 
--- the kinds that hold so many elements of one type
+-- the kinds that consist of elements of one type
 abbrev pub has_elements : Kind → Bool
 has_elements kind.Array = true
 has_elements kind.Vector = true
@@ -33,14 +33,14 @@ abbrev pub is_array : Kind → Bool
 is_array kind.Array = true
 is_array other = false
 
--- the kinds whose objects are made of other objects
+-- the kinds whose objects consist of other objects
 abbrev pub is_aggregate : Kind → Bool
 is_aggregate kind.Structure = true
 is_aggregate kind.Union = true
 is_aggregate kind.Array = true
 is_aggregate other = false
 
--- the kinds whose objects are leaves of what they stand in
+-- the kinds whose objects are leaves
 abbrev pub is_leaf : Kind → Bool
 is_leaf kind.Scalar = true
 is_leaf kind.Pointer = true
@@ -48,7 +48,7 @@ is_leaf kind.Enumeration = true
 is_leaf kind.Vector = true
 is_leaf other = false
 
--- the size that all types of a kind have, where they have one
+-- the size that all types of a kind share, if any
 abbrev pub size_of_kind : Kind → Option ℕ
 size_of_kind kind.Void = Some 0
 size_of_kind kind.Pointer = Some 8
@@ -75,7 +75,7 @@ abbrev pub is_one_element : List PlainPart → Bool
 is_one_element (Element to ∷ []) = true
 is_one_element other = false
 
--- a result, and parameters after it
+-- a result, followed by parameters
 abbrev pub are_of_function : List PlainPart → Bool
 are_of_function (Outcome to ∷ parts) = list_all is_param parts
 are_of_function other = false
@@ -84,7 +84,7 @@ abbrev pub are_none : List PlainPart → Bool
 are_none [] = true
 are_none (part ∷ parts) = false
 
--- the parts are those that a type of this kind has
+-- the parts are those of a type of this kind
 abbrev pub parts_fit : Kind → List PlainPart → Bool
 parts_fit kind.Void parts = are_none parts
 parts_fit kind.Scalar parts = are_none parts
@@ -96,12 +96,12 @@ parts_fit kind.Array parts = is_one_element parts
 parts_fit kind.Vector parts = is_one_element parts
 parts_fit kind.Function parts = are_of_function parts
 
--- no places, as of what is no function
+-- no places, for types that are not functions
 abbrev pub no_call : CallShape
 no_call = record { outcome = place.Nothing; params = [] }
 
--- The view has the form of its kind: fields that the kind does not use say nothing, and its parts are those of its kind.
--- The explicit alignment may be there at any kind.
+-- The view has the form of its kind: fields that the kind does not use are empty, and the parts are those of the kind. Any kind may
+-- have an explicit alignment.
 pub record HasForm (v : PlainView) : Type 0 where
   pub tag : has_tag v.kind ≡ false → v.tag ≡ []
   pub defined : has_tag v.kind ≡ false → v.declared_only ≡ false

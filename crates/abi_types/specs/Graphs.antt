@@ -9,7 +9,7 @@ use Rattle.abi_types.specs.Types.{PlainPart, Member, Enumerator, Target, Element
 use Rattle.abi_types.specs.Forms.{has_elements, is_function, no_call, HasForm}
 use Rattle.abi_types.specs.Limits.{size_limit, bit_limit, align_limit, align_room, room_limit}
 
--- ---- look-ups, which give a part that names no node, or void, past the end
+-- ---- look-ups; past the end they give a part without a node, or void
 
 abbrev pub no_part : PlainPart
 no_part = Enumerator [] 0
@@ -35,28 +35,28 @@ void_view = record {
 abbrev pub void_node : PlainNode
 void_node = record { entry = 0; rank = 0; view = void_view; labels = [] }
 
--- the node of a number, and what it looks like
+-- the node with this number, and its view
 abbrev pub node_at : List PlainNode → ℕ → PlainNode
 node_at nodes i = slice_index_or nodes i void_node
 
 abbrev pub view_at : List PlainNode → ℕ → PlainView
 view_at nodes i = (node_at nodes i).view
 
--- the number of the first node that stands for an entry
+-- the number of the first node with this entry
 unfoldable pub node_of : List PlainNode → ℕ → Option ℕ
 node_of nodes entry = find (λ i. (node_at nodes i).entry == entry) (range_with_len 0 (length nodes))
 
 -- ---- graphs with call places
 
--- the call shape at a number
+-- the call shape with this number
 abbrev pub call_at : List CallShape → ℕ → CallShape
 call_at calls i = slice_index_or calls i no_call
 
--- the node, in which the call of a function is this one
+-- the node with this call, where it is a function
 abbrev pub shaped_node : PlainNode → CallShape → PlainNode
 shaped_node n call = if is_function n.view.kind then record n { view = record n.view { call = call } } else n
 
--- the nodes, in which the call of each function is the one at its number
+-- the nodes, with the call of each function replaced by the one with its number
 unfoldable pub shaped : List PlainNode → List CallShape → List PlainNode
 shaped nodes calls = map (λ i. shaped_node (node_at nodes i) (call_at calls i)) (range_with_len 0 (length nodes))
 
@@ -71,7 +71,7 @@ to_of (Element to) = Some to
 to_of (Outcome to) = Some to
 to_of (Param to) = Some to
 
--- the node that a part names by value, which is any but the target of a pointer
+-- the node that a part names by value; the target of a pointer is not by value
 abbrev pub inner_of : PlainPart → Option ℕ
 inner_of (Target to) = None
 inner_of other = to_of other
@@ -84,14 +84,14 @@ param_of other = None
 abbrev pub params_of : List PlainPart → List ℕ
 params_of parts = filter_map param_of parts
 
--- ---- what a graph keeps
+-- ---- the invariants of a graph
 
--- a member's place and width in bits are below the limit
+-- a member's offset and width in bits are below the limit
 abbrev pub KeepsBits : PlainPart → Type 0
 KeepsBits (Member name bit width to) = (bit < bit_limit) × (width < bit_limit)
 KeepsBits other = Unit {0}
 
--- what the arguments of a function may take: for each parameter its size and room for its alignment
+-- the stack space that a parameter may take: its size and room for its alignment
 abbrev pub room_of : List PlainNode → PlainPart → ℕ
 room_of nodes (Param to) = (view_at nodes to).size + align_room
 room_of nodes other = 0
@@ -99,11 +99,11 @@ room_of nodes other = 0
 abbrev pub rooms : List PlainNode → PlainView → ℕ
 rooms nodes v = sum_by (room_of nodes) v.parts
 
--- an array or a vector has the size of its elements together
+-- the size of an array or a vector is that of its elements together
 abbrev pub IsWhole : List PlainNode → PlainView → Type 0
 IsWhole nodes v = (to : ℕ) → has_elements v.kind ≡ true → to_of (part_at v 0) ≡ Some to → v.size ≡ v.count * (view_at nodes to).size
 
--- the view keeps the limits
+-- the view respects the limits
 pub record KeepsLimits (nodes : List PlainNode) (v : PlainView) : Type 0 where
   pub size : v.size ≤ size_limit
   pub count : v.count ≤ size_limit
@@ -111,8 +111,8 @@ pub record KeepsLimits (nodes : List PlainNode) (v : PlainView) : Type 0 where
   pub bits : (k : ℕ) → KeepsBits (part_at v k)
   pub rooms : rooms nodes v ≤ room_limit
 
--- The list meets all that a graph keeps. Cycles go through pointers alone, since the rank falls by value; and no chain of
--- by-value steps is longer than the limit, since no rank is above it.
+-- The list has all invariants of a graph. Cycles lead only through pointers, since the rank falls by value. No chain of by-value
+-- steps is longer than the limit, since no rank exceeds it.
 pub record IsGraph (nodes : List PlainNode) : Type 0 where
   pub void_first : 0 < length nodes
   pub void_kind : (view_at nodes 0).kind ≡ kind.Void

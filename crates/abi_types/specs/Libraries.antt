@@ -1,4 +1,4 @@
--- Libraries as plain data, and what they keep.
+-- Libraries as plain data, and their invariants.
 use Rattle.std.specs.Prelude.{◌≡◌, ◌<◌, ℕ, List, length, Option, Some, IsSome, All, count_by, slice_get}
 use Rattle.std.specs.Borrow.{Bor}
 use Rattle.std.specs.Option.{option_copied}
@@ -11,7 +11,7 @@ use Rattle.abi_types.specs.Graphs.{node_of, view_at}
 use Rattle.abi_types.specs.Limits.{symbol_limit}
 use Rattle.abi_types.specs.Plain.{plain_exports}
 
--- a library, without where its names lie in memory
+-- a library without the addresses of its names in memory
 pub record PlainLibrary : Type 0 where
   pub digest : List ℕ
   pub soname : Option (List ℕ)
@@ -26,17 +26,17 @@ plain_library digest soname exports graph = record {
   graph = graph;
 }
 
--- the call of a function has a place for each of its parameters
+-- a function's call has a place for each of its parameters
 abbrev pub HasPlaces : PlainView → Type 0
 HasPlaces v = v.kind ≡ kind.Function → length v.call.params ≡ count_by is_param v.parts
 
--- the exports stand in strictly ascending order of the numbers of their symbols
+-- the numbers of the exports' symbols strictly ascend
 pub record AreNumbered (exports : List PlainExport) : Type 0 where
   pub ascend : (j k : ℕ) (e f : PlainExport) → j < k → slice_get exports j ≡ Some e → slice_get exports k ≡ Some f → e.symbol < f.symbol
   pub below : (k : ℕ) (e : PlainExport) → slice_get exports k ≡ Some e → e.symbol < symbol_limit
 
--- The entry of each export is that of a node, which is void where it is 0. The call of each function has a place for each of
--- its parameters.
+-- The entry of each export belongs to a node, and is that of void where it is 0. Each function's call has a place for each of its
+-- parameters.
 pub record IsLibrary (exports : List PlainExport) (graph : List PlainNode) : Type 0 where
   pub entries : All (λ (e : PlainExport). IsSome (node_of graph e.entry)) exports
   pub numbered : AreNumbered exports

@@ -1,4 +1,4 @@
--- Maps from the sorts and names of parts to their positions.
+-- An index of parts: maps from sorts and names to positions.
 use Rattle.std.specs.Prelude.{◌≡◌, ◌<◌, ℕ, ◌==◌, ◌&&◌, List, length, Option, unwrap_or, slice_index_or}
 use Rattle.std.specs.Borrow.{Bor}
 use Rattle.std.specs.Str.{bytes_eq}
@@ -21,15 +21,15 @@ Counts = HashMap (Sort × Bor (List ℕ)) ℕ (BuildHasherDefault FoldHasher)
 abbrev pub Places : Type 0
 Places = HashMap (Sort × Bor (List ℕ) × ℕ) ℕ (BuildHasherDefault FoldHasher)
 
--- what stands under the sort and the name of a part, 0 where nothing does
+-- the value under the sort and the name of a part, 0 where there is none
 abbrev pub count_under : Counts → PlainPart → ℕ
 count_under counts part = unwrap_or (get_by (λ key. same_sort (sort_of part) key.0 && bytes_eq (name_of part) key.1.now) counts) 0
 
--- what stands under the sort and the name of a part, and a number
+-- the value under the sort and the name of a part, and a number
 abbrev pub place_under : Places → PlainPart → ℕ → Option ℕ
 place_under places part k = get_by (λ key. same_sort (sort_of part) key.0 && bytes_eq (name_of part) key.1.now && k == key.2) places
 
--- for each part how many before it are like it, and the position of each by its number among those like it
+-- for each part how many before it are like it, and each part's position under its number among those like it
 pub record IsLookup (lookup : Lookup) (parts : List PlainPart) : Type 0 where
   pub many : vec_len lookup.numbers ≡ length parts
   pub numbers : (i : ℕ) → i < length parts → slice_index_or lookup.numbers.items i 0 ≡ like_before parts (slice_index_or parts i no_part) i

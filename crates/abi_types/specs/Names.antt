@@ -7,23 +7,23 @@ use Rattle.std.specs.Cmp.Lexicographic.{slice_cmp}
 use Rattle.std.specs.declared.cmp.Ordering.{Ordering}
 use Rattle.abi_types.specs.Exports.{PlainExport}
 
--- an export of this name stands at the position
+-- the export at the position has this name
 pub record IsNamed (exports : List PlainExport) (name : List ℕ) (place : ℕ) : Type 0 where
   pub exported : PlainExport
   pub at : slice_get exports place ≡ Some exported
   pub named : exported.name ≡ name
 
--- the positions of all exports of this name, in ascending order
+-- the positions of all exports with this name, in ascending order
 pub record AreNamed (exports : List PlainExport) (name : List ℕ) (places : List ℕ) : Type 0 where
   pub ascend : (i j k l : ℕ) → i < j → slice_get places i ≡ Some k → slice_get places j ≡ Some l → k < l
   pub exact : (k : ℕ) → Contains places k ↔ IsNamed exports name k
 
--- ---- the order that a library keeps
+-- ---- the order of a library's exports by name
 
 abbrev pub name_at : List PlainExport → ℕ → List ℕ
 name_at exports k = option_map_or (λ (e : PlainExport). e.name) (slice_get exports k) []
 
--- how the name of the export at a position compares with a name
+-- the order of the name of the export at a position relative to a name
 abbrev pub named_cmp : List PlainExport → List ℕ → ℕ → Ordering
 named_cmp exports name k = slice_cmp nat_cmp (name_at exports k) name
 
@@ -31,7 +31,7 @@ named_cmp exports name k = slice_cmp nat_cmp (name_at exports k) name
 abbrev pub place_cmp : List PlainExport → ℕ → ℕ → Ordering
 place_cmp exports a b = ordering_then (slice_cmp nat_cmp (name_at exports a) (name_at exports b)) (nat_cmp a b)
 
--- the positions of all exports, in order of names
+-- the positions of all exports, ordered by name
 pub record IsNameOrder (places : List ℕ) (exports : List PlainExport) : Type 0 where
   pub all : IsPermutation (range_with_len 0 (length exports)) places
   pub rises : IsSorted (place_cmp exports) places

@@ -1,4 +1,4 @@
--- Exports and labels of the code, without where their names lie in memory.
+-- Exports and labels of the code, without the addresses of their names in memory.
 use Rattle.std.specs.Prelude.{List, map}
 use Rattle.std.specs.Option.{option_copied}
 use Rattle.abi_types.specs.declared.export.Export.{Export}

@@ -1,9 +1,9 @@
--- The rules in their order.
+-- The order of the rules.
 use Rattle.std.specs.Prelude.{ℕ}
 use Rattle.abi_types.specs.declared.rule.Rule.{Rule}
 use Rattle.abi_types.specs.declared.rule.Rule.TheVariants.{LibrarySoname, ExportPresence, ExportVersion, ExportKind, ExportSize, ExportType, KindOfType, TypeSize, ScalarGroup, TypeAlignment, DeclarationTag, MemberPresence, MemberOffset, BitFieldWidth, EnumeratorPresence, EnumeratorValue, ElementCount, ParameterCount, VariadicArguments, PassingPlace}
 
--- the place of a rule: those of exports first, and each group by its numbers
+-- the place of a rule: rules of exports first, each group by its numbers
 abbrev pub rule_place : Rule → ℕ
 rule_place LibrarySoname = 0
 rule_place ExportPresence = 1

@@ -1,9 +1,9 @@
--- The printed form of names, whose bytes need not be text, and of exports.
+-- The printed form of exports and names. The bytes of a name need not be text.
 use Rattle.std.specs.Prelude.{ℕ, Bool, ◌==◌, nat_le, not, ◌&&◌, if◌then◌else◌, List, [], ◌∷◌, ◌++◌, flat_map, Option, Some, None, codes}
 use Rattle.hex.specs.Hex.{encode_lower}
 use Rattle.abi_types.specs.Exports.{PlainExport}
 
--- a byte that is printed as itself: a visible ASCII character other than the backslash
+-- whether a byte is printed as itself: a visible ASCII character other than the backslash
 abbrev pub is_plain : ℕ → Bool
 is_plain b = nat_le 0x21 b && nat_le b 0x7e && not (b == 0x5c)
 
@@ -14,7 +14,7 @@ shown_byte b = if is_plain b then b ∷ [] else 0x5c ∷ 0x78 ∷ encode_lower (
 abbrev pub shown : List ℕ → List ℕ
 shown name = flat_map shown_byte name
 
--- the mark of a version: one `@` where it is hidden, and two where it is the default one of its name
+-- the mark of a version: one `@` where it is hidden, two where it is the default one of its name
 abbrev pub version_mark : Bool → List ℕ
 version_mark hidden = if hidden then codes "@" else codes "@@"
 
@@ -22,6 +22,6 @@ abbrev pub shown_version : Bool → Option (List ℕ) → List ℕ
 shown_version hidden None = []
 shown_version hidden (Some version) = version_mark hidden ++ shown version
 
--- the label of an export: its name, and its version where it has one
+-- the label of an export: its name, and its version if any
 abbrev pub label : PlainExport → List ℕ
 label e = shown e.name ++ shown_version e.hidden e.version

@@ -13,12 +13,12 @@ sort_of (Element to) = sort.Element
 sort_of (Outcome to) = sort.Outcome
 sort_of (Param to) = sort.Param
 
--- the name of a part, where its sort has names
+-- the name of a part, empty where its sort has none
 abbrev pub name_of : PlainPart → List ℕ
 name_of (Member name bit width to) = name
 name_of (Enumerator name value) = name
 name_of other = []
 
--- the test of sorts that the code derives
+-- the comparison of sorts that the code derives
 abbrev pub same_sort : Sort → Sort → Bool
 same_sort = ghosts.eq

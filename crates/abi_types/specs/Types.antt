@@ -1,11 +1,11 @@
--- Types as plain data, the same for both libraries: names are lists of bytes, and nodes are numbers.
+-- Types as plain data, the same for both libraries. Names are lists of bytes, and nodes are numbers.
 use Rattle.std.specs.Prelude.{ℕ, Bool, List}
 use Rattle.abi_types.specs.declared.kind.Kind.{Kind}
 use Rattle.abi_types.specs.declared.kind.Group.{Group}
 use Rattle.abi_types.specs.declared.kind.LabelKind.{LabelKind}
 use Rattle.abi_types.specs.declared.place.CallShape.{CallShape}
 
--- one part of a type, and the node that it names
+-- one part of a type, with the node that it names
 pub data PlainPart : Type 0 where
   Member : (name : List ℕ) (bit width to : ℕ) → PlainPart
   Enumerator : (name : List ℕ) (value : ℕ) → PlainPart
@@ -14,7 +14,7 @@ pub data PlainPart : Type 0 where
   Outcome : (to : ℕ) → PlainPart
   Param : (to : ℕ) → PlainPart
 
--- what a type looks like
+-- the view of a type
 pub record PlainView : Type 0 where
   pub kind : Kind
   pub declared_only : Bool
@@ -27,12 +27,12 @@ pub record PlainView : Type 0 where
   pub parts : List PlainPart
   pub call : CallShape
 
--- a name by which rules speak of a type
+-- a name under which rule files refer to a type
 pub record PlainLabel : Type 0 where
   pub kind : LabelKind
   pub name : List ℕ
 
--- a node: the entry that it stands for, its rank, what it looks like, and its names
+-- a node: its entry, its rank, its view, and its names
 pub record PlainNode : Type 0 where
   pub entry : ℕ
   pub rank : ℕ

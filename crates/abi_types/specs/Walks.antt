@@ -1,4 +1,4 @@
--- Walks into an object by numbers, each that of a member or of an element.
+-- Walks into an object by numbers. Each number selects a member or an element.
 use Rattle.std.specs.Prelude.{◌≡◌, ◌≢◌, ◌<◌, ◌+◌, ◌↔◌, ℕ, true, List, [], ◌∷◌, Some, Contains}
 use Rattle.abi_types.specs.Types.{PlainNode}
 use Rattle.abi_types.specs.declared.leaf.Leaf.{Leaf}
@@ -7,7 +7,7 @@ use Rattle.abi_types.specs.Graphs.{IsGraph, view_at}
 use Rattle.abi_types.specs.Inside.{Inside, inside_at, count_inside}
 use Rattle.abi_types.specs.Leaves.{leaf_of, leaves_of}
 
--- the walk from a node's object, which stands at a bit, ends at the leaf
+-- the walk from the object of a node, at an offset in bits, ends at the leaf
 unfoldable pub IsWalk : List PlainNode → ℕ → ℕ → ℕ → List ℕ → Leaf → Type 0
 IsWalk nodes i bit width [] l = ((view_at nodes i).size ≢ 0) × (is_leaf (view_at nodes i).kind ≡ true) × (leaf_of (view_at nodes i) bit width ≡ l)
 IsWalk nodes i bit width (n ∷ steps) l =

@@ -1,4 +1,4 @@
-// What makes parts alike: their sort, and their name where that sort has names.
+// Which parts are alike: those of the same sort and, where the sort has names, of the same name.
 ghost use Rattle.std.specs.Prelude.{◌≡◌, map, count_by};
 ghost use Rattle.abi_types.specs.Parts.{plain_part, like};
 ghost use Rattle.abi_types.specs.Parts as parts_spec;
@@ -33,7 +33,7 @@ pub fn name_of<'a, Ix: Index>(part: &Part<'a, Ix>) -> &'a [u8]
     }
 }
 
-/// Whether two parts are of one sort, and of one name where that sort has names.
+/// Whether two parts have the same sort and, where that sort has names, the same name.
 pub fn are_like<Ix: Index, Jx: Index>(one: &Part<Ix>, other: &Part<Jx>) -> bool
     ensures { result ≡ like (plain_part Ix.number_of one.now) (plain_part Jx.number_of other.now) }
 {
@@ -61,7 +61,7 @@ pub fn count_like<Ix: Index, Jx: Index>(items: &[Part<Ix>], part: &Part<Jx>) -> 
     count
 }
 
-/// The position of the part with the number `k`, counted from 0, among those that are like `part`.
+/// The position of the k-th part like `part`, counted from 0.
 pub fn place_of<Ix: Index, Jx: Index>(
     items: &[Part<Ix>],
     part: &Part<Jx>,

@@ -1,4 +1,4 @@
-// The nodes of a graph by the entries that they stand for.
+// The nodes of a graph, ordered by their entries.
 ghost use Rattle.std.specs.Prelude.{◌≡◌, ◌≢◌, ◌<◌, All, IfOk, IfSome, IfNone, length};
 ghost use Rattle.abi_types.specs.Entries.{IsEntryOrder};
 ghost use Rattle.abi_types.specs.Entries as spec;
@@ -9,7 +9,7 @@ use crate::view::Node;
 use abi_base::NoMemory;
 use std::alloc::Global;
 
-// The entry that the node of a number stands for, 0 past the last node.
+// The entry of the node with this number, 0 past the last node.
 fn entry_at<Ix: Index>(nodes: &[Node<Ix>], number: usize) -> u64
     ensures { result ≡ spec.entry_at nodes.now number }
 {
@@ -21,8 +21,8 @@ fn entry_at<Ix: Index>(nodes: &[Node<Ix>], number: usize) -> u64
     }
 }
 
-/// The numbers of all nodes, in order of their entries.
-// Nodes mostly come in that order already, and then they are gone through once.
+/// The numbers of all nodes, ordered by entry.
+// Most graphs have their nodes in that order already; one pass then suffices.
 pub fn entry_order_of<Ix: Index>(alloc: Global, nodes: &[Node<Ix>]) -> Result<Vec<usize>, NoMemory>
     ensures { IfOk result (λ order. IsEntryOrder order.items nodes.now) }
 {
@@ -31,7 +31,7 @@ pub fn entry_order_of<Ix: Index>(alloc: Global, nodes: &[Node<Ix>]) -> Result<Ve
     Ok(order)
 }
 
-/// The number of a node that stands for an entry, by binary search.
+/// The number of a node with this entry, found by binary search.
 pub fn number_for<Ix: Index>(nodes: &[Node<Ix>], order: &[usize], entry: u64) -> Option<usize>
     requires { IsEntryOrder order.now nodes.now }
     ensures inside { IfSome result (λ number. number < length nodes.now) }

@@ -14,11 +14,11 @@ use abi_base::{List, NoMemory};
 use std::alloc::Global;
 use std::marker::Model;
 
-/// The types of one library: nodes, which their parts join. Contracts see it as the list of its nodes, which is a graph.
+/// The types of one library: a graph of nodes, whose edges are the parts of types. Contracts see it as the list of its nodes.
 #[derive(Drop)]
 pub struct Graph<'a, Ix: Index> {
     nodes: List<Node<'a, Ix>>,
-    // The numbers of all nodes, in order of their entries.
+    // The numbers of all nodes, ordered by entry.
     by_entry: Vec<usize>,
 }
 
@@ -36,7 +36,7 @@ impl<'a, Ix: Index> Model for Graph<'a, Ix> {
     ghost invariant = { λ g. IsGraph g.nodes × IsEntryOrder g.by_entry.items g.nodes };
 }
 
-// Puts a call into a node, where it is that of a function.
+// Sets the call of a node that is a function.
 fn put_call<'a, Ix: Index>(node: &mut Node<'a, Ix>, call: Call)
     ensures { node.new ≡ spec.shaped_node node.old call }
 {
@@ -46,7 +46,7 @@ fn put_call<'a, Ix: Index>(node: &mut Node<'a, Ix>, call: Call)
     }
 }
 
-// The nodes with a call in each function among them, from the last one on.
+// The nodes with the call of each function set, from the last node to the first.
 fn with_each_call<'a, Ix: Index>(
     mut nodes: Vec<Node<'a, Ix>>,
     mut calls: Vec<Call>,
@@ -62,7 +62,7 @@ fn with_each_call<'a, Ix: Index>(
 }
 
 impl<'a, Ix: Index> Graph<'a, Ix> {
-    /// The graph of these nodes, each under its position in the list.
+    /// The graph of these nodes. Each node's number is its position in the list.
     pub fn of_nodes(alloc: Global, nodes: List<Node<'a, Ix>>) -> Result<Graph<'a, Ix>, NoMemory>
         requires { IsGraph nodes }
         ensures { IfOk result (λ g. g ≡ nodes.entry) }
@@ -71,7 +71,7 @@ impl<'a, Ix: Index> Graph<'a, Ix> {
         Ok(Graph { nodes, by_entry })
     }
 
-    /// The same graph, in which the call of each function is the shape at its number, and all else stays.
+    /// The same graph, where the call of each function is the one in `calls` at its number.
     pub fn with_calls(self, calls: List<Call>) -> Graph<'a, Ix>
         requires { length calls ≡ length self }
         ensures { result ≡ shaped self.entry calls }
@@ -84,14 +84,14 @@ impl<'a, Ix: Index> Graph<'a, Ix> {
         }
     }
 
-    /// How many nodes there are.
+    /// The number of nodes.
     pub fn len(&self) -> usize
         ensures { result ≡ length self.now }
     {
         self.nodes.as_slice().len()
     }
 
-    /// What the node looks like.
+    /// The view of the node.
     pub fn view(&self, ix: Ix) -> &View<'a, Ix>
         requires { Ix.number_of ix < length self.now }
         ensures { result.now ≡ view_at self.now (Ix.number_of ix) }
@@ -100,7 +100,7 @@ impl<'a, Ix: Index> Graph<'a, Ix> {
         &node.view
     }
 
-    /// The names by which rules speak of the node.
+    /// The names under which rule files refer to the node.
     pub fn labels(&self, ix: Ix) -> &[Label<'a>]
         requires { Ix.number_of ix < length self.now }
         ensures { map plain_label result.now ≡ (node_at self.now (Ix.number_of ix)).labels }
@@ -109,7 +109,7 @@ impl<'a, Ix: Index> Graph<'a, Ix> {
         node.labels.as_slice()
     }
 
-    /// The offset of the entry that the node stands for.
+    /// The offset of the node's entry.
     pub fn entry_of(&self, ix: Ix) -> u64
         requires { Ix.number_of ix < length self.now }
         ensures { result ≡ (node_at self.now (Ix.number_of ix)).entry }
@@ -118,7 +118,7 @@ impl<'a, Ix: Index> Graph<'a, Ix> {
         node.entry
     }
 
-    /// The node's rank, which falls from a node to what its parts name by value.
+    /// The node's rank. It falls from a node to each node that its parts name by value.
     pub fn rank(&self, ix: Ix) -> u32
         requires { Ix.number_of ix < length self.now }
         ensures { result ≡ (node_at self.now (Ix.number_of ix)).rank }
@@ -127,7 +127,7 @@ impl<'a, Ix: Index> Graph<'a, Ix> {
         node.rank
     }
 
-    /// The node that stands for an entry, `None` where there is none.
+    /// The node with this entry, or `None`.
     pub fn find(&self, entry: u64) -> Option<Ix>
         ensures node { option_map Ix.number_of result ≡ node_of self.now entry }
         ensures inside { IfSome result (λ ix. Ix.number_of ix < length self.now) }
@@ -138,7 +138,7 @@ impl<'a, Ix: Index> Graph<'a, Ix> {
         }
     }
 
-    /// What the type keeps. It does nothing.
+    /// The invariant of the type, stated as a contract. Does nothing.
     pub fn known(&self)
         ensures { IsGraph self.now }
     {

@@ -1,11 +1,12 @@
-// Numbers of nodes, of one library or of the other.
+// Node numbers, typed by the library that the nodes belong to.
 ghost use Rattle.std.specs.Prelude.{◌≡◌, ℕ};
 ghost use Rattle.std.proofs.Common.{rules};
 ghost use Rattle.abi_types.specs.PartSize.{PartFits};
 
 use std::marker::Model;
 
-/// The number of a node in a graph. `OldIx` and `NewIx` number the nodes of two graphs, so that they cannot be mixed.
+/// The number of a node in a graph. The two libraries' graphs have distinct index types, `OldIx` and `NewIx`, so that the compiler
+/// keeps them apart.
 pub trait Index: Copy {
     ghost number_of: { Self → ℕ };
 
@@ -13,14 +14,14 @@ pub trait Index: Copy {
     fn number(self) -> usize
         ensures { result ≡ number_of self };
 
-    /// The node of a number.
+    /// The node with this number.
     fn of(number: usize) -> Self
         ensures { number_of result ≡ number };
 
-    /// Two nodes of one number are one.
+    /// Two nodes with the same number are the same.
     ghost same: { (x y : Self) → number_of x ≡ number_of y → x ≡ y };
 
-    /// A part that names such a node fits in memory.
+    /// A part with such a node fits in memory.
     ghost part_fits: { PartFits Self.row };
 }
 

@@ -1,13 +1,13 @@
-// What sorts of types there are, and what names them.
+// Kinds of types, and kinds of names.
 
-/// What sort of type it is.
+/// The kind of a type.
 #[derive(Clone, Copy, Debug, PartialEq, Eq)]
 pub enum Kind {
-    /// No type: nothing is known, or nothing is given back.
+    /// No type: unknown, or the result of a function that returns nothing.
     Void,
-    /// A base type: an integer, a character, a truth value or a floating-point number.
+    /// A base type: an integer, a character, a Boolean or a floating-point number.
     Scalar,
-    /// An address of something.
+    /// A pointer.
     Pointer,
     /// An enumeration with its enumerators.
     Enumeration,
@@ -17,22 +17,22 @@ pub enum Kind {
     Union,
     /// An array of any number of dimensions.
     Array,
-    /// A vector of the machine.
+    /// A vector type of the machine.
     Vector,
     /// A function, with its result and its parameters.
     Function,
 }
 
-/// What a scalar's bits mean to a caller.
+/// How a caller interprets a scalar's bits.
 #[derive(Clone, Copy, Debug, PartialEq, Eq)]
 pub enum Group {
-    /// A truth value.
+    /// A Boolean.
     Bool,
     /// A signed integer or character.
     Signed,
     /// An unsigned integer or character.
     Unsigned,
-    /// A binary floating-point number that is no `Quad`.
+    /// A binary floating-point number other than `Quad`.
     Float,
     /// A binary floating-point number of 128 bits.
     Quad,
@@ -42,7 +42,7 @@ pub enum Group {
     Decimal,
 }
 
-/// What kind of name a label holds.
+/// The kind of name in a label.
 #[derive(Clone, Copy, Debug, PartialEq, Eq)]
 pub enum LabelKind {
     /// The tag of a structure.
@@ -57,10 +57,10 @@ pub enum LabelKind {
     Builtin,
 }
 
-/// How an object is reached: by value, or through a pointer.
+/// How a call reaches an object: by value, or through a pointer.
 #[derive(Clone, Copy, Debug, PartialEq, Eq)]
 pub enum Way {
-    /// By value from a call, with no pointer between.
+    /// By value, without a pointer on the way.
     Direct,
     /// Through a pointer.
     Pointer,

@@ -1,4 +1,4 @@
-//! Laws of graphs. The functions do nothing.
+//! Laws of graphs: functions with empty bodies, whose contracts are the laws.
 ghost use Rattle.std.specs.Prelude.{◌≡◌, List};
 ghost use Rattle.abi_types.specs.declared.place.CallShape.{CallShape};
 ghost use Rattle.abi_types.specs.declared.rule.Rule.{Rule};
@@ -9,33 +9,32 @@ ghost use Rattle.abi_types.specs.Leaves.{LeavesAreThoseInside};
 ghost use Rattle.abi_types.specs.Rules.{rule_place};
 ghost use Rattle.abi_types.specs.Walks.{LeavesAreEndsOfWalks};
 
-/// A leaf of an object is listed exactly where some walk by members and elements leads to it.
+/// A leaf of an object is listed exactly where some walk through members and elements leads to it.
 pub fn leaves_are_ends_of_walks()
     ensures { LeavesAreEndsOfWalks }
 {}
 
-/// What stands inside an object is of a type that a part of the object's type names by value.
+/// The type of each object inside an object is named by value by a part of the object's type.
 pub fn parts_name_what_is_inside()
     ensures { PartsNameWhatIsInside }
 {}
 
-/// The leaves of an object are the object itself where it is a leaf, and those of all that stands inside it where it is an
-/// aggregate.
+/// A leaf object has itself as its only leaf. An aggregate has the leaves of all objects inside it.
 pub fn leaves_are_those_inside()
     ensures { LeavesAreThoseInside }
 {}
 
-/// A graph with other places of calls has the same nodes, apart from these places.
+/// A graph with other call places has the same nodes otherwise.
 pub fn shapes_change_calls_alone()
     ensures { (nodes : List PlainNode) (calls : List CallShape) → ShapesChangeCallsAlone nodes calls }
 {}
 
-/// The types of parameters are as many as the parameters.
+/// There are as many types of parameters as parameters.
 pub fn params_are_counted()
     ensures { ParamsAreCounted }
 {}
 
-/// No two rules stand at one place of their order.
+/// No two rules have the same place in the order of rules.
 pub fn rules_have_places_of_their_own()
     ensures { (one other : Rule) → rule_place one ≡ rule_place other → one ≡ other }
 {}

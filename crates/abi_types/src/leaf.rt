@@ -1,18 +1,18 @@
-// What objects are made of in the end.
+// The scalars, pointers, enumerations and vectors that objects consist of.
 use crate::kind::{Group, Kind};
 
-/// A scalar, a pointer, an enumeration or a vector where it stands in an object. By these an object is passed in registers
+/// A scalar, a pointer, an enumeration or a vector in an object. The leaves of an object decide how it is passed in registers
 /// (System V psABI for x86-64, section 3.2.3 "Parameter Passing").
 #[derive(Clone, Copy, Debug, PartialEq, Eq)]
 pub struct Leaf {
-    /// What sort of type it has.
+    /// The kind of its type.
     pub kind: Kind,
-    /// What the bits of a scalar mean.
+    /// The interpretation of a scalar's bits.
     pub group: Group,
-    /// How many bytes its type has.
+    /// The size of its type in bytes.
     pub size: u64,
-    /// The bit of the object from which on it stands.
+    /// Its offset in the object, in bits.
     pub bit: u64,
-    /// How many bits it has where it is a bit field, else 0.
+    /// Its width in bits where it is a bit field, else 0.
     pub width: u64,
 }

@@ -1,5 +1,4 @@
-//! What libraries are compared by, as plain data: their exports, the rules that a new library may break, and how names are
-//! printed.
+//! Plain data about libraries: their exports and types, the rules that a new library may break, and the printed form of names.
 #![tactic(auto)]
 
 mod alike;

@@ -1,4 +1,4 @@
-// A library as it is compared, and what a rule file marks in it.
+// A library as the comparison sees it, and what a rule file excludes from it.
 ghost use Rattle.std.specs.Prelude.{◌≡◌, IfOk};
 ghost use Rattle.std.specs.Option.{option_copied};
 ghost use Rattle.abi_types.specs.Plain.{plain_exports};
@@ -15,15 +15,15 @@ use sha2::{Digest, Sha256};
 use std::alloc::Global;
 use std::marker::Model;
 
-/// A library: its file, its soname, its exports, and the types that they have. Contracts see it as a `PlainLibrary`, which has
-/// the digest of the file in the place of its bytes.
+/// A library: its file, its soname, its exports, and their types. Contracts see it as a `PlainLibrary`, which holds the digest of
+/// the file instead of its bytes.
 #[derive(Drop)]
 pub struct Library<'a, Ix: Index> {
     file: &'a [u8],
     soname: Option<&'a [u8]>,
     exports: List<Export<'a>>,
     graph: Graph<'a, Ix>,
-    // The positions of the exports, in order of names.
+    // The positions of the exports, ordered by name.
     by_name: Vec<usize>,
 }
 
@@ -43,7 +43,7 @@ impl<'a, Ix: Index> Model for Library<'a, Ix> {
 }
 
 impl<'a, Ix: Index> Library<'a, Ix> {
-    /// The library of these parts, which stand in the bytes of its file. The digest is not computed yet.
+    /// A library of these parts, all of which borrow from the file. Does not compute the digest.
     pub fn new(
         alloc: Global,
         file: &'a [u8],
@@ -64,50 +64,50 @@ impl<'a, Ix: Index> Library<'a, Ix> {
         })
     }
 
-    /// The bytes of its file.
+    /// The bytes of the file.
     pub fn file(&self) -> &'a [u8]
         ensures { self.now.digest ≡ sha256 result.now }
     {
         self.file
     }
 
-    /// The SHA-256 of its file, which is computed at each call: only a certificate needs it.
+    /// The SHA-256 of the file. Each call computes it, since only a certificate needs it.
     pub fn digest(&self) -> [u8; 32]
         ensures { result ≡ self.now.digest }
     {
         Sha256::digest(self.file)
     }
 
-    /// Its soname, where it has one.
+    /// The soname, if any.
     pub fn soname(&self) -> Option<&'a [u8]>
         ensures { option_copied result ≡ self.now.soname }
     {
         self.soname
     }
 
-    /// Its exports, in the order of their symbols.
+    /// The exports, in the order of their symbols.
     pub fn exports(&self) -> &[Export<'a>]
         ensures { plain_exports result.now ≡ self.now.exports }
     {
         self.exports.as_slice()
     }
 
-    /// The positions of the exports of a name, in ascending order: those of all its versions. It takes the time of two binary
-    /// searches and no memory.
+    /// The positions of all exports with this name, whatever their versions, in ascending order. Takes two binary searches and no
+    /// memory.
     pub fn exports_named(&self, name: &[u8]) -> &[usize]
         ensures { AreNamed self.now.exports name.now result.now }
     {
         named_in(self.exports.as_slice(), self.by_name.as_slice(), name)
     }
 
-    /// The types of its exports.
+    /// The types of the exports.
     pub fn graph(&self) -> &Graph<'a, Ix>
         ensures { result.now ≡ self.now.graph }
     {
         &self.graph
     }
 
-    /// What the type keeps. It does nothing.
+    /// The invariant of the type, stated as a contract. Does nothing.
     pub fn known(&self)
         ensures { IsLibrary self.now.exports self.now.graph }
     {
@@ -115,15 +115,15 @@ impl<'a, Ix: Index> Library<'a, Ix> {
     }
 }
 
-/// What a rule file says of the old library: what is not compared.
+/// What a rule file excludes from the comparison, on the side of the old library.
 #[derive(Drop)]
 pub struct Marks {
     /// The SHA-256 of the rule file.
     pub digest: [u8; 32],
-    /// For each export whether it is dropped.
+    /// For each export, whether it is dropped.
     pub exports: List<bool>,
-    /// For each node whether it is marked where it is reached by value.
+    /// For each node, whether it is marked where a call reaches it by value.
     pub direct: List<bool>,
-    /// For each node whether it is marked where it is reached through a pointer.
+    /// For each node, whether it is marked where a call reaches it through a pointer.
     pub pointer: List<bool>,
 }

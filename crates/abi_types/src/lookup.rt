@@ -1,4 +1,4 @@
-// The positions of many parts by their sort and name, so that none of them is looked for one by one.
+// An index of parts by sort and name, which saves a linear search for each.
 ghost use Rattle.std.specs.Prelude.{◌≡◌, ◌+◌, ◌<◌, ◌^◌, ◌==◌, ◌&&◌, ℕ, map, if◌then◌else◌, Some, IfOk, OnOk};
 ghost use Rattle.abi_types.specs.Types.{PlainPart};
 ghost use Rattle.abi_types.specs.Parts.{plain_part, like};
@@ -12,16 +12,16 @@ use abi_base::NoMemory;
 use std::alloc::Global;
 use std::collections::HashMap;
 
-/// The positions of many parts.
+/// An index of parts by sort and name.
 #[derive(Drop)]
 pub struct Lookup<'a> {
-    /// For each part how many before it are of its sort and name.
+    /// For each part, how many before it have the same sort and name.
     pub numbers: Vec<usize>,
-    /// The position of each part, by its sort, its name and its number among those of that sort and name.
+    /// The position of each part, by its sort, its name, and its number among the parts with both.
     pub places: HashMap<(Sort, &'a [u8], usize), usize>,
 }
 
-// Counts one more part of the sort and name, and gives how many there were.
+// Counts one more part of the sort and name, and answers how many there were before.
 fn count_up<'a, Ix: Index>(
     counts: &mut HashMap<(Sort, &'a [u8]), usize>,
     part: &Part<'a, Ix>,
@@ -36,7 +36,7 @@ fn count_up<'a, Ix: Index>(
     Ok(number)
 }
 
-// Puts the position of a part under its sort, name and number.
+// Enters the position of a part under its sort, name and number.
 fn put<'a, Ix: Index>(
     places: &mut HashMap<(Sort, &'a [u8], usize), usize>,
     part: &Part<'a, Ix>,
@@ -49,7 +49,7 @@ fn put<'a, Ix: Index>(
     Ok(())
 }
 
-/// The positions of these parts.
+/// The index of these parts.
 pub fn lookup_of<'a, Ix: Index>(
     alloc: Global,
     items: &[Part<'a, Ix>],
@@ -68,7 +68,7 @@ pub fn lookup_of<'a, Ix: Index>(
     Ok(Lookup { numbers, places })
 }
 
-/// The position of the part with the number `k` among those of the sort and name of `part`.
+/// The position of the k-th part with the sort and name of `part`, counted from 0.
 pub fn place_in<Jx: Index>(lookup: &Lookup, part: &Part<Jx>, k: usize) -> Option<usize>
     ensures { result ≡ place_under lookup.now.places (plain_part Jx.number_of part.now) k }
 {

@@ -1,4 +1,4 @@
-// The exports of a library in order of their names.
+// The exports of a library, ordered by name.
 ghost use Rattle.std.specs.Prelude.{◌≡◌, ◌≤◌, ◌-◌, false, true, length, take, drop, IfOk};
 ghost use Rattle.std.specs.List.Sorted.{IsPartitionPoint};
 ghost use Rattle.std.specs.Ordering.{is_lt, is_le};
@@ -12,7 +12,7 @@ use abi_base::NoMemory;
 use std::alloc::Global;
 use std::cmp::Ordering;
 
-// The name of the export at a position, empty past the last one.
+// The name of the export at a position, empty past the last export.
 fn name_at<'a>(exports: &[Export<'a>], k: usize) -> &'a [u8]
     ensures { result.now ≡ spec.name_at (plain_exports exports.now) k }
 {
@@ -23,35 +23,35 @@ fn name_at<'a>(exports: &[Export<'a>], k: usize) -> &'a [u8]
     }
 }
 
-// How the name of the export at a position compares with a name.
+// The order of the name of the export at a position relative to `name`.
 fn name_order(exports: &[Export], k: usize, name: &[u8]) -> Ordering
     ensures { result ≡ named_cmp (plain_exports exports.now) name.now k }
 {
     name_at(exports, k).cmp(name)
 }
 
-// Whether the name of the export at a position stands before a name.
+// Whether the name of the export at a position precedes `name`.
 fn stands_before(exports: &[Export], k: usize, name: &[u8]) -> bool
     ensures { result ≡ is_lt (named_cmp (plain_exports exports.now) name.now k) }
 {
     name_order(exports, k, name).is_lt()
 }
 
-// Whether the name of the export at a position does not stand behind a name.
+// Whether the name of the export at a position precedes `name` or equals it.
 fn stands_upto(exports: &[Export], k: usize, name: &[u8]) -> bool
     ensures { result ≡ is_le (named_cmp (plain_exports exports.now) name.now k) }
 {
     name_order(exports, k, name).is_le()
 }
 
-// How two positions compare: by the names there, and where these are equal, by themselves.
+// The order of two positions: by name, then by position.
 fn place_order(exports: &[Export], a: usize, b: usize) -> Ordering
     ensures { result ≡ place_cmp (plain_exports exports.now) a b }
 {
     name_order(exports, a, name_at(exports, b)).then(a.cmp(&b))
 }
 
-/// The positions of all exports, in order of names.
+/// The positions of all exports, ordered by name.
 pub fn name_order_of(alloc: Global, exports: &[Export]) -> Result<Vec<usize>, NoMemory>
     ensures { IfOk result (λ places. IsNameOrder places.items (plain_exports exports.now)) }
 {
@@ -60,7 +60,7 @@ pub fn name_order_of(alloc: Global, exports: &[Export]) -> Result<Vec<usize>, No
     Ok(places)
 }
 
-// How many positions stand before those of a name.
+// How many positions have names before this one.
 fn count_before(exports: &[Export], places: &[usize], name: &[u8]) -> usize
     requires { IsNameOrder places.now (plain_exports exports.now) }
     ensures inside { result ≤ length places.now }
@@ -69,7 +69,7 @@ fn count_before(exports: &[Export], places: &[usize], name: &[u8]) -> usize
     places.partition_point(|k| stands_before(exports, *k, name))
 }
 
-// How many positions do not stand behind those of a name.
+// How many positions have this name or names before it.
 fn count_upto(exports: &[Export], places: &[usize], name: &[u8]) -> usize
     requires { IsNameOrder places.now (plain_exports exports.now) }
     ensures inside { result ≤ length places.now }
@@ -78,7 +78,7 @@ fn count_upto(exports: &[Export], places: &[usize], name: &[u8]) -> usize
     places.partition_point(|k| stands_upto(exports, *k, name))
 }
 
-// The positions from one place on up to another.
+// The positions from `start` up to `end`.
 fn between(places: &[usize], start: usize, end: usize) -> &[usize]
     requires rises { start ≤ end }
     requires inside { end ≤ length places.now }
@@ -87,7 +87,7 @@ fn between(places: &[usize], start: usize, end: usize) -> &[usize]
     &places[start..end]
 }
 
-/// The positions of the exports of a name, in ascending order, by two binary searches.
+/// The positions of the exports with this name in ascending order, found by two binary searches.
 pub fn named_in<'a>(exports: &[Export], places: &'a [usize], name: &[u8]) -> &'a [usize]
     requires { IsNameOrder places.now (plain_exports exports.now) }
     ensures { AreNamed (plain_exports exports.now) name.now result.now }

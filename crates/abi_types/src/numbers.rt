@@ -5,7 +5,7 @@ ghost use Rattle.std.specs.List.{range_with_len};
 use abi_base::NoMemory;
 use std::alloc::Global;
 
-/// The numbers below a count, in the room that they take.
+/// The numbers below a count, in a vector of exactly that capacity.
 pub fn numbers_below(alloc: Global, count: usize) -> Result<Vec<usize>, NoMemory>
     ensures { IfOk result (λ numbers. numbers.items ≡ range_with_len 0 count) }
 {

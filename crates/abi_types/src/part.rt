@@ -1,10 +1,10 @@
 // One part of a type.
 use crate::index::Index;
 
-/// One part of a type. `Ix` names the nodes of one graph.
+/// One part of a type. `Ix` numbers the nodes of one graph.
 #[derive(Clone, Copy)]
 pub enum Part<'a, Ix> {
-    /// A member: where it stands, from the first bit of its type on; its width where it is a bit field, else 0; its type.
+    /// A member: its offset in the type in bits; its width in bits where it is a bit field, else 0; its type.
     Member {
         name: &'a [u8],
         bit: u64,
@@ -16,11 +16,11 @@ pub enum Part<'a, Ix> {
         name: &'a [u8],
         value: u64,
     },
-    /// What a pointer points to.
+    /// The type that a pointer points to.
     Target {
         to: Ix,
     },
-    /// The type of the elements of an array or a vector.
+    /// The element type of an array or a vector.
     Element {
         to: Ix,
     },
@@ -40,7 +40,7 @@ impl<'a, Ix: Index> Part<'a, Ix> {
     ghost use Rattle.abi_types.specs.Parts.{plain_part};
     ghost use Rattle.abi_types.specs.Graphs.{to_of, inner_of, param_of};
 
-    /// The node that the part names. An enumerator names none.
+    /// The node that the part names. An enumerator has none.
     pub fn to(&self) -> Option<Ix>
         ensures { option_map Ix.number_of result ≡ to_of (plain_part Ix.number_of self.now) }
     {
@@ -54,7 +54,7 @@ impl<'a, Ix: Index> Part<'a, Ix> {
         }
     }
 
-    /// The node that the part names by value, which is any but the target of a pointer.
+    /// The node that the part names by value. The target of a pointer is not by value.
     pub fn inner(&self) -> Option<Ix>
         ensures { option_map Ix.number_of result ≡ inner_of (plain_part Ix.number_of self.now) }
     {

@@ -16,15 +16,15 @@ use std::marker::Model;
 use std::rc::Rc;
 use std::slice;
 
-// Several parts, with where they stand where there are many.
+// Several parts, with an index of them where there are many.
 #[derive(Drop)]
 struct Several<'a, Ix: Index> {
     items: List<Part<'a, Ix>>,
     lookup: Option<Box<Lookup<'a>>>,
 }
 
-// What keeps the parts of a type. Pointers and arrays have one part, which stands in its place and takes no memory of its own.
-// Several parts are shared by the types that have the same ones: a structure, its typedefs, and these with `const`.
+// The storage for the parts of a type. Pointers and arrays have one part, which is stored inline without an allocation. Several
+// parts are shared among the types that have the same ones: a structure, its typedefs, and these with `const`.
 #[derive(Drop)]
 enum PartStorage<'a, Ix: Index> {
     Nothing,
@@ -32,8 +32,7 @@ enum PartStorage<'a, Ix: Index> {
     Many(Rc<Several<'a, Ix>>),
 }
 
-/// The parts of a type, in their order, which finds the parts of one sort and name without going over them all. Contracts
-/// see it as the list of its parts.
+/// The parts of a type, in order, with a fast search by sort and name. Contracts see them as a list.
 #[derive(Drop)]
 pub struct Parts<'a, Ix: Index> {
     kept: PartStorage<'a, Ix>,
@@ -52,11 +51,11 @@ impl<'a, Ix: Index> Model for Parts<'a, Ix> {
     ghost invariant = { λ parts. HasLookup Ix.number_of parts.kept };
 }
 
-// So many parts are looked through one by one, which takes less time than to keep where each stands: of all types that a library
-// has, few are compared. Longer lists keep where their parts stand.
+// Up to this many parts are searched one by one. An index of them would cost more than it saves, since few of a library's types
+// are ever compared. Longer lists have an index.
 const SHORT: usize = 64;
 
-// Where the parts of a longer list stand.
+// The index of a longer list.
 fn kept_lookup<'a, Ix: Index>(
     alloc: Global,
     items: &[Part<'a, Ix>],
@@ -70,7 +69,7 @@ fn kept_lookup<'a, Ix: Index>(
 }
 
 impl<'a, Ix: Index> Parts<'a, Ix> {
-    /// No parts. It takes no memory.
+    /// No parts. Allocates nothing.
     pub fn new(alloc: Global) -> Parts<'a, Ix>
         ensures { result ≡ [] }
     {
@@ -79,7 +78,7 @@ impl<'a, Ix: Index> Parts<'a, Ix> {
         }
     }
 
-    /// One part. It takes no memory of its own: most types are pointers.
+    /// One part. Allocates nothing: most types are pointers.
     pub fn one(part: Part<'a, Ix>) -> Parts<'a, Ix>
         ensures { result ≡ plain_part Ix.number_of part.entry ∷ [] }
     {
@@ -100,7 +99,7 @@ impl<'a, Ix: Index> Parts<'a, Ix> {
         })
     }
 
-    /// These parts, in their order. Of one part alone the vector's room is given back.
+    /// These parts, in order. With a single part the vector is freed.
     pub fn of(alloc: Global, mut items: Vec<Part<'a, Ix>>) -> Result<Parts<'a, Ix>, NoMemory>
         ensures { IfOk result (λ parts. parts ≡ map (plain_part Ix.number_of) items.entry.items) }
     {
@@ -113,7 +112,7 @@ impl<'a, Ix: Index> Parts<'a, Ix> {
         }
     }
 
-    /// The same parts once more, which take no more memory: several are shared. It fails only where too many share them.
+    /// The same parts, shared without a copy. Fails only where too many types share them.
     pub fn shared(&self) -> Result<Parts<'a, Ix>, NoMemory>
         ensures { IfOk result (λ parts. parts ≡ self.now) }
     {
@@ -131,21 +130,21 @@ impl<'a, Ix: Index> Parts<'a, Ix> {
         }
     }
 
-    /// How many parts there are.
+    /// The number of parts.
     pub fn len(&self) -> usize
         ensures { result ≡ length self.now }
     {
         self.as_slice().len()
     }
 
-    /// Whether there are none.
+    /// Whether there are no parts.
     pub fn is_empty(&self) -> bool
         ensures { result ≡ (length self.now == 0) }
     {
         self.as_slice().is_empty()
     }
 
-    /// All of them.
+    /// All parts, in order.
     pub fn as_slice(&self) -> &[Part<'a, Ix>]
         ensures { map (plain_part Ix.number_of) result.now ≡ self.now }
     {
@@ -164,7 +163,7 @@ impl<'a, Ix: Index> Parts<'a, Ix> {
         &self.as_slice()[k]
     }
 
-    // Where the parts stand, where that is kept.
+    // The index of the parts, if there is one.
     fn lookup(&self) -> Option<&Lookup<'a>>
         ensures { IfSome result (λ lookup. IsLookup lookup.now self.now) }
     {
@@ -177,8 +176,7 @@ impl<'a, Ix: Index> Parts<'a, Ix> {
         }
     }
 
-    /// The position of the part with the number `k`, counted from 0, among those that are like `part`: of its sort, and of its
-    /// name where that sort has names.
+    /// The position of the k-th part like `part`, counted from 0: with its sort and, where that sort has names, its name.
     pub fn nth_like<'b, Jx: Index>(&self, part: &Part<'b, Jx>, k: usize) -> Option<usize>
         ensures place { result ≡ spec.place_of (like (plain_part Jx.number_of part.now)) k self.now }
         ensures inside { IfSome result (λ i. i < length self.now) }
@@ -189,7 +187,7 @@ impl<'a, Ix: Index> Parts<'a, Ix> {
         }
     }
 
-    /// How many of the parts before the position `i` are like the part there.
+    /// How many parts before position `i` are like the part at `i`.
     pub fn like_before(&self, i: usize) -> usize
         requires { i < length self.now }
         ensures { result ≡ spec.like_before self.now (slice_index_or self.now i no_part) i }

@@ -1,4 +1,4 @@
-// Where a call puts an argument or a result (System V psABI for x86-64, section 3.2.3 "Parameter Passing").
+// Where a call passes an argument or a result (System V psABI for x86-64, section 3.2.3 "Parameter Passing").
 ghost use Rattle.std.specs.Prelude.{◌≡◌, IfOk};
 ghost use Rattle.abi_types.specs.Forms.{no_call};
 
@@ -6,7 +6,7 @@ use abi_base::{List, NoMemory};
 use std::alloc::Global;
 use std::marker::Model;
 
-/// What holds an eightbyte of an argument or a result. General registers are numbered in the order rdi, rsi, rdx, rcx, r8,
+/// The register of an eightbyte of an argument or a result. General registers are numbered in the order rdi, rsi, rdx, rcx, r8,
 /// r9, rax; vector registers from xmm0 on; x87 registers from st0 on.
 #[derive(Clone, Copy, Debug, PartialEq, Eq)]
 pub enum Slot {
@@ -14,28 +14,28 @@ pub enum Slot {
     Unused,
     /// A general register.
     General(u8),
-    /// The low part of a vector register.
+    /// The lowest eightbyte of a vector register.
     Vector(u8),
-    /// The next higher part of a vector register.
+    /// The next higher eightbyte of a vector register.
     Upper(u8),
     /// An x87 register.
     X87(u8),
 }
 
-/// Where an argument or a result is.
+/// Where an argument or a result is passed.
 #[derive(Clone, Copy, Debug, PartialEq, Eq)]
 pub enum Place {
     /// Nowhere: it has no bytes.
     Nothing,
     /// In registers, eightbyte by eightbyte.
     Registers { eightbytes: [Slot; 8] },
-    /// On the stack, so many bytes from its top on.
+    /// On the stack: `size` bytes at this offset in the area of the stack arguments.
     Stack { offset: u64, size: u64 },
-    /// In memory whose address the caller hands over.
+    /// In memory whose address the caller passes.
     Hidden,
 }
 
-/// Where the result and the arguments of a function are.
+/// Where the result and the arguments of a function are passed.
 #[derive(Drop)]
 pub struct CallShape {
     /// The place of the result.
@@ -44,9 +44,9 @@ pub struct CallShape {
     pub params: List<Place>,
 }
 
-/// Where the result and the arguments of a function are, in memory of its own. A type that is no function has no places, which
-/// take no memory. Contracts see the shape, or that of no places.
-// Few types of a library are functions, and each type has this field: a shape in its place would take three times its room.
+/// Where the result and the arguments of a function are passed, in an allocation of its own. A type that is not a function has
+/// no places and needs no memory. Contracts see the shape, or that of no places.
+// Few types of a library are functions, and each type has this field. An inline shape would triple its size.
 #[derive(Drop)]
 pub struct Call {
     shape: Option<Box<CallShape>>,
@@ -64,7 +64,7 @@ impl Model for Call {
 }
 
 impl Call {
-    /// No places. It takes no memory.
+    /// No places. Allocates nothing.
     pub fn none() -> Call
         ensures { result ≡ no_call }
     {
@@ -100,7 +100,7 @@ impl Call {
         }
     }
 
-    /// The same places in memory of their own.
+    /// A copy of the places.
     pub fn copy(&self, alloc: Global) -> Result<Call, NoMemory>
         ensures { IfOk result (λ copy. copy ≡ self.now) }
     {

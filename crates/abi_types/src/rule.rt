@@ -3,61 +3,61 @@ ghost use Rattle.std.specs.Prelude.{◌≡◌};
 ghost use Rattle.abi_types.specs.Kinds.{rule_word};
 ghost use Rattle.abi_types.specs.Rules.{rule_place};
 
-/// A rule that a new library may break: `X1` to `X6` compare exports, `L1` to `L14` two types, the old one and the new one.
-/// Each line here says what the rule requires.
+/// A rule that a new library may break. `X1` to `X6` compare exports, `L1` to `L14` an old type with a new one.
+/// Each variant's line says what the rule requires.
 #[derive(Clone, Copy, Debug, PartialEq, Eq)]
 pub enum Rule {
     /// The sonames agree.
     LibrarySoname,
-    /// The export is there.
+    /// The export is still there.
     ExportPresence,
-    /// The version of the export is there.
+    /// The export still has its version.
     ExportVersion,
     /// The kinds of symbols agree.
     ExportKind,
     /// The sizes of objects agree.
     ExportSize,
-    /// The export has a type still.
+    /// The export still has a type.
     ExportType,
-    /// The kinds of both types agree. Where it is broken, no other rule is checked.
+    /// Both types have the same kind. Where they do not, no other rule is checked.
     KindOfType,
-    /// The sizes of scalars, enumerations, structures, unions, arrays and vectors are equal.
+    /// Scalars, enumerations, structures, unions, arrays and vectors have equal sizes.
     TypeSize,
-    /// The groups of two scalars are equal: what their bits mean. Their names do not count.
+    /// Both scalars are in the same group, so that their bits mean the same. Their names do not count.
     ScalarGroup,
-    /// The explicit alignments are equal. It is not checked of functions and void.
+    /// The explicit alignments are equal. Not checked for functions and void.
     TypeAlignment,
-    /// Where one side is a declaration, the tags are equal; then only L1 and this rule are checked.
+    /// Where one side is a declaration, the tags are equal. Only L1 and this rule are checked then.
     DeclarationTag,
-    /// Each old member has a match: the new member of its name and number among those of the name.
+    /// Each old member has a match: the new member with its name and its number among the members with that name.
     MemberPresence,
-    /// A matched member stands at the same bit.
+    /// A matched member has the same offset in bits.
     MemberOffset,
-    /// A matched member has the same width as a bit field, or is none on both sides.
+    /// A matched member is a bit field of the same width, or is not a bit field on both sides.
     BitFieldWidth,
-    /// Each old enumerator has a match, as members have.
+    /// Each old enumerator has a match, found as for members.
     EnumeratorPresence,
-    /// A matched enumerator has the same value, modulo 2 to the number of its enumeration's bits.
+    /// A matched enumerator has the same value modulo 2^n, where n is the number of bits of its enumeration.
     EnumeratorValue,
-    /// Arrays and vectors have equally many elements.
+    /// Arrays and vectors have the same number of elements.
     ElementCount,
-    /// Functions have equally many parameters.
+    /// Functions have the same number of parameters.
     ParameterCount,
-    /// Both functions take further arguments, or neither does.
+    /// Both functions take variable arguments, or neither does.
     VariadicArguments,
-    /// The result, and each parameter that both functions have, is at the same place.
+    /// The result, and each parameter that both functions have, is passed in the same place.
     PassingPlace,
 }
 
 impl Rule {
-    /// Its place in the order of rules, counted from 0: those of exports first, and each group by its numbers.
+    /// The place in the order of rules, counted from 0: rules of exports first, each group by its numbers.
     pub fn place(self) -> u8
         ensures { result ≡ rule_place self }
     {
         self as u8
     }
 
-    /// The word for it in a text.
+    /// The word for the rule in printed text.
     pub fn word(self) -> &'static str
         ensures { result.now ≡ rule_word self }
     {

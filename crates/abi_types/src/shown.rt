@@ -33,8 +33,8 @@ fn push_byte(alloc: Global, text: &mut String, byte: u8) -> Result<(), AllocErro
     }
 }
 
-/// Appends the printed form of a name: each visible ASCII character but the backslash as itself, and each other byte as
-/// `\x` and two lower-case hexadecimal digits.
+/// Appends the printed form of a name: visible ASCII characters except the backslash as they are, each other byte as `\x` and
+/// two lower-case hexadecimal digits.
 pub fn push_shown(alloc: Global, text: &mut String, name: &[u8]) -> Result<(), AllocError>
     ensures { OnOk result (string_bytes text.new ≡ string_bytes text.old ++ shown name.now) }
 {
@@ -44,7 +44,7 @@ pub fn push_shown(alloc: Global, text: &mut String, name: &[u8]) -> Result<(), A
     Ok(())
 }
 
-// Appends the mark and the name of a version, where there is one.
+// Appends the mark and the name of a version, if there is one.
 fn push_version(
     alloc: Global,
     text: &mut String,
@@ -62,8 +62,8 @@ fn push_version(
     }
 }
 
-/// Appends the label of an export: the printed form of its name, and where it has a version `@` or, for the default
-/// version of its name, `@@`, and the printed form of the version.
+/// Appends the label of an export: the printed form of its name, and if it has a version, `@` (or `@@` for the default version
+/// of its name) and the printed form of the version.
 pub fn push_label(alloc: Global, text: &mut String, export: &Export) -> Result<(), AllocError>
     ensures { OnOk result (string_bytes text.new ≡ string_bytes text.old ++ label (plain_export export.now)) }
 {

@@ -1,4 +1,4 @@
-// What a node of a graph looks like.
+// The views of nodes: what a type looks like.
 ghost use Rattle.std.specs.Prelude.{◌≡◌, ◌<◌, length};
 
 use crate::index::Index;
@@ -9,29 +9,29 @@ use crate::place::Call;
 use abi_base::List;
 use std::marker::Model;
 
-/// What a type looks like. Fields that a kind does not use hold 0, `false`, `Group::Bool` or nothing.
-// Fields of one byte stand together, and share eight bytes: a library has a view for each of its types.
+/// The description of a type. Fields that a kind does not use are 0, `false`, `Group::Bool` or empty.
+// One-byte fields are adjacent and so share eight bytes, since a library has a view for each of its types.
 #[derive(Drop)]
 pub struct View<'a, Ix: Index> {
-    /// What sort of type it is.
+    /// The kind of the type.
     pub kind: Kind,
-    /// What the bits of a scalar mean.
+    /// The interpretation of a scalar's bits.
     pub group: Group,
-    /// Whether the type is only declared, and no entry of this unit defines it.
+    /// Whether the type is only declared, with no definition in its unit.
     pub declared_only: bool,
-    /// Whether a function takes further arguments after its parameters.
+    /// Whether a function takes variable arguments after its parameters.
     pub variadic: bool,
-    /// The tag of a structure, a union or an enumeration, or nothing.
+    /// The tag of a structure, a union or an enumeration, or empty.
     pub tag: &'a [u8],
-    /// How many bytes it has.
+    /// The size in bytes.
     pub size: u64,
-    /// The alignment that its declaration asks for, in bytes, or 0.
+    /// The explicit alignment of its declaration in bytes, or 0.
     pub align: u64,
-    /// How many elements an array or a vector has.
+    /// The number of elements of an array or a vector.
     pub count: u64,
     /// Its members, enumerators, target, element type, or result and parameters.
     pub parts: Parts<'a, Ix>,
-    /// Where a function's result and arguments are.
+    /// Where a function's result and arguments are passed.
     pub call: Call,
 }
 
@@ -60,7 +60,7 @@ impl<'a, Ix: Index> View<'a, Ix> {
     ghost use Rattle.std.specs.Option.{option_map};
     ghost use Rattle.abi_types.specs.Graphs.{part_at, inner_of};
 
-    /// How many parts there are.
+    /// The number of parts.
     pub fn parts_len(&self) -> usize
         ensures { result ≡ length self.now.parts }
     {
@@ -75,7 +75,7 @@ impl<'a, Ix: Index> View<'a, Ix> {
         self.parts.at(k)
     }
 
-    /// The type of the elements of an array or a vector: the node that the first part names by value, where there is one.
+    /// The element type of an array or a vector: the node that the first part names by value, if any.
     pub fn element(&self) -> Option<Ix>
         ensures { option_map Ix.number_of result ≡ inner_of (part_at self.now 0) }
     {
@@ -86,25 +86,25 @@ impl<'a, Ix: Index> View<'a, Ix> {
     }
 }
 
-/// A name by which rules speak of a type.
+/// A name under which rule files refer to a type.
 #[derive(Clone, Copy, Debug)]
 pub struct Label<'a> {
-    /// What kind of name it is.
+    /// The kind of the name.
     pub kind: LabelKind,
-    /// Its bytes.
+    /// The bytes of the name.
     pub name: &'a [u8],
 }
 
 /// A node of a graph.
 #[derive(Drop)]
 pub struct Node<'a, Ix: Index> {
-    /// The offset of the debugging information entry that it stands for. 0 is void.
+    /// The offset of its debugging information entry. 0 is void.
     pub entry: u64,
-    /// It falls from a node to what its parts name by value, and is 512 at most.
+    /// Falls from a node to each node that its parts name by value, and is at most 512.
     pub rank: u32,
-    /// What the type looks like.
+    /// The view of the type.
     pub view: View<'a, Ix>,
-    /// The names by which rules speak of it.
+    /// The names under which rule files refer to it.
     pub labels: List<Label<'a>>,
 }
 

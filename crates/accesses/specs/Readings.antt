@@ -1,4 +1,4 @@
--- Paths of the rules, read as accesses; and what it is for an access to be open, read another way.
+-- Paths of the rules, read as accesses, and another definition of open accesses.
 use Rattle.std.specs.Prelude.{◌≡◌, ℕ, Option, Some, IsSome, slice_get}
 use Rattle.pair_rules.specs.Steps.{PlainRoot, Task, Triple}
 use Rattle.accesses.specs.Accesses.{Moves, Stay, Then, Spot, old_spot, new_spot, GoesOn, IsOpen}
@@ -8,7 +8,7 @@ use Rattle.accesses.specs.Landing.{IsOpenAccess, Lands}
 abbrev pub triple_at : Spot → Spot → Triple
 triple_at old new = record { old = old.node; new = new.node; way = old.way }
 
--- an open access leads to the nodes of the triple, side by side, by its way
+-- an open access leads to the nodes of the triple, in its way
 pub record IsAccessed (t : Task) (x : Triple) : Type 0 where
   pub root : PlainRoot
   pub export : ℕ
@@ -21,7 +21,7 @@ pub record IsAccessed (t : Task) (x : Triple) : Type 0 where
   pub opened : IsOpen t root moves
   pub is : triple_at old new ≡ x
 
--- The other reading of an open access, by which every step before the last exists in the new library too.
+-- The other definition of an open access: every step before the last exists in the new library too.
 pub record GoesOnBeside (t : Task) (old : Spot) (new : Option Spot) : Type 0 where
   pub goes : GoesOn t old new
   pub there : IsSome new

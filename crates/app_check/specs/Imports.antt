@@ -1,4 +1,4 @@
--- The imports of an application, by its dynamic symbols, their version indexes and its version needs, and the first fault of the
+-- The imports of an application, from its dynamic symbols, their version indexes and its version needs, and the first fault of the
 -- application.
 use Rattle.std.specs.Prelude.{ℕ, ◌==◌, nat_le, Bool, not, ◌||◌, ◌&&◌, is_none, is_some, if◌then◌else◌, List, [], ◌∷◌, length, map, slice_get, Option, Some, None, unwrap_or}
 use Rattle.std.specs.List.{filter_map}
@@ -14,41 +14,39 @@ use Rattle.elf.specs.versions.Versions.{version_fault}
 use Rattle.elf_needs.specs.Indexes.{indexes_of}
 use Rattle.elf_needs.specs.Needs.{PlainNeed, need_with, needs_fault}
 
--- an import, without where its names lie in memory
+-- an import, without the addresses of its names in memory
 pub record PlainImport : Type 0 where
   pub symbol : ℕ
   pub name : List ℕ
   pub need : Option PlainNeed
 
--- The symbol is not the reserved one, is of binding GLOBAL, WEAK or GNU_UNIQUE and has a name: other files may give it.
+-- Other files may define the symbol: it is not the reserved one, has the binding GLOBAL, WEAK or GNU_UNIQUE, and has a name.
 abbrev pub is_linked : PlainSymbol → Bool
 is_linked s =
     not (s.number == 0)
     && (s.binding == stb_global || (s.binding == stb_weak || s.binding == stb_gnu_unique))
     && not (length s.name == 0)
 
--- the version index of a symbol in the list of all
+-- the version index of a symbol, from the list of all
 abbrev pub index_in : List ℕ → ℕ → ℕ
 index_in indexes i = unwrap_or (slice_get indexes i) ver_ndx_global
 
--- the version and file that an index names, by what the indexes of auxiliary entries name: nothing at the indexes of symbols
--- without a version
+-- the version and the file for a version index, from those of auxiliary entries; None at the indexes of symbols without a version
 abbrev pub need_by : (ℕ → Option PlainNeed) → ℕ → Option PlainNeed
 need_by named index = if nat_le index ver_ndx_global then None else named index
 
--- the import that a symbol of an index is: one that other files may give, and that is undefined or has the index of an auxiliary
--- entry
+-- the import for a symbol: other files may define it, and it is undefined or its version index is that of an auxiliary entry
 abbrev pub import_with : PlainSymbol → Option PlainNeed → Option PlainImport
 import_with s need = if is_linked s && (s.section == shn_undef || is_some need) then Some (record { symbol = s.number; name = s.name; need = need }) else None
 
 abbrev pub import_of : (ℕ → Option PlainNeed) → List ℕ → PlainSymbol → Option PlainImport
 import_of named indexes s = import_with s (need_by named (index_in indexes s.number))
 
--- the imports among some symbols, in order
+-- the imports among these symbols, in order
 abbrev pub imports_with : (ℕ → Option PlainNeed) → List ℕ → List PlainSymbol → List PlainImport
 imports_with named indexes symbols = filter_map (import_of named indexes) symbols
 
--- An undefined import of an index of 2 or more has that of an auxiliary entry.
+-- The fault of an undefined import whose version index is 2 or more and is not that of an auxiliary entry.
 abbrev pub import_fault_of : (ℕ → Option PlainNeed) → List ℕ → PlainSymbol → Option Fault
 import_fault_of named indexes s =
     fault_if (is_linked s && s.section == shn_undef && not (nat_le (index_in indexes s.number) ver_ndx_global) && is_none (named (index_in indexes s.number))) kind.ImportVersion s.number
@@ -70,7 +68,7 @@ imports_of f = imports_with (need_with f) (symbol_indexes f) (symbols_of f)
 abbrev pub imports_fault : List ℕ → Option Fault
 imports_fault f = import_fault_with (need_with f) (symbol_indexes f) (symbols_of f)
 
--- the file, its symbols, its dynamic table, the versions that it defines, those that it needs, and those of its imports
+-- the file, its symbols, its dynamic table, its version definitions, its version needs, and the versions of its imports
 abbrev pub app_faults : List ℕ → List (Option Fault)
 app_faults f =
     elf_fault f

@@ -1,4 +1,4 @@
--- Imports of the code, without where their names lie in memory.
+-- Imports of the code, without the addresses of their names in memory.
 use Rattle.std.specs.Prelude.{List, map}
 use Rattle.std.specs.Option.{option_map}
 use Rattle.elf_needs.specs.Plain.{plain_need}

@@ -1,5 +1,5 @@
--- Which exports of a library an application uses: those to which an import binds. An import with a version binds where its file
--- is the library's soname, by name and version; one without a version binds as an export without a version does.
+-- The exports of a library that an application uses: those to which an import binds. An import with a version binds by name and
+-- version if its file is the library's soname. One without a version binds like an export without a version.
 use Rattle.std.specs.Prelude.{ℕ, ◌==◌, Bool, true, false, not, ◌||◌, if◌then◌else◌, List, [], ◌∷◌, length, map, Option, Some, None}
 use Rattle.std.specs.List.{range_with_len, list_any}
 use Rattle.std.specs.Option.{option_map, option_map_or}
@@ -10,7 +10,7 @@ use Rattle.elf_bind.specs.Binding.{bind_to}
 use Rattle.elf_bind.specs.Exports.{same_name}
 use Rattle.app_check.specs.Imports.{PlainImport}
 
--- what an import asks for: an export of its name and version. Binding reads nothing else of it.
+-- the export that an import looks for, with its name and version; binding reads no other field
 abbrev pub wanted_by : PlainImport → PlainExport
 wanted_by i = record {
   symbol = i.symbol;
@@ -26,19 +26,20 @@ wanted_by i = record {
   entry = 0;
 }
 
--- an import that any file may give, or that the file of this soname gives; a file without a soname gives only the former
+-- whether any file may define the import, or the file with this soname; a file without a soname defines only imports of the former
+-- kind
 abbrev pub may_come_from : Option (List ℕ) → PlainImport → Bool
 may_come_from soname i = option_map_or (λ n. same_name (Some n.file) soname) i.need true
 
--- the place of the export to which an import binds, where it binds to one
+-- the position of the export to which an import binds, if there is one
 abbrev pub place_bound : Option (List ℕ) → List PlainExport → PlainImport → Option ℕ
 place_bound soname old i = if may_come_from soname i then bind_to old (wanted_by i) else None
 
--- a place is the one found
+-- whether this position was found
 abbrev pub is_at : ℕ → Option ℕ → Bool
 is_at k place = option_map_or (λ p. p == k) place false
 
--- an import binds to the export at a place
+-- whether an import binds to the export at a position
 abbrev pub is_used : List PlainImport → Option (List ℕ) → List PlainExport → ℕ → Bool
 is_used imports soname old k = list_any (λ i. is_at k (place_bound soname old i)) imports
 
@@ -46,11 +47,11 @@ is_used imports soname old k = list_any (λ i. is_at k (place_bound soname old i
 unfoldable pub used_exports : List PlainImport → Option (List ℕ) → List PlainExport → List Bool
 used_exports imports soname old = map (is_used imports soname old) (range_with_len 0 (length old))
 
--- each export is dropped that was, or that is not used
+-- each export is dropped that is dropped already or is not used
 abbrev pub narrowed : List Bool → List Bool → List Bool
 narrowed (dropped ∷ others) (used ∷ rest) = (dropped || not used) ∷ narrowed others rest
 narrowed dropped used = []
 
--- the marks that drop each unused export too, and keep all else
+-- the marks, which also drop each unused export; everything else is kept
 abbrev pub narrowed_marks : Marks → List Bool → Marks
 narrowed_marks marks used = record marks { exports = narrowed marks.exports used }

@@ -1,4 +1,4 @@
-//! What one application imports, and which exports of a library it uses.
+//! The imports of an application, and the exports of a library that it uses.
 #![tactic(auto)]
 
 mod import;

@@ -1,4 +1,4 @@
-// What is told of an application beside the answer: how it and a library belong together. It is not promised by a contract.
+// Remarks on how an application and a library fit together, beside the answer. No contract promises anything of them.
 ghost use Rattle.std.specs.Prelude.{◌≤◌, length};
 ghost use Rattle.abi_base.specs.Limits.{input_limit};
 
@@ -14,19 +14,19 @@ use elf::versions::versions;
 use elf_bind::{bind_all, exports};
 use std::alloc::Global;
 
-// The tag of an entry of the dynamic table that names a library which a file needs (System V gABI, "Dynamic Section").
+// The tag of a dynamic table entry with the name of a needed library (System V gABI, "Dynamic Section").
 const DT_NEEDED: u64 = 1;
 
-/// How an application and a library belong together.
+/// How an application and a library fit together.
 #[derive(Drop)]
 pub struct Links<'a> {
-    /// How many imports of the application bind to the library.
+    /// The number of the application's imports that bind to the library.
     pub bound: usize,
-    /// The names of the imports that the application needs of the library and that the library lacks.
+    /// The names of the imports that the application needs from the library and that the library lacks.
     pub lacking: Vec<&'a [u8]>,
 }
 
-// Whether the dynamic table of a file names this library.
+// Whether the dynamic table of a file lists this library as needed.
 fn names_library(file: &ElfFile, library: &[u8]) -> bool {
     let Some(section) = file.section_of_kind(SHT_DYNAMIC) else {
         return false;
@@ -48,7 +48,7 @@ fn names_library(file: &ElfFile, library: &[u8]) -> bool {
     false
 }
 
-// Whether a program with this symbol does not run where no library has it.
+// Whether a program with this symbol fails to run if no library defines the symbol.
 fn must_be_given(symbol: Option<&Symbol>) -> bool {
     match symbol {
         Some(symbol) => symbol.section == SHN_UNDEF && symbol.binding != STB_WEAK,
@@ -56,7 +56,7 @@ fn must_be_given(symbol: Option<&Symbol>) -> bool {
     }
 }
 
-// The imports that the file of a soname may give.
+// The imports that the file with this soname may define.
 fn imports_from<'a>(
     alloc: Global,
     imports: &[Import<'a>],
@@ -71,7 +71,7 @@ fn imports_from<'a>(
     Ok(those)
 }
 
-// What these imports ask for.
+// The exports that these imports look for.
 fn wanted<'a>(alloc: Global, imports: &[Import<'a>]) -> Result<Vec<Export<'a>>, NoMemory> {
     let mut wanted = Vec::new(alloc);
     for import in imports {
@@ -80,7 +80,7 @@ fn wanted<'a>(alloc: Global, imports: &[Import<'a>]) -> Result<Vec<Export<'a>>, 
     Ok(wanted)
 }
 
-// The names of those imports that ask for a version, bind to nothing and must be given.
+// The names of the imports with a version that bind to nothing and must be defined.
 fn lacking<'a>(
     alloc: Global,
     imports: &[Import<'a>],
@@ -99,7 +99,8 @@ fn lacking<'a>(
     Ok(names)
 }
 
-/// How an application and a library belong together, by their bytes.
+/// How an application and a library fit together, from their bytes. `lacking` is empty where the application does not list the
+/// library as needed. Err is a fault of one of the files, or `NoMemory`.
 pub fn links_between<'a>(alloc: Global, app: &'a [u8], library: &[u8]) -> Result<Links<'a>, Refusal>
     requires app_short { length app.now ≤ input_limit }
     requires library_short { length library.now ≤ input_limit }

@@ -1,4 +1,4 @@
-// The marks of one application.
+// The marks for one application.
 ghost use Rattle.std.specs.Prelude.{◌≡◌, ◌||◌, not, length, IfOk};
 ghost use Rattle.app_check.specs.Used.{narrowed_marks};
 ghost use Rattle.app_check.specs.Used as spec;
@@ -14,7 +14,7 @@ fn is_left_out(dropped: bool, used: bool) -> bool
     dropped || !used
 }
 
-// Each export is dropped that was, or that is not used.
+// Drops each export that is dropped already or is not used.
 fn narrowed(alloc: Global, dropped: &[bool], used: &[bool]) -> Result<List<bool>, NoMemory>
     requires { length dropped.now ≡ length used.now }
     ensures { IfOk result (λ exports. exports ≡ spec.narrowed dropped.now used.now) }
@@ -26,7 +26,7 @@ fn narrowed(alloc: Global, dropped: &[bool], used: &[bool]) -> Result<List<bool>
     Ok(exports)
 }
 
-/// The marks that drop each export that these drop or that is not used, and keep all else.
+/// These marks, which also drop each export that is not used. Everything else is kept.
 pub fn narrow(alloc: Global, marks: &Marks, used: &[bool]) -> Result<Marks, NoMemory>
     requires { length marks.now.exports ≡ length used.now }
     ensures { IfOk result (λ narrowed. narrowed ≡ narrowed_marks marks.now used.now) }

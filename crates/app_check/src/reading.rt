@@ -22,7 +22,7 @@ use elf::versions::versions;
 use elf_needs::{Indexes, Need, Needs, indexes, needs};
 use std::alloc::Global;
 
-// Whether other files may give a symbol, by its own record.
+// Whether other files may define a symbol, judged by its record.
 fn is_linked(symbol: &Symbol) -> bool
     ensures { result ≡ spec.is_linked (plain_symbol symbol.now) }
 {
@@ -31,7 +31,7 @@ fn is_linked(symbol: &Symbol) -> bool
         && symbol.name.len() != 0
 }
 
-// The version index of the symbol of a number.
+// The version index of the symbol with this number.
 fn index_of(indexes: &Indexes, number: u32) -> u16
     ensures { result ≡ index_in indexes.now number }
 {
@@ -41,7 +41,7 @@ fn index_of(indexes: &Indexes, number: u32) -> u16
     }
 }
 
-// The version and file that an index names, none at the indexes of symbols without a version.
+// The version and the file for a version index, or None at the indexes of symbols without a version.
 fn need_with<'a>(needs: &Needs<'a>, index: u16) -> Option<Need<'a>>
     ensures { option_map plain_need result ≡ need_by (needed needs.now) index }
 {
@@ -51,7 +51,7 @@ fn need_with<'a>(needs: &Needs<'a>, index: u16) -> Option<Need<'a>>
     needs.need_of(index)
 }
 
-// The import that a symbol is, where it is one.
+// The import for a symbol, if it is one.
 fn import_of<'a>(needs: &Needs<'a>, indexes: &Indexes, symbol: &Symbol<'a>) -> Option<Import<'a>>
     ensures { option_map plain_import result ≡ spec.import_of (needed needs.now) indexes.now (plain_symbol symbol.now) }
 {
@@ -67,7 +67,7 @@ fn import_of<'a>(needs: &Needs<'a>, indexes: &Indexes, symbol: &Symbol<'a>) -> O
     }
 }
 
-// The fault of a symbol that is undefined and has an index that no auxiliary entry has.
+// The fault of an undefined symbol whose version index no auxiliary entry has.
 fn fault_of(needs: &Needs, indexes: &Indexes, symbol: &Symbol) -> Option<Fault>
     ensures { result ≡ import_fault_of (needed needs.now) indexes.now (plain_symbol symbol.now) }
 {
@@ -86,7 +86,7 @@ fn fault_of(needs: &Needs, indexes: &Indexes, symbol: &Symbol) -> Option<Fault>
     }
 }
 
-// The first fault of symbols whose index no auxiliary entry has.
+// The first fault of a symbol whose version index no auxiliary entry has.
 fn import_fault(needs: &Needs, indexes: &Indexes, symbols: &[Symbol]) -> Option<Fault>
     ensures { result ≡ import_fault_with (needed needs.now) indexes.now (plain_symbols symbols.now) }
 {
@@ -98,7 +98,7 @@ fn import_fault(needs: &Needs, indexes: &Indexes, symbols: &[Symbol]) -> Option<
     None
 }
 
-// The imports among some symbols, in order.
+// The imports among these symbols, in order.
 fn imports_in<'a>(
     alloc: Global,
     needs: &Needs<'a>,
@@ -116,7 +116,7 @@ fn imports_in<'a>(
     Ok(imports)
 }
 
-// The indexes of the symbols of a file whose versions have no fault, so that its table of indexes has none.
+// The version indexes of the symbols of a file whose versions have no fault. Then the table of indexes has none either.
 fn sound_indexes(alloc: Global, file: &ElfFile<'_>, symbols: usize) -> Result<Indexes, NoMemory>
     requires { version_fault file.now symbols ≡ None }
     ensures { IfOk result (λ indexes. indexes ≡ indexes_of file.now symbols) }
@@ -127,7 +127,7 @@ fn sound_indexes(alloc: Global, file: &ElfFile<'_>, symbols: usize) -> Result<In
     }
 }
 
-// The imports among the symbols of a file. The fault is the first one of its versions, of its needs and of its imports.
+// The imports among the symbols of a file. Err is the first fault of its versions, its version needs and its imports.
 #[tactic(auto, unfolding(crate::specs::Imports::imports_of))]
 fn imports_among<'a>(
     alloc: Global,
@@ -148,7 +148,7 @@ fn imports_among<'a>(
     Ok(imports)
 }
 
-/// The imports of an application, in the order of their symbols. The fault is the first one of `ShortFile` to
+/// The imports of an application, in the order of their symbols. Err is the first fault of `ShortFile` to
 /// `VersionDefinition`, of `VersionNeed` and of `ImportVersion`.
 #[tactic(auto, unfolding(crate::specs::Imports::app_fault))]
 pub fn read_app<'a>(alloc: Global, bytes: &'a [u8]) -> Result<Vec<Import<'a>>, Refusal>

@@ -15,7 +15,7 @@ use elf_bind::{bind_all, same_name};
 use std::alloc::Global;
 use std::collections::HashSet;
 
-/// What an import asks for. Binding reads its name and its version.
+/// The export that an import looks for. Binding reads only its name and its version.
 pub(crate) fn wanted_by<'a>(import: &Import<'a>) -> Export<'a>
     ensures { plain_export result ≡ what_it_wants (plain_import import.now) }
 {
@@ -37,7 +37,7 @@ pub(crate) fn wanted_by<'a>(import: &Import<'a>) -> Export<'a>
     }
 }
 
-/// Whether the file of a soname may give an import.
+/// Whether the file with this soname may define an import.
 pub(crate) fn may_come_from(import: &Import, soname: Option<&[u8]>) -> bool
     ensures { result ≡ spec.may_come_from (option_copied soname.entry) (plain_import import.now) }
 {
@@ -47,7 +47,7 @@ pub(crate) fn may_come_from(import: &Import, soname: Option<&[u8]>) -> bool
     }
 }
 
-// What the imports ask for that the file of a soname may give.
+// The exports that the imports look for, if the file with this soname may define them.
 fn wanted_of<'a>(
     alloc: Global,
     imports: &[Import<'a>],
@@ -64,7 +64,7 @@ fn wanted_of<'a>(
     Ok(wanted)
 }
 
-// The places that are among those found.
+// The set of the positions found.
 fn found_places(alloc: Global, places: &[Option<usize>]) -> Result<HashSet<usize>, NoMemory>
     ensures { IfOk result (λ found. (k : ℕ) → contains nat_eq found k ≡ list_any (is_at k) places.now) }
 {
@@ -77,7 +77,7 @@ fn found_places(alloc: Global, places: &[Option<usize>]) -> Result<HashSet<usize
     Ok(found)
 }
 
-// For each of so many places whether it is among those found.
+// For each of this many positions, whether it was found.
 #[tactic(auto, using(crate::proofs::Places::marked_more))]
 fn marked(alloc: Global, found: &HashSet<usize>, count: usize) -> Result<Vec<bool>, NoMemory>
     ensures { IfOk result (λ marked. marked.items ≡ map (contains nat_eq found.now) (range_with_len 0 count)) }
@@ -89,8 +89,8 @@ fn marked(alloc: Global, found: &HashSet<usize>, count: usize) -> Result<Vec<boo
     Ok(marked)
 }
 
-/// For each export of a library whether an import binds to it: one without a version as an export without a version does, and
-/// one of a version by its name and version, where its file is the library's soname. It looks each import up in maps of the
+/// For each export of a library, whether an import binds to it. An import without a version binds like an export without a version.
+/// One with a version binds by name and version if its file is the library's soname. Each import is looked up in maps of the
 /// exports.
 pub fn used(
     alloc: Global,

@@ -1,4 +1,4 @@
--- When a certificate is accepted: places in their order, each with its condition.
+-- When a certificate is accepted: a list of places in order, each with its condition.
 use Rattle.std.specs.Prelude.{◌≡◌, ◌+◌, ◌==◌, ◌&&◌, ℕ, Bool, true, false, List, [], ◌∷◌, ◌++◌, length, map, flat_map, find, slice_get, option_map, unwrap_or, Option, Some, None, Result, Ok, Err}
 use Rattle.std.specs.List.{range_with_len, list_any, AllByRecursion}
 use Rattle.std.specs.Bool.{beq}
@@ -25,12 +25,12 @@ pub record Case : Type 0 where
 abbrev pub asked : PlainLibrary → PlainLibrary → Marks → PlainCert → Case
 asked old new marks cert = record { sides = sides old new marks; cert = cert }
 
--- ---- what lines say
+-- ---- the meaning of lines
 
 abbrev pub second : ℕ × ℕ → ℕ
 second line = line.1
 
--- what stands behind a number on the line that begins with it
+-- the second number of the line that begins with this number
 unfoldable pub line_of : List (ℕ × ℕ) → ℕ → Option ℕ
 line_of lines n = option_map second (find (λ line. line.0 == n) lines)
 
@@ -38,7 +38,7 @@ line_of lines n = option_map second (find (λ line. line.0 == n) lines)
 abbrev pub rep : List (ℕ × ℕ) → ℕ → ℕ
 rep lines e = unwrap_or (line_of lines e) e
 
--- a pair line
+-- two pair lines are equal
 abbrev pub same_line : PairLine → PairLine → Bool
 same_line x y = x.0 == y.0 && x.1 == y.1 && beq (is_pointer x.2) (is_pointer y.2)
 
@@ -60,8 +60,8 @@ listed c x = is_line c.cert.pairs (x.old, x.new, x.way)
 
 -- ---- the conditions
 
--- the bind lines at a symbol number are right: an export that is compared binds, and its line says to what; and the number on
--- a line is that of such an export
+-- the bind lines with a symbol number are right: a compared export with it binds, and its line names the symbol to which; and the
+-- number on a line is that of a compared export
 pub record HasBinding (c : Case) (symbol : ℕ) (e : PlainExport) : Type 0 where
   pub partner : PlainExport
   pub binds : bound c.sides e ≡ Some partner
@@ -71,12 +71,12 @@ pub record KeepsBinding (c : Case) (symbol : ℕ) : Type 0 where
   pub bound : (k : ℕ) (e : PlainExport) → IsCompared c.sides k e → e.symbol ≡ symbol → HasBinding c symbol e
   pub owned : (j : ℕ) → line_of c.cert.binds symbol ≡ Some j → (k : ℕ) × (e : PlainExport) × IsCompared c.sides k e × (e.symbol ≡ symbol)
 
--- what a compared export binds to keeps the rules of exports
+-- a compared export and the one to which it binds keep the rules of exports
 abbrev pub KeepsRules : Case → ℕ → Type 0
 KeepsRules c k = (e f : PlainExport) → IsCompared c.sides k e → bound c.sides e ≡ Some f → KeepsExport e f
 
--- Both are entries of the graph, the second has no alike line, the labels are equal, and so are the views in all but the
--- nodes that parts name; and those at one position have one representative.
+-- Both are entries of the graph, and the second has no alike line. The labels are equal, and so are the views except for the nodes
+-- that parts name; those at one position have the same representative.
 pub record IsAlikeLine (nodes : List PlainNode) (lines : List (ℕ × ℕ)) (line : ℕ × ℕ) : Type 0 where
   pub one : ℕ
   pub other : ℕ
@@ -93,13 +93,13 @@ abbrev pub KeepsRoot : Case → ℕ → Type 0
 KeepsRoot c k = (e f : PlainExport) → IsCompared c.sides k e → bound c.sides e ≡ Some f → is_typed e ≡ true → is_typed f ≡ true →
     is_line c.cert.pairs (rep c.cert.alike_old e.entry, rep c.cert.alike_new f.entry, Direct) ≡ true
 
--- the nodes of a pair line
+-- the triple has the nodes and the way of the pair line
 pub record IsOf (c : Case) (line : PairLine) (x : Triple) : Type 0 where
   pub old : node_of c.sides.old.graph line.0 ≡ Some x.old
   pub new : node_of c.sides.new.graph line.1 ≡ Some x.new
   pub way : x.way ≡ line.2
 
--- both are entries of the graphs, and the old one is marked at the line's way or no rule is broken
+-- both are entries of the graphs, and either the old one is marked at the line's way or no rule is broken
 pub record KeepsLine (c : Case) (line : PairLine) : Type 0 where
   pub triple : Triple
   pub is : IsOf c line triple
@@ -108,7 +108,7 @@ pub record KeepsLine (c : Case) (line : PairLine) : Type 0 where
 abbrev pub KeepsRule : Case → ℕ → Type 0
 KeepsRule c k = (line : PairLine) → slice_get c.cert.pairs k ≡ Some line → KeepsLine c line
 
--- what the nodes of the line lead to has a line by its representatives; from a marked node nothing is led to
+-- each triple to which a step leads from the nodes of the line has a line by its representatives; no step leads from a marked node
 abbrev pub KeepsPartners : Case → ℕ → Type 0
 KeepsPartners c k = (line : PairLine) → slice_get c.cert.pairs k ≡ Some line → (x y : Triple) (i : ℕ) → IsOf c line x → step (task_of c.sides) x i ≡ Some y →
     listed c (classed (old_class c) (new_class c) y) ≡ true
@@ -161,7 +161,7 @@ joined (xs ∷ xss) = xs ++ joined xss
 abbrev pub heads : List Place
 heads = OldDigest ∷ NewDigest ∷ RulesDigest ∷ Sonames ∷ []
 
--- all places, group by group, in the order in which they are asked
+-- all places, group by group, in the order of the checks
 abbrev pub groups : Case → List (List Place)
 groups c =
     heads
@@ -199,7 +199,7 @@ refused c (Root export) = record { kind = kind.Root; at = symbol_of (slice_get c
 refused c (Rule number) = record { kind = kind.Rule; at = 5 + length c.cert.binds + length c.cert.alike_old + length c.cert.alike_new + number }
 refused c (Partners number) = record { kind = kind.Partner; at = 5 + length c.cert.binds + length c.cert.alike_old + length c.cert.alike_new + number }
 
--- the first of the places that fails
+-- this is the first place that fails
 pub record IsFirstFailing (c : Case) (asked : List Place) (place : Place) : Type 0 where
   pub before : List Place
   pub after : List Place
@@ -207,7 +207,7 @@ pub record IsFirstFailing (c : Case) (asked : List Place) (place : Place) : Type
   pub kept : AllByRecursion (Keeps c) before
   pub fails : Keeps c place → ⊥
 
--- Ok comes exactly where all is kept, else the refusal of the first place that fails.
+-- The result is Ok exactly if all conditions hold, else the refusal of the first place that fails.
 abbrev pub Settles : Case → List Place → Result Unit Refused → Type 0
 Settles c asked (Ok x) = AllByRecursion (Keeps c) asked
 Settles c asked (Err answer) = (place : Place) × IsFirstFailing c asked place × (answer ≡ refused c place)

@@ -10,7 +10,7 @@ use Rattle.pair_rules.specs.ExportRules.{export_breaks}
 use Rattle.pair_rules.specs.Steps.{PlainRoot, Task}
 use Rattle.pair_rules.specs.Closed.{AreCompatible}
 
--- two libraries, and the marks of the old one: which exports and types are left out
+-- two libraries, and the marks of the old one: the exports and types that are not compared
 pub record Sides : Type 0 where
   pub old : PlainLibrary
   pub new : PlainLibrary
@@ -21,12 +21,12 @@ sides old new marks = record { old = old; new = new; marks = marks }
 
 -- ---- exports
 
--- the old export at a place is compared
+-- the old export at a position is compared
 pub record IsCompared (s : Sides) (k : ℕ) (e : PlainExport) : Type 0 where
   pub at : slice_get s.old.exports k ≡ Some e
   pub kept : slice_index_or s.marks.exports k false ≡ false
 
--- the new export that an old one binds to
+-- the new export to which an old one binds
 abbrev pub bound : Sides → PlainExport → Option PlainExport
 bound s e = option_and_then (slice_get s.new.exports) (bind_to s.new.exports e)
 
@@ -57,7 +57,7 @@ abbrev pub root_from : Sides → ℕ → Option PlainExport → Option PlainRoot
 root_from s k None = None
 root_from s k (Some e) = if slice_index_or s.marks.exports k false then None else root_to s k e (bound s e)
 
--- the types of the old export at a place and of the one that it binds to, where it is compared and both have one
+-- the types of the old export at a position and of the one to which it binds, if it is compared and both have a type
 unfoldable pub typed_root : Sides → ℕ → Option PlainRoot
 typed_root s k = root_from s k (slice_get s.old.exports k)
 
@@ -69,8 +69,8 @@ task_of s = record { old = s.old.graph; new = s.new.graph; direct = s.marks.dire
 
 -- ---- compatible
 
--- The sonames agree; each old export that is compared binds and keeps the rules of exports; and some closed relation holds
--- all typed pairs, as reached by value.
+-- The sonames agree; each compared old export binds and keeps the rules of exports; and some closed relation holds all typed pairs,
+-- by value.
 pub record IsCompatible (s : Sides) : Type 0 where
   pub sonames : s.old.soname ≡ s.new.soname
   pub exports : (k : ℕ) (e : PlainExport) → IsCompared s k e → IsBound s e

@@ -1,5 +1,5 @@
--- When a certificate of version 1 is accepted. Its pairs have no ways: an old node is marked or not, whichever way it is reached
--- by, and what a pair leads to has a line whichever way that is reached by.
+-- When a certificate of version 1 is accepted. Its pairs have no ways: an old node is marked or not for both ways, and the partners
+-- of a pair have a line whichever way leads to them.
 use Rattle.std.specs.Prelude.{◌≡◌, ◌<◌, ℕ, Bool, true, false, [], Some, Contains, slice_index_or}
 use Rattle.abi_types.specs.Exports.{PlainExport}
 use Rattle.abi_types.specs.Graphs.{node_of, view_at, part_at, to_of}
@@ -18,11 +18,11 @@ AreOneMark s = s.marks.pointer ≡ s.marks.direct
 abbrev pub is_marked_any : Sides → ℕ → Bool
 is_marked_any s a = slice_index_or s.marks.direct a false
 
--- the same case with the pairs as reached by value, which tells of all but the pair lines
+-- the same case with all pairs by value, which decides everything except the pair lines
 abbrev pub case_1 : Sides → PlainCert1 → Case
 case_1 s c = record { sides = s; cert = with_ways c }
 
--- the certificate of version 2 that says the same
+-- the case with the certificate of version 2 that means the same
 abbrev pub migrated_case : Sides → PlainCert1 → Case
 migrated_case s c = record { sides = s; cert = migrated c }
 
@@ -31,7 +31,7 @@ abbrev pub KeepsRoot1 : Sides → PlainCert1 → ℕ → Type 0
 KeepsRoot1 s c k = (e f : PlainExport) → IsCompared s k e → bound s e ≡ Some f → is_typed e ≡ true → is_typed f ≡ true →
     Contains c.pairs (rep c.alike_old e.entry, rep c.alike_new f.entry)
 
--- both are entries of the graphs, and the old one is marked or no rule is broken
+-- both are entries of the graphs, and either the old one is marked or no rule is broken
 pub record KeepsLine1 (s : Sides) (line : ℕ × ℕ) : Type 0 where
   pub old : ℕ
   pub new : ℕ
@@ -39,7 +39,7 @@ pub record KeepsLine1 (s : Sides) (line : ℕ × ℕ) : Type 0 where
   pub new_is : node_of s.new.graph line.1 ≡ Some new
   pub keeps : is_marked_any s old ≡ false → breaks (view_at s.old.graph old) (view_at s.new.graph new) ≡ []
 
--- the old one is marked, or what the partners among the parts name has a line by its representatives
+-- either the old one is marked, or the nodes that matching parts name have a line by their representatives
 abbrev pub KeepsPartners1 : Sides → PlainCert1 → ℕ × ℕ → Type 0
 KeepsPartners1 s c line = (old new i j a b : ℕ) → node_of s.old.graph line.0 ≡ Some old → node_of s.new.graph line.1 ≡ Some new → is_marked_any s old ≡ false
     → IsPartner (view_at s.old.graph old) (view_at s.new.graph new) i j

@@ -1,18 +1,18 @@
--- The lines that numbers give, in the order of the numbers.
+-- The lines that a function gives for numbers, in the order of the numbers.
 use Rattle.std.specs.Prelude.{◌≡◌, ◌<◌, ◌+◌, ◌++◌, ℕ, List, Option, Some, Contains, filter_map, option_to_list, slice_get}
 use Rattle.std.specs.List.{range_with_len}
 
--- the lines that the numbers below a bound give
+-- the lines for the numbers below a bound
 abbrev pub given_below : (ℕ → Option (ℕ × ℕ)) → ℕ → List (ℕ × ℕ)
 given_below line n = filter_map line (range_with_len 0 n)
 
--- a number below a bound that gives a line
+-- the line is given for a number below the bound
 pub record IsGivenBy (line : ℕ → Option (ℕ × ℕ)) (bound : ℕ) (x : ℕ × ℕ) : Type 0 where
   pub number : ℕ
   pub below : number < bound
   pub gives : line number ≡ Some x
 
--- two lines are given by numbers of which one comes before the other
+-- the lines are given for two numbers below the bound, in this order
 pub record AreGivenInOrder (line : ℕ → Option (ℕ × ℕ)) (bound : ℕ) (x y : ℕ × ℕ) : Type 0 where
   pub first : ℕ
   pub later : ℕ
@@ -21,8 +21,8 @@ pub record AreGivenInOrder (line : ℕ → Option (ℕ × ℕ)) (bound : ℕ) (x
   pub gives_first : line first ≡ Some x
   pub gives_later : line later ≡ Some y
 
--- What is given by one number more stands last. Exactly the lines that some number below the bound gives are there, those of
--- later numbers later.
+-- The line of the next number, if it has one, is appended. The list has exactly the lines of the numbers below the bound, in the
+-- order of the numbers.
 pub record StandInOrder (line : ℕ → Option (ℕ × ℕ)) : Type 0 where
   pub more : (n : ℕ) → given_below line (n + 1) ≡ given_below line n ++ option_to_list (line n)
   pub there : (n k : ℕ) (x : ℕ × ℕ) → k < n → line k ≡ Some x → Contains (given_below line n) x

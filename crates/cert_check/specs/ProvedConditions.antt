@@ -1,4 +1,4 @@
--- What an accepted certificate keeps, condition by condition.
+-- What an accepted certificate guarantees, condition by condition.
 use Rattle.std.specs.Prelude.{◌≡◌, ◌<◌, ℕ}
 use Rattle.abi_types.specs.Limits.{symbol_limit}
 use Rattle.cert_check.specs.Accepted.{Case, KeepsBinding, KeepsRules, KeepsAlike, KeepsRoot, KeepsRule, KeepsPartners}

@@ -1,11 +1,11 @@
--- Typed pairs: the type of a compared export, and the type of the new export that it binds to.
+-- Typed pairs: the type of a compared export, and the type of the new export to which it binds.
 use Rattle.std.specs.Prelude.{◌≡◌, ◌<◌, true, length, Some}
 use Rattle.abi_types.specs.Exports.{PlainExport}
 use Rattle.abi_types.specs.Graphs.{node_of}
 use Rattle.pair_rules.specs.Steps.{PlainRoot}
 use Rattle.cert_check.specs.Compatible.{Sides, IsCompared, bound, is_typed}
 
--- The old export at the root's place is compared, it and the one that it binds to have a type, and these are the root's nodes.
+-- The old export at the root's position is compared, it and the one to which it binds have types, and these are the root's nodes.
 pub record IsTypedPair (s : Sides) (root : PlainRoot) : Type 0 where
   pub old : PlainExport
   pub new : PlainExport

@@ -8,6 +8,6 @@ pub record MarkNothing (m : Marks) : Type 0 where
   pub direct : (a : ℕ) → slice_index_or m.direct a false ≡ false
   pub pointer : (a : ℕ) → slice_index_or m.pointer a false ≡ false
 
--- marks that mark nothing, of the rule text of this digest
+-- marks that mark nothing, for the rule text with this digest
 abbrev pub empty_marks : List ℕ → Marks
 empty_marks digest = record { digest = digest; exports = []; direct = []; pointer = [] }

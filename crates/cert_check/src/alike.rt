@@ -55,7 +55,7 @@ fn first_unlike<Ix: Index>(library: &Library<Ix>, lines: &[(u64, u64)]) -> Optio
     None
 }
 
-// The number of the alike line of the old library at a position.
+// The number of the certificate's line that is the alike line at a position, for the old library.
 fn old_line(cert: &Cert, k: usize) -> u64
     requires { k < length cert.now.alike_old }
     ensures { result ≡ 5 + length cert.now.binds + k }
@@ -65,7 +65,7 @@ fn old_line(cert: &Cert, k: usize) -> u64
     at as u64
 }
 
-// The number of the alike line of the new library at a position.
+// The number of the certificate's line that is the alike line at a position, for the new library.
 fn new_line(cert: &Cert, k: usize) -> u64
     requires { k < length cert.now.alike_new }
     ensures { result ≡ 5 + length cert.now.binds + length cert.now.alike_old + k }
@@ -75,7 +75,7 @@ fn new_line(cert: &Cert, k: usize) -> u64
     at as u64
 }
 
-/// The alike lines of the old library, in their order.
+/// Checks the alike lines of the old library, in order.
 pub fn check_alike_lines_of_old(ground: &CertifiedPair) -> Result<(), Refused>
     ensures { Settles (case_of ground.now) (each AlikeOld (length ground.now.cert.now.alike_old)) result }
 {
@@ -88,7 +88,7 @@ pub fn check_alike_lines_of_old(ground: &CertifiedPair) -> Result<(), Refused>
     }
 }
 
-/// The alike lines of the new library, in their order.
+/// Checks the alike lines of the new library, in order.
 pub fn check_alike_lines_of_new(ground: &CertifiedPair) -> Result<(), Refused>
     ensures { Settles (case_of ground.now) (each AlikeNew (length ground.now.cert.now.alike_new)) result }
 {

@@ -13,7 +13,7 @@ use crate::refused::{Refused, RefusedKind};
 use abi_types::Export;
 use cert_text::binds_of;
 
-/// What stands behind a symbol's number on the bind line that begins with it, by binary search.
+/// The second symbol on the bind line that begins with a symbol, by binary search; `None` if no line does.
 pub fn line_of(lines: &[(u32, u32)], symbol: u32) -> Option<u32>
     requires { Ascend first_cmp lines.now }
     ensures { result ≡ accepted.line_of lines.now symbol }
@@ -30,7 +30,7 @@ fn same_symbol(one: u32, other: u32) -> bool
     one == other
 }
 
-// Whether an old export binds, and its line says to what.
+// Whether an old export binds, and its line names the symbol to which it binds.
 fn has_binding(ground: &CertifiedPair, export: &Export) -> bool
     ensures { IsTrue result ↔ HasBinding (case_of ground.now) export.now.symbol (plain_export export.now) }
 {
@@ -44,7 +44,7 @@ fn has_binding(ground: &CertifiedPair, export: &Export) -> bool
     }
 }
 
-// The number of the least old export that is compared and lacks its line.
+// The least symbol of a compared old export that lacks its line.
 fn first_unbound(ground: &CertifiedPair) -> Option<u32>
     ensures { FindsUnbound (case_of ground.now) result }
 {
@@ -58,7 +58,7 @@ fn first_unbound(ground: &CertifiedPair) -> Option<u32>
     None
 }
 
-// Whether a number is that of the symbol of an old export that is compared, by binary search.
+// Whether a number is the symbol of a compared old export, by binary search.
 fn is_owned(ground: &CertifiedPair, symbol: u32) -> bool
     ensures { IsTrue result ↔ IsOwned (case_of ground.now) symbol }
 {
@@ -73,7 +73,7 @@ fn is_owned(ground: &CertifiedPair, symbol: u32) -> bool
     }
 }
 
-// The number of the least bind line that is no compared export's.
+// The least number of a bind line that belongs to no compared export.
 fn first_unowned(ground: &CertifiedPair) -> Option<u32>
     ensures { FindsUnowned (case_of ground.now) result }
 {
@@ -87,7 +87,7 @@ fn first_unowned(ground: &CertifiedPair) -> Option<u32>
     None
 }
 
-// The lesser of two numbers, where there are any.
+// The lesser of two numbers, if there are any.
 fn least(one: Option<u32>, other: Option<u32>) -> Option<u32>
     ensures { result ≡ bindings.least one other }
 {
@@ -98,7 +98,7 @@ fn least(one: Option<u32>, other: Option<u32>) -> Option<u32>
     }
 }
 
-/// The bind lines, symbol by symbol.
+/// Checks the bind lines, in order of symbols.
 pub fn check_bindings(ground: &CertifiedPair) -> Result<(), Refused>
     ensures { Settles (case_of ground.now) binding_places result }
 {

@@ -1,4 +1,4 @@
-// The pair of libraries that a certificate is checked against, and how the checks read it.
+// The input of a check: a certificate, and the pair of libraries against which it is checked.
 ghost use Rattle.std.specs.Prelude.{◌≡◌, ◌<◌, not, length, false, slice_index_or, slice_get, Some, None, IfSome, MatchOption};
 ghost use Rattle.std.specs.Option.{option_map};
 ghost use Rattle.abi_types.specs.Graphs.{view_at, node_of};
@@ -12,12 +12,16 @@ use abi_types::{Export, Index, Library, Marks, NewIx, OldIx, View, Way};
 use cert_text::Cert;
 use elf_bind::bind_in;
 
-/// What is checked.
+/// Two libraries, the marks of the old one, and the certificate to be checked.
 #[derive(Clone, Copy)]
 pub struct CertifiedPair<'x, 'o, 'n> {
+    /// The old library.
     pub old: &'x Library<'o, OldIx>,
+    /// The new library.
     pub new: &'x Library<'n, NewIx>,
+    /// The marks of the old library's exports and types.
     pub marks: &'x Marks,
+    /// The certificate.
     pub cert: &'x Cert,
 }
 
@@ -35,7 +39,7 @@ pub fn is_marked(ground: &CertifiedPair, node: OldIx, way: Way) -> bool
     }
 }
 
-/// The node of an entry.
+/// The node of an entry, or `None` if the library has none for it.
 pub fn find<Ix: Index>(library: &Library<Ix>, entry: u64) -> Option<Ix>
     ensures node { option_map Ix.number_of result ≡ node_of library.now.graph entry }
     ensures inside { IfSome result (λ ix. Ix.number_of ix < length library.now.graph) }
@@ -43,7 +47,7 @@ pub fn find<Ix: Index>(library: &Library<Ix>, entry: u64) -> Option<Ix>
     library.graph().find(entry)
 }
 
-/// What a node looks like.
+/// The view of a node.
 pub fn view_of<'x, 'a, Ix: Index>(library: &'x Library<'a, Ix>, ix: Ix) -> &'x View<'a, Ix>
     requires { Ix.number_of ix < length library.now.graph }
     ensures view { result.now ≡ view_at library.now.graph (Ix.number_of ix) }
@@ -54,7 +58,7 @@ pub fn view_of<'x, 'a, Ix: Index>(library: &'x Library<'a, Ix>, ix: Ix) -> &'x V
     graph.view(ix)
 }
 
-/// Whether the old export at a position is compared: no rule drops it.
+/// Whether the old export at a position is compared, that is, no suppression drops it.
 pub fn is_compared(ground: &CertifiedPair, k: usize) -> bool
     ensures { result ≡ not (slice_index_or ground.now.marks.now.exports k false) }
 {
@@ -64,7 +68,7 @@ pub fn is_compared(ground: &CertifiedPair, k: usize) -> bool
     }
 }
 
-/// How many exports the old library has.
+/// The number of the old library's exports.
 pub fn export_count(ground: &CertifiedPair) -> usize
     ensures { result ≡ length ground.now.old.now.exports }
 {
@@ -81,7 +85,7 @@ pub fn export_at<'x, 'o>(ground: &CertifiedPair<'x, 'o, '_>, k: usize) -> &'x Ex
     &exports[k]
 }
 
-/// The number of the symbol of the old export at a position.
+/// The symbol number of the old export at a position.
 pub fn symbol_at(ground: &CertifiedPair, k: usize) -> u64
     requires { k < length ground.now.old.now.exports }
     ensures { result ≡ symbol_of (slice_get ground.now.old.now.exports k) }
@@ -97,7 +101,7 @@ fn new_export_at<'x, 'n>(ground: &CertifiedPair<'x, '_, 'n>, place: usize) -> Op
     ground.new.exports().get(place)
 }
 
-/// The new export that an old one binds to.
+/// The new export to which an old one binds, or `None` if it binds to none.
 #[tactic(auto, using(crate::proofs::ExportLemmas::bound_none, crate::proofs::ExportLemmas::bound_at))]
 pub fn bound_to<'x, 'n>(
     ground: &CertifiedPair<'x, '_, 'n>,

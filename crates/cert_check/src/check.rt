@@ -16,9 +16,9 @@ use crate::refused::Refused;
 use abi_types::{Library, Marks, NewIx, OldIx};
 use cert_text::Cert;
 
-/// Whether a certificate proves that the new library may replace the old one, except for what the rules suppress: Ok exactly where
-/// all its conditions hold, else the first that fails. On Ok, where old nodes with equal labels are marked alike, what a program
-/// compiled against the old library reaches is the same in the new one. It takes no memory.
+/// Checks whether a certificate proves that the new library may replace the old one, except for what the rules suppress. Returns Ok
+/// exactly if all its conditions hold, else the first that fails. On Ok, if old nodes with equal labels are marked alike, a program
+/// that was compiled against the old library reaches the same in the new one. It takes no memory.
 pub fn check_cert(
     old: &Library<OldIx>,
     new: &Library<NewIx>,
@@ -37,7 +37,7 @@ pub fn check_cert(
     check_conditions(old, new, marks, cert)
 }
 
-// Each condition in its order.
+// Checks each condition, in order.
 fn check_conditions(
     old: &Library<OldIx>,
     new: &Library<NewIx>,

@@ -3,7 +3,7 @@ ghost use Rattle.std.specs.Prelude.{◌≡◌};
 
 use abi_types::{Library, NewIx, OldIx};
 
-/// The SHA-256 of the new file, where that of the old one is known. Files that hold the same bytes are hashed once.
+/// The SHA-256 of the new file, given that of the old one. If both files have the same bytes, they are hashed only once.
 pub fn digest_beside(old: &Library<OldIx>, known: [u8; 32], new: &Library<NewIx>) -> [u8; 32]
     requires { known ≡ old.now.digest }
     ensures { result ≡ new.now.digest }

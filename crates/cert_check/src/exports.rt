@@ -16,14 +16,14 @@ use crate::refused::{Refused, RefusedKind};
 use abi_types::{Export, Way};
 use pair_rules::export_breaks;
 
-// Whether two exports that are bound to each other break no rule.
+// Whether two exports, of which the first binds to the second, break no rule.
 fn keeps_export(old: &Export, new: &Export) -> bool
     ensures { IsTrue result ↔ KeepsExport (plain_export old.now) (plain_export new.now) }
 {
     export_breaks(old, new) == [false, false, false]
 }
 
-// Whether the old export at a position keeps the rules, where it is compared and binds.
+// Whether the old export at a position keeps the rules, if it is compared and binds.
 fn keeps_rules(ground: &CertifiedPair, k: usize) -> bool
     requires { k < length ground.now.old.now.exports }
     ensures { IsTrue result ↔ KeepsRules (case_of ground.now) k }
@@ -50,7 +50,7 @@ fn first_broken(ground: &CertifiedPair) -> Option<usize>
     None
 }
 
-/// The rules of exports, export by export.
+/// Checks the rules of exports, export by export.
 pub fn check_rules(ground: &CertifiedPair) -> Result<(), Refused>
     ensures { Settles (case_of ground.now) (each Rules (length ground.now.old.now.exports)) result }
 {
@@ -70,7 +70,7 @@ fn is_typed(export: &Export) -> bool
     export.entry != 0
 }
 
-// Whether the types of two exports have a pair line by their representatives, as reached by value.
+// Whether the types of two exports have a pair line by their representatives, by value.
 fn has_root_line(ground: &CertifiedPair, old: &Export, new: &Export) -> bool
     ensures { result ≡ certified_pair_spec.has_root_line (case_of ground.now) (plain_export old.now) (plain_export new.now) }
 {
@@ -81,8 +81,7 @@ fn has_root_line(ground: &CertifiedPair, old: &Export, new: &Export) -> bool
     is_line(cert.pairs.as_slice(), (old_rep, new_rep, Way::Direct))
 }
 
-// Whether the types of the old export at a position and of the one that it binds to have a pair line, where both have a
-// type.
+// Whether the types of the old export at a position and of the one to which it binds have a pair line, if both have a type.
 fn keeps_root(ground: &CertifiedPair, k: usize) -> bool
     requires { k < length ground.now.old.now.exports }
     ensures { IsTrue result ↔ KeepsRoot (case_of ground.now) k }
@@ -116,7 +115,7 @@ fn first_rootless(ground: &CertifiedPair) -> Option<usize>
     None
 }
 
-/// The pair lines of the types of exports, export by export.
+/// Checks the pair lines of the types of exports, export by export.
 pub fn check_roots(ground: &CertifiedPair) -> Result<(), Refused>
     ensures { Settles (case_of ground.now) (each Root (length ground.now.old.now.exports)) result }
 {

@@ -1,4 +1,4 @@
-// Whether two nodes look alike: they are equal in all but the nodes that their parts name, and these are of one class.
+// Whether two nodes look alike: they are equal except for the nodes that their parts name, and these are of one class.
 ghost use Rattle.std.specs.Prelude.{◌≡◌, ◌<◌, ◌==◌, ◌↔◌, IsTrue, length, map};
 ghost use Rattle.std.specs.Bool.{beq};
 ghost use Rattle.std.specs.Str.{bytes_eq};
@@ -99,7 +99,7 @@ fn same_class<Ix: Index>(graph: &Graph<Ix>, lines: &[(u64, u64)], one: Ix, other
     class_of(graph, lines, one) == class_of(graph, lines, other)
 }
 
-// Whether two parts are equal in all but the nodes that they name, and these are of one class.
+// Whether two parts are equal except for the nodes that they name, and these are of one class.
 fn same_part<Ix: Index>(
     graph: &Graph<Ix>,
     lines: &[(u64, u64)],
@@ -154,7 +154,7 @@ fn same_part<Ix: Index>(
     }
 }
 
-// Whether two views have the same parts, with the classes of the nodes that these name in place of the nodes.
+// Whether two views have the same parts, where each named node is replaced by its class.
 fn same_parts<Ix: Index>(
     graph: &Graph<Ix>,
     lines: &[(u64, u64)],
@@ -177,7 +177,7 @@ fn same_parts<Ix: Index>(
     true
 }
 
-// Whether all of two views but their parts and calls is the same.
+// Whether two views are equal except for their parts and calls.
 fn same_heads<Ix: Index>(one: &View<Ix>, other: &View<Ix>) -> bool
     ensures { result ≡ looks.same_heads one.now other.now }
 {
@@ -214,8 +214,8 @@ fn same_call(one: &Call, other: &Call) -> bool
     same_place(one.outcome(), other.outcome()) && same_params(one.params(), other.params())
 }
 
-/// Whether two nodes have the same labels, and views that are equal in all but the nodes that parts name, which are of one class
-/// position by position.
+/// Whether two nodes have the same labels and equal views, except for the nodes that parts name; those at one position must be of
+/// one class.
 pub fn look_alike<Ix: Index>(graph: &Graph<Ix>, lines: &[(u64, u64)], one: Ix, other: Ix) -> bool
     requires one { Ix.number_of one < length graph.now }
     requires other { Ix.number_of other < length graph.now }

@@ -1,4 +1,4 @@
--- What the code goes by, as a chain.
+-- The input of a composition, as a chain.
 use Rattle.cert_compose.specs.declared.certified_chain.CertifiedChain.{CertifiedChain}
 use Rattle.cert_compose.specs.Chains.{PlainChain, joint}
 

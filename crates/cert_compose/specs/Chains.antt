@@ -1,4 +1,4 @@
--- Three libraries, and certificates that each of the later two may replace the one before it.
+-- Three libraries, and the certificates that each of the later two may replace the one before it.
 use Rattle.abi_types.specs.declared.library.Marks.{Marks}
 use Rattle.abi_types.specs.Graphs.{IsGraph}
 use Rattle.abi_types.specs.Libraries.{PlainLibrary, IsLibrary}
@@ -7,7 +7,7 @@ use Rattle.cert_check.specs.Compatible.{Sides, sides}
 use Rattle.cert_check.specs.Accepted.{Case, IsAccepted}
 use Rattle.cert_check.specs.Unmarked.{MarkNothing, empty_marks}
 
--- `marks` are those on the first library, and `onward` those on the middle one
+-- `marks` are the marks of the first library, and `onward` those of the middle one
 pub record PlainChain : Type 0 where
   pub first : PlainLibrary
   pub middle : PlainLibrary
@@ -17,7 +17,7 @@ pub record PlainChain : Type 0 where
   pub one : PlainCert
   pub other : PlainCert
 
--- the first library with the middle one, the middle one with the last, and the first with the last
+-- the pairs of libraries: first and middle, middle and last, first and last
 abbrev pub near : PlainChain → Sides
 near ch = sides ch.first ch.middle ch.marks
 
@@ -36,7 +36,7 @@ next_case ch = record { sides = next ch; cert = ch.other }
 abbrev pub far_case : PlainChain → PlainCert → Case
 far_case ch c = record { sides = far ch; cert = c }
 
--- what the types of the libraries, graphs and certificates keep; nothing is marked; and both certificates are accepted
+-- what the types of libraries, graphs and certificates guarantee; also, nothing is marked, and both certificates are accepted
 pub record IsChain (ch : PlainChain) : Type 0 where
   pub first_library : IsLibrary ch.first.exports ch.first.graph
   pub middle_library : IsLibrary ch.middle.exports ch.middle.graph

@@ -1,18 +1,18 @@
--- The certificate that two certificates compose: a composition of sets of lines.
+-- The certificate that two certificates compose, as a composition of sets of lines.
 use Rattle.std.specs.Prelude.{◌≡◌, ◌<◌, ◌↔◌, ℕ, None, Contains, length}
 use Rattle.cert_text.specs.Certs.{PlainCert, PairLine, IsCert}
 use Rattle.cert_check.specs.Accepted.{line_of, old_class, new_class}
 use Rattle.cert_compose.specs.Chains.{PlainChain, near_case, next_case}
 
--- some symbol of the middle library stands between the two
+-- some symbol of the middle library links the two
 pub record IsThrough (ch : PlainChain) (line : ℕ × ℕ) : Type 0 where
   pub symbol : ℕ
   pub one : Contains ch.one.binds (line.0, symbol)
   pub other : Contains ch.other.binds (symbol, line.1)
 
--- Neither entry has an alike line, and some node of the middle library stands between the two: its representative among the new
--- entries of the first certificate is paired with the first entry, and that among the old entries of the second one with the
--- second entry, at the same way.
+-- Neither entry has an alike line, and some node of the middle library links the two: at one way, its representative among the new
+-- entries of the first certificate is paired with the first entry, and its representative among the old entries of the second
+-- certificate with the second entry.
 pub record IsJoined (ch : PlainChain) (line : PairLine) : Type 0 where
   pub old_own : line_of ch.one.alike_old line.0 ≡ None
   pub new_own : line_of ch.other.alike_new line.1 ≡ None

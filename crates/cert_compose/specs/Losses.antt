@@ -1,4 +1,4 @@
--- Which entries of the first library are lost where the middle one is left out, by tests.
+-- Tests for the entries of the first library whose types are lost if the middle library is skipped.
 use Rattle.std.specs.Prelude.{◌≡◌, ◌≤◌, ◌<◌, ◌&&◌, not, is_none, ℕ, Bool, true, false, if◌then◌else◌, List, [], ◌∷◌, flat_map, length, min, Option, Some, None, MatchOption}
 use Rattle.std.specs.List.{list_all, Contains}
 use Rattle.abi_types.specs.Types.{PlainView, PlainNode}
@@ -25,14 +25,14 @@ abbrev pub keeps_nodes : PlainChain → Option ℕ → Option ℕ → Option ℕ
 keeps_nodes ch (Some e) (Some f) (Some g) = keeps_views (view_at ch.first.graph e) (view_at ch.middle.graph f) (view_at ch.last.graph g)
 keeps_nodes ch a b c = true
 
--- the types of three entries, where there are any
+-- the types of three entries are kept, or some entry has no node
 unfoldable pub keeps_entries : PlainChain → ℕ → ℕ → ℕ → Bool
 keeps_entries ch e f g = keeps_nodes ch (node_of ch.first.graph e) (node_of ch.middle.graph f) (node_of ch.last.graph g)
 
 abbrev pub keeps_new : PlainChain → ℕ → ℕ → PairLine → Bool
 keeps_new ch e f line = keeps_entries ch e f line.1
 
--- all that a line of the first certificate leads to is kept, where its old entry has no alike line
+-- all types to which a line of the first certificate leads are kept, if its old entry has no alike line
 unfoldable pub line_keeps : PlainChain → List (ℕ × ℕ) → PairLine → Bool
 line_keeps ch middles line =
     if is_none (line_of ch.one.alike_old line.0)
@@ -45,7 +45,7 @@ loses ch middles line = not (line_keeps ch middles line)
 abbrev pub lost_by : PlainChain → List (ℕ × ℕ) → PairLine → List ℕ
 lost_by ch middles line = if loses ch middles line then line.0 ∷ [] else []
 
--- the old entries of lines that lose
+-- the old entries of the lines that lose a type
 unfoldable pub lost_entries : PlainChain → List (ℕ × ℕ) → List PairLine → List ℕ
 lost_entries ch middles lines = flat_map (lost_by ch middles) lines
 
@@ -55,7 +55,7 @@ lost_entries ch middles lines = flat_map (lost_by ch middles) lines
 abbrev pub IsLostIn : List PlainNode → List (ℕ × ℕ) → List ℕ → ℕ → Type 0
 IsLostIn nodes alike lost i = Contains lost (class_in nodes alike i)
 
--- a node whose representative is among them, of least entry
+-- the least entry of a node whose representative is among these entries
 pub record IsLeastLost (nodes : List PlainNode) (alike : List (ℕ × ℕ)) (lost : List ℕ) (count at : ℕ) : Type 0 where
   pub node : ℕ
   pub inside : node < count
@@ -63,7 +63,7 @@ pub record IsLeastLost (nodes : List PlainNode) (alike : List (ℕ × ℕ)) (los
   pub entry : at ≡ (node_at nodes node).entry
   pub least : (i : ℕ) → i < count → IsLostIn nodes alike lost i → at ≤ (node_at nodes i).entry
 
--- the least so far, with one more entry that counts or does not
+-- the least entry so far, after one more entry that may count
 abbrev pub next_least : Option ℕ → ℕ → Bool → Option ℕ
 next_least found entry false = found
 next_least None entry true = Some entry
@@ -72,6 +72,6 @@ next_least (Some before) entry true = Some (min before entry)
 abbrev pub FindsLeast : List PlainNode → List (ℕ × ℕ) → List ℕ → ℕ → Option ℕ → Type 0
 FindsLeast nodes alike lost count found = MatchOption found ((i : ℕ) → i < count → IsLostIn nodes alike lost i → ⊥) (λ at. IsLeastLost nodes alike lost count at)
 
--- the least entry of a node of the first library whose representative is on a line that loses
+-- the least entry of a node of the first library whose representative is on a line that loses a type
 abbrev pub FindsLeastEntry : PlainChain → List (ℕ × ℕ) → Option ℕ → Type 0
 FindsLeastEntry ch middles found = FindsLeast ch.first.graph ch.one.alike_old (lost_entries ch middles ch.one.pairs) (length ch.first.graph) found

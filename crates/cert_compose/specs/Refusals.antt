@@ -1,4 +1,4 @@
--- The first that is lost where a middle library is left out.
+-- The first loss if the middle library is skipped.
 use Rattle.std.specs.Prelude.{◌≡◌, ◌<◌, ℕ, length, slice_get}
 use Rattle.abi_types.specs.Graphs.{node_at}
 use Rattle.cert_check.specs.Accepted.{symbol_of}
@@ -10,7 +10,7 @@ use Rattle.cert_compose.specs.declared.refusal.ComposeRefusal.TheVariants.{Betwe
 use Rattle.cert_compose.specs.Chains.{PlainChain}
 use Rattle.cert_compose.specs.Between.{KeepsBinding, KeepsRules, KeepsTyped, KeepsTypes}
 
--- the number is that of the symbol of the first export that does not keep P
+-- the number is the symbol of the first export that does not keep P
 pub record IsFirstSymbol (ch : PlainChain) (P : ℕ → Type 0) (at : ℕ) : Type 0 where
   pub place : ℕ
   pub first : IsFirst P (length ch.first.exports) place
@@ -27,7 +27,7 @@ pub record IsLeastUnkept (ch : PlainChain) (at : ℕ) : Type 0 where
 abbrev pub AllKeep : (ℕ → Type 0) → Type 0
 AllKeep P = (k : ℕ) → P k
 
--- this is lost, and all that comes before it is kept; a composed certificate is refused for nothing else
+-- this is lost, and all conditions before it hold; a composition is refused for no other reason, except memory
 abbrev pub IsLost : PlainChain → RefusedKind → ℕ → Type 0
 IsLost ch BindingBetween at = IsFirstSymbol ch (KeepsBinding ch) at
 IsLost ch ExportBetween at = AllKeep (KeepsBinding ch) × IsFirstSymbol ch (KeepsRules ch) at

@@ -28,7 +28,7 @@ use cert_check::laws::{
 use cert_text::{Cert, alike_new_of, alike_old_of, binds_of, pairs_of};
 use std::alloc::Global;
 
-// The lines that the pair lines of two certificates join, in the order of a certificate.
+// The pair lines that the pair lines of two certificates join, in the order that a certificate requires.
 fn pair_lines(
     alloc: Global,
     ones: &Lines,
@@ -48,7 +48,7 @@ fn pair_lines(
     Ok(List::of(lines))
 }
 
-// The lines that fit in memory have numbers.
+// Lines that fit in memory are few enough for a certificate to number them. The function does nothing.
 fn lines_have_numbers(
     binds: &[(u32, u32)],
     alike_old: &[(u64, u64)],
@@ -63,7 +63,7 @@ fn lines_have_numbers(
     let _ = pairs;
 }
 
-// The certificate that two certificates compose, by the representatives of the middle library's entries.
+// The certificate that two certificates compose, given the representatives of the middle library's entries.
 fn composed(
     alloc: Global,
     ground: &CertifiedChain,
@@ -113,9 +113,9 @@ fn composed(
     })
 }
 
-/// The certificate that the last library of a chain may replace the first, from the certificates `one` that the middle library may
-/// replace the first and `other` that the last may replace the middle one. It is accepted, with no suppressions. Where something is
-/// lost between the first and the last library, the first that is lost is answered.
+/// Composes the certificate that the last library of a chain may replace the first, from the certificates `one`, that the middle
+/// library may replace the first, and `other`, that the last may replace the middle one. The checker accepts it, without
+/// suppressions. If something is lost between the first and the last library, the refusal names the first loss.
 pub fn compose(
     alloc: Global,
     chain: &Chain,

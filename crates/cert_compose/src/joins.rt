@@ -11,10 +11,12 @@ use abi_types::Way;
 use cert_check::line_of;
 use std::alloc::Global;
 
-/// The pair lines of a certificate, and the alike lines of its library that is not the middle one.
+/// The pair lines of a certificate, and the alike lines of its outer library.
 #[derive(Clone, Copy)]
 pub struct Lines<'x> {
+    /// The alike lines of the library that is not the middle one.
     pub alike: &'x [(u64, u64)],
+    /// The pair lines.
     pub pairs: &'x [(u64, u64, Way)],
 }
 
@@ -27,7 +29,7 @@ fn is_same_way(one: Way, other: Way) -> bool
     }
 }
 
-// Where the pair lines begin whose old entry is not below a number.
+// The position of the first pair line whose old entry is not below a number.
 fn lines_from(lines: &[(u64, u64, Way)], number: u64) -> usize
     requires { Ascend pair_cmp lines.now }
     ensures inside { result ≤ length lines.now }
@@ -36,7 +38,7 @@ fn lines_from(lines: &[(u64, u64, Way)], number: u64) -> usize
     lines.partition_point(|line| line.0 < number)
 }
 
-// Where the middles begin whose first number is not below a number.
+// The position of the first pair of representatives whose first one is not below a number.
 fn middles_from(middles: &[(u64, u64)], number: u64) -> usize
     requires { IsNonDecreasingBy first_of middles.now }
     ensures inside { result ≤ length middles.now }
@@ -45,7 +47,7 @@ fn middles_from(middles: &[(u64, u64)], number: u64) -> usize
     middles.partition_point(|middle| middle.0 < number)
 }
 
-// Puts the line that a line of the second certificate gives for a key, where it gives one. A key is an old entry, a middle entry
+// Appends the line that a line of the second certificate gives for a key, if it gives one. A key is an old entry, a middle entry
 // and a way.
 fn put_followed(
     lines: &mut List<(u64, u64, Way)>,
@@ -62,7 +64,7 @@ fn put_followed(
     Ok(())
 }
 
-// Puts the lines that the second certificate gives for a key.
+// Appends the lines that the second certificate gives for a key.
 fn follow(
     lines: &mut List<(u64, u64, Way)>,
     alike: &[(u64, u64)],
@@ -84,7 +86,7 @@ fn follow(
     Ok(())
 }
 
-/// Puts the lines that go through the middle from an old entry, by the entry with which it is paired.
+/// Appends the lines that go through the middle library from an old entry, given the middle entry with which it is paired.
 pub fn through(
     lines: &mut List<(u64, u64, Way)>,
     alike: &[(u64, u64)],

@@ -1,4 +1,4 @@
-// Whether something is lost where the middle library is left out.
+// Whether something is lost if the middle library is skipped.
 ghost use Rattle.std.specs.Prelude.{◌≡◌, ◌↔◌, ℕ, Contains, OnOk, IfErr};
 ghost use Rattle.cert_compose.specs.declared.refusal.ComposeRefusal.TheVariants.{Between};
 ghost use Rattle.std.specs.List.Sorted.{IsNonDecreasingBy};
@@ -24,7 +24,7 @@ fn lost(kind: RefusedKind, at: u64) -> ComposeRefusal
     ComposeRefusal::Between(Refused { kind, at })
 }
 
-/// Ok where nothing is lost, else the first that is.
+/// Returns Ok if nothing is lost, else the first loss.
 pub fn judge(
     alloc: Global,
     ground: &CertifiedChain,

@@ -1,4 +1,4 @@
-//! What joined certificates prove. Each law is the contract of a function that does nothing but bring in the laws below it.
+//! What composed certificates prove. Each law is the contract of a function that only cites the laws below it.
 ghost use Rattle.std.specs.Prelude.{◌≡◌};
 ghost use Rattle.cert_text.specs.Certs.{PlainCert};
 ghost use Rattle.cert_check.specs.declared.refused.Refused.{Refused};
@@ -15,7 +15,7 @@ use cert_check::laws::{
 };
 use pair_rules::laws::{parts_meet_in_the_middle, steps_lead_to_nodes};
 
-/// Where nothing is lost between them, the certificate that two accepted ones compose is accepted.
+/// If nothing is lost between them, the certificate that two accepted ones compose is accepted.
 pub fn what_is_composed_is_accepted()
     ensures accepted { (ch : PlainChain) (c : PlainCert) → IsChain ch → NothingBetween ch → IsComposed ch c → IsAccepted (far_case ch c) }
     ensures compatible { (ch : PlainChain) (c : PlainCert) → IsChain ch → NothingBetween ch → IsComposed ch c → IsCompatible (far ch) }
@@ -28,12 +28,12 @@ pub fn what_is_composed_is_accepted()
     parts_meet_in_the_middle();
 }
 
-/// What two certificates compose is one certificate.
+/// Two certificates compose at most one certificate.
 pub fn what_is_composed_is_one()
     ensures { (ch : PlainChain) (c d : PlainCert) → IsComposed ch c → IsComposed ch d → c ≡ d }
 {}
 
-/// One thing is the first that is lost, and none is where nothing is lost.
+/// At most one loss is the first, and there is none where nothing is lost.
 pub fn one_thing_is_lost_first()
     ensures one { (ch : PlainChain) (lost other : Refused) → IsLost ch lost.kind lost.at → IsLost ch other.kind other.at → lost ≡ other }
     ensures none { (ch : PlainChain) (lost : Refused) → NothingBetween ch → IsLost ch lost.kind lost.at → ⊥ }

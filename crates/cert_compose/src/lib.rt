@@ -1,5 +1,5 @@
-//! Certificates joined: from one that a middle library may replace a first one, and one that a last library may replace the middle
-//! one, the certificate that the last may replace the first.
+//! Composition of certificates: from one that a middle library may replace the first, and one that the last library may replace the
+//! middle one, it makes the certificate that the last may replace the first.
 #![tactic(auto)]
 
 mod binds;

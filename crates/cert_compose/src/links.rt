@@ -1,4 +1,4 @@
-// What the exports of the first library bind to, through the middle one and in the last.
+// What the exports of the first library bind to, through the middle library and directly in the last.
 ghost use Rattle.std.specs.Prelude.{◌≡◌, ◌<◌, ◌↔◌, ◌||◌, not, IsTrue, length, option_and_then, MatchOption, slice_get, None, Some};
 ghost use Rattle.abi_types.specs.Plain.{plain_export};
 ghost use Rattle.elf_bind.specs.Binding.{bind_to};
@@ -32,14 +32,14 @@ fn find_at<'x, 'n, Ix: Index>(library: &'x Library<'n, Ix>, place: usize) -> Opt
     library.exports().get(place)
 }
 
-// How many exports a library has.
+// The number of exports of a library.
 fn export_count<Ix: Index>(library: &Library<Ix>) -> usize
     ensures { result ≡ length library.now.exports }
 {
     library.exports().len()
 }
 
-/// The number of the symbol of the first library's export at a position.
+/// The symbol number of the first library's export at a position.
 pub fn symbol_at(ground: &CertifiedChain, k: usize) -> u64
     requires { k < length ground.now.first.now.exports }
     ensures { result ≡ symbol_of (slice_get ground.now.first.now.exports k) }
@@ -47,7 +47,7 @@ pub fn symbol_at(ground: &CertifiedChain, k: usize) -> u64
     u64::from(export_at(ground.first, k).symbol)
 }
 
-// The export of a library that one binds to.
+// The export of a library to which another one binds.
 #[tactic(auto, using(crate::proofs::LinkLemmas::bound_none, crate::proofs::LinkLemmas::bound_at))]
 fn bound_to<'x, 'n>(export: &Export, new: &'x Library<'n, NewIx>) -> Option<&'x Export<'n>>
     ensures { MatchOption result (option_and_then (slice_get new.now.exports) (bind_to new.now.exports (plain_export export.now)) ≡ None)
@@ -59,14 +59,14 @@ fn bound_to<'x, 'n>(export: &Export, new: &'x Library<'n, NewIx>) -> Option<&'x 
     }
 }
 
-/// What an export binds to in the middle library, and in the last one.
+/// The exports to which an export binds in the middle library and in the last one.
 #[derive(Clone, Copy)]
 struct Link<'x, 'b, 'c> {
     between: &'x Export<'b>,
     partner: &'x Export<'c>,
 }
 
-// What an export binds to, where it binds in the last library to what it binds to through the middle one.
+// The link of an export, if it binds in the last library to the same export as through the middle one.
 fn link_of<'x, 'b, 'c>(
     ground: &CertifiedChain<'x, '_, 'b, 'c>,
     export: &Export,
@@ -94,7 +94,7 @@ fn link_of<'x, 'b, 'c>(
     }
 }
 
-// Whether the export at a position binds in the last library to what it binds to through the middle one.
+// Whether the export at a position binds in the last library to the same export as through the middle one.
 fn keeps_binding(ground: &CertifiedChain, k: usize) -> bool
     requires { k < length ground.now.first.now.exports }
     ensures { IsTrue result ↔ KeepsBinding (chain_of ground.now) k }
@@ -106,14 +106,14 @@ fn keeps_binding(ground: &CertifiedChain, k: usize) -> bool
     }
 }
 
-// Whether two exports that are bound to each other break no rule.
+// Whether two exports, of which the first binds to the second, break no rule.
 fn keeps_export(old: &Export, new: &Export) -> bool
     ensures { IsTrue result ↔ KeepsExport (plain_export old.now) (plain_export new.now) }
 {
     export_breaks(old, new) == [false, false, false]
 }
 
-// Whether the export at a position keeps the rules against what it binds to in the last library.
+// Whether the export at a position keeps the rules against the one to which it binds in the last library.
 fn keeps_rules(ground: &CertifiedChain, k: usize) -> bool
     requires { k < length ground.now.first.now.exports }
     ensures { IsTrue result ↔ KeepsRules (chain_of ground.now) k }
@@ -132,14 +132,14 @@ fn is_typed(export: &Export) -> bool
     export.entry != 0
 }
 
-// Whether the export between two has a type, where these have types.
+// Whether the export between two has a type, if those two have types.
 fn keeps_type(export: &Export, between: &Export, partner: &Export) -> bool
     ensures { result ≡ (not (spec.is_typed (plain_export export.now)) || not (spec.is_typed (plain_export partner.now)) || spec.is_typed (plain_export between.now)) }
 {
     !is_typed(export) || !is_typed(partner) || is_typed(between)
 }
 
-// Whether the export between the one at a position and its partner has a type, where these have types.
+// Whether the export between the one at a position and its partner has a type, if those two have types.
 fn keeps_typed(ground: &CertifiedChain, k: usize) -> bool
     requires { k < length ground.now.first.now.exports }
     ensures { IsTrue result ↔ KeepsTyped (chain_of ground.now) k }
@@ -151,7 +151,7 @@ fn keeps_typed(ground: &CertifiedChain, k: usize) -> bool
     }
 }
 
-/// The first position of an export that binds to nothing, or to another export than through the middle library.
+/// The first position of an export that binds to nothing, or to a different export than through the middle library.
 pub fn first_unbound(ground: &CertifiedChain) -> Option<usize>
     ensures { FindsFirst (KeepsBinding (chain_of ground.now)) (length ground.now.first.now.exports) result }
 {
@@ -163,7 +163,7 @@ pub fn first_unbound(ground: &CertifiedChain) -> Option<usize>
     None
 }
 
-/// The first position of an export that breaks a rule against what it binds to in the last library.
+/// The first position of an export that breaks a rule against the one to which it binds in the last library.
 pub fn first_broken(ground: &CertifiedChain) -> Option<usize>
     ensures { FindsFirst (KeepsRules (chain_of ground.now)) (length ground.now.first.now.exports) result }
 {

@@ -1,4 +1,4 @@
-// Which types are lost where the middle library is left out.
+// The types that are lost if the middle library is skipped.
 ghost use Rattle.std.specs.Prelude.{◌≡◌, ◌<◌, ◌↔◌, ◌&&◌, ◌||◌, not, is_none, IsTrue, length, false, None, Some, Contains, IfOk, OnOk, MatchOption};
 ghost use Rattle.std.specs.Option.{option_map};
 ghost use Rattle.std.specs.List.{list_all};
@@ -30,7 +30,7 @@ fn find<Ix: Index>(library: &Library<Ix>, entry: u64) -> Option<Ix>
     library.graph().find(entry)
 }
 
-// What a node looks like.
+// The view of a node.
 fn view_of<'x, 'a, Ix: Index>(library: &'x Library<'a, Ix>, ix: Ix) -> &'x View<'a, Ix>
     requires { Ix.number_of ix < length library.now.graph }
     ensures { result.now ≡ view_at library.now.graph (Ix.number_of ix) }
@@ -45,8 +45,8 @@ fn keeps_rules(old: &View<OldIx>, new: &View<NewIx>) -> bool
     holds(old, new)
 }
 
-// Whether two types that are defined have none between them that is declared alone, and the first keeps all rules against the
-// second.
+// Whether the middle type does not hide the other two, by being only declared where they are defined, and the first keeps all rules
+// against the last.
 fn keeps_views(first: &View<OldIx>, middle: &View<NewIx>, last: &View<NewIx>) -> bool
     ensures { result ≡ losses.keeps_views first.now middle.now last.now }
 {
@@ -56,7 +56,7 @@ fn keeps_views(first: &View<OldIx>, middle: &View<NewIx>, last: &View<NewIx>) ->
     keeps_rules(first, last)
 }
 
-// The same of the types of three entries, where there are any.
+// The same for the types of three entries; true if an entry has no node.
 fn keeps_entries(ground: &CertifiedChain, first: u64, middle: u64, last: u64) -> bool
     ensures { result ≡ losses.keeps_entries (chain_of ground.now) first middle last }
 {
@@ -78,7 +78,7 @@ fn keeps_entries(ground: &CertifiedChain, first: u64, middle: u64, last: u64) ->
     }
 }
 
-// Whether all new entries of some lines are kept with an old entry and a middle one.
+// Whether the types are kept for an old entry, a middle one, and each new entry of some lines.
 fn all_keep(ground: &CertifiedChain, first: u64, middle: u64, lines: &[(u64, u64, Way)]) -> bool
     ensures { result ≡ list_all (keeps_new (chain_of ground.now) first middle) lines.now }
 {
@@ -90,7 +90,7 @@ fn all_keep(ground: &CertifiedChain, first: u64, middle: u64, lines: &[(u64, u64
     true
 }
 
-// Whether all that a line of the first certificate leads to is kept, where its old entry has no alike line.
+// Whether all types to which a line of the first certificate leads are kept, if its old entry has no alike line.
 fn line_keeps(
     alloc: Global,
     ground: &CertifiedChain,
@@ -111,7 +111,7 @@ fn line_keeps(
     Ok(all_keep(ground, line.0, line.1, lines.as_slice()))
 }
 
-// The old entries of the lines of the first certificate that lose.
+// The old entries of the lines of the first certificate that lose a type.
 fn lost_entries(
     alloc: Global,
     ground: &CertifiedChain,
@@ -137,7 +137,7 @@ fn sort(entries: &mut Vec<u64>)
     entries.sort_unstable();
 }
 
-// Whether an entry is among some that are in order.
+// Whether an entry is in a sorted list.
 fn is_among(entries: &[u64], entry: u64) -> bool
     requires { IsSorted nat_cmp entries.now }
     ensures { IsTrue result ↔ Contains entries.now entry }
@@ -148,7 +148,7 @@ fn is_among(entries: &[u64], entry: u64) -> bool
     }
 }
 
-// The entry of the node of a number.
+// The entry of the node with a number.
 fn entry_at<Ix: Index>(graph: &Graph<Ix>, number: usize) -> u64
     requires { number < length graph.now }
     ensures { result ≡ (node_at graph.now number).entry }
@@ -156,7 +156,7 @@ fn entry_at<Ix: Index>(graph: &Graph<Ix>, number: usize) -> u64
     graph.entry_of(Ix::of(number))
 }
 
-// Whether the representative of a node is among some entries that are in order.
+// Whether the representative of a node is in a sorted list of entries.
 fn is_lost(alike: &[(u64, u64)], lost: &[u64], entry: u64) -> bool
     requires alike { Ascend first_cmp alike.now }
     requires lost { IsSorted nat_cmp lost.now }
@@ -165,7 +165,7 @@ fn is_lost(alike: &[(u64, u64)], lost: &[u64], entry: u64) -> bool
     is_among(lost, rep(alike, entry))
 }
 
-// The least entry so far, with one more that counts or does not.
+// The least entry so far, after one more entry that may count.
 fn next_least(least: Option<u64>, entry: u64, counts: bool) -> Option<u64>
     ensures { result ≡ losses.next_least least entry counts }
 {
@@ -184,7 +184,7 @@ fn next_least(least: Option<u64>, entry: u64, counts: bool) -> Option<u64>
     }
 }
 
-// The least entry of a node whose representative is among some entries that are in order.
+// The least entry of a node whose representative is in a sorted list of entries.
 fn least_lost<Ix: Index>(graph: &Graph<Ix>, alike: &[(u64, u64)], lost: &[u64]) -> Option<u64>
     requires alike { Ascend first_cmp alike.now }
     requires lost { IsSorted nat_cmp lost.now }
@@ -199,7 +199,7 @@ fn least_lost<Ix: Index>(graph: &Graph<Ix>, alike: &[(u64, u64)], lost: &[u64]) 
     least
 }
 
-/// The least entry of the first library of which a type is lost where the middle library is left out.
+/// The least entry of the first library whose type is lost if the middle library is skipped.
 pub fn least_entry(
     alloc: Global,
     ground: &CertifiedChain,

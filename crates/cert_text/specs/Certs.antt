@@ -1,4 +1,4 @@
--- Certificates as plain data, and what they keep.
+-- Certificates as plain data, and their invariants.
 use Rattle.std.specs.Prelude.{◌≡◌, ◌<◌, ◌+◌, ◌*◌, ◌^◌, ℕ, Bool, true, false, List, [], ◌∷◌, length, map}
 use Rattle.std.specs.Ordering.{nat_cmp, bool_cmp, ordering_then}
 use Rattle.std.specs.List.{All, AllPairs, flat_map}
@@ -8,7 +8,7 @@ use Rattle.hex.specs.Hex.{IsBytes}
 use Rattle.abi_types.specs.declared.kind.Way.{Way}
 use Rattle.abi_types.specs.declared.kind.Way.TheVariants.{Direct, Pointer}
 
--- an old entry, a new entry, and the way by which they are reached
+-- an old entry, a new entry, and the way by which a program reaches them
 abbrev pub PairLine : Type 0
 PairLine = ℕ × ℕ × Way
 
@@ -27,7 +27,7 @@ abbrev pub is_pointer : Way → Bool
 is_pointer Direct = false
 is_pointer Pointer = true
 
--- lines with a key of one number
+-- lines that are ordered by their first number
 abbrev pub first_cmp : ℕ × ℕ → ℕ × ℕ → Ordering
 first_cmp x y = nat_cmp x.0 y.0
 
@@ -35,7 +35,7 @@ first_cmp x y = nat_cmp x.0 y.0
 abbrev pub pair_cmp : PairLine → PairLine → Ordering
 pair_cmp x y = ordering_then (ordering_then (nat_cmp x.0 y.0) (nat_cmp x.1 y.1)) (bool_cmp (is_pointer x.2) (is_pointer y.2))
 
--- each item is below all later ones
+-- each item is less than all later ones
 abbrev pub Ascend : {X : Type 0} → (X → X → Ordering) → List X → Type 0
 Ascend {X} cmp xs = AllPairs (λ x y. cmp x y ≡ Less) xs
 
@@ -54,7 +54,7 @@ IsBelow limit line = (line.0 < limit) × (line.1 < limit)
 abbrev pub IsPairBelow : ℕ → PairLine → Type 0
 IsPairBelow limit line = (line.0 < limit) × (line.1 < limit)
 
--- ---- what a certificate keeps
+-- ---- the invariants of a certificate
 
 -- the digests are digests, symbols are numbers below 2^32 and entries below 2^64
 pub record IsInRange (c : PlainCert) : Type 0 where
@@ -66,7 +66,7 @@ pub record IsInRange (c : PlainCert) : Type 0 where
   pub alike_new : All (IsBelow (2 ^ 64)) c.alike_new
   pub pairs : All (IsPairBelow (2 ^ 64)) c.pairs
 
--- how many lines it has before its last one
+-- the number of lines before the last one
 abbrev pub line_count : PlainCert → ℕ
 line_count c = 4 + length c.binds + length c.alike_old + length c.alike_new + length c.pairs
 
@@ -76,12 +76,12 @@ pub record IsCert (c : PlainCert) : Type 0 where
   pub alike_new : Ascend first_cmp c.alike_new
   pub pairs : Ascend pair_cmp c.pairs
   pub numbers : IsInRange c
-  -- its lines have numbers
+  -- each line has a number below 2^64
   pub fits : 5 + length c.binds + length c.alike_old + length c.alike_new + length c.pairs < 2 ^ 64
 
 -- ---- version 1
 
--- a certificate of version 1: its pairs are reached either way
+-- a certificate of version 1: its pairs hold for both ways
 pub record PlainCert1 : Type 0 where
   pub old_digest : List ℕ
   pub new_digest : List ℕ
@@ -91,11 +91,11 @@ pub record PlainCert1 : Type 0 where
   pub alike_new : List (ℕ × ℕ)
   pub pairs : List (ℕ × ℕ)
 
--- the pair, reached by value
+-- a pair of version 1 as a pair line by value
 abbrev pub as_direct : ℕ × ℕ → PairLine
 as_direct pair = record { 0 = pair.0; 1 = pair.1; 2 = Direct }
 
--- the certificate of the pairs reached by value, which has the same lines apart from their ways
+-- the certificate of version 2 with the same lines, whose pairs are all by value
 abbrev pub with_ways : PlainCert1 → PlainCert
 with_ways c = record {
   old_digest = c.old_digest;
@@ -107,7 +107,7 @@ with_ways c = record {
   pairs = map as_direct c.pairs;
 }
 
--- its lists ascend, its numbers are as those of a certificate, and its lines have numbers with each pair line twice
+-- its lists ascend, its numbers are in range, and its lines can still be numbered if each pair line stands twice
 pub record IsCert1 (c : PlainCert1) : Type 0 where
   pub is : IsCert (with_ways c)
   pub fits : 5 + length c.binds + length c.alike_old + length c.alike_new + 2 * length c.pairs < 2 ^ 64
@@ -117,11 +117,11 @@ pub record IsCert1 (c : PlainCert1) : Type 0 where
 abbrev pub without_way : PairLine → ℕ × ℕ
 without_way line = (line.0, line.1)
 
--- a pair of version 1, each way
+-- a pair of version 1, at both ways
 abbrev pub both_ways : ℕ × ℕ → List PairLine
 both_ways pair = (pair.0, pair.1, Direct) ∷ (pair.0, pair.1, Pointer) ∷ []
 
--- the certificate of version 2 that says the same: each pair line both ways
+-- the certificate of version 2 that means the same: each pair line at both ways
 abbrev pub migrated : PlainCert1 → PlainCert
 migrated c = record {
   old_digest = c.old_digest;

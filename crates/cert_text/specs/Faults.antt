@@ -15,7 +15,7 @@ use Rattle.cert_text.specs.declared.line.Line.TheVariants.{Bind, AlikeOld, Alike
 
 -- ---- the lines of a text
 
--- the lines of a text without their line feeds, and what stands behind the last line feed
+-- the lines of a text without their line feeds, and the bytes after the last line feed
 pub record Parts : Type 0 where
   pub lines : List (List ℕ)
   pub rest : List ℕ
@@ -30,7 +30,7 @@ parts (b ∷ bytes) = if b == 10 then record { lines = [] ∷ (parts bytes).line
 
 -- ---- the order of lines
 
--- the place of a line's kind
+-- the position of a line's kind in the order of kinds
 abbrev pub rank : Line → ℕ
 rank (Bind old new) = 0
 rank (AlikeOld entry rep) = 1
@@ -38,7 +38,7 @@ rank (AlikeNew entry rep) = 2
 rank (Pair old new way) = 3
 rank End = 4
 
--- a number before another; where they are equal, what comes next decides
+-- the first number is less, or the numbers are equal and `next` decides
 abbrev pub before_then : ℕ → ℕ → Bool → Bool
 before_then m n next = nat_lt m n || (m == n && next)
 
@@ -63,7 +63,7 @@ abbrev pub is_end : Option Line → Bool
 is_end (Some End) = true
 is_end line = false
 
--- a line behind the first four has a form (else 60), and may follow the one before it (else 61)
+-- a line after the first four has a form (else 60), and may follow the line before it (else 61)
 abbrev pub order_fault : ℕ → Option Line → Line → Option Fault
 order_fault number None line = None
 order_fault number (Some before) line = fault_if (not (may_follow before line)) kind.Order number
@@ -76,11 +76,11 @@ abbrev pub or_else : Option Fault → Option Fault → Option Fault
 or_else (Some fault) next = Some fault
 or_else None next = next
 
--- where the lines end: the last one is `end`, and nothing stands behind it (else 62)
+-- where the lines end: the last one is `end`, and no bytes follow it (else 62)
 abbrev pub end_fault : ℕ → Option Line → List ℕ → Option Fault
 end_fault number before rest = fault_if (not (is_end before) || nat_lt 0 (length rest)) kind.End number
 
--- the first fault of the lines from a number on, behind a line
+-- the first fault of the lines from this number on, after the line `before`
 unfoldable pub body_fault : Version → ℕ → Option Line → List (List ℕ) → List ℕ → Option Fault
 body_fault v number before [] rest = end_fault number before rest
 body_fault v number before (text ∷ lines) rest =
@@ -93,18 +93,18 @@ answer_test v text = bytes_eq text (answer v)
 abbrev pub digest_test : List ℕ → List ℕ → Bool
 digest_test word text = is_some (digest_behind word text)
 
--- the first four lines, each as the test whether a text is that line
+-- the first four lines, each as a test of a text
 abbrev pub head_tests : Version → List (List ℕ → Bool)
 head_tests v = answer_test v ∷ digest_test (codes "old ") ∷ digest_test (codes "new ") ∷ digest_test (codes "rules ") ∷ []
 
--- The first fault where these tests are left for the next lines: one is not the line of its place (60), or the text ends
--- before it (62).
+-- The first fault, where these tests remain for the next lines: a line does not pass its test (60), or the text ends before it
+-- (62).
 unfoldable pub head_fault : Version → ℕ → List (List ℕ → Bool) → List (List ℕ) → List ℕ → Option Fault
 head_fault v number [] lines rest = body_fault v number None lines rest
 head_fault v number (test ∷ tests) [] rest = Some (record { kind = kind.End; at = number })
 head_fault v number (test ∷ tests) (text ∷ lines) rest =
     if test text then head_fault v (number + 1) tests lines rest else Some (record { kind = kind.CertLine; at = number })
 
--- The first fault of a text of a version. `at` is the number of the line.
+-- The first fault of a text, read as this version. `at` is the number of the line.
 unfoldable pub fault_of : Version → List ℕ → Option Fault
 fault_of v bytes = head_fault v 1 (head_tests v) (parts bytes).lines (parts bytes).rest

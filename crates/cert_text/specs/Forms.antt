@@ -1,4 +1,4 @@
--- What a line says, where it has a form: each form is read back from its one spelling.
+-- The meaning of a line that has a form. Each form has exactly one spelling.
 use Rattle.std.specs.Prelude.{◌+◌, ◌^◌, ◌==◌, ◌&&◌, ◌||◌, not, nat_lt, slice_index, ℕ, Bool, if◌then◌else◌, List, [], ◌∷◌, length, take, drop, position, Option, Some, None, option_and_then, Result, Ok, Err, codes, decimal}
 use Rattle.std.specs.Option.{option_map}
 use Rattle.std.specs.Str.{bytes_eq}
@@ -15,19 +15,19 @@ use Rattle.cert_text.specs.declared.line.Line.TheVariants.{Bind, AlikeOld, Alike
 
 -- ---- numbers and words
 
--- bytes, no sign, and no zero before other digits
+-- digits without a sign, and without a leading zero before other digits
 abbrev pub is_plain : List ℕ → Bool
 is_plain text = nat_lt 0 (length text) && (not (slice_index text 0 == 43) && (not (slice_index text 0 == 48) || length text == 1))
 
--- a number whose spelling the text is
+-- the number n, if the text is its spelling
 abbrev pub number_if : ℕ → List ℕ → Option ℕ
 number_if n text = if nat_lt n (2 ^ 64) && bytes_eq text (decimal n) then Some n else None
 
--- the number below 2^64 that a text writes in decimal, without a leading zero
+-- the number below 2^64 whose decimal spelling is the text, without a leading zero
 unfoldable pub number_in : List ℕ → Option ℕ
 number_in text = number_if (digits_value 10 text) text
 
--- the place of the first space
+-- the position of the first space
 abbrev pub space : List ℕ → Option ℕ
 space text = position (λ b. b == 32) text
 
@@ -38,7 +38,7 @@ is_feed b = b == 10
 abbrev pub number_before : List ℕ → ℕ → Option (ℕ × List ℕ)
 number_before text at = option_map (λ n. (n, drop (at + 1) text)) (number_in (take at text))
 
--- the number before the first space, and what stands behind that space
+-- the number before the first space, and the text after that space
 unfoldable pub number_then : List ℕ → Option (ℕ × List ℕ)
 number_then text = option_and_then (number_before text) (space text)
 
@@ -49,11 +49,11 @@ second_number first = option_map (λ n. (first.0, n)) (number_in first.1)
 unfoldable pub numbers_in : List ℕ → Option (ℕ × ℕ)
 numbers_in text = option_and_then second_number (number_then text)
 
--- what stands behind a word at the front
+-- the text after a word at its front
 unfoldable pub behind : List ℕ → List ℕ → Option (List ℕ)
 behind word text = if bytes_eq (take (length word) text) word then Some (drop (length word) text) else None
 
--- two numbers behind a word
+-- two numbers after a word
 unfoldable pub numbers_behind : List ℕ → List ℕ → Option (ℕ × ℕ)
 numbers_behind word text = option_and_then numbers_in (behind word text)
 
@@ -63,11 +63,11 @@ abbrev pub digest_if : List ℕ → Result (List ℕ) FromHexError → Option (L
 digest_if text (Ok digest) = if bytes_eq text (encode_lower digest) then Some digest else None
 digest_if text (Err e) = None
 
--- the 32 bytes that a text writes in lower-case hexadecimal digits
+-- the 32 bytes whose lower-case hexadecimal spelling is the text
 abbrev pub digest_in : List ℕ → Option (List ℕ)
 digest_in text = digest_if text (decode_sized text 32)
 
--- the digest behind a word
+-- the digest after a word
 unfoldable pub digest_behind : List ℕ → List ℕ → Option (List ℕ)
 digest_behind word text = option_and_then digest_in (behind word text)
 
@@ -113,6 +113,6 @@ abbrev pub or_line : Option Line → Option Line → Option Line
 or_line (Some line) next = Some line
 or_line None next = next
 
--- what a line behind the first four says
+-- the meaning of a line after the first four
 unfoldable pub form_of : Version → List ℕ → Option Line
 form_of v text = or_line (bind_in text) (or_line (alike_old_in text) (or_line (alike_new_in text) (or_line (pair_in v text) (end_in text))))

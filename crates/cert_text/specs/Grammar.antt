@@ -1,4 +1,4 @@
--- The text of a certificate: one spelling for each.
+-- The text of a certificate. Each certificate has exactly one spelling.
 use Rattle.std.specs.Prelude.{◌≡◌, ◌<◌, ◌^◌, ℕ, List, [], ◌∷◌, ◌++◌, map, codes, decimal}
 use Rattle.std.specs.List.{All, flat_map}
 use Rattle.hex.specs.Hex.{encode_lower}
@@ -21,7 +21,7 @@ abbrev pub way_words : Version → Way → List ℕ
 way_words One way = []
 way_words Two way = 32 ∷ way_word way
 
--- a line behind the first four, without its line feed
+-- a line after the first four, without its line feed
 abbrev pub spelling : Version → Line → List ℕ
 spelling v (Bind old new) = codes "bind " ++ (decimal old ++ 32 ∷ decimal new)
 spelling v (AlikeOld entry rep) = codes "alike old " ++ (decimal entry ++ 32 ∷ decimal rep)
@@ -29,12 +29,12 @@ spelling v (AlikeNew entry rep) = codes "alike new " ++ (decimal entry ++ 32 ∷
 spelling v (Pair old new way) = codes "pair " ++ (decimal old ++ 32 ∷ (decimal new ++ way_words v way))
 spelling v End = codes "end"
 
--- version 1 has pair lines of one way
+-- pair lines of version 1 have only one way, by value
 abbrev pub IsWay : Version → Way → Type 0
 IsWay One way = way ≡ Direct
 IsWay Two way = Unit {0}
 
--- a line has its numbers: symbols are below 2^32, entries below 2^64
+-- the numbers of a line are in range: symbols are below 2^32, entries below 2^64
 abbrev pub HasNumbers : Version → Line → Type 0
 HasNumbers v (Bind old new) = (old < 2 ^ 32) × (new < 2 ^ 32)
 HasNumbers v (AlikeOld entry rep) = (entry < 2 ^ 64) × (rep < 2 ^ 64)
@@ -42,7 +42,7 @@ HasNumbers v (AlikeNew entry rep) = (entry < 2 ^ 64) × (rep < 2 ^ 64)
 HasNumbers v (Pair old new way) = (old < 2 ^ 64) × (new < 2 ^ 64) × IsWay v way
 HasNumbers v End = Unit {0}
 
--- the text is that of the line
+-- the text is the spelling of the line
 pub record IsLine (v : Version) (text : List ℕ) (line : Line) : Type 0 where
   pub numbers : HasNumbers v line
   pub is : text ≡ spelling v line
@@ -58,7 +58,7 @@ answer Two = codes "yes 2"
 abbrev pub digest_line : List ℕ → List ℕ → List ℕ
 digest_line word digest = word ++ encode_lower digest
 
--- the first four lines, of these digests
+-- the first four lines, with these digests
 abbrev pub head_lines : Version → List ℕ → List ℕ → List ℕ → List (List ℕ)
 head_lines v old new rules = answer v ∷ digest_line (codes "old ") old ∷ digest_line (codes "new ") new ∷ digest_line (codes "rules ") rules ∷ []
 
@@ -90,18 +90,18 @@ text_of v c = lined (head v c) ++ (lined (map (spelling v) (body c)) ++ lined (s
 
 -- ---- certificates
 
--- the text is that of a certificate, whose lines a version has
+-- the text spells a certificate whose lines this version can have
 pub record IsSpelledIn (v : Version) (bytes : List ℕ) (c : PlainCert) : Type 0 where
   pub kept : IsCert c
   pub lines : All (HasNumbers v) (body c)
   pub is : bytes ≡ text_of v c
 
--- the text is that of a certificate of version 2
+-- the text spells a certificate of version 2
 pub record IsSpelled (bytes : List ℕ) (c : PlainCert) : Type 0 where
   pub kept : IsCert c
   pub is : bytes ≡ text_of Two c
 
--- the text is that of a certificate of version 1
+-- the text spells a certificate of version 1
 pub record IsSpelled1 (bytes : List ℕ) (c : PlainCert1) : Type 0 where
   pub kept : IsCert1 c
   pub is : bytes ≡ text_of One (with_ways c)

@@ -3,9 +3,8 @@ use abi_base::List;
 use abi_types::Way;
 use std::marker::Model;
 
-/// A certificate that a new library may replace an old one, of version 2: the SHA-256 of the three inputs, what the exports
-/// bind to, which entries of debugging information look alike, and which types stand for which. Contracts see it as a
-/// `PlainCert`.
+/// A certificate of version 2 that a new library may replace an old one: the SHA-256 of the three inputs, what the exports bind to,
+/// which debug entries are alike, and which types stand for which. Contracts see it as a `PlainCert`.
 ///
 /// Each list is strictly ascending: `binds` and the alike lists by their first number, `pairs` by the old entry, then the
 /// new entry, then direct before pointer.
@@ -17,13 +16,13 @@ pub struct Cert {
     pub new_digest: [u8; 32],
     /// The SHA-256 of the rule text.
     pub rules_digest: [u8; 32],
-    /// The symbol of each old export that is compared, and that of the new export to which it binds.
+    /// For each compared old export, its symbol and that of the new export to which it binds.
     pub binds: List<(u32, u32)>,
-    /// Entries of the old library with their representatives.
+    /// Entries of the old library, with their representatives.
     pub alike_old: List<(u64, u64)>,
-    /// Entries of the new library with their representatives.
+    /// Entries of the new library, with their representatives.
     pub alike_new: List<(u64, u64)>,
-    /// Old representatives, the new ones that stand for them, and the way by which they are reached.
+    /// Pairs of representatives, an old one and the new one that stands for it, with the way by which a program reaches them.
     pub pairs: List<(u64, u64, Way)>,
 }
 
@@ -56,7 +55,7 @@ impl Model for Cert {
 impl Cert {
     ghost use Rattle.cert_text.specs.Certs.{IsCert};
 
-    /// What the type keeps. It does nothing.
+    /// States the invariants of the type. The function does nothing.
     pub fn known(&self)
         ensures { IsCert self.now }
     {

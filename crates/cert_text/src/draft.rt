@@ -1,4 +1,4 @@
-// A certificate while it is read.
+// A certificate while its text is read.
 ghost use Rattle.std.specs.Prelude.{◌≡◌, OnOk};
 ghost use Rattle.cert_text.specs.Steps.{empty_cert, with_line};
 ghost use Rattle.cert_text.specs.Certs.{IsCert};
@@ -10,7 +10,7 @@ use abi_types::Way;
 use std::alloc::Global;
 use std::marker::Model;
 
-/// The lines of a certificate that were read.
+/// The lines of a certificate that were read so far.
 #[derive(Drop)]
 pub struct Draft {
     old_digest: [u8; 32],
@@ -39,7 +39,7 @@ impl Model for Draft {
 }
 
 impl Draft {
-    /// The certificate of these digests, without another line.
+    /// A certificate with these digests, and no line after the first four.
     pub fn new(
         alloc: Global,
         old_digest: [u8; 32],
@@ -59,7 +59,7 @@ impl Draft {
         }
     }
 
-    /// Puts one more line.
+    /// Appends a line to the list of its kind.
     pub fn put(&mut self, line: Line) -> Result<(), NoMemory>
         ensures { OnOk result (self.new ≡ with_line self.old line) }
     {
@@ -72,7 +72,7 @@ impl Draft {
         }
     }
 
-    /// The certificate.
+    /// The finished certificate.
     pub fn finish(self) -> Cert
         requires { IsCert self }
         ensures { result ≡ self }

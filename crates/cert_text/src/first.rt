@@ -14,8 +14,7 @@ use abi_types::Way;
 use std::alloc::Global;
 use std::marker::Model;
 
-/// A certificate of version 1, whose pairs stand for each other whatever way they are reached by. Contracts see it as a
-/// `PlainCert1`.
+/// A certificate of version 1, whose pairs hold for both ways of reaching them. Contracts see it as a `PlainCert1`.
 ///
 /// Each list is strictly ascending: `binds` and the alike lists by their first number, `pairs` by the old entry, then the
 /// new entry.
@@ -27,13 +26,13 @@ pub struct Cert1 {
     pub new_digest: [u8; 32],
     /// The SHA-256 of the rule text.
     pub rules_digest: [u8; 32],
-    /// The symbol of each old export that is compared, and that of the new export to which it binds.
+    /// For each compared old export, its symbol and that of the new export to which it binds.
     pub binds: List<(u32, u32)>,
-    /// Entries of the old library with their representatives.
+    /// Entries of the old library, with their representatives.
     pub alike_old: List<(u64, u64)>,
-    /// Entries of the new library with their representatives.
+    /// Entries of the new library, with their representatives.
     pub alike_new: List<(u64, u64)>,
-    /// Old representatives, and the new ones that stand for them.
+    /// Pairs of representatives, an old one and the new one that stands for it.
     pub pairs: List<(u64, u64)>,
 }
 
@@ -66,7 +65,7 @@ impl Model for Cert1 {
 impl Cert1 {
     ghost use Rattle.cert_text.specs.Certs.{IsCert1};
 
-    /// What the type keeps. It does nothing.
+    /// States the invariants of the type. The function does nothing.
     pub fn known(&self)
         ensures { IsCert1 self.now }
     {
@@ -86,8 +85,7 @@ fn without_ways(alloc: Global, lines: &[(u64, u64, Way)]) -> Result<List<(u64, u
     Ok(pairs)
 }
 
-/// The certificate of version 1 that the bytes spell. A fault is the first one of the text, and its place the number of its
-/// line.
+/// Reads a certificate of version 1. A refusal names the first fault of the text, and its place is the number of the line.
 pub fn read_cert_1(alloc: Global, bytes: &[u8]) -> Result<Cert1, Refusal>
     ensures spelled { IfOk result (λ cert. IsSpelled1 bytes.now cert) }
     ensures fault { Judges result (fault_of One bytes.now) }
@@ -113,7 +111,7 @@ pub fn read_cert_1(alloc: Global, bytes: &[u8]) -> Result<Cert1, Refusal>
     })
 }
 
-// The pairs, each way.
+// The pairs, each at both ways.
 fn with_both_ways(alloc: Global, lines: &[(u64, u64)]) -> Result<List<(u64, u64, Way)>, NoMemory>
     ensures { IfOk result (λ pairs. pairs ≡ flat_map both_ways lines.now) }
 {
@@ -126,7 +124,7 @@ fn with_both_ways(alloc: Global, lines: &[(u64, u64)]) -> Result<List<(u64, u64,
     Ok(pairs)
 }
 
-/// The certificate of version 2 that says what a certificate of version 1 says: it has each pair line both ways.
+/// The certificate of version 2 with the meaning of one of version 1: it has each pair line at both ways.
 pub fn migrate(alloc: Global, cert: &Cert1) -> Result<Cert, NoMemory>
     ensures { IfOk result (λ new. new ≡ migrated cert.now) }
 {

@@ -1,4 +1,4 @@
-// What a line behind the first four says.
+// The meaning of a line after the first four.
 ghost use Rattle.std.specs.Prelude.{◌≡◌};
 ghost use Rattle.cert_text.specs.Forms.{bind_in, alike_old_in, alike_new_in, plain_pair_in, way_in, pair_fields, pair_in, end_in};
 ghost use Rattle.cert_text.specs.Forms as spec;
@@ -7,7 +7,7 @@ use crate::line::{Line, Version};
 use crate::words::{behind, is_same, number_then, numbers_behind};
 use abi_types::Way;
 
-// Numbers of symbols are below this.
+// Symbol numbers are below this limit.
 const SYMBOLS: u64 = 1 << 32;
 
 #[tactic(auto, unfolding(crate::specs::Forms::bind_in))]
@@ -115,7 +115,7 @@ fn end(text: &[u8]) -> Option<Line>
     }
 }
 
-/// What a line behind the first four says, where it has a form.
+/// The meaning of a line after the first four, or `None` if it has no form.
 #[tactic(auto, unfolding(crate::specs::Forms::form_of))]
 pub fn form_of(version: Version, text: &[u8]) -> Option<Line>
     ensures { result ≡ spec.form_of version text.now }

@@ -9,7 +9,7 @@ use crate::line::Version;
 use crate::words::{digest_behind, from, is_same};
 use abi_base::{Fault, FaultKind};
 
-// Where the first line feed stands from a place on, counted from there.
+// The first line feed from a position on, counted from there.
 fn feed_from(bytes: &[u8], at: usize) -> Option<usize>
     requires { at ≤ length bytes.now }
     ensures { result ≡ position is_feed (drop at bytes.now) }
@@ -17,7 +17,7 @@ fn feed_from(bytes: &[u8], at: usize) -> Option<usize>
     from(bytes, at).iter().position(|byte| *byte == b'\n')
 }
 
-/// Where the line feed stands that ends the line at a place.
+/// The position of the line feed that ends the line at a position, or `None` if the text ends first.
 pub fn line_end(bytes: &[u8], at: usize) -> Option<usize>
     requires { at ≤ length bytes.now }
     ensures { MatchOption result (IsRest bytes.now at) (λ end. (at ≤ end) × StandsAt bytes.now at (end + 1) (text_at bytes.now at end)) }
@@ -28,7 +28,7 @@ pub fn line_end(bytes: &[u8], at: usize) -> Option<usize>
     }
 }
 
-/// The bytes from a place to another.
+/// The bytes from one position to another.
 pub fn line_at(bytes: &[u8], at: usize, end: usize) -> &[u8]
     requires order { at ≤ end }
     requires inside { end ≤ length bytes.now }
@@ -37,7 +37,7 @@ pub fn line_at(bytes: &[u8], at: usize, end: usize) -> &[u8]
     &bytes[at..end]
 }
 
-/// The line does not have the form of its place.
+/// The fault of a line that does not have the form that its position requires.
 pub fn line_fault(number: u64) -> Fault
     ensures { result ≡ record { kind = FaultKind.CertLine; at = number } }
 {
@@ -47,7 +47,7 @@ pub fn line_fault(number: u64) -> Fault
     }
 }
 
-/// The text ends before its last line, or goes on behind it.
+/// The fault of a text that ends before its last line, or continues after it.
 pub fn end_fault(number: u64) -> Fault
     ensures { result ≡ record { kind = FaultKind.End; at = number } }
 {
@@ -57,7 +57,7 @@ pub fn end_fault(number: u64) -> Fault
     }
 }
 
-/// A line stands out of order.
+/// The fault of a line that is out of order.
 pub fn order_fault(number: u64) -> Fault
     ensures { result ≡ record { kind = FaultKind.Order; at = number } }
 {
@@ -77,7 +77,7 @@ fn answer(version: Version) -> &'static [u8]
     }
 }
 
-// Where the second line begins, behind the answer.
+// The position of the second line, after the answer.
 fn read_answer(version: Version, bytes: &[u8]) -> Result<usize, Fault>
     ensures { MatchResult result (λ next. Passes version 1 (answer_test version) bytes.now 0 next (spec.answer version)) (λ fault. Fails 1 (answer_test version) bytes.now 0 fault) }
 {
@@ -93,14 +93,14 @@ fn read_answer(version: Version, bytes: &[u8]) -> Result<usize, Fault>
     }
 }
 
-/// The digest that a line holds, and where the next line begins.
+/// The digest in a line, and the position of the next line.
 #[derive(Clone, Copy)]
 struct DigestLine {
     digest: [u8; 32],
     next: usize,
 }
 
-// The digest in the line at a place, behind a word.
+// The digest after a word in the line at a position.
 fn read_digest(bytes: &[u8], at: usize, number: u64, word: &[u8]) -> Result<DigestLine, Fault>
     requires { at ≤ length bytes.now }
     ensures { MatchResult result (λ line. HasDigest number word.now bytes.now at line.digest line.next) (λ fault. Fails number (digest_test word.now) bytes.now at fault) }
@@ -117,16 +117,20 @@ fn read_digest(bytes: &[u8], at: usize, number: u64, word: &[u8]) -> Result<Dige
     }
 }
 
-/// The digests of the three inputs, and where the fifth line begins.
+/// The digests of the three inputs, and the position of the fifth line.
 #[derive(Clone, Copy)]
 pub struct Head {
+    /// The SHA-256 of the old library.
     pub old_digest: [u8; 32],
+    /// The SHA-256 of the new library.
     pub new_digest: [u8; 32],
+    /// The SHA-256 of the rule text.
     pub rules_digest: [u8; 32],
+    /// The position of the fifth line.
     pub next: usize,
 }
 
-/// The digests of the first four lines of a text, or the fault of the least of these lines.
+/// The digests in the first four lines of a text, or the fault of the first of these lines that has one.
 pub fn read_head(version: Version, bytes: &[u8]) -> Result<Head, Fault>
     ensures { MatchResult result (λ head. HasHead version bytes.now head.old_digest head.new_digest head.rules_digest head.next) (λ fault. fault_of version bytes.now ≡ Some fault) }
 {

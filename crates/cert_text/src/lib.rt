@@ -1,4 +1,4 @@
-//! Certificates: their text, which has one spelling, and what a text says.
+//! Certificates: how they are spelled as text, and how a text is read.
 #![tactic(auto)]
 
 mod cert;

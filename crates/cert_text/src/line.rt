@@ -1,4 +1,4 @@
-// The lines of a certificate behind its first four.
+// The lines of a certificate after the first four.
 ghost use Rattle.std.specs.Prelude.{◌≡◌, Some};
 ghost use Rattle.cert_text.specs.Faults.{before_then};
 ghost use Rattle.cert_text.specs.Faults as spec;
@@ -10,26 +10,26 @@ use abi_types::Way;
 pub enum Version {
     /// Pair lines have no way.
     One,
-    /// Pair lines have their way.
+    /// Pair lines have a way.
     Two,
 }
 
-/// A line behind the first four.
+/// A line after the first four.
 #[derive(Clone, Copy, Debug, PartialEq, Eq)]
 pub enum Line {
-    /// An old export and the new one that it binds to, by their symbols.
+    /// The symbols of an old export and of the new one to which it binds.
     Bind { old: u32, new: u32 },
     /// An old entry, and the representative of its class.
     AlikeOld { entry: u64, rep: u64 },
     /// A new entry, and the representative of its class.
     AlikeNew { entry: u64, rep: u64 },
-    /// An old entry and a new one that may stand for it, where they are reached by this way.
+    /// An old entry, and a new one that may stand for it if a program reaches them by this way.
     Pair { old: u64, new: u64, way: Way },
     /// The last line.
     End,
 }
 
-// The place of a line's kind.
+// The position of a line's kind in the order of kinds.
 fn rank(line: Line) -> u8
     ensures { result ≡ spec.rank line }
 {

@@ -1,4 +1,4 @@
-// What a text says.
+// Reading the text of a certificate.
 ghost use Rattle.std.specs.Prelude.{◌≡◌, ◌≤◌, length, MatchResult, IfOk};
 ghost use Rattle.cert_text.specs.Certs.{line_count};
 ghost use Rattle.abi_base.specs.Outcome.{Judges};
@@ -26,7 +26,7 @@ fn is_over(before: Option<Line>) -> bool
     }
 }
 
-// What a line says that stands behind another.
+// Reads a line after another one.
 fn read_line(
     version: Version,
     number: u64,
@@ -54,7 +54,7 @@ fn read_line(
     }
 }
 
-// What is wrong where the lines end, with what stands behind them.
+// The fault where the lines end, given the bytes after the last line feed.
 fn fault_at_end(number: u64, before: Option<Line>, rest: &[u8]) -> Option<Fault>
     ensures { result ≡ spec.end_fault number before rest.now }
 {
@@ -65,7 +65,8 @@ fn fault_at_end(number: u64, before: Option<Line>, rest: &[u8]) -> Option<Fault>
     }
 }
 
-/// The certificate of a version that the bytes spell. Its pair lines are those of ways, where those of version 1 are direct.
+/// Reads a certificate of a version. Pair lines of version 1 become pair lines by value. A refusal names the first fault of the
+/// text, and its place is the number of the line.
 pub fn read_text(alloc: Global, version: Version, bytes: &[u8]) -> Result<Cert, Refusal>
     ensures spelled { IfOk result (λ cert. IsSpelledIn version bytes.now cert) }
     ensures room { IfOk result (λ cert. line_count cert ≤ length bytes.now) }
@@ -92,7 +93,7 @@ pub fn read_text(alloc: Global, version: Version, bytes: &[u8]) -> Result<Cert, 
     }
 }
 
-/// The certificate that the bytes spell. A fault is the first one of the text, and its place the number of its line.
+/// Reads a certificate. A refusal names the first fault of the text, and its place is the number of the line.
 pub fn read_cert(alloc: Global, bytes: &[u8]) -> Result<Cert, Refusal>
     ensures spelled { IfOk result (λ cert. IsSpelled bytes.now cert) }
     ensures fault { Judges result (fault_of Version.Two bytes.now) }

@@ -8,14 +8,14 @@ ghost use Rattle.cert_text.specs.Forms as spec;
 
 use hex::FromHex;
 
-// Whether a text has bytes, no sign, and no zero before other digits.
+// Whether a text has digits, no sign, and no leading zero before other digits.
 fn is_plain(text: &[u8]) -> bool
     ensures { result ≡ spec.is_plain text.now }
 {
     text.len() > 0 && text[0] != b'+' && (text[0] != b'0' || text.len() == 1)
 }
 
-/// The number that a text writes in decimal, without leading zeros.
+/// The number with this decimal spelling, or `None` for any other text. Leading zeros are not allowed.
 pub fn number(text: &[u8]) -> Option<u64>
     ensures { result ≡ number_in text.now }
 {
@@ -31,14 +31,14 @@ pub fn number(text: &[u8]) -> Option<u64>
     }
 }
 
-// The place of the first space.
+// The position of the first space.
 fn space(text: &[u8]) -> Option<usize>
     ensures { result ≡ spec.space text.now }
 {
     text.iter().position(|byte| *byte == b' ')
 }
 
-// What stands before a place.
+// The bytes before a position.
 fn before(text: &[u8], at: usize) -> &[u8]
     requires { at ≤ length text.now }
     ensures { result.now ≡ take at text.now }
@@ -46,7 +46,7 @@ fn before(text: &[u8], at: usize) -> &[u8]
     &text[..at]
 }
 
-/// What stands from a place on.
+/// The bytes from a position on.
 pub fn from(text: &[u8], at: usize) -> &[u8]
     requires { at ≤ length text.now }
     ensures { result.now ≡ drop at text.now }
@@ -54,7 +54,7 @@ pub fn from(text: &[u8], at: usize) -> &[u8]
     &text[at..]
 }
 
-/// The number before the first space, and what stands behind that space.
+/// The number before the first space, and the text after that space; `None` if either is missing.
 #[tactic(auto, unfolding(crate::specs::Forms::number_then))]
 pub fn number_then(text: &[u8]) -> Option<(u64, &[u8])>
     ensures { MatchOption result (spec.number_then text.now ≡ None) (λ found. spec.number_then text.now ≡ Some (found.0, found.1.now)) }
@@ -89,7 +89,7 @@ pub fn is_same(one: &[u8], other: &[u8]) -> bool
     one == other
 }
 
-/// What stands behind a word at the front.
+/// The text after a word at its front; `None` if the text does not begin with the word.
 #[tactic(auto, unfolding(crate::specs::Forms::behind), using(crate::proofs::NumberLemmas::none_longer))]
 pub fn behind<'a>(text: &'a [u8], word: &[u8]) -> Option<&'a [u8]>
     ensures { option_copied result ≡ spec.behind word.now text.now }
@@ -103,7 +103,7 @@ pub fn behind<'a>(text: &'a [u8], word: &[u8]) -> Option<&'a [u8]>
     Some(from(text, word.len()))
 }
 
-/// Two numbers behind a word.
+/// Two numbers after a word; `None` for any other text.
 #[tactic(auto, unfolding(crate::specs::Forms::numbers_behind))]
 pub fn numbers_behind(text: &[u8], word: &[u8]) -> Option<(u64, u64)>
     ensures { result ≡ spec.numbers_behind word.now text.now }
@@ -114,7 +114,7 @@ pub fn numbers_behind(text: &[u8], word: &[u8]) -> Option<(u64, u64)>
     }
 }
 
-// A digest in lower-case hexadecimal digits.
+// The lower-case hexadecimal digits of a digest.
 fn digits_of(digest: [u8; 32]) -> [u8; 64]
     ensures { result ≡ encode_lower digest }
 {
@@ -123,7 +123,7 @@ fn digits_of(digest: [u8; 32]) -> [u8; 64]
     digits
 }
 
-// The 32 bytes that a text writes in lower-case hexadecimal digits.
+// The 32 bytes with this lower-case hexadecimal spelling.
 fn digest(text: &[u8]) -> Option<[u8; 32]>
     ensures { result ≡ digest_in text.now }
 {
@@ -139,7 +139,7 @@ fn digest(text: &[u8]) -> Option<[u8; 32]>
     }
 }
 
-/// The digest behind a word.
+/// The digest after a word; `None` for any other text.
 #[tactic(auto, unfolding(crate::specs::Forms::digest_behind))]
 pub fn digest_behind(text: &[u8], word: &[u8]) -> Option<[u8; 32]>
     ensures { result ≡ spec.digest_behind word.now text.now }

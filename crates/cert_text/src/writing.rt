@@ -10,13 +10,13 @@ use abi_types::Way;
 use itoa::Buffer;
 use std::alloc::{AllocError, Global};
 
-// The room for a line whose numbers have at most eight digits. Where lines are longer, the text grows.
+// The room for a line whose numbers have at most eight digits, in bytes. For longer lines the text grows.
 const LINE_ROOM: usize = 32;
 
-// The room for the first four lines and the last one.
+// The room for the first four lines and the last one, in bytes.
 const HEAD_ROOM: usize = 256;
 
-// The room that the text of a certificate starts with, so that it need not be copied as it grows.
+// The initial capacity for the text of a certificate, so that it is rarely copied as it grows.
 fn room_of(cert: &Cert) -> usize {
     let binds = cert.binds.as_slice().len();
     let alike_old = cert.alike_old.as_slice().len();
@@ -29,7 +29,7 @@ fn room_of(cert: &Cert) -> usize {
     lines.saturating_mul(LINE_ROOM).saturating_add(HEAD_ROOM)
 }
 
-// Appends the line of an input's SHA-256.
+// Appends a line with the SHA-256 of an input.
 fn push_digest(
     alloc: Global,
     text: &mut Vec<u8>,
@@ -72,7 +72,7 @@ fn push_numbers(text: &mut Vec<u8>, word: &[u8], one: u64, other: u64) -> Result
     push_number(text, other)
 }
 
-// Appends what a line says, without its line feed.
+// Appends a line without its line feed.
 fn push_spelling(text: &mut Vec<u8>, line: Line) -> Result<(), AllocError>
     ensures { OnOk result (text.new.items ≡ text.old.items ++ spelling Two line) }
 {

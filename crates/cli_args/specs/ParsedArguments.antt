@@ -1,4 +1,4 @@
--- What the words of a command line ask for.
+-- The meaning of the arguments of a command line.
 use Rattle.std.specs.Prelude.{ℕ, List, [], ◌∷◌, Option, Some, None, codes, if◌then◌else◌, option_map, option_and_then}
 use Rattle.std.specs.Str.{bytes_eq}
 use Rattle.clap.specs.Words.{Kinds, Row, fault_of, matches_of}
@@ -10,7 +10,8 @@ use Rattle.cli_args.specs.Trials.{trial_count_of}
 use Rattle.cli_args.specs.declared.judge.CommandName.{CommandName}
 use Rattle.cli_args.specs.declared.judge.CommandName.TheVariants.{Check, Verify, Entries, Exports, Trial, Migrate, Compose, Layout, App}
 
--- a request, with the names of its inputs, the style of its report, how many functions its trial makes and the tag of its structure
+-- a request, with the names of its inputs, the style of its report, the number of functions of its trial, and the tag of its
+-- structure
 pub data PlainRequest : Type 0 where
   check : (rules : Option (List ℕ)) (report : ReportStyle) (old new : List ℕ) → PlainRequest
   verify : (rules : Option (List ℕ)) (old new certificate : List ℕ) → PlainRequest
@@ -22,13 +23,13 @@ pub data PlainRequest : Type 0 where
   layout : (library tag : List ℕ) → PlainRequest
   app : (rules : Option (List ℕ)) (report : ReportStyle) (program old new : List ℕ) → PlainRequest
 
--- what words ask for: a request, the help, or nothing that is right, which the usage answers
+-- the meaning of the arguments: a request, the help, or an error, which is answered with the usage
 pub data PlainArguments : Type 0 where
   request : PlainRequest → PlainArguments
   help : PlainArguments
   usage : PlainArguments
 
--- the command of that name
+-- the command with this name
 unfoldable pub command_named : List ℕ → Option CommandName
 command_named word = if bytes_eq word (codes "check") then Some Check
     else (if bytes_eq word (codes "verify") then Some Verify
@@ -40,7 +41,7 @@ command_named word = if bytes_eq word (codes "check") then Some Check
     else (if bytes_eq word (codes "layout") then Some Layout
     else (if bytes_eq word (codes "app") then Some App else None))))))))
 
--- the style of that name
+-- the style with this name
 unfoldable pub report_style_named : List ℕ → Option ReportStyle
 report_style_named word = if bytes_eq word (codes "text") then Some Text
     else (if bytes_eq word (codes "table") then Some Table
@@ -48,7 +49,7 @@ report_style_named word = if bytes_eq word (codes "text") then Some Text
     else (if bytes_eq word (codes "first") then Some First
     else (if bytes_eq word (codes "own") then Some Own else None))))
 
--- the style that the words name, `text` where they name none
+-- the style that is given, or `text` if none is
 abbrev pub style_of : Option (List ℕ) → Option ReportStyle
 style_of None = Some Text
 style_of (Some word) = report_style_named word
@@ -58,12 +59,12 @@ abbrev pub check_of : (files : List (List ℕ)) (rules report : Option (List ℕ
 check_of (old ∷ new ∷ []) rules report = option_map (λ style. check rules style old new) (style_of report)
 check_of files rules report = None
 
--- `verify` with these files and options: OLD NEW CERT, and `--rules` alone
+-- `verify` with these files and options: OLD NEW CERT, and only `--rules`
 abbrev pub verify_of : (files : List (List ℕ)) (rules report : Option (List ℕ)) → Option PlainRequest
 verify_of (old ∷ new ∷ certificate ∷ []) rules None = Some (verify rules old new certificate)
 verify_of files rules report = None
 
--- `migrate` with these files and options: OLD NEW CERT, and `--rules` alone
+-- `migrate` with these files and options: OLD NEW CERT, and only `--rules`
 abbrev pub migrate_of : (files : List (List ℕ)) (rules report : Option (List ℕ)) → Option PlainRequest
 migrate_of (old ∷ new ∷ certificate ∷ []) rules None = Some (migrate rules old new certificate)
 migrate_of files rules report = None
@@ -83,7 +84,7 @@ abbrev pub app_of : (files : List (List ℕ)) (rules report : Option (List ℕ))
 app_of (program ∷ old ∷ new ∷ []) rules report = option_map (λ style. app rules style program old new) (style_of report)
 app_of files rules report = None
 
--- the one word of a command that has no option
+-- the single argument of a command without options
 abbrev pub lone_word : (files : List (List ℕ)) (rules report : Option (List ℕ)) → Option (List ℕ)
 lone_word (word ∷ []) None None = Some word
 lone_word files rules report = None
@@ -100,7 +101,7 @@ request_of Compose files rules report = compose_of files rules report
 request_of Layout files rules report = layout_of files rules report
 request_of App files rules report = app_of files rules report
 
--- the request of a line that `clap` takes
+-- the request of a line that `clap` accepts
 abbrev pub request_on : PlainLine → Option PlainRequest
 request_on line = option_and_then (λ name. request_of name line.files line.rules line.report) (option_and_then command_named line.command)
 
@@ -108,14 +109,14 @@ abbrev pub request_or_usage : Option PlainRequest → PlainArguments
 request_or_usage (Some asked) = request asked
 request_or_usage None = usage
 
--- what words ask for in which `clap` finds a fault of these kinds, or, where it finds none, these rows
+-- the meaning of arguments in which `clap` finds faults of these kinds, or, if it finds none, these rows
 abbrev pub judged_by : Kinds → List Row → PlainArguments
 judged_by [] rows = request_or_usage (request_on (line_in rows))
 judged_by (DisplayHelp ∷ rest) rows = help
 judged_by (kind ∷ rest) rows = usage
 
--- What the words ask for. It is the help exactly where `clap` answers the words with its help. It is the usage exactly where
--- `clap` refuses them for another cause, or takes them and the command, the number of its files, its options, its style or its
--- number is not right.
+-- The meaning of the arguments. It is the help exactly if `clap` answers them with its help. It is the usage exactly if `clap`
+-- refuses them for another cause, or if it accepts them but the command, the number of files, an option, the style or the number is
+-- not valid.
 unfoldable pub arguments_by : List (List ℕ) → PlainArguments
 arguments_by words = judged_by (fault_of line_app words) (matches_of line_app words)

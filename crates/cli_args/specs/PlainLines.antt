@@ -1,4 +1,4 @@
--- What the code finds in a line, without where its words lie.
+-- The values in a line, as plain data without addresses.
 use Rattle.std.specs.Prelude.{[], option_map, unwrap_or}
 use Rattle.cli_args.specs.Words.{texts}
 use Rattle.cli_args.specs.Line.{PlainLine}

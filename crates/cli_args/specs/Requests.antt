@@ -1,4 +1,4 @@
--- What the code finds, without where its words lie.
+-- The requests of the code, as plain data without addresses.
 use Rattle.std.specs.Prelude.{ℕ, List, Option, option_map}
 use Rattle.std.specs.Borrow.{Bor}
 use Rattle.cli_args.specs.ParsedArguments.{PlainRequest, PlainArguments, check, verify, entries, exports, trial, migrate, compose, layout, app, request, help, usage}

@@ -1,10 +1,10 @@
--- How many functions a trial makes.
+-- The number of functions of a trial.
 use Rattle.std.specs.Prelude.{ℕ, Bool, not, List, Option, Some, None, ◌==◌, ◌&&◌, nat_le, if◌then◌else◌, slice_index}
 use Rattle.std.specs.List.{list_all}
 use Rattle.std.specs.Char.{is_ascii_digit}
 use Rattle.std.specs.Str.Parse.{digits_value}
 
--- decimal digits alone, and no 0 (48) first
+-- only decimal digits, without a leading 0 (48)
 abbrev pub is_decimal : List ℕ → Bool
 is_decimal word = list_all is_ascii_digit word && not (slice_index word 0 == 48)
 
@@ -15,6 +15,6 @@ most_count = 50000
 abbrev pub is_trial_count : ℕ → Bool
 is_trial_count n = nat_le 1 n && nat_le n most_count
 
--- the number that the word writes in decimal without leading zeros, where a trial may have so many functions
+-- the number whose decimal spelling without leading zeros is the word, if a trial may have so many functions
 unfoldable pub trial_count_of : List ℕ → Option ℕ
 trial_count_of word = if is_decimal word && is_trial_count (digits_value 10 word) then Some (digits_value 10 word) else None

@@ -1,4 +1,4 @@
--- Words as lists of bytes, and what words look like that ask for help.
+-- Arguments as lists of bytes, and the form of those that request help.
 use Rattle.std.specs.Prelude.{◌≡◌, ◌≢◌, ℕ, List, ◌∷◌, ◌++◌, map, Some, codes, true, ◌⊎◌, option_map, option_and_then, slice_get, ◌==◌}
 use Rattle.std.specs.Borrow.{Bor}
 use Rattle.std.specs.List.{list_any}
@@ -13,11 +13,11 @@ abbrev pub AsksForHelp : List ℕ → Type 0
 AsksForHelp word = (option_map (λ p. p.0) (long_of word) ≡ Some (codes "help"))
     ⊎ (option_and_then (λ flags. slice_get (chars flags) 0) (short_of word) ≡ Some 104)
 
--- the word begins with `--help`, or with one `-` (45) that no second one follows and has an `h` in it
+-- the word begins with `--help`, or with a single `-` (45) and contains an `h`
 abbrev pub LooksForHelp : List ℕ → Type 0
 LooksForHelp word = ((rest : List ℕ) × (word ≡ codes "--help" ++ rest))
     ⊎ ((rest : List ℕ) × (word ≡ 45 ∷ rest) × (slice_get rest 0 ≢ Some 45) × (list_any (λ c. c == 104) (chars rest) ≡ true))
 
--- the word begins with no `-` (45), so no option is read in it
+-- the word does not begin with `-` (45), so it is not read as an option
 abbrev pub IsNoOption : List ℕ → Type 0
 IsNoOption word = slice_get word 0 ≢ Some 45

@@ -1,4 +1,4 @@
--- What is wrong with words that ask for nothing, and which word it is.
+-- What is wrong with arguments that form no request, and which argument it is.
 use Rattle.std.specs.Prelude.{◌==◌, ◌&&◌, ◌||◌, ℕ, Bool, true, false, not, List, [], ◌∷◌, length, Contains, IfSome, Option, Some, None, codes, count_by, find, if◌then◌else◌, is_none, is_some, nat_eq, nat_lt}
 use Rattle.std.specs.List.{starts_with}
 use Rattle.std.specs.Str.{bytes_eq}
@@ -15,10 +15,10 @@ use Rattle.cli_args.specs.declared.wrong.OptionName.TheVariants.{Rules, Report}
 use Rattle.cli_args.specs.declared.wrong.WrongWords.{WrongWords}
 use Rattle.cli_args.specs.declared.wrong.WrongWords.TheVariants as code
 
--- What is wrong, with the word that is. Of a line that `clap` takes: no command is given, or no command has the name; a command
--- takes no such option, or another number of words; no style of reports has the name; a trial has no such number. Of words that
--- `clap` refuses: no option has the name; an option has no value, stands twice or takes no value; or the words are wrong in
--- another way.
+-- What is wrong, with the argument at fault. In a line that `clap` accepts: no command is given, or the command is unknown; the
+-- command does not take an option, or takes a different number of arguments; the style is unknown; the number of a trial is not
+-- valid. In arguments that `clap` refuses: the option is unknown, lacks its value, is given twice or takes no value; or the
+-- arguments are wrong in another way.
 pub data PlainWrong : Type 0 where
   missing_command : PlainWrong
   unknown_command : (word : List ℕ) → PlainWrong
@@ -32,7 +32,7 @@ pub data PlainWrong : Type 0 where
   needless_value : (option : List ℕ) → PlainWrong
   other_words : PlainWrong
 
--- what the code finds, without where its words lie
+-- the result of the code, as plain data without addresses
 abbrev pub plain_wrong : WrongWords → PlainWrong
 plain_wrong code.MissingCommand = missing_command
 plain_wrong (code.UnknownCommand word) = unknown_command word.now
@@ -46,7 +46,7 @@ plain_wrong (code.RepeatedOption option) = repeated_option option.now
 plain_wrong (code.NeedlessValue option) = needless_value option.now
 plain_wrong code.OtherWords = other_words
 
--- ---- lines that `clap` takes
+-- ---- lines that `clap` accepts
 
 -- a command takes `--rules`
 abbrev pub takes_rules : CommandName → Bool
@@ -72,7 +72,7 @@ takes_report Trial = false
 takes_report Compose = false
 takes_report Layout = false
 
--- how many words stand behind a command, beside its options
+-- the number of arguments that a command takes, not counting its options
 abbrev pub count_wanted : CommandName → ℕ
 count_wanted Check = 2
 count_wanted Verify = 3
@@ -84,23 +84,23 @@ count_wanted Compose = 5
 count_wanted Layout = 2
 count_wanted App = 3
 
--- the option that a command does not take, of these that are given
+-- the given option that a command does not take
 abbrev pub needless_of : CommandName → (has_rules has_report : Bool) → Option OptionName
 needless_of name has_rules has_report =
     if has_report && not (takes_report name) then Some Report
     else (if has_rules && not (takes_rules name) then Some Rules else None)
 
--- no style of reports has the name that is given
+-- the given style is unknown
 abbrev pub wrong_style : (report : Option (List ℕ)) → Option PlainWrong
 wrong_style None = None
 wrong_style (Some word) = if is_none (style_of (Some word)) then Some (unknown_style word) else None
 
--- the one word is no number of a trial
+-- the single argument is not a valid number of a trial
 abbrev pub wrong_trial : (words : List (List ℕ)) → Option PlainWrong
 wrong_trial [] = None
 wrong_trial (word ∷ rest) = if is_none (trial_count_of word) then Some (wrong_number word) else None
 
--- what is wrong with the words of a command, of which there are as many as it takes
+-- what is wrong with the arguments of a command, if their number is right
 abbrev pub wrong_value : CommandName → (words : List (List ℕ)) (report : Option (List ℕ)) → Option PlainWrong
 wrong_value Check words report = wrong_style report
 wrong_value App words report = wrong_style report
@@ -112,7 +112,7 @@ wrong_value Migrate words report = None
 wrong_value Compose words report = None
 wrong_value Layout words report = None
 
--- what is wrong with the number of a command's words, or with one of them
+-- what is wrong with the number of a command's arguments, or with one of them
 abbrev pub wrong_count_of : CommandName → (command : List ℕ) (words : List (List ℕ)) (report : Option (List ℕ)) → Option PlainWrong
 wrong_count_of name command words report =
     if length words == count_wanted name then wrong_value name words report else Some (wrong_count command (count_wanted name) (length words))
@@ -121,7 +121,7 @@ abbrev pub or_needless : (command : List ℕ) → Option OptionName → Option P
 or_needless command (Some option) next = Some (needless_option command option)
 or_needless command None next = next
 
--- what is wrong with a command, its options and its words
+-- what is wrong with a command, its options and its arguments
 abbrev pub wrong_of : CommandName → (command : List ℕ) (words : List (List ℕ)) (rules report : Option (List ℕ)) → Option PlainWrong
 wrong_of name command words rules report =
     or_needless command (needless_of name (is_some rules) (is_some report)) (wrong_count_of name command words report)
@@ -134,11 +134,11 @@ abbrev pub wrong_with : Option (List ℕ) → (words : List (List ℕ)) (rules r
 wrong_with None words rules report = Some missing_command
 wrong_with (Some command) words rules report = wrong_named command (command_named command) words rules report
 
--- what is wrong with a line that `clap` takes
+-- what is wrong with a line that `clap` accepts
 abbrev pub wrong_on : PlainLine → Option PlainWrong
 wrong_on line = wrong_with line.command line.files line.rules line.report
 
--- ---- words that `clap` refuses
+-- ---- arguments that `clap` refuses
 
 -- the word is `--rules`, alone or with a value
 abbrev pub is_rules_word : List ℕ → Bool
@@ -152,11 +152,11 @@ is_report_word word = bytes_eq word (codes "--report") || starts_with nat_eq wor
 abbrev pub is_help_with_value : List ℕ → Bool
 is_help_with_value word = starts_with nat_eq word (codes "--help=")
 
--- the word begins with `-`, and is more than that
+-- the word begins with `-`, and is longer
 abbrev pub is_like_option : List ℕ → Bool
 is_like_option word = starts_with nat_eq word (codes "-") && not (bytes_eq word (codes "-"))
 
--- the word looks like an option, and is neither one of the two nor `--`
+-- the word looks like an option, but is neither one of the two options nor `--`
 abbrev pub is_unknown_option : List ℕ → Bool
 is_unknown_option word = is_like_option word && not (bytes_eq word (codes "--") || (is_rules_word word || is_report_word word))
 
@@ -164,21 +164,21 @@ is_unknown_option word = is_like_option word && not (bytes_eq word (codes "--") 
 abbrev pub is_bare_option : List ℕ → Bool
 is_bare_option word = bytes_eq word (codes "--rules") || bytes_eq word (codes "--report")
 
--- no value stands first among these words
+-- the first of these words is not a value
 abbrev pub lacks_value : List (List ℕ) → Bool
 lacks_value [] = true
 lacks_value (word ∷ rest) = is_like_option word
 
--- the word is an option without a value, and none stands first among those behind it
+-- the word is an option without a value, and the next word is not a value
 abbrev pub is_without_value : List ℕ → (rest : List (List ℕ)) → Bool
 is_without_value word rest = is_bare_option word && lacks_value rest
 
--- the first option without a value behind which none stands
+-- the first option that lacks its value
 unfoldable pub without_value : List (List ℕ) → Option (List ℕ)
 without_value [] = None
 without_value (word ∷ rest) = if is_without_value word rest then Some word else without_value rest
 
--- the word is one of the two options, and the words have it twice
+-- the word is one of the two options, and the option is given more than once
 abbrev pub is_repeated : List (List ℕ) → List ℕ → Bool
 is_repeated words word = is_rules_word word && nat_lt 1 (count_by is_rules_word words)
     || is_report_word word && nat_lt 1 (count_by is_report_word words)
@@ -187,7 +187,7 @@ abbrev pub or_other : (List ℕ → PlainWrong) → Option (List ℕ) → PlainW
 or_other named None = other_words
 or_other named (Some word) = named word
 
--- What is wrong with words that `clap` refuses for this cause. A word is named where one looks like what `clap` refuses.
+-- What is wrong with arguments that `clap` refuses for this cause. If an argument looks like what `clap` refuses, it is named.
 abbrev pub refused_by : ErrorKind → List (List ℕ) → PlainWrong
 refused_by kind.MissingRequiredArgument words = missing_command
 refused_by kind.UnknownArgument words = or_other unknown_option (find is_unknown_option words)
@@ -207,21 +207,21 @@ refused_by kind.Io words = other_words
 refused_by kind.Format words = other_words
 refused_by kind.OutOfMemory words = other_words
 
--- ---- all words
+-- ---- all arguments
 
--- what is wrong with words in which `clap` finds a fault of these kinds, or, where it finds none, this line
+-- what is wrong with arguments in which `clap` finds faults of these kinds, or, if it finds none, this line
 abbrev pub wrong_by : Kinds → PlainLine → List (List ℕ) → Option PlainWrong
 wrong_by [] line words = wrong_on line
 wrong_by (kind.DisplayHelp ∷ rest) line words = None
 wrong_by (cause ∷ rest) line words = Some (refused_by cause words)
 
--- what is wrong with words, if they ask for nothing
+-- what is wrong with the arguments, if they form no request
 unfoldable pub wrong_in : List (List ℕ) → Option PlainWrong
 wrong_in words = wrong_by (fault_of line_app words) (line_in (matches_of line_app words)) words
 
--- ---- what is so of it
+-- ---- properties
 
--- the word that is named of words that `clap` refuses
+-- the argument that is named, of arguments that `clap` refuses
 abbrev pub refused_word : PlainWrong → Option (List ℕ)
 refused_word (unknown_option word) = Some word
 refused_word (missing_value option) = Some option
@@ -235,7 +235,7 @@ refused_word (unknown_style word) = None
 refused_word (wrong_number word) = None
 refused_word other_words = None
 
--- where `clap` refuses words and one is named, it is one of them
+-- if `clap` refuses the arguments and one is named, it is one of them
 abbrev pub NamesOne : List (List ℕ) → Option PlainWrong → Type 0
 NamesOne words None = Unit {0}
 NamesOne words (Some wrong) = IfSome (refused_word wrong) (Contains words)

@@ -1,4 +1,4 @@
-// What a line that `clap` takes asks for: whether its command, the number of its files, its options and its style are right.
+// The request of a line that `clap` accepts: it checks the command, the number of files, the options and the style.
 ghost use Rattle.std.specs.Prelude.{◌≡◌, option_map};
 ghost use Rattle.std.specs.Char.{is_ascii_digit};
 ghost use Rattle.std.specs.List.{list_all};
@@ -17,7 +17,7 @@ use crate::parsed_arguments::{ParsedArguments, Request};
 use clap::ArgMatches;
 use report::styles::ReportStyle;
 
-// The fewest and the most functions of a trial.
+// The limits on the number of functions of a trial.
 const LEAST_COUNT: u32 = 1;
 
 const MOST_COUNT: u32 = 50_000;
@@ -36,7 +36,7 @@ pub(crate) enum CommandName {
     App,
 }
 
-/// What the line that `clap` took asks for.
+/// The meaning of a line that `clap` accepted: a request, or the usage.
 pub(crate) fn judged<'a>(matches: &ArgMatches<'a>) -> ParsedArguments<'a>
     ensures { plain_asked result ≡ request_or_usage (request_on (line_in (rows_of (found_of matches.now)))) }
 {
@@ -184,7 +184,7 @@ fn app<'a>(
     })
 }
 
-// `layout` with these words and options.
+// `layout` with these arguments and options.
 fn layout<'a>(
     words: &[&'a str],
     rules: Option<&'a str>,
@@ -198,7 +198,7 @@ fn layout<'a>(
     }
 }
 
-// The one word of a command that has no option.
+// The single argument of a command without options.
 fn lone<'a>(files: &[&'a str], rules: Option<&'a str>, report: Option<&'a str>) -> Option<&'a str>
     ensures { plain_word result ≡ lone_word (texts files.now) (plain_word rules.entry) (plain_word report.entry) }
 {
@@ -208,7 +208,7 @@ fn lone<'a>(files: &[&'a str], rules: Option<&'a str>, report: Option<&'a str>) 
     }
 }
 
-/// The command of that name.
+/// The command with this name.
 #[tactic(auto, unfolding(crate::specs::ParsedArguments::command_named))]
 pub(crate) fn command_named(word: &str) -> Option<CommandName>
     ensures { result ≡ parsed_arguments_spec.command_named word.now }
@@ -236,7 +236,7 @@ pub(crate) fn command_named(word: &str) -> Option<CommandName>
     }
 }
 
-/// The style of that name.
+/// The style with this name.
 #[tactic(auto, unfolding(crate::specs::ParsedArguments::report_style_named))]
 pub(crate) fn report_style_named(word: &str) -> Option<ReportStyle>
     ensures { result ≡ parsed_arguments_spec.report_style_named word.now }
@@ -256,7 +256,7 @@ pub(crate) fn report_style_named(word: &str) -> Option<ReportStyle>
     }
 }
 
-// The style that the words name, `text` where they name none.
+// The style that is given, or `text` if none is.
 fn style_of(report: Option<&str>) -> Option<ReportStyle>
     ensures { result ≡ parsed_arguments_spec.style_of (plain_word report.entry) }
 {
@@ -266,21 +266,21 @@ fn style_of(report: Option<&str>) -> Option<ReportStyle>
     }
 }
 
-// Whether the word is decimal digits alone.
+// Whether the word has only decimal digits.
 fn has_only_digits(word: &str) -> bool
     ensures { result ≡ list_all is_ascii_digit word.now }
 {
     word.bytes().all(|byte| byte.is_ascii_digit())
 }
 
-// Whether the word is a number in decimal without leading zeros.
+// Whether the word is a decimal number without leading zeros.
 fn is_decimal(word: &str) -> bool
     ensures { result ≡ trials.is_decimal word.now }
 {
     has_only_digits(word) && word.as_bytes().first() != Some(&b'0')
 }
 
-/// The number that the word writes, where it is one that a trial may have.
+/// The number with this decimal spelling, if a trial may have so many functions.
 #[tactic(auto, unfolding(crate::specs::Trials::trial_count_of))]
 pub(crate) fn trial_count(word: &str) -> Option<u32>
     ensures { result ≡ trial_count_of word.now }

@@ -1,5 +1,5 @@
-//! The words of the command line, read with `clap` as one simple command. What they ask for is defined in `specs/ParsedArguments.antt`, on
-//! what the model of `clap` says that it answers.
+//! The arguments of the command line, parsed with `clap` as a single command. `specs/ParsedArguments.antt` defines their meaning,
+//! based on the model of what `clap` answers.
 #![tactic(auto)]
 
 mod judge;

@@ -1,4 +1,4 @@
-// The command line as `clap` gets it, and what `clap` finds in words.
+// The command line as it is described to `clap`, and the values that `clap` finds.
 ghost use Rattle.std.specs.Prelude.{◌≡◌, map, codes, option_map, IfOk, false};
 ghost use Rattle.clap.specs.Words.{app_of, rule_of, rows_of, found_of};
 ghost use Rattle.cli_args.specs.Words.{texts};
@@ -9,27 +9,31 @@ use clap::error::ErrorKind;
 use clap::{Arg, ArgAction, ArgMatches, Command};
 use std::alloc::{AllocError, Global};
 
-/// Why `clap` takes no words.
+/// Why `clap` refuses arguments.
 #[derive(Clone, Copy, Debug, PartialEq, Eq)]
 pub(crate) enum Refused {
-    /// They ask for its help.
+    /// They request its help.
     Help,
-    /// They do not fit the line.
+    /// They do not fit the command line.
     Wrong,
     /// Memory ran out.
     NoMemory,
 }
 
-/// What stands in a line.
+/// The values in a line.
 #[derive(Clone, Copy, Debug)]
 pub(crate) struct Line<'m, 'a> {
+    /// The command, if one is given.
     pub command: Option<&'a str>,
+    /// The files, if any are given.
     pub files: Option<&'m [&'a str]>,
+    /// The value of `--rules`.
     pub rules: Option<&'a str>,
+    /// The value of `--report`.
     pub report: Option<&'a str>,
 }
 
-/// What `clap` finds in the words, or the kind of its refusal.
+/// The values that `clap` finds, or the kind of its refusal.
 pub(crate) fn found_in<'a>(alloc: Global, words: &'a [&'a str]) -> Result<ArgMatches<'a>, ErrorKind>
     ensures { Finds (texts words.entry.now) result }
 {
@@ -42,7 +46,7 @@ pub(crate) fn found_in<'a>(alloc: Global, words: &'a [&'a str]) -> Result<ArgMat
     }
 }
 
-/// What `clap` finds in the words.
+/// The values that `clap` finds, or why it refuses the arguments.
 pub(crate) fn matches_in<'a>(alloc: Global, words: &'a [&'a str]) -> Result<ArgMatches<'a>, Refused>
     ensures { Answers (texts words.entry.now) result }
 {
@@ -56,7 +60,7 @@ pub(crate) fn matches_in<'a>(alloc: Global, words: &'a [&'a str]) -> Result<ArgM
     }
 }
 
-/// What stands in the line that was found.
+/// The values in the line that `clap` found.
 pub(crate) fn line_of<'m, 'a>(matches: &'m ArgMatches<'a>) -> Line<'m, 'a>
     ensures { plain_line result ≡ line_in (rows_of (found_of matches.now)) }
 {
@@ -88,7 +92,7 @@ fn valued<'a>(alloc: Global, name: &'a str) -> Arg<'a>
     Arg::new(alloc, name).long(name).action(ArgAction::Set)
 }
 
-// The required command.
+// The command, which is required.
 fn command_word<'a>(alloc: Global) -> Arg<'a>
     ensures rule { rule_of result ≡ command_rule }
     ensures local { result.global ≡ false }
@@ -98,7 +102,7 @@ fn command_word<'a>(alloc: Global) -> Arg<'a>
         .action(ArgAction::Set)
 }
 
-// The files, of any number.
+// The files, in any number.
 fn files<'a>(alloc: Global) -> Arg<'a>
     ensures rule { rule_of result ≡ files_rule }
     ensures local { result.global ≡ false }

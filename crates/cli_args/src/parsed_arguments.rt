@@ -1,4 +1,4 @@
-// What the words ask for.
+// The meaning of the arguments.
 ghost use Rattle.std.specs.Prelude.{◌≡◌, IfOk};
 ghost use Rattle.cli_args.specs.Words.{texts};
 ghost use Rattle.cli_args.specs.ParsedArguments.{arguments_by};
@@ -10,7 +10,7 @@ use abi_base::NoMemory;
 use report::styles::ReportStyle;
 use std::alloc::Global;
 
-/// A command with its options, and the names of its inputs as the words give them.
+/// A command with its options, and the names of its inputs as they are given.
 #[derive(Clone, Copy, Debug, PartialEq, Eq)]
 pub enum Request<'a> {
     /// Whether the new library may replace the old one, with a report in this style if not.
@@ -39,14 +39,14 @@ pub enum Request<'a> {
     Trial {
         count: u32,
     },
-    /// The certificate of version 2 that this one of version 1 becomes.
+    /// The certificate of version 2 to which this one of version 1 is migrated.
     Migrate {
         rules: Option<&'a str>,
         old: &'a str,
         new: &'a str,
         certificate: &'a str,
     },
-    /// The certificate that two certificates compose, which share the middle library.
+    /// The certificate that two certificates with a common middle library compose.
     Compose {
         first: &'a str,
         middle: &'a str,
@@ -69,18 +69,18 @@ pub enum Request<'a> {
     },
 }
 
-/// What the words ask for.
+/// The meaning of the arguments.
 #[derive(Clone, Copy, Debug, PartialEq, Eq)]
 pub enum ParsedArguments<'a> {
     /// A request.
     Request(Request<'a>),
     /// The help.
     Help,
-    /// Nothing that is right: the usage answers.
+    /// An error, which is answered with the usage.
     Usage,
 }
 
-/// Reads the words after the program's name. It fails only when memory runs out.
+/// Parses the arguments after the program's name. It fails only if memory runs out.
 pub fn parse_arguments<'a>(
     alloc: Global,
     words: &'a [&'a str],

@@ -1,4 +1,4 @@
-// What is wrong with words that ask for nothing.
+// What is wrong with arguments that form no request.
 ghost use Rattle.std.specs.Prelude.{◌≡◌, ◌+◌, ◌<◌, ◌↔◌, IfOk, IsSome, count_by, drop, find, length, option_map};
 ghost use Rattle.cli_args.specs.ParsedArguments.{arguments_by, usage};
 ghost use Rattle.cli_args.specs.PlainLines.{plain_line};
@@ -22,39 +22,39 @@ pub enum OptionName {
     Report,
 }
 
-/// What is wrong with words that ask for nothing, with the word that is.
+/// What is wrong with arguments that form no request, with the argument at fault.
 #[derive(Clone, Copy, Debug, PartialEq, Eq)]
 pub enum WrongWords<'a> {
     /// No command is given.
     MissingCommand,
-    /// No command has this name.
+    /// The command is unknown.
     UnknownCommand(&'a str),
-    /// The command takes no such option.
+    /// The command does not take this option.
     NeedlessOption(&'a str, OptionName),
-    /// The command takes another number of words than it is given.
+    /// The command takes a different number of arguments.
     WrongCount {
         command: &'a str,
         wanted: usize,
         given: usize,
     },
-    /// No style of reports has this name.
+    /// The style of the report is unknown.
     UnknownStyle(&'a str),
-    /// No trial has this number.
+    /// The number of a trial is not valid.
     WrongNumber(&'a str),
-    /// No option has this name.
+    /// The option is unknown.
     UnknownOption(&'a str),
-    /// The option has no value.
+    /// The option lacks its value.
     MissingValue(&'a str),
     /// The option is given twice.
     RepeatedOption(&'a str),
     /// The option takes no value.
     NeedlessValue(&'a str),
-    /// The words fit no command, in another way than these.
+    /// The arguments are wrong in any other way.
     OtherWords,
 }
 
-/// What is wrong with the words after the program's name, and which word it is. There is nothing exactly where the words ask for
-/// something. It fails only when memory runs out.
+/// What is wrong with the arguments after the program's name, and which argument it is. It is `None` exactly if they form a request
+/// or ask for the help. It fails only if memory runs out.
 pub fn wrong_words<'a>(
     alloc: Global,
     words: &'a [&'a str],
@@ -67,7 +67,7 @@ pub fn wrong_words<'a>(
     Ok(found)
 }
 
-// What is wrong with the words.
+// What is wrong with the arguments.
 fn wrong_among<'a>(alloc: Global, words: &'a [&'a str]) -> Result<Option<WrongWords<'a>>, NoMemory>
     ensures { IfOk result (λ found. option_map plain_wrong found ≡ wrong_in (texts words.entry.now)) }
 {
@@ -81,9 +81,9 @@ fn wrong_among<'a>(alloc: Global, words: &'a [&'a str]) -> Result<Option<WrongWo
     }
 }
 
-// ---- lines that `clap` takes
+// ---- lines that `clap` accepts
 
-// What is wrong with a line that `clap` takes.
+// What is wrong with a line that `clap` accepts.
 fn wrong_line<'a>(line: Line<'_, 'a>) -> Option<WrongWords<'a>>
     ensures { option_map plain_wrong result ≡ wrong_on (plain_line line.entry) }
 {
@@ -99,7 +99,7 @@ fn wrong_line<'a>(line: Line<'_, 'a>) -> Option<WrongWords<'a>>
     wrong_count(name, command, line.files.unwrap_or(&[]), line.report)
 }
 
-// The option that a command does not take, of these that are given.
+// The given option that a command does not take.
 fn needless_option(name: CommandName, has_rules: bool, has_report: bool) -> Option<OptionName>
     ensures { result ≡ needless_of name has_rules has_report }
 {
@@ -142,7 +142,7 @@ fn takes_report(name: CommandName) -> bool
     }
 }
 
-// How many words stand behind a command, beside its options.
+// The number of arguments that a command takes, not counting its options.
 fn wanted_count(name: CommandName) -> usize
     ensures { result ≡ count_wanted name }
 {
@@ -154,7 +154,7 @@ fn wanted_count(name: CommandName) -> usize
     }
 }
 
-// What is wrong with the number of a command's words, or with one of them.
+// What is wrong with the number of a command's arguments, or with one of them.
 fn wrong_count<'a>(
     name: CommandName,
     command: &'a str,
@@ -179,7 +179,7 @@ fn wrong_count<'a>(
     }
 }
 
-// The style that is none.
+// The given style, if it is unknown.
 fn wrong_style(report: Option<&str>) -> Option<WrongWords<'_>>
     ensures { option_map plain_wrong result ≡ spec.wrong_style (plain_word report.entry) }
 {
@@ -190,7 +190,7 @@ fn wrong_style(report: Option<&str>) -> Option<WrongWords<'_>>
     }
 }
 
-// The number that no trial has.
+// The given number, if no trial may have it.
 fn wrong_number<'a>(words: &[&'a str]) -> Option<WrongWords<'a>>
     ensures { option_map plain_wrong result ≡ wrong_trial (texts words.now) }
 {
@@ -201,9 +201,9 @@ fn wrong_number<'a>(words: &[&'a str]) -> Option<WrongWords<'a>>
     }
 }
 
-// ---- words that `clap` refuses
+// ---- arguments that `clap` refuses
 
-// What is wrong with words that `clap` refuses for this cause.
+// What is wrong with arguments that `clap` refuses for this cause.
 fn refused_words<'a>(kind: ErrorKind, words: &'a [&'a str]) -> WrongWords<'a>
     ensures { plain_wrong result ≡ refused_by kind (texts words.entry.now) }
 {
@@ -250,14 +250,14 @@ fn is_help_with_value(word: &str) -> bool
     word.as_bytes().starts_with(b"--help=")
 }
 
-// Whether a word begins with `-`, and is more than that.
+// Whether a word begins with `-`, and is longer.
 fn is_like_option(word: &str) -> bool
     ensures { result ≡ spec.is_like_option word.now }
 {
     word.as_bytes().starts_with(b"-") && word != "-"
 }
 
-// Whether a word looks like an option, and is neither one of the two nor `--`.
+// Whether a word looks like an option, but is neither one of the two options nor `--`.
 fn is_unknown_option(word: &str) -> bool
     ensures { result ≡ spec.is_unknown_option word.now }
 {
@@ -271,7 +271,7 @@ fn is_bare_option(word: &str) -> bool
     word == "--rules" || word == "--report"
 }
 
-// The first word that looks like an option and is none.
+// The first word that looks like an option, but is unknown.
 fn unknown_option<'a>(words: &[&'a str]) -> Option<&'a str>
     ensures { plain_word result ≡ find spec.is_unknown_option (texts words.now) }
 {
@@ -285,7 +285,7 @@ fn help_with_value<'a>(words: &[&'a str]) -> Option<&'a str>
     words.iter().find(|word| is_help_with_value(word)).copied()
 }
 
-// Whether no value stands first among these words.
+// Whether the first of these words is not a value.
 fn lacks_value(words: &[&str]) -> bool
     ensures { result ≡ spec.lacks_value (texts words.now) }
 {
@@ -295,14 +295,14 @@ fn lacks_value(words: &[&str]) -> bool
     }
 }
 
-// Whether a word is an option without a value, and none stands first among those behind it.
+// Whether a word is an option without a value, and the next word is not a value.
 fn is_without_value(word: &str, rest: &[&str]) -> bool
     ensures { result ≡ spec.is_without_value word.now (texts rest.now) }
 {
     is_bare_option(word) && lacks_value(rest)
 }
 
-// The words behind the one at a place.
+// The words after the one at a position.
 fn words_behind<'w, 'a>(words: &'w [&'a str], index: usize) -> &'w [&'a str]
     requires { index < length words.now }
     ensures { result.now ≡ drop (index + 1) words.entry.now }
@@ -310,7 +310,7 @@ fn words_behind<'w, 'a>(words: &'w [&'a str], index: usize) -> &'w [&'a str]
     &words[index + 1..]
 }
 
-// The first option without a value behind which none stands.
+// The first option that lacks its value.
 fn option_without_value<'a>(words: &[&'a str]) -> Option<&'a str>
     ensures { plain_word result ≡ without_value (texts words.now) }
 {
@@ -323,20 +323,21 @@ fn option_without_value<'a>(words: &[&'a str]) -> Option<&'a str>
     None
 }
 
-// How many words are `--rules`, and how many `--report`.
+// The number of words that are `--rules`, alone or with a value.
 fn count_rules(words: &[&str]) -> usize
     ensures { result ≡ count_by spec.is_rules_word (texts words.now) }
 {
     words.iter().filter(|word| is_rules_word(word)).count()
 }
 
+// The number of words that are `--report`, alone or with a value.
 fn count_reports(words: &[&str]) -> usize
     ensures { result ≡ count_by spec.is_report_word (texts words.now) }
 {
     words.iter().filter(|word| is_report_word(word)).count()
 }
 
-// Whether a word is one of the two options, and the words have it twice.
+// Whether a word is one of the two options, and the option is given more than once.
 fn is_repeated(words: &[&str], word: &str) -> bool
     ensures { result ≡ spec.is_repeated (texts words.now) word.now }
 {
@@ -344,7 +345,7 @@ fn is_repeated(words: &[&str], word: &str) -> bool
         || is_report_word(word) && count_reports(words) > 1
 }
 
-// The first option that the words have twice.
+// The first option that is given more than once.
 fn repeated_option<'a>(words: &[&'a str]) -> Option<&'a str>
     ensures { plain_word result ≡ find (spec.is_repeated (texts words.now)) (texts words.now) }
 {

@@ -1,4 +1,4 @@
-// The answer of a command, built whole.
+// The answer of a command, built in memory before anything is written.
 ghost use Rattle.std.specs.Prelude.{◌≡◌, [], map, All, IfOk};
 ghost use Rattle.abi_base.specs.Causes.{SameCounts, Unfailing};
 ghost use Rattle.commands.specs.Commands.{files_of, places_of, plain_file, plain_place};
@@ -16,18 +16,18 @@ use abi_base::{Inputs, NoMemory};
 use report::Listener;
 use std::alloc::Global;
 
-/// An outcome and the text that goes with it.
+/// An outcome and its text.
 #[derive(Drop)]
 pub struct Answer<'a> {
+    /// How the run ends.
     pub outcome: Outcome,
     /// The bytes of the text.
     pub text: Vec<u8>,
-    /// The names of the inputs.
+    /// The inputs that are read, with their names.
     pub files: Vec<File<'a>>,
 }
 
-/// The answer of a command: its inputs are read whole, in order, and then it judges their bytes. It fails only when memory runs
-/// out.
+/// The answer of a command: it reads the inputs whole, in order, and then judges their bytes. It fails only if memory runs out.
 pub fn answer_with<'a, C: Command, I: Inputs>(
     alloc: Global,
     places: &[Place<'a>],
@@ -39,7 +39,7 @@ pub fn answer_with<'a, C: Command, I: Inputs>(
     requires short { AreOwnShort (places_of (C.inputs command)) }
     requires unheard { All (λ listener. heard listener ≡ []) listeners.items }
     ensures replies { IfOk result (λ a. Replies (reading_of I.told I.faults I.given I.started inputs.old inputs.new) (C.inputs command) (C.says command (map voice listeners.items)) a.outcome a.text.items) }
-    // Where no call is made to fail and all inputs tell their bytes, no count rises.
+    // If no call is made to fail and the bytes of all inputs are known, no fault count rises.
     ensures steady { Unfailing I.is_made_to_fail inputs.old → AreTold (I.told inputs.old) (places_of (C.inputs command)) → SameCounts (I.faults inputs.old) (I.faults inputs.new) }
     ensures files { IfOk result (λ a. map plain_file a.files.items ≡ files_of (places_of (C.inputs command))) }
 {
@@ -57,7 +57,7 @@ pub fn answer_with<'a, C: Command, I: Inputs>(
     }
 }
 
-// The answer where a command gives no verdict.
+// The answer of a command that gives no verdict.
 fn stopped<'a>(alloc: Global, stop: Stop, files: Vec<File<'a>>) -> Result<Answer<'a>, NoMemory>
     ensures reply { IfOk result (λ a. IsStopReply stop a.outcome a.text.items) }
     ensures files { IfOk result (λ a. a.files ≡ files.entry) }

@@ -13,25 +13,26 @@ use abi_base::Remark;
 use report::Listener;
 use std::alloc::Global;
 
-/// A verdict, what people want to know beside it, and the text that goes with it.
+/// A verdict, remarks on the inputs, and the text.
 #[derive(Drop)]
 pub struct Judgement {
+    /// The verdict.
     pub verdict: Verdict,
-    /// How many exports have no type in the debug information, where two libraries were compared.
+    /// The number of exports without a type in the debug information, if two libraries were compared.
     pub untyped: Option<Remark>,
-    /// Its bytes.
+    /// The bytes of the text.
     pub text: Vec<u8>,
 }
 
-/// A command: which inputs it wants, and what it says of their bytes.
+/// A command: the inputs that it wants, and what it says about their bytes.
 pub trait Command: Drop {
-    /// The inputs that it wants, in the order in which they are read, each with the faults that the command looks for.
+    /// The inputs that it wants, in the order in which they are read, each with the faults for which the command checks.
     ghost inputs: { Self → List Wanted };
 
-    /// What it may say of the bytes of its inputs, where none has a fault, to listeners of these voices.
+    /// What it may say about the bytes of its inputs, if none has a fault, to listeners with these voices.
     ghost says: { Self → List Voice → List (List ℕ) → AnyVerdict → Option AnyRemark → List ℕ → Type 0 };
 
-    /// What it says of these bytes of its inputs, or the first fault of them.
+    /// Judges the bytes of its inputs, or reports the first fault in them.
     fn judge(
         self,
         alloc: Global,

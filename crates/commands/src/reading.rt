@@ -40,7 +40,7 @@ fn read_one<I: Inputs>(alloc: Global, inputs: &mut I, place: &Place<'_>) -> Resu
     }
 }
 
-/// The bytes of the inputs, or why the first that cannot be read whole cannot be.
+/// The bytes of all inputs, or why the first one that cannot be read whole cannot be.
 pub(crate) fn read_all<I: Inputs>(
     alloc: Global,
     inputs: &mut I,
@@ -50,7 +50,7 @@ pub(crate) fn read_all<I: Inputs>(
     ensures told { (name : List ℕ) → I.told inputs.new name ≡ I.told inputs.old name }
     ensures later { NeverFall (I.faults inputs.old) (I.faults inputs.new) }
     ensures given { IfOk result (λ all. Gives (I.told inputs.old) (map plain_place places.now) (map items_of all.items)) }
-    // Where no call is made to fail and all inputs tell their bytes, no count rises.
+    // If no call is made to fail and the bytes of all inputs are known, no fault count rises.
     ensures steady { Unfailing I.is_made_to_fail inputs.old → AreTold (I.told inputs.old) (map plain_place places.now) → SameCounts (I.faults inputs.old) (I.faults inputs.new) }
     ensures unread { IfErr result (StopsReading (reading_of I.told I.faults I.given I.started inputs.old inputs.new) (map plain_place places.now)) }
 {

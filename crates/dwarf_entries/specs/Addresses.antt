@@ -1,5 +1,5 @@
 -- The addresses of functions and variables (DWARF 5, sections 2.17 "Code Addresses, Ranges and Base Addresses", 2.18 "Entry
--- Address" and 2.6 "Location Descriptions"), and the entry of an address.
+-- Address" and 2.6 "Location Descriptions"), and entries by address.
 use Rattle.std.specs.Prelude.{ℕ, suc, ◌+◌, ◌-◌, ◌%◌, ◌^◌, ◌==◌, ◌&&◌, ◌||◌, not, Bool, false, if◌then◌else◌, List, length, take, drop, find, slice_index_or, Option, Some, None, Result, Ok, Err, pos, negsuc}
 use Rattle.std.specs.List.{range_with_len}
 use Rattle.abi_base.specs.Dwarf.{dwarf_4, dw_op_addr, dw_op_addrx, dw_tag_subprogram, dw_tag_variable, dw_at_location, dw_at_low_pc, dw_at_declaration, dw_at_entry_pc, dw_at_ranges}
@@ -22,7 +22,7 @@ tag_at t e = (entry_at t e).tag
 abbrev pub unit_at : PlainTree → ℕ → ℕ
 unit_at t e = (entry_at t e).unit
 
--- what a reader gives for a value, where there is one
+-- what a reader gives for a value, if there is one
 abbrev pub where_there : {A B : Type 0} → (A → Result B Fault) → Option A → Result (Option B) Fault
 where_there read None = Ok None
 where_there read (Some x) = do
@@ -31,11 +31,12 @@ where_there read (Some x) = do
 
 -- ---- functions
 
--- the address of an entry's low_pc, where it has one
+-- the address of an entry's low_pc, if it has one
 unfoldable pub low_pc_of : PlainDwarf → ℕ → Result (Option ℕ) Fault
 low_pc_of d e = where_there (address_at_entry d e) (own_of d.tree e dw_at_low_pc)
 
--- The list that `ranges` gives: in version 4 an offset is that of a list of pairs of addresses. A value of another class gives none.
+-- The list to which `ranges` refers: in version 4 an offset is that of a list of address pairs. A value of another class gives
+-- none.
 abbrev pub list_of : ℕ → Option Value → Option ListAt
 list_of version (Some (value.SectionOffset place)) = Some (if version == dwarf_4 then list_at.Pairs place else list_at.Offset place)
 list_of version (Some (value.RangeIndex k)) = Some (list_at.Index k)
@@ -47,7 +48,7 @@ first_of_list d e (Some list) =
     let bases = bases_of d (unit_at d.tree e) in
     first_address_of d.sections.rnglists bases.rnglists d.sections.ranges d.sections.addr bases.addr bases.low (entry_at d.tree e).offset list
 
--- where the first range of an entry's ranges begins, if it has one
+-- the start of the first range of an entry's ranges, if there is one
 unfoldable pub first_range_of : PlainDwarf → ℕ → Result (Option ℕ) Fault
 first_range_of d e = first_of_list d e (list_of (head_at d.tree (unit_at d.tree e)).version (own_of d.tree e dw_at_ranges))
 
@@ -55,7 +56,7 @@ abbrev pub or_first_range : PlainDwarf → ℕ → Option ℕ → Result (Option
 or_first_range d e (Some low) = Ok (Some low)
 or_first_range d e None = first_range_of d e
 
--- the base address: that of low_pc, else where the first range begins
+-- the base address: low_pc, or else the start of the first range
 abbrev pub base_address_of : PlainDwarf → ℕ → Result (Option ℕ) Fault
 base_address_of d e = low_pc_of d e >>= or_first_range d e
 
@@ -64,8 +65,8 @@ abbrev pub moved_by : ℕ → ℕ → Result (Option ℕ) Fault → Result (Opti
 moved_by n wrap (Ok (Some base)) = Ok (Some ((base + n) % wrap))
 moved_by n wrap other = other
 
--- The address at which a function is entered: entry_pc, where that is an address; the base address and entry_pc, where that is
--- a constant; else the base address.
+-- The entry address of a function: entry_pc where that is an address; the base address plus entry_pc where that is a constant; else
+-- the base address.
 abbrev pub entered_at : PlainDwarf → ℕ → Option Value → Result (Option ℕ) Fault
 entered_at d e (Some (value.Address a)) = where_there (address_at_entry d e) (Some (value.Address a))
 entered_at d e (Some (value.AddressIndex k)) = where_there (address_at_entry d e) (Some (value.AddressIndex k))
@@ -81,7 +82,7 @@ abbrev pub indexed_by : Option (ℕ × ℕ) → ℕ → Option Value
 indexed_by None end = None
 indexed_by (Some (k, after)) end = if after == end then Some (value.AddressIndex k) else None
 
--- The address that an expression of one operation gives: an address, or the index of one (DWARF 5, sections 2.5.1.1 "Literal
+-- The address in an expression of one operation: an address, or the index of one (DWARF 5, sections 2.5.1.1 "Literal
 -- Encodings" and 7.7.1 "DWARF Expressions").
 abbrev pub operand_of : List ℕ → Option Value
 operand_of bytes =
@@ -96,15 +97,15 @@ location_of info other = None
 unfoldable pub variable_address_of : PlainDwarf → ℕ → Result (Option ℕ) Fault
 variable_address_of d e = where_there (address_at_entry d e) (location_of d.sections.info (own_of d.tree e dw_at_location))
 
--- ---- the entry for an address
+-- ---- entries by address
 
--- the address of a function's entry or of a variable; other entries have none
+-- the address of a function's entry point or of a variable; other entries have none
 unfoldable pub address_of_entry : PlainDwarf → ℕ → Result (Option ℕ) Fault
 address_of_entry d e =
     if tag_at d.tree e == dw_tag_subprogram then entered_at d e (own_of d.tree e dw_at_entry_pc)
     else (if tag_at d.tree e == dw_tag_variable then variable_address_of d e else Ok None)
 
--- the same, and none where it has a fault
+-- the same, or None where it has a fault
 abbrev pub or_none : Result (Option ℕ) Fault → Option ℕ
 or_none (Ok address) = address
 or_none (Err fault) = None
@@ -112,7 +113,7 @@ or_none (Err fault) = None
 abbrev pub entry_address_of : PlainDwarf → ℕ → Option ℕ
 entry_address_of d e = or_none (address_of_entry d e)
 
--- a declaration has a flag of its own
+-- a flag that is set
 abbrev pub is_true : Option Value → Bool
 is_true None = false
 is_true (Some v) = flag_holds v
@@ -120,7 +121,7 @@ is_true (Some v) = flag_holds v
 abbrev pub is_declared_only : PlainTree → ℕ → Bool
 is_declared_only t e = is_true (own_of t e dw_at_declaration)
 
--- a function or a variable directly in its unit, which is no declaration
+-- a function or a variable directly in its unit, not a declaration
 unfoldable pub is_defined : PlainTree → ℕ → Bool
 is_defined t e =
     (entry_at t e).depth == 1
@@ -130,11 +131,11 @@ abbrev pub is_some_number : ℕ → Option ℕ → Bool
 is_some_number n (Some m) = m == n
 is_some_number n None = false
 
--- it is an entry of an address: it is defined there, in a unit that is not written in assembler
+-- an entry is at an address: it is defined there, in a unit that is not written in assembler
 unfoldable pub is_typed_at : PlainDwarf → ℕ → ℕ → Bool
 is_typed_at d address e =
     is_defined d.tree e && (not (is_assembler d.tree (unit_at d.tree e)) && is_some_number address (entry_address_of d e))
 
--- the first entry of an address
+-- the first entry at an address
 unfoldable pub typed_of : PlainDwarf → ℕ → Option ℕ
 typed_of d address = find (is_typed_at d address) (range_with_len 0 (length d.tree.entries))

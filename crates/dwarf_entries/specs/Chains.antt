@@ -14,7 +14,7 @@ use Rattle.dwarf_entries.specs.declared.link.Link.{Link}
 use Rattle.dwarf_entries.specs.declared.link.Link.TheVariants.{Missing, Nowhere, To}
 use Rattle.dwarf_entries.specs.Debug.{PlainDwarf, text_at_entry}
 
--- the supported tags; entries with other tags keep their place in the tree, and nothing is read from them
+-- the supported tags; entries with other tags are part of the tree, but their attributes are not used
 abbrev pub read_tags : List ℕ
 read_tags =
     dw_tag_array_type
@@ -44,17 +44,17 @@ read_tags =
 unfoldable pub is_read_tag : ℕ → Bool
 is_read_tag tag = list_any (λ t. t == tag) read_tags
 
--- ---- what references refer to
+-- ---- the targets of references
 
 abbrev pub has_signature : ℕ → Head → Bool
 has_signature signature head = option_map_or (λ s. s == signature) head.signature false
 
--- The entry of a signature: that of the type of the first type unit with this signature (DWARF 5, sections 3.1.4 "Type Unit
+-- The entry for a signature: the type entry of the first type unit with this signature (DWARF 5, sections 3.1.4 "Type Unit
 -- Entries" and 7.32 "Type Signature Computation").
 unfoldable pub signed_of : PlainTree → ℕ → Option ℕ
 signed_of t signature = option_map_or (λ unit. entry_of t (head_at t unit).type_entry) (position (has_signature signature) t.units) None
 
--- the entry that a value refers to (DWARF 5, section 7.5.5 "Classes and Forms", class reference)
+-- the entry to which a value refers (DWARF 5, section 7.5.5 "Classes and Forms", class reference)
 abbrev pub target_of : PlainTree → Value → Option ℕ
 target_of t (value.Reference offset) = entry_of t offset
 target_of t (value.Signature signature) = signed_of t signature
@@ -62,21 +62,21 @@ target_of t other = None
 
 -- ---- the chain
 
--- the link of an attribute that refers to an entry, or to none; there is no link to an entry with an unsupported tag
+-- the link that an attribute makes, to an entry or nowhere; an entry with an unsupported tag gets no link
 abbrev pub link_to : PlainTree → Option ℕ → Link
 link_to t None = Nowhere
 link_to t (Some f) = if is_read_tag (entry_at t f).tag then To f else Missing
 
--- the link of an attribute that an entry has, or lacks
+-- the link that an attribute makes, where the entry may lack it
 abbrev pub read_link : PlainTree → Option Value → Link
 read_link t None = Missing
 read_link t (Some v) = link_to t (target_of t v)
 
--- the link of an attribute of an entry
+-- the link that an attribute of an entry makes
 abbrev pub link_by : PlainTree → ℕ → ℕ → Link
 link_by t e name = read_link t (own_of t e name)
 
--- there is a link, and it refers to no entry
+-- there is a link, but to no entry
 abbrev pub is_nowhere : Link → Bool
 is_nowhere Nowhere = true
 is_nowhere (To f) = false
@@ -88,7 +88,7 @@ linked (To f) = Some f
 linked Nowhere = None
 linked Missing = None
 
--- the entry of the first of two links, or of the second where the first is missing
+-- the entry of the first link, or of the second where the first is missing
 abbrev pub either_link : Link → Link → Option ℕ
 either_link Missing other = linked other
 either_link Nowhere other = None
@@ -98,7 +98,7 @@ either_link (To f) other = Some f
 unfoldable pub link_of : PlainTree → ℕ → Option ℕ
 link_of t e = either_link (link_by t e dw_at_abstract_origin) (link_by t e dw_at_specification)
 
--- the entry after a number of links
+-- the entry after this many links
 unfoldable pub after_links : PlainTree → ℕ → ℕ → Option ℕ
 after_links t e zero = Some e
 after_links t e (suc n) = option_map_or (link_of t) (after_links t e n) None
@@ -107,7 +107,7 @@ after_links t e (suc n) = option_map_or (link_of t) (after_links t e n) None
 abbrev pub is_too_deep : PlainTree → ℕ → Bool
 is_too_deep t e = is_some (after_links t e (chain_limit + 1))
 
--- an entry and the entries that its links lead to, at most a number of entries
+-- an entry and those to which its links lead, at most this many in all
 abbrev pub chain_within : PlainTree → ℕ → ℕ → List ℕ
 chain_within t e entries = filter_map (after_links t e) (range_with_len 0 entries)
 
@@ -123,15 +123,15 @@ origin_of t e = slice_index_or (chain_of t e) (length (chain_of t e) - 1) e
 unfoldable pub holder_of : PlainTree → ℕ → ℕ → Option ℕ
 holder_of t e name = find (λ f. is_some (own_of t f name)) (chain_of t e)
 
--- The attributes that apply to the entry itself: its addresses in the program, and that it is only declared. The others are
--- inherited along the chain.
+-- The attributes that apply only to the entry itself: its addresses in the program, and whether it is a declaration. The others
+-- are inherited along the chain.
 abbrev pub own_attributes : List ℕ
 own_attributes = dw_at_low_pc ∷ dw_at_ranges ∷ dw_at_entry_pc ∷ dw_at_location ∷ dw_at_declaration ∷ []
 
 unfoldable pub is_own_attribute : ℕ → Bool
 is_own_attribute name = list_any (λ a. a == name) own_attributes
 
--- the value of an attribute of an entry: its own, where the attribute applies to the entry itself, else along the chain
+-- the value of an attribute of an entry: its own if the attribute is not inherited, else that of the chain
 abbrev pub attribute_along : PlainTree → ℕ → ℕ → Option Value
 attribute_along t e name =
     if is_own_attribute name then own_of t e name else option_map_or (λ f. own_of t f name) (holder_of t e name) None
@@ -142,7 +142,7 @@ abbrev pub known : {A E : Type 0} → Result A E → Option A
 known (Ok x) = Some x
 known (Err e) = None
 
--- the text of an attribute of an entry itself, where it has the attribute
+-- the string of an attribute of an entry itself, if it has the attribute
 abbrev pub own_text : PlainDwarf → ℕ → ℕ → Option (Result (List ℕ) Fault)
 own_text d e name = option_map (text_at_entry d e) (own_of d.tree e name)
 

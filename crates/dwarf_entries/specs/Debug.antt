@@ -1,5 +1,4 @@
--- The debug information of a file: the bytes of its sections, and the tree of its entries; and what the root of a unit says of
--- the unit.
+-- The debug information of a file: the bytes of its sections, the tree of its entries, and the context that a unit's root gives.
 use Rattle.std.specs.Prelude.{ℕ, ◌==◌, Bool, false, List, Option, Some, None, Result, Ok, Err, pos}
 use Rattle.std.specs.Option.{option_map_or}
 use Rattle.abi_base.specs.Dwarf.{dw_at_low_pc, dw_at_language, dw_at_str_offsets_base, dw_at_addr_base, dw_at_rnglists_base, dw_lang_mips_assembler}
@@ -11,7 +10,7 @@ use Rattle.dwarf_text.specs.declared.bases.Bases.{Bases}
 use Rattle.dwarf_text.specs.Texts.{text_of, address_of}
 use Rattle.dwarf_tree.specs.Trees.{PlainTree, entry_at, own_of, root_of, tree_of}
 
--- the bytes of the sections of debug information
+-- the bytes of the debug sections
 pub record PlainSections : Type 0 where
   pub info : List ℕ
   pub abbrev_ : List ℕ
@@ -42,13 +41,13 @@ plain_sections s = record {
   ranges = s.ranges.now;
 }
 
--- ---- what the root of a unit says (DWARF 5, section 3.1.1 "Full and Partial Compilation Unit Entries")
+-- ---- the context of a unit, from its root (DWARF 5, section 3.1.1 "Full and Partial Compilation Unit Entries")
 
 -- the first value of an attribute of the root of a unit
 abbrev pub root_own : PlainTree → ℕ → ℕ → Option Value
 root_own t unit name = option_map_or (λ root. own_of t root name) (root_of t unit) None
 
--- a place in another section; a value of another class gives none
+-- an offset into another section; a value of another class has none
 abbrev pub section_offset : Option Value → Option ℕ
 section_offset (Some (value.SectionOffset place)) = Some place
 section_offset other = None
@@ -56,16 +55,16 @@ section_offset other = None
 abbrev pub base_of : PlainTree → ℕ → ℕ → Option ℕ
 base_of t unit name = section_offset (root_own t unit name)
 
--- the address of a value, or 0 where it has none
+-- the address of a value, or 0 where there is none
 abbrev pub address_or_zero : Result ℕ Fault → ℕ
 address_or_zero (Ok address) = address
 address_or_zero (Err fault) = 0
 
--- the address from which ranges of addresses count: the root's low_pc, or 0
+-- the base address of a unit's ranges: the root's low_pc, or 0
 abbrev pub low_of : PlainDwarf → ℕ → ℕ
 low_of d unit = option_map_or (λ v. address_or_zero (address_of d.sections.addr (base_of d.tree unit dw_at_addr_base) 0 v)) (root_own d.tree unit dw_at_low_pc) 0
 
--- where a unit's parts of other sections begin
+-- the bases of a unit's parts of other sections
 unfoldable pub bases_of : PlainDwarf → ℕ → Bases
 bases_of d unit = record {
   str_offsets = base_of d.tree unit dw_at_str_offsets_base;
@@ -83,7 +82,7 @@ is_number n other = false
 unfoldable pub is_assembler : PlainTree → ℕ → Bool
 is_assembler t unit = is_number dw_lang_mips_assembler (root_own t unit dw_at_language)
 
--- ---- texts and addresses, by the bases of an entry's unit
+-- ---- strings and addresses, from the bases of an entry's unit
 
 unfoldable pub text_at_entry : PlainDwarf → ℕ → Value → Result (List ℕ) Fault
 text_at_entry d e v =

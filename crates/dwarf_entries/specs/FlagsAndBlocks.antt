@@ -6,7 +6,7 @@ use Rattle.dwarf_tree.specs.Trees.{PlainTree}
 use Rattle.dwarf_entries.specs.Addresses.{is_true}
 use Rattle.dwarf_entries.specs.Chains.{attribute_along}
 
--- a flag of an entry, itself or along the chain; a value of another class counts as none
+-- a flag of an entry, its own or inherited; a value of another class does not count
 abbrev pub flag_value_along : PlainTree → ℕ → ℕ → Bool
 flag_value_along t e name = is_true (attribute_along t e name)
 

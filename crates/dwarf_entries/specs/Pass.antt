@@ -1,4 +1,4 @@
--- The faults of entries that are checked after all entries are read: each entry's own, in order of offset.
+-- The faults in the attributes of entries, found after all entries are read, by offset.
 use Rattle.std.specs.Prelude.{ℕ, ◌==◌, ◌||◌, ◌&&◌, Bool, false, if◌then◌else◌, is_none, List, [], ◌∷◌, length, map, Option, Some, None}
 use Rattle.std.specs.List.{range_with_len, list_any}
 use Rattle.abi_base.specs.Dwarf.{dw_tag_enumeration_type, dw_tag_structure_type, dw_tag_union_type, dw_tag_subprogram, dw_at_name, dw_at_low_pc, dw_at_abstract_origin, dw_at_specification, dw_at_type, dw_at_entry_pc, dw_at_signature}
@@ -16,17 +16,17 @@ use Rattle.dwarf_entries.specs.Debug.{PlainSections, PlainDwarf, dwarf_of, text_
 use Rattle.dwarf_entries.specs.Chains.{is_read_tag, signed_of, target_of, is_too_deep}
 use Rattle.dwarf_entries.specs.Addresses.{where_there, tag_at, low_pc_of, first_range_of, variable_address_of, is_defined}
 
--- the fault, if it is of a kind
+-- the fault, if it has this kind
 abbrev pub of_kind : FaultKind → Option Fault → Option Fault
 of_kind kind None = None
 of_kind kind (Some fault) = if fault_number fault.kind == fault_number kind then Some fault else None
 
--- ---- the faults of texts and addresses
+-- ---- the faults of strings and addresses
 
 abbrev pub name_fault : PlainDwarf → ℕ → Option Fault
 name_fault d e = fault_of (where_there (text_at_entry d e) (own_of d.tree e dw_at_name))
 
--- an entry_pc that is an address; a constant alone is none
+-- an entry_pc that is an address; a constant is not one by itself
 abbrev pub entry_pc_address : Option Value → Option Value
 entry_pc_address (Some (value.Address a)) = Some (value.Address a)
 entry_pc_address (Some (value.AddressIndex k)) = Some (value.AddressIndex k)
@@ -36,7 +36,7 @@ entry_pc_address other = None
 abbrev pub ranges_fault : PlainDwarf → ℕ → Option Fault
 ranges_fault d e = if is_none (own_of d.tree e dw_at_low_pc) then fault_of (first_range_of d e) else None
 
--- the faults of all attributes that give the address of a function
+-- the faults of all attributes that determine the address of a function
 abbrev pub function_faults : PlainDwarf → ℕ → List (Option Fault)
 function_faults d e =
     fault_of (low_pc_of d e)
@@ -44,8 +44,8 @@ function_faults d e =
     ∷ fault_of (where_there (address_at_entry d e) (entry_pc_address (own_of d.tree e dw_at_entry_pc)))
     ∷ []
 
--- The faults of the addresses of an entry: of a root that of its low_pc, and of a function or a variable directly in the unit,
--- which is no declaration, those of all attributes that give its address.
+-- The faults of an entry's addresses: for a root that of its low_pc; for a function or a variable directly in the unit that is not
+-- a declaration, those of all attributes that determine its address.
 unfoldable pub address_faults : PlainDwarf → ℕ → List (Option Fault)
 address_faults d e =
     if (entry_at d.tree e).depth == 0 then fault_of (low_pc_of d e) ∷ []
@@ -55,7 +55,7 @@ address_faults d e =
 
 -- ---- the faults of references
 
--- an entry has an attribute that refers to no entry
+-- whether an entry has an attribute that refers to no entry
 abbrev pub refers_nowhere : PlainTree → Option Value → Bool
 refers_nowhere t None = false
 refers_nowhere t (Some v) = is_none (target_of t v)
@@ -64,7 +64,7 @@ refers_nowhere t (Some v) = is_none (target_of t v)
 abbrev pub references : List ℕ
 references = dw_at_type ∷ dw_at_abstract_origin ∷ dw_at_specification ∷ []
 
--- a structure, a union or an enumeration that a type unit defines, by its signature, and there is no such unit
+-- a structure, a union or an enumeration, which a type unit may define by signature
 abbrev pub is_signed : ℕ → Bool
 is_signed tag = tag == dw_tag_structure_type || (tag == dw_tag_union_type || tag == dw_tag_enumeration_type)
 
@@ -77,9 +77,9 @@ has_bad_reference t e =
     list_any (λ name. refers_nowhere t (own_of t e name)) references
     || (is_signed (tag_at t e) && lacks_unit t (own_of t e dw_at_signature))
 
--- ---- the fault of an entry
+-- ---- the faults of an entry
 
--- its rows, in order: its text, its indexes, its references, the length of its chain, its ranges
+-- its rows, in order: strings, indexes, references, the length of its chain, ranges
 unfoldable pub entry_rows : PlainDwarf → ℕ → List (Option Fault)
 entry_rows d e =
     of_kind kind.Text (name_fault d e)
@@ -89,7 +89,7 @@ entry_rows d e =
     ∷ first (map (of_kind kind.Ranges) (address_faults d e))
     ∷ []
 
--- an entry's own fault: the first of its rows, where its tag is supported
+-- an entry's own fault: the first of its rows, if its tag is supported
 unfoldable pub entry_fault : PlainDwarf → ℕ → Option Fault
 entry_fault d e = if is_read_tag (tag_at d.tree e) then first (entry_rows d e) else None
 
@@ -97,6 +97,6 @@ entry_fault d e = if is_read_tag (tag_at d.tree e) then first (entry_rows d e) e
 unfoldable pub own_fault : PlainDwarf → Option Fault
 own_fault d = first (map (entry_fault d) (range_with_len 0 (length d.tree.entries)))
 
--- The first fault of the debug information: that of the units and entries that are read, else that of what entries say.
+-- The first fault of the debug information: one in the structure of units and entries, or else in the attributes of entries.
 unfoldable pub dwarf_fault : PlainSections → Option Fault
 dwarf_fault s = first (entries_fault s.info s.abbrev_ ∷ own_fault (dwarf_of s) ∷ [])

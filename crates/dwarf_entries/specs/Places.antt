@@ -1,4 +1,4 @@
--- Maps from numbers to the first place of each.
+-- Maps from numbers to the first position of each.
 use Rattle.std.specs.Prelude.{◌≡◌, ℕ, Option, position}
 use Rattle.std.specs.BTreeMap.{BTreeMap, get}
 use Rattle.std.specs.Ordering.{nat_cmp}
@@ -13,10 +13,10 @@ Places = BTreeMap ℕ ℕ
 abbrev pub place_under : Places → ℕ → Option ℕ
 place_under places number = get nat_cmp places number
 
--- The map has under each signature the first unit with it.
+-- The map has the first unit with each signature.
 pub record HoldUnits (places : Places) (t : PlainTree) : Type 0 where
   pub first : (signature : ℕ) → place_under places signature ≡ position (has_signature signature) t.units
 
--- The map has under each address its first entry.
+-- The map has the first entry at each address.
 pub record HoldEntries (places : Places) (d : PlainDwarf) : Type 0 where
   pub first : (address : ℕ) → place_under places address ≡ typed_of d address

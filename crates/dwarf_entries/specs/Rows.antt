@@ -1,4 +1,4 @@
--- The rows of an entry in the parts of their check: most entries have no addresses, and of these only the name and the references
+-- The rows of an entry, split as the code checks them: for most entries, which have no addresses, only the name and the references
 -- are checked.
 use Rattle.std.specs.Prelude.{ℕ, ◌==◌, ◌||◌, Bool, List, [], ◌∷◌, ◌++◌, map, Option}
 use Rattle.abi_base.specs.declared.fault.Fault.{Fault}
@@ -10,7 +10,7 @@ use Rattle.dwarf_entries.specs.Chains.{is_too_deep}
 use Rattle.dwarf_entries.specs.Debug.{PlainDwarf}
 use Rattle.dwarf_entries.specs.Pass.{address_faults, has_bad_reference, name_fault, of_kind}
 
--- a root, or a function or a variable that is defined
+-- a root, or a function or a variable that is defined here
 abbrev pub are_addresses_asked : PlainTree → ℕ → Bool
 are_addresses_asked t e = (entry_at t e).depth == 0 || is_defined t e
 

@@ -1,4 +1,4 @@
--- What the root of a unit says, as the code keeps it.
+-- The contexts of units that the code stores.
 use Rattle.std.specs.Prelude.{◌≡◌, ℕ, List, length, map}
 use Rattle.std.specs.List.{range_with_len}
 use Rattle.dwarf_entries.specs.declared.unit_context.UnitContext.{UnitContext}
@@ -9,7 +9,7 @@ use Rattle.dwarf_entries.specs.Debug.{PlainSections, PlainDwarf, bases_of, is_as
 abbrev pub debug : PlainSections → PlainTree → PlainDwarf
 debug s t = record { sections = s; tree = t }
 
--- what the root of a unit says
+-- the context of a unit, from its root
 unfoldable pub told_of : PlainDwarf → ℕ → UnitContext
 told_of d unit = record { bases = bases_of d unit; is_assembler = is_assembler d.tree unit }
 
@@ -17,7 +17,7 @@ told_of d unit = record { bases = bases_of d unit; is_assembler = is_assembler d
 abbrev pub all_told : PlainDwarf → List UnitContext
 all_told d = map (told_of d) (range_with_len 0 (length d.tree.units))
 
--- the context that the code keeps is right: what the root of each unit says, and where the texts of `.debug_str` end
+-- the stored context is right: that of each unit, and the end of the last string in `.debug_str`
 pub record IsSource (units : List UnitContext) (str_end : ℕ) (d : PlainDwarf) : Type 0 where
   pub units_told : units ≡ all_told d
   pub texts : TextsEnd d.sections.str str_end

@@ -19,7 +19,7 @@ use dwarf_text::ranges::{ListAt, first_address};
 use dwarf_tree::Tree;
 use dwarf_units::constants::DWARF_4;
 
-// The address of a value of an entry, where there is a value.
+// The address of a value of an entry, if there is a value.
 pub(crate) fn address_where_there(
     source: &Source,
     e: usize,
@@ -46,7 +46,7 @@ pub(crate) fn low_pc(source: &Source, e: usize) -> Result<Option<u64>, Fault>
     address_where_there(source, e, source.tree().own(e, DW_AT_low_pc))
 }
 
-// The list of ranges that a value gives.
+// The range list to which a value refers.
 pub(crate) fn list_of(version: u16, value: Option<Value>) -> Option<ListAt>
     ensures { result ≡ spec.list_of version value }
 {
@@ -63,7 +63,7 @@ pub(crate) fn list_of(version: u16, value: Option<Value>) -> Option<ListAt>
     }
 }
 
-// Where the first range of a list of an entry begins.
+// The start of the first range of an entry's list.
 #[tactic(auto, unfolding(crate::specs::UnitContext::told_of))]
 fn first_of_list(source: &Source, e: usize, list: ListAt) -> Result<Option<u64>, Fault>
     requires { e < length source.now.tree.entries }
@@ -78,7 +78,7 @@ fn first_of_list(source: &Source, e: usize, list: ListAt) -> Result<Option<u64>,
     )
 }
 
-// Where the first range of an entry's `DW_AT_ranges` begins.
+// The start of the first range of an entry's `DW_AT_ranges`.
 #[tactic(auto, unfolding(crate::specs::Addresses::first_range_of))]
 pub(crate) fn first_range(source: &Source, e: usize) -> Result<Option<u64>, Fault>
     requires { e < length source.now.tree.entries }
@@ -102,7 +102,7 @@ fn base_address(source: &Source, e: usize) -> Result<Option<u64>, Fault>
     }
 }
 
-// The address at an offset from the base address of an entry.
+// The address at an offset from an entry's base address.
 fn behind_base(source: &Source, e: usize, distance: u64) -> Result<Option<u64>, Fault>
     requires { e < length source.now.tree.entries }
     ensures { result ≡ moved_by distance (2 ^ 64) (base_address_of source.now e) }
@@ -113,7 +113,7 @@ fn behind_base(source: &Source, e: usize, distance: u64) -> Result<Option<u64>, 
     }
 }
 
-// The address at which a function is entered, by its `DW_AT_entry_pc`.
+// The entry address of a function, from its `DW_AT_entry_pc`.
 fn entry_by(source: &Source, e: usize, entry_pc: Option<Value>) -> Result<Option<u64>, Fault>
     requires { e < length source.now.tree.entries }
     ensures { result ≡ entered_at source.now e entry_pc }
@@ -127,7 +127,7 @@ fn entry_by(source: &Source, e: usize, entry_pc: Option<Value>) -> Result<Option
     }
 }
 
-// The index of an address, where it ends at the end of its expression.
+// The index of an address, if it ends where its expression does.
 fn indexed(read: Option<(u64, usize)>, end: usize) -> Option<Value>
     ensures { result ≡ indexed_by read end }
 {
@@ -143,7 +143,7 @@ fn indexed(read: Option<(u64, usize)>, end: usize) -> Option<Value>
     }
 }
 
-// The address that an expression of one operation gives.
+// The address in an expression of one operation.
 fn operand(bytes: &[u8]) -> Option<Value>
     ensures { result ≡ operand_of bytes.now }
 {
@@ -160,7 +160,7 @@ fn operand(bytes: &[u8]) -> Option<Value>
     None
 }
 
-// The bytes from a place on and before another one that are inside the section.
+// The bytes from one offset up to another that are inside the section.
 pub(crate) fn part(bytes: &[u8], from: u64, to: u64) -> &[u8]
     ensures { result.now ≡ take (to - from) (drop from bytes.now) }
 {
@@ -176,7 +176,7 @@ pub(crate) fn part(bytes: &[u8], from: u64, to: u64) -> &[u8]
     }
 }
 
-// The address that a location gives.
+// The address in a location.
 fn location(info: &[u8], value: Option<Value>) -> Option<Value>
     ensures { result ≡ location_of info.now value }
 {
@@ -196,7 +196,7 @@ pub(crate) fn variable_address(source: &Source, e: usize) -> Result<Option<u64>,
     address_where_there(source, e, said)
 }
 
-// The address of a function's entry or of a variable.
+// The address of a function's entry point or of a variable.
 #[tactic(auto, unfolding(crate::specs::Addresses::address_of_entry))]
 fn address(source: &Source, e: usize) -> Result<Option<u64>, Fault>
     requires { e < length source.now.tree.entries }
@@ -212,7 +212,7 @@ fn address(source: &Source, e: usize) -> Result<Option<u64>, Fault>
     Ok(None)
 }
 
-// The same, and none where it has a fault.
+// The same, or None where it has a fault.
 pub(crate) fn entry_address(source: &Source, e: usize) -> Option<u64>
     requires { e < length source.now.tree.entries }
     ensures { result ≡ entry_address_of source.now e }
@@ -223,7 +223,7 @@ pub(crate) fn entry_address(source: &Source, e: usize) -> Option<u64>
     }
 }
 
-// Whether there is a flag and it holds.
+// Whether there is a flag and it is set.
 pub(crate) fn is_true(value: Option<Value>) -> bool
     ensures { result ≡ spec.is_true value }
 {
@@ -233,7 +233,7 @@ pub(crate) fn is_true(value: Option<Value>) -> bool
     }
 }
 
-// Whether an entry itself has a flag that says that it is a declaration.
+// Whether an entry itself has a flag that marks it as a declaration.
 pub(crate) fn is_declared_only(tree: &Tree<'_>, e: usize) -> bool
     requires { e < length tree.now.entries }
     ensures { result ≡ only_declares tree.now e }
@@ -241,7 +241,7 @@ pub(crate) fn is_declared_only(tree: &Tree<'_>, e: usize) -> bool
     is_true(tree.own(e, DW_AT_declaration))
 }
 
-// Whether an entry is a function or a variable of its unit itself, and no declaration.
+// Whether an entry is a function or a variable directly in its unit, and is not a declaration.
 #[tactic(auto, unfolding(crate::specs::Addresses::is_defined))]
 pub(crate) fn is_defined(tree: &Tree<'_>, e: usize) -> bool
     requires { e < length tree.now.entries }

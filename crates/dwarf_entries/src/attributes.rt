@@ -1,4 +1,4 @@
-// Which attributes apply to an entry itself.
+// The attributes that apply only to an entry itself.
 ghost use Rattle.std.specs.Prelude.{◌≡◌};
 ghost use Rattle.dwarf_entries.specs.Chains.{is_own_attribute as speaks_of_itself};
 

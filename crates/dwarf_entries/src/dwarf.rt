@@ -26,12 +26,12 @@ use std::alloc::Global;
 use std::collections::BTreeMap;
 use std::marker::Model;
 
-/// The debug information of a file, in which no entry has a fault. Contracts see it as a `PlainDwarf`. A position counts the
+/// The debug information of a file, in which no entry has a fault. Contracts see it as a `PlainDwarf`. A position numbers the
 /// entries from 0, and is below `len`.
 #[derive(Drop)]
 pub struct Dwarf<'a> {
     source: Source<'a>,
-    // the first entry of each address
+    // the first entry at each address
     typed: BTreeMap<u64, usize>,
 }
 
@@ -47,8 +47,8 @@ impl<'a> Model for Dwarf<'a> {
     ghost invariant = { λ d. IsWhole d.typed d.source };
 }
 
-/// The debug information of a file: all entries of all units, in order of offset. The fault is the first one of the units and
-/// entries that are read, or, where these have none, of what entries say, in order of offset.
+/// The debug information of a file: all entries of all units, by offset. Err is the first fault in the structure of units and
+/// entries or, if there is none, the first fault by offset in the attributes of entries.
 #[tactic(auto, unfolding(crate::specs::Pass::dwarf_fault))]
 pub fn tree<'a>(alloc: Global, sections: Sections<'a>) -> Result<Dwarf<'a>, Refusal>
     ensures judged { Judges result (dwarf_fault (plain_sections sections.entry)) }
@@ -69,14 +69,14 @@ pub fn tree<'a>(alloc: Global, sections: Sections<'a>) -> Result<Dwarf<'a>, Refu
 }
 
 impl<'a> Dwarf<'a> {
-    /// How many entries there are.
+    /// The number of entries.
     pub fn len(&self) -> usize
         ensures { result ≡ length self.now.tree.entries }
     {
         self.source.len()
     }
 
-    /// Where an entry begins in `.debug_info`.
+    /// The offset of an entry in `.debug_info`.
     pub fn offset(&self, e: usize) -> u64
         requires { e < length self.now.tree.entries }
         ensures { result ≡ (entry_at self.now.tree e).offset }
@@ -103,7 +103,7 @@ impl<'a> Dwarf<'a> {
         self.source.tree().next_child(e, after)
     }
 
-    /// The children of an entry that have a tag, in order.
+    /// The children of an entry with a tag, in order.
     pub fn tagged(&self, alloc: Global, e: usize, tag: u64) -> Result<Vec<usize>, NoMemory>
         requires { e < length self.now.tree.entries }
         ensures children { IfOk result (λ list. list.items ≡ filter (is_tagged self.now.tree tag) (children_of self.now.tree e)) }
@@ -113,8 +113,8 @@ impl<'a> Dwarf<'a> {
         self.source.tree().tagged(alloc, e, tag)
     }
 
-    /// Does nothing. Its contract says what holds of all debug information that was read: its sections have no fault, and it is
-    /// what they say; its entries are in order, none at 0, they are fewer than 2^32, and none has a fault.
+    /// The invariants of all debug information that was read, as a contract: its sections have no fault, and it is that of its
+    /// sections. Offsets of its entries ascend, and none is 0. There are fewer than 2^32 entries, none with a fault. Does nothing.
     pub fn known(&self)
         ensures faultless { dwarf_fault self.now.sections ≡ None }
         ensures read { self.now ≡ dwarf_of self.now.sections }
@@ -124,7 +124,7 @@ impl<'a> Dwarf<'a> {
         self.source.tree().known();
     }
 
-    /// The first value of an attribute of an entry itself, and none where it has none.
+    /// The first value of an attribute of an entry itself, or None where it has none.
     pub fn own(&self, e: usize, name: u64) -> Option<Value>
         requires { e < length self.now.tree.entries }
         ensures { result ≡ own_of self.now.tree e name }
@@ -132,7 +132,7 @@ impl<'a> Dwarf<'a> {
         self.source.tree().own(e, name)
     }
 
-    /// The position of the entry that begins at an offset. None exactly where no entry begins there.
+    /// The position of the entry at an offset. None exactly where no entry begins there.
     pub fn find(&self, offset: u64) -> Option<usize>
         ensures found { result ≡ entry_of self.now.tree offset }
         ensures inside { IfSome result (λ e. e < length self.now.tree.entries) }
@@ -140,8 +140,8 @@ impl<'a> Dwarf<'a> {
         self.source.tree().find(offset)
     }
 
-    /// The entry that a value refers to: the one that begins at its place, or the one of the type of the first type unit with its
-    /// signature. None exactly where there is no such entry, and where the value is no reference.
+    /// The entry to which a value refers: the one at its offset, or the type entry of the first type unit with its signature. None
+    /// exactly where there is no such entry, and where the value is not a reference.
     pub fn target(&self, value: &Value) -> Option<usize>
         ensures found { result ≡ target_of self.now.tree value.now }
         ensures inside { IfSome result (λ e. e < length self.now.tree.entries) }
@@ -149,8 +149,8 @@ impl<'a> Dwarf<'a> {
         self.source.links().target(value)
     }
 
-    /// The value of an attribute of an entry, its own or inherited along the chain of entries that it refers to by
-    /// `DW_AT_abstract_origin`, else by `DW_AT_specification`. `DW_AT_low_pc`, `DW_AT_ranges`, `DW_AT_entry_pc`,
+    /// The value of an attribute of an entry, its own or inherited. The chain of inheritance follows
+    /// `DW_AT_abstract_origin`, or else `DW_AT_specification`. `DW_AT_low_pc`, `DW_AT_ranges`, `DW_AT_entry_pc`,
     /// `DW_AT_location` and `DW_AT_declaration` apply to the entry itself, and are not inherited.
     #[inline(always)]
     pub fn attr(&self, e: usize, name: u64) -> Option<Value>
@@ -160,8 +160,8 @@ impl<'a> Dwarf<'a> {
         self.source.links().attr(e, name)
     }
 
-    /// The entry that the value of an attribute refers to: `target` of the value that `attr` gives, but faster than the two calls.
-    /// None exactly where there is no such value, and where it refers to no entry.
+    /// The entry to which the value of an attribute refers: `target` of `attr`, but faster. None exactly where there is no such
+    /// value, or it refers to no entry.
     pub fn attr_target(&self, e: usize, name: u64) -> Option<usize>
         requires { e < length self.now.tree.entries }
         ensures found { result ≡ option_map_or (target_of self.now.tree) (attribute_along self.now.tree e name) None }
@@ -170,7 +170,7 @@ impl<'a> Dwarf<'a> {
         self.source.links().attr_target(e, name)
     }
 
-    /// Whether an entry has a flag that holds, itself or along the chain. A value of another class counts as none.
+    /// Whether an entry has a flag that is set, its own or inherited. A value of another class does not count.
     pub fn flag_value(&self, e: usize, name: u64) -> bool
         requires { e < length self.now.tree.entries }
         ensures { result ≡ flag_value_along self.now.tree e name }
@@ -178,7 +178,7 @@ impl<'a> Dwarf<'a> {
         is_true(self.attr(e, name))
     }
 
-    /// Whether an entry itself has a flag that says that it is a declaration. A value that is no flag counts as none.
+    /// Whether an entry itself has a flag that marks it as a declaration. A value of another class does not count.
     pub fn is_declaration(&self, e: usize) -> bool
         requires { e < length self.now.tree.entries }
         ensures { result ≡ only_declares self.now.tree e }
@@ -186,7 +186,7 @@ impl<'a> Dwarf<'a> {
         is_declared_only(self.source.tree(), e)
     }
 
-    /// The bytes of a block or an expression, as a part of the file. None exactly where the value is neither.
+    /// The bytes of a block or an expression, borrowed from the file. None exactly where the value is neither.
     pub fn block(&self, value: &Value) -> Option<&'a [u8]>
         ensures { option_copied result ≡ block_of self.now.sections.info value.now }
     {
@@ -196,7 +196,7 @@ impl<'a> Dwarf<'a> {
         }
     }
 
-    /// The last entry of the chain of an entry, which is the entry itself where it has none.
+    /// The last entry of an entry's chain, which is the entry itself where it has no links.
     pub fn origin(&self, e: usize) -> usize
         requires { e < length self.now.tree.entries }
         ensures found { result ≡ origin_of self.now.tree e }
@@ -205,8 +205,8 @@ impl<'a> Dwarf<'a> {
         self.source.links().origin(e)
     }
 
-    /// The name of an entry, its own or inherited along the chain, as bytes of the file without the 0 byte. None exactly where no
-    /// entry of the chain has a name, and where the first name is that of an entry with an unsupported tag and is no text.
+    /// The name of an entry, its own or inherited, as bytes of the file without the 0 byte. None exactly where no entry of the
+    /// chain has a name, or the first name is not a string and belongs to an entry with an unsupported tag.
     pub fn name_of(&self, e: usize) -> Option<&'a [u8]>
         requires { e < length self.now.tree.entries }
         ensures { option_copied result ≡ spec.name_of self.now e }
@@ -214,7 +214,7 @@ impl<'a> Dwarf<'a> {
         name(&self.source, e)
     }
 
-    /// The address at which a function is entered, or of a variable, by the attributes of the entry itself. None exactly where they
+    /// The address of a function's entry point or of a variable, from the attributes of the entry itself. None exactly where they
     /// give no address or have a fault.
     pub fn entry_address(&self, e: usize) -> Option<u64>
         requires { e < length self.now.tree.entries }
@@ -230,7 +230,7 @@ impl<'a> Dwarf<'a> {
         self.source.sections().info
     }
 
-    /// The first entry of an address: a function or a variable directly in its unit, which is no declaration, in a unit that is not
+    /// The first entry at an address: a function or a variable directly in its unit, not a declaration, in a unit that is not
     /// written in assembler.
     pub fn typed(&self, address: u64) -> Option<usize>
         ensures found { result ≡ typed_of self.now address }
@@ -239,7 +239,7 @@ impl<'a> Dwarf<'a> {
         place_of(&self.typed, address)
     }
 
-    /// The entry of the type of the first type unit with a signature. None exactly where no unit has it.
+    /// The type entry of the first type unit with a signature. None exactly where no unit has it.
     pub fn by_signature(&self, signature: u64) -> Option<usize>
         ensures found { result ≡ signed_of self.now.tree signature }
         ensures inside { IfSome result (λ e. e < length self.now.tree.entries) }

@@ -1,5 +1,5 @@
-//! What the entries of debug information say: their names, the chains along which they inherit attributes from others, the
-//! addresses of functions and variables, and the entries of addresses and signatures.
+//! The meaning of debugging information entries: their names, the chains along which they inherit attributes, the addresses of
+//! functions and variables, and look-ups by address and by signature.
 #![tactic(auto)]
 
 mod addresses;

@@ -1,8 +1,8 @@
-// The links of entries.
+// Links from entries to entries.
 ghost use Rattle.std.specs.Prelude.{◌≡◌};
 ghost use Rattle.dwarf_entries.specs.Chains.{either_link, is_nowhere as leads_nowhere, linked};
 
-// The link of an attribute of an entry.
+// The link that an attribute of an entry makes.
 #[derive(Clone, Copy)]
 pub(crate) enum Link {
     // There is no link: the entry lacks the attribute, or the attribute refers to an entry with an unsupported tag.
@@ -25,7 +25,7 @@ impl Link {
         }
     }
 
-    // The entry of this link, or where it is missing that of another link.
+    // The entry of this link, or of another where this one is missing.
     pub(crate) fn entry_or(self, other: Link) -> Option<usize>
         ensures { result ≡ either_link self other }
     {
@@ -36,7 +36,7 @@ impl Link {
         }
     }
 
-    // Whether there is a link, and it refers to no entry.
+    // Whether there is a link that refers to no entry.
     pub(crate) fn is_nowhere(self) -> bool
         ensures { result ≡ leads_nowhere self }
     {

@@ -1,4 +1,4 @@
-// The tree of entries, and how its entries refer to one another.
+// The tree of entries, and the references between its entries.
 ghost use Rattle.std.specs.Prelude.{◌≡◌, ◌<◌, Some, None, length, is_some, find, IfSome, IfOk};
 ghost use Rattle.std.specs.Option.{option_map, option_map_or};
 ghost use Rattle.abi_base.specs.Limits.{chain_limit};
@@ -63,7 +63,7 @@ impl<'a> Links<'a> {
         self.tree.own(e, name)
     }
 
-    // The entry of the type of a signature.
+    // The type entry of the type unit with a signature.
     pub(crate) fn by_signature(&self, signature: u64) -> Option<usize>
         ensures found { result ≡ signed_of self.now signature }
         ensures inside { IfSome result (λ e. e < length self.now.entries) }
@@ -74,7 +74,7 @@ impl<'a> Links<'a> {
         }
     }
 
-    // The entry that a value refers to.
+    // The entry to which a value refers.
     pub(crate) fn target(&self, value: &Value) -> Option<usize>
         ensures found { result ≡ target_of self.now value.now }
         ensures inside { IfSome result (λ e. e < length self.now.entries) }
@@ -86,7 +86,7 @@ impl<'a> Links<'a> {
         }
     }
 
-    // The link of an attribute that refers to an entry, or to none.
+    // The link that an attribute makes, to an entry or nowhere.
     #[inline(always)]
     fn link_to(&self, target: Option<usize>) -> Link
         requires { IfSome target (λ f. f < length self.now.entries) }
@@ -105,7 +105,7 @@ impl<'a> Links<'a> {
         }
     }
 
-    // The link of an attribute of an entry that may have it.
+    // The link that an attribute of an entry makes. The entry may have the attribute.
     #[inline(never)]
     fn read_link(&self, e: usize, name: u64) -> Link
         requires { e < length self.now.entries }
@@ -121,7 +121,7 @@ impl<'a> Links<'a> {
         }
     }
 
-    // The link of an attribute of an entry. It is inlined into its callers, since most entries lack the attribute.
+    // The link that an attribute of an entry makes. Inlined into its callers, since most entries lack the attribute.
     #[inline(always)]
     pub(crate) fn link_by(&self, e: usize, name: u64) -> Link
         requires { e < length self.now.entries }
@@ -150,7 +150,7 @@ impl<'a> Links<'a> {
         }
     }
 
-    // Whether an entry has a next entry after a number of links.
+    // Whether an entry has a next entry after this many links.
     fn leads_on(&self, e: usize, links: usize) -> bool
         requires { e < length self.now.entries }
         ensures { result ≡ is_some (after_links self.now e links) }
@@ -193,7 +193,7 @@ impl<'a> Links<'a> {
         at
     }
 
-    // The first of a number of entries of the chain that has an attribute, and its value.
+    // The first of this many entries of the chain that has an attribute, and its value.
     #[inline(never)]
     fn held_within(&self, e: usize, entries: usize, name: u64) -> Option<(usize, Value)>
         requires { e < length self.now.entries }
@@ -214,8 +214,8 @@ impl<'a> Links<'a> {
         None
     }
 
-    // The first entry of the chain that has an attribute, and its value, where the entry itself lacks the attribute. It is inlined
-    // into its callers, since most entries have no link.
+    // The first entry of the chain that has an attribute, and its value, where the entry itself lacks the attribute. Inlined into
+    // its callers, since most entries have no link.
     #[inline(always)]
     fn held_behind(&self, e: usize, name: u64) -> Option<(usize, Value)>
         requires inside { e < length self.now.entries }
@@ -244,7 +244,7 @@ impl<'a> Links<'a> {
         }
     }
 
-    // The value of an attribute of an entry: its own, where the attribute applies to the entry itself, else along the chain.
+    // The value of an attribute of an entry: its own if the attribute is not inherited, else that of the chain.
     #[inline(always)]
     #[tactic(auto, using(crate::proofs::ChainLemmas::along_here))]
     pub(crate) fn attr(&self, e: usize, name: u64) -> Option<Value>
@@ -263,7 +263,7 @@ impl<'a> Links<'a> {
         }
     }
 
-    // The entry that the value of an attribute refers to, with the value that `attr` gives.
+    // The entry to which the value of an attribute refers, where the value is that of `attr`.
     #[tactic(auto, using(crate::proofs::ChainLemmas::along_here))]
     pub(crate) fn attr_target(&self, e: usize, name: u64) -> Option<usize>
         requires { e < length self.now.entries }

@@ -1,4 +1,4 @@
-// The faults of what entries say.
+// The faults in the attributes of entries.
 ghost use Rattle.std.specs.Prelude.{◌≡◌, ◌<◌, [], ◌∷◌, true, false, length, map, None};
 ghost use Rattle.std.specs.Option.{option_copied, option_or};
 ghost use Rattle.abi_base.specs.Outcome.{first};
@@ -25,14 +25,14 @@ use abi_base::{Fault, FaultKind};
 use dwarf_forms::Value;
 use dwarf_tree::Tree;
 
-// The first faults of addresses, one of each kind that they may have.
+// The first fault of each kind that addresses can have.
 #[derive(Clone, Copy)]
 struct AddressFaults {
     index: Option<Fault>,
     ranges: Option<Fault>,
 }
 
-// The fault of what was read, where it has one.
+// The fault of what was read, if any.
 fn fault_of(read: Result<Option<u64>, Fault>) -> Option<Fault>
     ensures { result ≡ spec.fault_of read }
 {
@@ -42,7 +42,7 @@ fn fault_of(read: Result<Option<u64>, Fault>) -> Option<Fault>
     }
 }
 
-// The fault, if it is of a kind.
+// The fault, if it has this kind.
 fn of_kind(kind: FaultKind, fault: Option<Fault>) -> Option<Fault>
     ensures { result ≡ if_of_kind kind fault }
 {
@@ -58,8 +58,8 @@ fn of_kind(kind: FaultKind, fault: Option<Fault>) -> Option<Fault>
     }
 }
 
-// Whether an entry's own name is a text of `.debug_str`, as for most entries. True says that the name has no fault, and false says
-// nothing: this call only saves time, since `name_fault` gives the answer.
+// Whether an entry's own name is a string of `.debug_str`, as for most entries. Then the name has no fault; otherwise nothing
+// follows. The call only saves time: `name_fault` answers in all cases.
 #[inline(always)]
 #[tactic(auto, using(crate::proofs::TextLemmas::short_sound))]
 fn has_short_name(source: &Source, e: usize) -> bool
@@ -83,7 +83,7 @@ fn name_fault(source: &Source, e: usize) -> Option<Fault>
     }
 }
 
-// The same, if it is of a text or of an index: the first of the rows of an entry's name.
+// The same, if its kind is `Text` or `Index`: the first of the rows on an entry's name.
 fn name_row(source: &Source, e: usize) -> Option<Fault>
     requires { e < length source.now.tree.entries }
     ensures { result ≡ first (name_rows source.now e) }
@@ -98,7 +98,7 @@ fn name_row(source: &Source, e: usize) -> Option<Fault>
     of_kind(FaultKind::Text, name).or(of_kind(FaultKind::Index, name))
 }
 
-// The value of `DW_AT_entry_pc`, where it is an address.
+// The value of `DW_AT_entry_pc`, if it is an address.
 fn entry_pc_address(value: Option<Value>) -> Option<Value>
     ensures { result ≡ address_of_entry_pc value }
 {
@@ -109,7 +109,7 @@ fn entry_pc_address(value: Option<Value>) -> Option<Value>
     }
 }
 
-// The ranges count only where there is no `DW_AT_low_pc`.
+// The fault of the ranges, which count only where there is no `DW_AT_low_pc`.
 fn ranges_fault(source: &Source, e: usize) -> Option<Fault>
     requires { e < length source.now.tree.entries }
     ensures { result ≡ fault_of_ranges source.now e }
@@ -120,14 +120,14 @@ fn ranges_fault(source: &Source, e: usize) -> Option<Fault>
     fault_of(first_range(source, e))
 }
 
-// Addresses without a fault.
+// No faults.
 const NO_FAULTS: AddressFaults = AddressFaults {
     index: None,
     ranges: None,
 };
 
 impl AddressFaults {
-    // These faults, and then one more.
+    // These faults, and one more.
     fn with(self, fault: Option<Fault>) -> AddressFaults
         ensures index { result.index ≡ option_or self.index (if_of_kind kind.Index fault) }
         ensures ranges { result.ranges ≡ option_or self.ranges (if_of_kind kind.Ranges fault) }
@@ -139,7 +139,7 @@ impl AddressFaults {
     }
 }
 
-// The faults of all attributes that give the address of a function.
+// The faults of all attributes that determine the address of a function.
 #[tactic(auto, using(crate::proofs::PassLemmas::first_three))]
 fn faults_of_function(source: &Source, e: usize) -> AddressFaults
     requires { e < length source.now.tree.entries }
@@ -179,7 +179,7 @@ fn faults_of_addresses(source: &Source, e: usize) -> AddressFaults
     NO_FAULTS.with(fault_of(variable_address(source, e)))
 }
 
-// Whether an entry itself has an attribute that refers to no entry.
+// Whether an entry's own attribute refers to no entry.
 #[inline(always)]
 fn refers_nowhere(links: &Links<'_>, e: usize, name: u64) -> bool
     requires { e < length links.now.entries }
@@ -194,14 +194,14 @@ fn refers_nowhere(links: &Links<'_>, e: usize, name: u64) -> bool
     }
 }
 
-// Whether entries of a tag may be defined in a type unit, by its signature.
+// Whether an entry with a tag may be defined in a type unit, by signature.
 fn is_signed(tag: u64) -> bool
     ensures { result ≡ has_signature tag }
 {
     tag == DW_TAG_structure_type || tag == DW_TAG_union_type || tag == DW_TAG_enumeration_type
 }
 
-// Whether a value is a signature without a type unit.
+// Whether a value is a signature that no type unit has.
 fn lacks_unit(links: &Links<'_>, value: Option<Value>) -> bool
     ensures { result ≡ has_no_unit links.now value }
 {
@@ -234,8 +234,8 @@ fn has_bad_reference(links: &Links<'_>, e: usize, origin: Link, specification: L
     lacks_unit(links, links.own(e, DW_AT_signature))
 }
 
-// Whether an entry's own type exists, by a short reference, or it has none. False says nothing: this call only saves time, since
-// `refers_nowhere` gives the answer.
+// Whether an entry has no type of its own, or has one that exists, by a short reference. False means nothing: the call only saves
+// time, and `refers_nowhere` answers in all cases.
 #[inline(always)]
 fn has_plain_type(links: &Links<'_>, e: usize) -> bool
     requires { e < length links.now.entries }
@@ -251,8 +251,8 @@ fn has_plain_type(links: &Links<'_>, e: usize) -> bool
     }
 }
 
-// Whether an entry has no link and no signature, and its type exists, as for most entries: then none of its references has a
-// fault. False says nothing: this call only saves time, since `linked_row` gives the answer.
+// Whether an entry has no link and no signature, and its type exists, as for most entries. Then none of its references has a fault.
+// False means nothing: the call only saves time, and `linked_row` answers in all cases.
 #[inline(always)]
 #[tactic(auto, using(crate::proofs::PassLemmas::plain_rows))]
 fn refers_plainly(links: &Links<'_>, e: usize) -> bool
@@ -272,7 +272,7 @@ fn refers_plainly(links: &Links<'_>, e: usize) -> bool
     has_plain_type(links, e)
 }
 
-// The first of the rows of an entry's references, link by link.
+// The first of the rows on an entry's references, link by link.
 #[inline(never)]
 #[tactic(auto, using(crate::proofs::PassLemmas::deep_by_links))]
 fn linked_row(links: &Links<'_>, e: usize) -> Option<Fault>
@@ -296,7 +296,7 @@ fn linked_row(links: &Links<'_>, e: usize) -> Option<Fault>
     None
 }
 
-// The first of the rows of an entry's references.
+// The first of the rows on an entry's references.
 #[inline(always)]
 fn reference_row(links: &Links<'_>, e: usize) -> Option<Fault>
     requires { e < length links.now.entries }
@@ -308,7 +308,7 @@ fn reference_row(links: &Links<'_>, e: usize) -> Option<Fault>
     linked_row(links, e)
 }
 
-// The first of the rows after that of the name, of an entry with addresses.
+// The first of the rows after the one on the name, for an entry with addresses.
 fn row_with_addresses(source: &Source, e: usize) -> Option<Fault>
     requires inside { e < length source.now.tree.entries }
     requires asked { are_addresses_asked source.now.tree e ≡ true }
@@ -324,7 +324,7 @@ fn row_with_addresses(source: &Source, e: usize) -> Option<Fault>
     addresses.ranges
 }
 
-// The first of the rows after that of the name.
+// The first of the rows after the one on the name.
 #[tactic(auto, using(crate::proofs::PassLemmas::without_addresses))]
 fn row_behind_name(source: &Source, e: usize) -> Option<Fault>
     requires { e < length source.now.tree.entries }

@@ -1,4 +1,4 @@
-// Maps from numbers to the first place of each.
+// Maps from numbers to the first position of each.
 ghost use Rattle.std.specs.Prelude.{◌≡◌, ℕ, if◌then◌else◌, Some, None, OnOk};
 ghost use Rattle.std.specs.Option.{option_or};
 ghost use Rattle.dwarf_entries.specs.Addresses.{is_some_number};
@@ -7,7 +7,7 @@ ghost use Rattle.dwarf_entries.specs.Places.{place_under};
 use abi_base::NoMemory;
 use std::collections::BTreeMap;
 
-// Puts a place under a number that has none yet, where there is a number. Mostly there is no number.
+// Enters a position under a number, if there is a number and it has no position yet. Usually there is none.
 #[inline(always)]
 pub(crate) fn keep_first(
     places: &mut BTreeMap<u64, usize>,
@@ -27,7 +27,7 @@ pub(crate) fn keep_first(
     }
 }
 
-// The place under a number.
+// The position under a number.
 pub(crate) fn place_of(places: &BTreeMap<u64, usize>, number: u64) -> Option<usize>
     ensures { result ≡ place_under places.now number }
 {

@@ -1,4 +1,4 @@
-// How much is read of range lists. Functions may share a list, or the entries of one.
+// The budget for range lists. Functions can share a list or its entries, so the lists can be longer than their sections.
 ghost use Rattle.std.specs.Prelude.{◌<◌, length};
 
 use crate::addresses::list_of;
@@ -7,7 +7,7 @@ use abi_base::dwarf::{DW_AT_ranges, DW_TAG_subprogram};
 use abi_base::{Effort, NoMemory};
 use dwarf_text::ranges::spend_first;
 
-// Takes the effort for the list of a function, up to its first range.
+// Spends the budget for the list of a function, up to its first range.
 fn spend_for_entry(source: &Source, e: usize, effort: &mut Effort) -> Result<(), NoMemory>
     requires { e < length source.now.tree.entries }
 {
@@ -21,8 +21,8 @@ fn spend_for_entry(source: &Source, e: usize, effort: &mut Effort) -> Result<(),
     }
 }
 
-// Takes the effort for the lists of all functions. It fails where they come to more than 64 times the bytes of the sections of
-// lists: each list up to its first range, once for each function that has it.
+// Spends the budget for the lists of all functions. Fails where their sizes add up to more than 64 times that of the list sections:
+// each list counts up to its first range, once for each function that has it.
 pub(crate) fn spend_for_ranges(source: &Source) -> Result<(), NoMemory> {
     let sections = source.sections();
     let mut effort = Effort::for_table(sections.rnglists, sections.ranges);

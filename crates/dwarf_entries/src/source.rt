@@ -1,4 +1,4 @@
-// The sections of debug information and the tree of their entries, with the context of each unit.
+// The debug sections and the tree of their entries, with the context of each unit.
 ghost use Rattle.std.specs.Prelude.{◌≡◌, ◌<◌, length, is_some, IfOk};
 ghost use Rattle.std.specs.Option.{option_copied};
 ghost use Rattle.std.specs.Result.{result_map_both};
@@ -17,13 +17,13 @@ use dwarf_tree::Tree;
 use std::alloc::Global;
 use std::marker::Model;
 
-// Debug information, with what the root of each unit says. Contracts see it as a `PlainDwarf`.
+// Debug information, with the context of each unit. Contracts see it as a `PlainDwarf`.
 #[derive(Drop)]
 pub(crate) struct Source<'a> {
     sections: Sections<'a>,
     links: Links<'a>,
     units: Vec<UnitContext>,
-    // where the texts of `.debug_str` end
+    // the end of the last string in `.debug_str`
     str_end: usize,
 }
 
@@ -39,7 +39,7 @@ impl<'a> Model for Source<'a> {
     ghost invariant = { λ s. IsSource s.units.items s.str_end (debug (plain_sections s.sections) s.links) };
 }
 
-// What the root of each unit says.
+// The context of each unit, from its root.
 #[tactic(auto, using(crate::proofs::UnitLemmas::told_none, crate::proofs::UnitLemmas::told_more, crate::proofs::UnitLemmas::told_end))]
 fn units_told(
     alloc: Global,
@@ -57,7 +57,7 @@ fn units_told(
 }
 
 impl<'a> Source<'a> {
-    // The sections with the tree that was read from them.
+    // The sections, with the tree that was read from them.
     pub(crate) fn of(
         alloc: Global,
         sections: Sections<'a>,
@@ -75,7 +75,7 @@ impl<'a> Source<'a> {
         })
     }
 
-    // How many entries there are.
+    // The number of entries.
     pub(crate) fn len(&self) -> usize
         ensures { result ≡ length self.now.tree.entries }
     {
@@ -96,14 +96,14 @@ impl<'a> Source<'a> {
         self.links.tree()
     }
 
-    // The sections that the tree was read from.
+    // The sections from which the tree was read.
     pub(crate) fn sections(&self) -> Sections<'a>
         ensures { plain_sections result ≡ self.now.sections }
     {
         self.sections
     }
 
-    // What the root of an entry's unit says.
+    // The context of an entry's unit.
     pub(crate) fn told(&self, e: usize) -> &UnitContext
         requires { e < length self.now.tree.entries }
         ensures { result.now ≡ told_of self.now (entry_at self.now.tree e).unit }
@@ -114,7 +114,7 @@ impl<'a> Source<'a> {
         &self.units[unit]
     }
 
-    // The version of an entry's unit.
+    // The DWARF version of an entry's unit.
     pub(crate) fn version(&self, e: usize) -> u16
         requires { e < length self.now.tree.entries }
         ensures { result ≡ (head_at self.now.tree (entry_at self.now.tree e).unit).version }
@@ -124,7 +124,7 @@ impl<'a> Source<'a> {
         tree.head(tree.unit(e)).version
     }
 
-    // The text of a value of an entry.
+    // The string of a value of an entry.
     #[tactic(auto, unfolding(crate::specs::Debug::text_at_entry, crate::specs::UnitContext::told_of))]
     pub(crate) fn text(&self, e: usize, value: &Value) -> Result<&'a [u8], Fault>
         requires { e < length self.now.tree.entries }
@@ -139,14 +139,14 @@ impl<'a> Source<'a> {
         )
     }
 
-    // The text at a place of `.debug_str`.
+    // The string at an offset in `.debug_str`.
     pub(crate) fn str_text(&self, place: u64) -> Option<&'a [u8]>
         ensures { option_copied result ≡ spec.text_at self.now.sections.str place }
     {
         text_at(self.sections.str, place)
     }
 
-    // Whether a text begins at a place of `.debug_str`, by the end of its texts. It reads no byte of the text.
+    // Whether a string begins at an offset in `.debug_str`, which is before the end of the last one. Reads no byte of it.
     #[inline(always)]
     pub(crate) fn has_str_text(&self, place: u64) -> bool
         ensures { result ≡ is_some (spec.text_at self.now.sections.str place) }
@@ -154,7 +154,7 @@ impl<'a> Source<'a> {
         place < self.str_end as u64
     }
 
-    // The fault of the text of a value of an entry. It reads no text of `.debug_str`.
+    // The fault of the string of a value of an entry. Reads no string of `.debug_str`.
     #[inline(never)]
     #[tactic(auto, unfolding(crate::specs::Debug::text_at_entry, crate::specs::UnitContext::told_of))]
     pub(crate) fn text_fault(&self, e: usize, value: &Value) -> Option<Fault>

@@ -11,7 +11,7 @@ use abi_base::dwarf::{
     DW_TAG_variable, DW_TAG_volatile_type,
 };
 
-// Whether this crate supports entries of a tag.
+// Whether this crate supports entries with a tag.
 #[inline(always)]
 #[tactic(auto, unfolding(crate::specs::Chains::is_read_tag))]
 pub(crate) fn is_read_tag(tag: u64) -> bool

@@ -1,4 +1,4 @@
-// The entries of addresses.
+// Entries by address.
 ghost use Rattle.std.specs.Prelude.{◌≡◌, ◌<◌, ℕ, length, IfOk};
 ghost use Rattle.dwarf_tree.specs.Trees.{entry_at};
 ghost use Rattle.dwarf_entries.specs.Debug.{is_assembler};
@@ -36,7 +36,7 @@ fn typed_address(source: &Source, e: usize) -> Option<u64>
     entry_address(source, e)
 }
 
-// The first entry of each address.
+// The first entry at each address.
 pub(crate) fn entries_by_address(
     alloc: Global,
     source: &Source,

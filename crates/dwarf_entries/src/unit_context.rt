@@ -1,4 +1,4 @@
-// What the root of a unit says of the unit.
+// The context of a unit, from the attributes of its root.
 ghost use Rattle.std.specs.Prelude.{◌≡◌, ◌<◌, length};
 ghost use Rattle.std.specs.Option.{option_copied};
 ghost use Rattle.dwarf_entries.specs.Debug.{plain_sections, base_of, low_of, bases_of};
@@ -14,7 +14,7 @@ use dwarf_forms::{Sections, Value};
 use dwarf_text::{Bases, address};
 use dwarf_tree::Tree;
 
-// What the root of a unit says that the readers of the unit's entries use.
+// What readers of a unit's entries use from the unit's root.
 #[derive(Clone, Copy)]
 pub(crate) struct UnitContext {
     pub bases: Bases,
@@ -22,7 +22,7 @@ pub(crate) struct UnitContext {
     pub is_assembler: bool,
 }
 
-// The first value that the root of a unit has of an attribute.
+// The first value of an attribute of a unit's root.
 fn root_own(tree: &Tree<'_>, unit: usize, name: u64) -> Option<Value>
     requires { unit < length tree.now.units }
     ensures { result ≡ spec.root_own tree.now unit name }
@@ -30,7 +30,7 @@ fn root_own(tree: &Tree<'_>, unit: usize, name: u64) -> Option<Value>
     tree.own(tree.root(unit), name)
 }
 
-// The place in another section that a value gives.
+// The offset into another section that a value holds.
 fn section_offset(value: Option<Value>) -> Option<u64>
     ensures { result ≡ spec.section_offset value }
 {
@@ -40,7 +40,7 @@ fn section_offset(value: Option<Value>) -> Option<u64>
     }
 }
 
-// Where a unit's part of another section begins.
+// The base of a unit's part of another section.
 fn base(tree: &Tree<'_>, unit: usize, name: u64) -> Option<u64>
     requires { unit < length tree.now.units }
     ensures { result ≡ base_of tree.now unit name }
@@ -64,7 +64,7 @@ fn address_or_zero(value: &Value, addr_base: Option<u64>, sections: &Sections) -
     }
 }
 
-// The address from which the ranges of a unit count.
+// The base address of a unit's ranges.
 fn low(sections: &Sections, tree: &Tree<'_>, unit: usize) -> u64
     requires { unit < length tree.now.units }
     ensures { result ≡ low_of (debug (plain_sections sections.now) tree.now) unit }
@@ -75,7 +75,7 @@ fn low(sections: &Sections, tree: &Tree<'_>, unit: usize) -> u64
     }
 }
 
-// Where a unit's parts of other sections begin.
+// The bases of a unit's parts of other sections.
 #[tactic(auto, unfolding(crate::specs::Debug::bases_of))]
 fn bases(sections: &Sections, tree: &Tree<'_>, unit: usize) -> Bases
     requires { unit < length tree.now.units }
@@ -89,7 +89,7 @@ fn bases(sections: &Sections, tree: &Tree<'_>, unit: usize) -> Bases
     }
 }
 
-// Whether a value is a number.
+// Whether a value is this number.
 fn is_number(number: u64, value: Option<Value>) -> bool
     ensures { result ≡ spec.is_number number value }
 {
@@ -109,7 +109,7 @@ fn is_assembler(tree: &Tree<'_>, unit: usize) -> bool
     is_number(DW_LANG_Mips_Assembler, root_own(tree, unit, DW_AT_language))
 }
 
-// What the root of a unit says, by the number of the unit.
+// The context of the unit with this number.
 #[tactic(auto, unfolding(crate::specs::UnitContext::told_of))]
 pub(crate) fn told_by_root(sections: &Sections, tree: &Tree<'_>, unit: usize) -> UnitContext
     requires { unit < length tree.now.units }

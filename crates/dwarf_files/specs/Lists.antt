@@ -9,12 +9,12 @@ use Rattle.abi_base.specs.Runs.{Run, run}
 use Rattle.dwarf_forms.specs.declared.values.Value.TheVariants as value
 use Rattle.dwarf_files.specs.declared.entries.Entry.{Entry}
 
--- An item of a list and the place after it, or the end of the list: the place after its 0 byte, or none where the list is
+-- An item of a list and the offset after it, or the end of the list: the offset after its 0 byte, or None where the list is
 -- damaged.
 abbrev pub Step : Type 0
 Step = Result (Entry × ℕ) (Option ℕ)
 
--- a name that is not empty, with its 0 byte
+-- a nonempty name with its 0 byte
 abbrev pub named : ℕ → List ℕ → Step
 named at [] = Err (Some (at + 1))
 named at (b ∷ others) = Ok (record { path = Some (value.Inline at); directory = None }, at + length (b ∷ others) + 1)
@@ -25,7 +25,7 @@ directory_step bytes at = do
   text ← or_end (text_at bytes at) None
   named at text
 
--- a file: its name, the number of its directory, the time when it was last changed, and its length
+-- a file: its name, the number of its directory, its modification time, and its length
 unfoldable pub file_step : List ℕ → ℕ → Step
 file_step bytes at = do
   name ← directory_step bytes at
@@ -39,11 +39,11 @@ abbrev pub step_of : Bool → List ℕ → ℕ → Step
 step_of true bytes at = file_step bytes at
 step_of false bytes at = directory_step bytes at
 
--- the list at a place
+-- the list at an offset
 unfoldable pub run_of : Bool → List ℕ → ℕ → Run Entry (Option ℕ)
 run_of files bytes at = run (step_of files bytes) None (suc (length bytes)) at
 
--- its items, and the place after it
+-- its items, and the offset after it
 abbrev pub if_whole : Run Entry (Option ℕ) → Option (List Entry × ℕ)
 if_whole r = option_map (λ after. (r.items, after)) r.end
 

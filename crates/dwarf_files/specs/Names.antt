@@ -1,4 +1,4 @@
--- The names of files of a line program (DWARF 5, section 6.2.4 "The Line Number Program Header"; DWARF 4, the same section).
+-- The names of files in a line program header (DWARF 5, section 6.2.4 "The Line Number Program Header"; DWARF 4, the same section).
 use Rattle.std.specs.Prelude.{ℕ, ◌-◌, ◌==◌, ◌||◌, ◌&&◌, Bool, true, false, if◌then◌else◌, List, [], ◌∷◌, ◌++◌, take, Option, Some, None, slice_get}
 use Rattle.abi_base.specs.Numbers.{text_at}
 use Rattle.dwarf_forms.specs.declared.values.Value.{Value}
@@ -10,7 +10,7 @@ use Rattle.dwarf_files.specs.Lists.{list_of}
 use Rattle.dwarf_files.specs.Steps.{◌>>=◌}
 use Rattle.dwarf_files.specs.Tables.{table_of}
 
--- The bytes up to the header's end, the two sections of texts, the version, and the place of the tables.
+-- The bytes up to the header's end, the two string sections, the version, and the offset of the tables.
 pub record PlainHeader : Type 0 where
   pub bytes : List ℕ
   pub str : List ℕ
@@ -18,11 +18,11 @@ pub record PlainHeader : Type 0 where
   pub version : ℕ
   pub tables : ℕ
 
--- the table of files or of directories at a place, and the place after it
+-- the table of files or of directories at an offset, and the offset after it
 abbrev pub entries_of : PlainHeader → Bool → ℕ → Option (List Entry × ℕ)
 entries_of h files at = if h.version == 5 then table_of h.bytes at else list_of files h.bytes at
 
--- The directories come first, and the files after them.
+-- The directories come before the files.
 abbrev pub directories_of : PlainHeader → Option (List Entry × ℕ)
 directories_of h = entries_of h false h.tables
 
@@ -31,7 +31,7 @@ files_of h = do
   directories ← directories_of h
   entries_of h true directories.1
 
--- The place in its table of a file or a directory by its number: version 5 counts from 0, and version 4 from 1.
+-- The index in its table of a file or directory with this number: version 5 counts from 0, version 4 from 1.
 abbrev pub place_of : ℕ → ℕ → Option ℕ
 place_of version n = if version == 5 then Some n else (if n == 0 then None else Some (n - 1))
 
@@ -60,8 +60,8 @@ number_of_directory None = Some 0
 number_of_directory (Some (value.Unsigned n)) = Some n
 number_of_directory other = None
 
--- The name of a directory by its number. Directory 0 is the one in which the unit was compiled; in version 4 the header does not
--- have its name, and it is empty here.
+-- The name of the directory with this number. Directory 0 is the one in which the unit was compiled. A header of version 4 does not
+-- have its name, which is empty here.
 unfoldable pub directory_text_of : PlainHeader → ℕ → Option (List ℕ)
 directory_text_of h n =
     if h.version == 4 && n == 0
@@ -70,7 +70,7 @@ directory_text_of h n =
       entry ← directory_of h n
       text_of h entry.path)
 
--- a name that begins with a slash
+-- whether a name begins with a slash
 abbrev pub is_absolute : List ℕ → Bool
 is_absolute [] = false
 is_absolute (b ∷ others) = b == 47
@@ -79,12 +79,12 @@ abbrev pub is_nothing : List ℕ → Bool
 is_nothing [] = true
 is_nothing (b ∷ others) = false
 
--- A name in a directory: the two with a slash between them. An absolute name stays as it is, and so does each name in a directory
--- with an empty name.
+-- A name in a directory: both, joined by a slash. An absolute name is unchanged, and so is a name in a directory whose name is
+-- empty.
 unfoldable pub joined : List ℕ → List ℕ → List ℕ
 joined directory name = if is_absolute name || is_nothing directory then name else directory ++ 47 ∷ name
 
--- the name of a directory, relative to directory 0
+-- the name of a directory, joined to directory 0 where it is relative
 unfoldable pub whole_directory_of : PlainHeader → ℕ → Option (List ℕ)
 whole_directory_of h n = do
   first ← directory_text_of h 0
@@ -92,7 +92,7 @@ whole_directory_of h n = do
     own ← directory_text_of h n
     Some (joined first own))
 
--- the name of an entry of files, in its directory
+-- the name of a file entry, joined to its directory
 unfoldable pub name_by : PlainHeader → Entry → Option (List ℕ)
 name_by h entry = do
   name ← text_of h entry.path
@@ -100,7 +100,7 @@ name_by h entry = do
   directory ← whole_directory_of h number
   Some (joined directory name)
 
--- the name of a file by its number
+-- the name of the file with this number
 unfoldable pub name_of : PlainHeader → ℕ → Option (List ℕ)
 name_of h n = do
   entry ← file_of h n
@@ -109,7 +109,7 @@ name_of h n = do
 abbrev pub header_by : (line str line_str : List ℕ) → Head → PlainHeader
 header_by line str line_str head = record { bytes = take head.end line; str = str; line_str = line_str; version = head.version; tables = head.tables }
 
--- the same for the header at a place of `.debug_line`
+-- the same for the header at an offset in `.debug_line`
 unfoldable pub file_name_of : (line str line_str : List ℕ) → ℕ → ℕ → Option (List ℕ)
 file_name_of line str line_str at n = do
   head ← head_of line at

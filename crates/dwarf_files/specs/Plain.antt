@@ -1,4 +1,4 @@
--- A header with its bytes as lists.
+-- A header of the code, with its bytes as lists.
 use Rattle.dwarf_files.specs.declared.names.Header.{Header}
 use Rattle.dwarf_files.specs.Names.{PlainHeader}
 

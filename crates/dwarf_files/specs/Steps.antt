@@ -6,7 +6,7 @@ abbrev pub ◌>>=◌ : {A B : Type 0} → Option A → (A → Option B) → Opti
 None >>= f = None
 (Some x) >>= f = f x
 
--- what was read, and nothing where it has a fault
+-- what was read, or None where it has a fault
 abbrev pub if_read : {A E : Type 0} → Result A E → Option A
 if_read (Ok x) = Some x
 if_read (Err e) = None

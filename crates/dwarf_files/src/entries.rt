@@ -1,4 +1,4 @@
-// The entries of tables, one by one.
+// The entries of directory and file tables, one by one.
 ghost use Rattle.std.specs.Prelude.{◌≡◌, ◌<◌, ◌≤◌, length, IfSome, IfOk};
 ghost use Rattle.dwarf_files.specs.Lists.{directory_step, file_step, step_of};
 ghost use Rattle.dwarf_files.specs.Tables.{value_of, with_value, entry_of};
@@ -8,22 +8,22 @@ use abi_base::{text_at, uleb};
 use dwarf_forms::abbreviations::Spec;
 use dwarf_forms::{UnitSpan, Value, value};
 
-// The parts of an entry for a directory or a file that this crate reads.
+// The parts of a directory or file entry that this crate uses.
 #[derive(Clone, Copy)]
 pub(crate) struct Entry {
-    // where its name is
+    // the name
     pub(crate) path: Option<Value>,
-    // the number of the directory
+    // the index of the directory
     pub(crate) directory: Option<Value>,
 }
 
-// The content types of values in entries (DWARF 5, section 7.22 "Line Number Information").
+// Content type codes (DWARF 5, section 7.22 "Line Number Information").
 
 const DW_LNCT_path: u64 = 1;
 
 const DW_LNCT_directory_index: u64 = 2;
 
-// The value of a form at a place of a header, and the place after it.
+// The value of a form at an offset in a header, and the offset after it.
 fn value_in(bytes: &[u8], form: u64, at: usize) -> Option<(Value, usize)>
     ensures read { result ≡ value_of bytes.now form at }
     ensures inside { IfSome result (λ r. at ≤ length bytes.now → r.1 ≤ length bytes.now) }
@@ -49,7 +49,7 @@ fn value_in(bytes: &[u8], form: u64, at: usize) -> Option<(Value, usize)>
     }
 }
 
-// An entry and one more value.
+// An entry with one more value.
 fn extended(entry: Entry, content: u64, found: Value) -> Entry
     ensures { result ≡ with_value entry content found }
 {
@@ -68,7 +68,7 @@ fn extended(entry: Entry, content: u64, found: Value) -> Entry
     }
 }
 
-// The entry of a format at a place of a header, and the place after it.
+// The entry with a format at an offset in a header, and the offset after it.
 #[tactic(auto, using(crate::proofs::EntryLemmas::values_more))]
 pub(crate) fn entry_in(bytes: &[u8], format: &[Pair], at: usize) -> Option<(Entry, usize)>
     ensures { result ≡ entry_of bytes.now format.now at }
@@ -94,7 +94,7 @@ pub(crate) fn entry_in(bytes: &[u8], format: &[Pair], at: usize) -> Option<(Entr
     }
 }
 
-// The directory at a place of a list of texts and the place after it, or where the list ends.
+// The directory at an offset in a list of strings and the offset after it, or where the list ends.
 #[tactic(auto, unfolding(crate::specs::Lists::directory_step))]
 fn directory_in(bytes: &[u8], at: usize) -> Result<(Entry, usize), Option<usize>>
     ensures read { result ≡ directory_step bytes.now at }
@@ -116,7 +116,7 @@ fn directory_in(bytes: &[u8], at: usize) -> Result<(Entry, usize), Option<usize>
     ))
 }
 
-// The file at a place of a list of files and the place after it, or where the list ends.
+// The file at an offset in a list of files and the offset after it, or where the list ends.
 #[tactic(auto, unfolding(crate::specs::Lists::file_step))]
 fn file_in(bytes: &[u8], at: usize) -> Result<(Entry, usize), Option<usize>>
     ensures read { result ≡ file_step bytes.now at }
@@ -142,7 +142,7 @@ fn file_in(bytes: &[u8], at: usize) -> Result<(Entry, usize), Option<usize>>
     ))
 }
 
-// The item at a place of a list of files or of directories.
+// The item at an offset in a list of files or of directories.
 pub(crate) fn item_in(bytes: &[u8], files: bool, at: usize) -> Result<(Entry, usize), Option<usize>>
     ensures read { result ≡ step_of files bytes.now at }
     ensures after { IfOk result (λ r. at < r.1) }

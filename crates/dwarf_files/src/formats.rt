@@ -1,11 +1,11 @@
-// The formats of entries: the forms of their values, in order.
+// Entry formats: the content types and forms of an entry's values, in order.
 ghost use Rattle.std.specs.Prelude.{◌≡◌, IfOk};
 ghost use Rattle.dwarf_files.specs.Tables.{items, pair_of, format_of};
 
 use abi_base::{List, NoMemory, uint_at, uleb};
 use std::alloc::Global;
 
-// The content type of a value of an entry, and its form.
+// The content type and the form of one value of an entry.
 #[derive(Clone, Copy)]
 pub(crate) struct Pair {
     pub(crate) content: u64,
@@ -24,7 +24,7 @@ fn pair_at(bytes: &[u8], at: usize) -> Option<(Pair, usize)>
     Some((Pair { content, form }, after))
 }
 
-// A number of pairs, and the place after them.
+// This many pairs, and the offset after them.
 #[tactic(auto, using(crate::proofs::ItemLemmas::pairs_more, crate::proofs::ItemLemmas::pairs_cut, crate::proofs::ItemLemmas::pairs_done))]
 fn pairs_at(
     alloc: Global,
@@ -50,7 +50,7 @@ fn pairs_at(
     Ok(Some((pairs, place)))
 }
 
-// The format of entries at a place of a header, and the place after it.
+// The entry format at an offset in a header, and the offset after it.
 #[tactic(auto, unfolding(crate::specs::Tables::format_of))]
 pub(crate) fn format_at(
     alloc: Global,

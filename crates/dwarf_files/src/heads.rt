@@ -1,18 +1,18 @@
-// The first fields of a header.
+// The first fields of a line program header.
 ghost use Rattle.std.specs.Prelude.{◌≡◌, ◌+◌, ◌^◌, ◌<◌, ◌≤◌, length, IfSome};
 ghost use Rattle.dwarf_files.specs.Heads.{length_place_of, unit_end_of, lengths_of, head_of};
 
 use abi_base::{u32_at, uint_at};
 
-// Lengths from this one on are of 64-bit DWARF, or reserved.
+// Lengths from this value on mark the 64-bit DWARF format, or are reserved.
 const RESERVED_LENGTH: u64 = 0xffff_fff0;
 
-// The offsets of the first fields: that of the version counts from the start of the unit, the others from the header's length.
+// Offsets of fields. That of the version counts from the start of the unit, the others from `header_length`.
 const VERSION: usize = 4;
 
 const OPCODE_BASE: usize = 9;
 
-// The first fields: the version of DWARF, where the tables begin, and where the header ends.
+// The first fields: the DWARF version, the offset of the tables, and the end of the header.
 #[derive(Clone, Copy)]
 pub(crate) struct Head {
     pub(crate) version: u64,
@@ -20,7 +20,7 @@ pub(crate) struct Head {
     pub(crate) end: usize,
 }
 
-// Where the unit of a line program ends.
+// The end of a line program's unit.
 fn unit_end(line: &[u8], at: usize) -> Option<usize>
     ensures read { result ≡ unit_end_of line.now at }
     ensures inside { IfSome result (λ end. end ≤ length line.now) }
@@ -33,7 +33,7 @@ fn unit_end(line: &[u8], at: usize) -> Option<usize>
     }
 }
 
-// The place of the length of a header, by the version.
+// The offset of `header_length`, by version.
 fn length_place(version: u64, at: usize) -> Option<usize>
     requires { at < 2 ^ 63 }
     ensures read { result ≡ length_place_of version at }
@@ -46,7 +46,7 @@ fn length_place(version: u64, at: usize) -> Option<usize>
     }
 }
 
-// Where the tables begin, and where the header ends, by the place of its length.
+// The offset of the tables and the end of the header, from the offset of `header_length`.
 fn lengths(line: &[u8], place: usize, unit_end: usize) -> Option<(usize, usize)>
     requires inside { unit_end ≤ length line.now }
     requires near { place < 2 ^ 63 + 8 }
@@ -68,7 +68,7 @@ fn lengths(line: &[u8], place: usize, unit_end: usize) -> Option<(usize, usize)>
     }
 }
 
-// The first fields of the header at a place of `.debug_line`.
+// The first fields of the header at an offset in `.debug_line`.
 #[tactic(auto, unfolding(crate::specs::Heads::head_of))]
 pub(crate) fn head_at(line: &[u8], at: usize) -> Option<Head>
     ensures read { result ≡ head_of line.now at }

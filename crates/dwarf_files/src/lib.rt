@@ -1,4 +1,4 @@
-//! The names of source files, by the headers of line programs in `.debug_line`.
+//! Names of source files, from the headers of line programs in `.debug_line`.
 #![tactic(auto)]
 
 mod entries;

@@ -1,4 +1,4 @@
-// The names of files of a line program.
+// The names of files in a line program header.
 ghost use Rattle.std.specs.Prelude.{◌≡◌, IfOk};
 ghost use Rattle.std.specs.Option.{option_copied, option_map};
 ghost use Rattle.dwarf_files.specs.Names.{entries_of, directory_of, file_of, text_of, number_of_directory, directory_text_of, whole_directory_of, name_by, file_name_of};
@@ -14,7 +14,7 @@ use abi_base::{NoMemory, text_at};
 use dwarf_forms::Value;
 use std::alloc::Global;
 
-/// The sections with line programs and the names in them.
+/// The sections with line programs and the strings of their names.
 #[derive(Clone, Copy)]
 pub struct LineSections<'a> {
     /// `.debug_line`
@@ -35,11 +35,11 @@ pub(crate) struct Header<'a> {
     // `.debug_line_str`
     pub(crate) line_str: &'a [u8],
     pub(crate) version: u64,
-    // where the tables of directories and files begin
+    // the offset of the tables of directories and files
     pub(crate) tables: usize,
 }
 
-// The place in its table of a file or a directory of a number.
+// The index in its table of the file or directory with this number.
 fn place_of(version: u64, number: u64) -> Option<u64>
     ensures { result ≡ spec.place_of version number }
 {
@@ -64,7 +64,7 @@ fn directory_number(directory: Option<Value>) -> Option<u64>
 }
 
 impl<'a> Header<'a> {
-    // An entry of a table of files or of directories, and the place after the table.
+    // An entry of the table of files or of directories, and the offset after the table.
     fn entry(
         &self,
         alloc: Global,
@@ -81,7 +81,7 @@ impl<'a> Header<'a> {
         }
     }
 
-    // The entry of a directory by its number.
+    // The entry of the directory with this number.
     fn directory(&self, alloc: Global, number: u64) -> Result<Option<Entry>, NoMemory>
         ensures { IfOk result (λ r. r ≡ directory_of (plain_header self.now) number) }
     {
@@ -94,7 +94,7 @@ impl<'a> Header<'a> {
         }
     }
 
-    // The entry of a file by its number.
+    // The entry of the file with this number.
     fn file(&self, alloc: Global, number: u64) -> Result<Option<Entry>, NoMemory>
         ensures { IfOk result (λ r. r ≡ file_of (plain_header self.now) number) }
     {
@@ -110,7 +110,7 @@ impl<'a> Header<'a> {
         }
     }
 
-    // The text of a name in an entry.
+    // The string of a name in an entry.
     fn text(&self, path: Option<Value>) -> Option<&'a [u8]>
         ensures { option_copied result ≡ text_of (plain_header self.now) path }
     {
@@ -122,7 +122,7 @@ impl<'a> Header<'a> {
         }
     }
 
-    // The name of a directory by its number.
+    // The name of the directory with this number.
     #[tactic(auto, unfolding(crate::specs::Names::directory_text_of))]
     fn directory_text(&self, alloc: Global, number: u64) -> Result<Option<&'a [u8]>, NoMemory>
         ensures { IfOk result (λ r. option_copied r ≡ directory_text_of (plain_header self.now) number) }
@@ -136,7 +136,7 @@ impl<'a> Header<'a> {
         }
     }
 
-    // The name of a directory, relative to directory 0.
+    // The name of a directory, joined to directory 0 where it is relative.
     #[tactic(auto, unfolding(crate::specs::Names::whole_directory_of))]
     fn whole_directory(&self, alloc: Global, number: u64) -> Result<Option<Vec<u8>>, NoMemory>
         ensures { IfOk result (λ r. option_map (λ d. d.items) r ≡ whole_directory_of (plain_header self.now) number) }
@@ -153,7 +153,7 @@ impl<'a> Header<'a> {
         }
     }
 
-    // The name of an entry of files, in its directory.
+    // The name of a file entry, joined to its directory.
     #[tactic(auto, unfolding(crate::specs::Names::name_by))]
     fn name(&self, alloc: Global, entry: Entry) -> Result<Option<Vec<u8>>, NoMemory>
         ensures { IfOk result (λ r. option_map (λ d. d.items) r ≡ name_by (plain_header self.now) entry) }
@@ -171,15 +171,15 @@ impl<'a> Header<'a> {
     }
 }
 
-/// The name of a file by its number, by the header of the line program at an offset of `.debug_line` (DWARF 5, section 6.2.4
-/// "The Line Number Program Header"; DWARF 4, the same section). None exactly where the header is damaged, of another version
-/// than 4 and 5 or of 64-bit DWARF, where it has no file of this number, or where the name or its directory is no text of the
-/// header, `.debug_str` or `.debug_line_str`. A table whose entries take no bytes is damage, so the time for a header is bounded
-/// by its bytes.
+/// The name of the file with this number in the line program header at an offset in `.debug_line` (DWARF 5, section 6.2.4 "The Line
+/// Number Program Header"; DWARF 4, the same section). None exactly where the header is damaged, has another version than 4 and 5,
+/// is in the 64-bit DWARF format, or has no such file, or where the name or its directory is not a string of the header,
+/// `.debug_str` or `.debug_line_str`. A table whose entries take no bytes counts as damage, so that the size of a header bounds the
+/// time.
 ///
-/// Version 5 counts files from 0, which is the file that was compiled, and version 4 from 1. A name that begins with a slash
-/// stays as it is. Its directory and a slash come before any other name, and directory 0, in which the unit was compiled, before
-/// a directory that is not absolute itself. In version 4 the header does not have that directory, and the name is relative to it.
+/// Version 5 numbers files from 0, the primary source file, and version 4 from 1. A name that begins with a slash is unchanged. Any
+/// other name is prefixed with its directory and a slash; a relative directory is prefixed with directory 0, in which the unit was
+/// compiled. A header of version 4 does not have that directory, and the name is relative to it.
 #[tactic(auto, unfolding(crate::specs::Names::file_name_of, crate::specs::Names::name_of))]
 pub fn file_name(
     alloc: Global,

@@ -1,10 +1,10 @@
-// One entry of a table that the reader goes through.
+// One entry of a table, found in one pass.
 ghost use Rattle.std.specs.Prelude.{◌≡◌};
 ghost use Rattle.dwarf_files.specs.Picks.{passed};
 
 use crate::entries::Entry;
 
-// The wanted entry, if it was reached, and else how many entries remain before it.
+// The wanted entry, if it was reached, and else how many entries come before it.
 #[derive(Clone, Copy)]
 pub(crate) struct Pick {
     pub(crate) found: Option<Entry>,

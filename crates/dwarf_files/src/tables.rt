@@ -1,4 +1,4 @@
-// One entry of a table, by its place, and where the table ends.
+// One entry of a table by index, and the end of the table.
 ghost use Rattle.std.specs.Prelude.{◌≡◌, IfOk};
 ghost use Rattle.dwarf_files.specs.Lists.{list_of};
 ghost use Rattle.dwarf_files.specs.Picks.{picked};
@@ -10,7 +10,7 @@ use crate::picks::Pick;
 use abi_base::{NoMemory, uleb};
 use std::alloc::Global;
 
-// One of a number of entries with a format, and the place after all of them.
+// One of this many entries with a format, and the offset after all of them.
 #[tactic(auto, using(crate::proofs::PickLemmas::items_more, crate::proofs::PickLemmas::items_cut, crate::proofs::PickLemmas::items_done))]
 fn pick_by_format(
     bytes: &[u8],
@@ -40,7 +40,7 @@ fn pick_by_format(
     Some((pick.found, place))
 }
 
-// An entry of a table of version 5, and the place after the table.
+// An entry of a table of version 5, and the offset after the table.
 #[tactic(auto, unfolding(crate::specs::Tables::table_of))]
 pub(crate) fn pick_in_table(
     alloc: Global,
@@ -65,7 +65,7 @@ pub(crate) fn pick_in_table(
     }
 }
 
-// An item of a list of version 4, and the place after the list.
+// An item of a list of version 4, and the offset after the list.
 #[tactic(auto, using(crate::proofs::PickLemmas::list_more))]
 pub(crate) fn pick_in_list(
     bytes: &[u8],

@@ -1,4 +1,4 @@
-// Names, and names in directories.
+// Names, and their directories.
 ghost use Rattle.std.specs.Prelude.{◌≡◌, IfOk, IsTrue, ◌↔◌};
 ghost use Rattle.dwarf_files.specs.Names.{joined};
 ghost use Rattle.dwarf_files.specs.Names as spec;
@@ -17,8 +17,8 @@ fn is_absolute(name: &[u8]) -> bool
     }
 }
 
-/// A name in a directory: the two with a slash between them. An absolute name stays as it is, and so does each name in the
-/// directory of no name.
+/// A name in a directory: both, joined by a slash. An absolute name is unchanged, and so is a name in a directory whose name is
+/// empty.
 #[tactic(auto, unfolding(crate::specs::Names::joined))]
 pub fn join(alloc: Global, directory: &[u8], name: &[u8]) -> Result<Vec<u8>, NoMemory>
     ensures { IfOk result (λ r. r.items ≡ joined directory.now name.now) }

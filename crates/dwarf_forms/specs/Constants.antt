@@ -17,11 +17,11 @@ word_of (value.Signed (pos n)) = Some n
 word_of (value.Signed (negsuc n)) = Some (2 ^ 64 - suc n)
 word_of other = None
 
--- how many numbers there are from 0 to a constant inclusive, modulo 2^64
+-- how many numbers there are from 0 through a constant, modulo 2^64
 abbrev pub count_up_to_of : Value → Option ℕ
 count_up_to_of v = option_map (λ n. (n + 1) % 2 ^ 64) (word_of v)
 
--- a flag that holds
+-- a flag that is set
 abbrev pub flag_holds : Value → Bool
 flag_holds (value.Flag holds) = holds
 flag_holds other = false

@@ -1,4 +1,4 @@
--- Values of attributes, form by form (DWARF 5, section 7.5.6 "Form Encodings").
+-- Attribute values, form by form (DWARF 5, section 7.5.6 "Form Encodings").
 use Rattle.std.specs.Prelude.{◌≡◌, ◌≤◌, ℕ, ◌+◌, ◌-◌, ◌%◌, ◌^◌, ◌==◌, not, nat_le, true, if◌then◌else◌, List, [], ◌∷◌, length, take, Option, Some, None, Result, Ok, Err, ℤ, find}
 use Rattle.std.specs.Option.{option_map}
 use Rattle.abi_base.specs.declared.fault.Fault.{Fault}
@@ -17,23 +17,23 @@ use Rattle.abi_base.specs.Outcome.{◌>>=◌, or_end}
 pub data Shape : Type 0 where
   -- a number of `size` bytes
   fixed : (size : ℕ) (meaning : Meaning) → Shape
-  -- a number of variable length
+  -- an unsigned LEB128 number
   of_uleb : (meaning : Meaning) → Shape
-  -- a signed number of variable length
+  -- a signed LEB128 number
   of_sleb : Shape
   -- the constant in the abbreviation, and no bytes
   implicit_const : Shape
   -- sixteen bytes
   sixteen_bytes : Shape
-  -- bytes behind a length of `size` bytes
+  -- a block after a length of `size` bytes
   block_behind : (size : ℕ) → Shape
-  -- bytes behind a length of variable length
+  -- a block after a LEB128 length
   block_behind_uleb : Shape
-  -- a text with its 0 byte
+  -- a string with its terminating 0 byte
   inline_text : Shape
   -- true, and no bytes
   is_present : Shape
-  -- a form of variable length, and then a value of that form
+  -- a LEB128 form, then a value of that form
   indirect : Shape
   -- a reference to a supplementary file
   supplementary : Shape
@@ -91,7 +91,7 @@ forms =
 unfoldable pub shape_of : ℕ → Option Shape
 shape_of form = option_map (λ row. row.1) (find (λ row. row.0 == form) forms)
 
--- the value that a number means, in a unit at a place
+-- the value of a number with this meaning, in a unit at an offset
 abbrev pub means : Meaning → ℕ → ℕ → Value
 means meaning.Address unit n = value.Address n
 means meaning.AddressIndex unit n = value.AddressIndex n
@@ -110,11 +110,11 @@ means meaning.LocationIndex unit n = value.LocationIndex n
 abbrev pub fault : FaultKind → ℕ → Fault
 fault kind entry = record { kind = kind; at = entry }
 
--- `len` bytes from a place on
+-- a block of `len` bytes
 abbrev pub block : List ℕ → ℕ → ℕ → Result (Value × ℕ) Fault → Result (Value × ℕ) Fault
 block bytes from len cut = if nat_le (from + len) (length bytes) then Ok (value.Block from (from + len), from + len) else cut
 
--- The value that a shape encodes from a place on, in the bytes up to the unit's end, and the place after it.
+-- The value that a shape encodes at an offset, in the bytes up to the unit's end, and the offset after it.
 abbrev pub spelled : Shape → ℤ → ℕ → ℕ → List ℕ → ℕ → Result (Value × ℕ) Fault
 spelled (fixed size m) implicit unit entry bytes at = do
   n ← or_end (number_at size bytes at) (fault kind.Cut entry)
@@ -141,13 +141,13 @@ spelled is_present implicit unit entry bytes at = Ok (value.Flag true, at)
 spelled indirect implicit unit entry bytes at = Err (fault kind.Form entry)
 spelled supplementary implicit unit entry bytes at = Err (fault kind.Supplementary entry)
 
--- a form that an indirect value may name
+-- a form that may follow DW_FORM_indirect
 abbrev pub named_shape : Option Shape → Option Shape
 named_shape (Some indirect) = None
 named_shape (Some implicit_const) = None
 named_shape other = other
 
--- the value behind a form of its own
+-- the value after its own form
 abbrev pub indirect_at : ℤ → ℕ → ℕ → List ℕ → ℕ → Result (Value × ℕ) Fault
 indirect_at implicit unit entry bytes at = do
   form ← or_end (uleb_at bytes at) (fault kind.Cut entry)
@@ -158,18 +158,18 @@ unfoldable pub value_of : Shape → ℤ → ℕ → ℕ → List ℕ → ℕ →
 value_of indirect implicit unit entry bytes at = indirect_at implicit unit entry bytes at
 value_of other implicit unit entry bytes at = spelled other implicit unit entry bytes at
 
--- The value of a form from a place on, and the place after it. The unit ends at `end`.
+-- The value of a form at an offset, and the offset after it. The unit ends at `end`.
 unfoldable pub value_at : ℕ → ℤ → ℕ → ℕ → ℕ → List ℕ → ℕ → Result (Value × ℕ) Fault
 value_at form implicit unit end entry bytes at = do
   named ← or_end (shape_of form) (fault kind.Form entry)
   value_of named implicit unit entry (take end bytes) at
 
--- the place after what was read, or the fault
+-- the offset after what was read, or the fault
 abbrev pub place_after : {A : Type 0} → Result (A × ℕ) Fault → Result ℕ Fault
 place_after (Ok read) = Ok read.1
 place_after (Err f) = Err f
 
--- how many bytes each value of a shape has, where all have the same number of bytes
+-- the size in bytes of the values of a shape, if all have the same size
 abbrev pub fixed_size_of : Option Shape → Option ℕ
 fixed_size_of (Some (fixed size m)) = Some size
 fixed_size_of (Some sixteen_bytes) = Some 16
@@ -177,12 +177,12 @@ fixed_size_of (Some implicit_const) = Some 0
 fixed_size_of (Some is_present) = Some 0
 fixed_size_of other = None
 
--- the place after a value of such a size, where the value ends in the unit
+-- the offset after a value of that size, if the value ends in the unit
 abbrev pub fixed_end_of : Option ℕ → ℕ → ℕ → Option ℕ
 fixed_end_of None end at = None
 fixed_end_of (Some size) end at = if nat_le size (end - at) then Some (at + size) else None
 
--- Values of forms of fixed size end `size` bytes on, where they end in the unit.
+-- Values of a form with a fixed size end that many bytes on, if they end in the unit.
 abbrev pub FixedSizesEnd : Type 0
 FixedSizesEnd =
     (form size : ℕ) (implicit : ℤ) (unit end entry : ℕ) (bytes : List ℕ) (at : ℕ) → fixed_size_of (shape_of form) ≡ Some size → size ≤ end - at → end ≤ length bytes
@@ -194,19 +194,19 @@ direct_at form implicit unit entry bytes at = do
   named ← or_end (shape_of form) (fault kind.Form entry)
   spelled named implicit unit entry bytes at
 
--- A form that encodes the place of another entry in `size` bytes. The place follows from the unit's offset and the number.
+-- A form encodes the offset of another entry in `size` bytes. The offset follows from the unit's offset and the number.
 abbrev pub Refers : ℕ → ℕ → (ℕ → ℕ → ℕ) → Type 0
 Refers form size place =
     (implicit : ℤ) (unit end entry : ℕ) (bytes : List ℕ) (at n : ℕ) → number_at size (take end bytes) at ≡ Some n
     → value_at form implicit unit end entry bytes at ≡ Ok (value.Reference (place unit n), at + size)
 
--- the same for a number of variable length
+-- the same for an unsigned LEB128 number
 abbrev pub RefersByUleb : ℕ → (ℕ → ℕ → ℕ) → Type 0
 RefersByUleb form place =
     (implicit : ℤ) (unit end entry : ℕ) (bytes : List ℕ) (at : ℕ) (n : ℕ × ℕ) → uleb_at (take end bytes) at ≡ Some n
     → value_at form implicit unit end entry bytes at ≡ Ok (value.Reference (place unit n.0), n.1)
 
--- the place of a number that counts from the start of `.debug_info`, and of one that counts from the start of its unit
+-- the offset for a number that counts from the start of `.debug_info`, and for one that counts from the start of its unit
 abbrev pub absolute : ℕ → ℕ → ℕ
 absolute unit n = n
 

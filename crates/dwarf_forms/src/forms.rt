@@ -1,4 +1,4 @@
-// The value of an attribute, form by form.
+// Attribute values, form by form.
 ghost use Rattle.std.specs.Prelude.{◌≡◌, ◌≤◌, ◌+◌, ◌<◌, ℕ, ℤ, List, Ok, length, take, IfOk, IfSome};
 ghost use Rattle.abi_base.specs.declared.fault.FaultKind.TheVariants as kind;
 ghost use Rattle.dwarf_forms.specs.Values.{value_at, direct_at, indirect_at, shape_of, fixed_size_of, fixed_end_of, place_after, fault};
@@ -79,13 +79,13 @@ fn direct(form: u64, implicit: i64, source: &Source, at: usize) -> Result<(Value
         | DW_FORM_strp_sup
         | DW_FORM_GNU_ref_alt
         | DW_FORM_GNU_strp_alt => Err(supplementary(source.entry)),
-        // The form of the value follows it, and it has no value itself.
+        // This form only names another one, and has no value of its own. `indirect` handles it.
         DW_FORM_indirect => Err(unknown(source.entry)),
         _ => Err(unknown(source.entry)),
     }
 }
 
-// A value behind its own form, which may be any other than `DW_FORM_indirect` and `DW_FORM_implicit_const`.
+// A value after its own form, which may be any except `DW_FORM_indirect` and `DW_FORM_implicit_const`.
 #[tactic(auto, using(crate::proofs::FormLemmas::named_shape_is, crate::proofs::FormLemmas::shape_of_indirect, crate::proofs::FormLemmas::shape_of_implicit))]
 fn indirect(implicit: i64, source: &Source, at: usize) -> Result<(Value, usize), Fault>
     ensures read { result ≡ indirect_at implicit source.now.unit_start source.now.entry source.now.unit.now at }
@@ -102,21 +102,21 @@ fn indirect(implicit: i64, source: &Source, at: usize) -> Result<(Value, usize),
     }
 }
 
-/// Where a unit is in `.debug_info`.
+/// The extent of a unit in `.debug_info`.
 #[derive(Clone, Copy, Debug, PartialEq, Eq)]
 pub struct UnitSpan {
-    /// Where it begins.
+    /// The offset of its first byte.
     pub start: u64,
-    /// The place after its last byte.
+    /// The offset after its last byte.
     pub end: u64,
 }
 
-// Its result is large: without inlining, a third of the time of a reader of all entries goes to copying it.
-/// The value of an attribute of an entry from a place of `.debug_info` on, and the place after it (DWARF 5, section 7.5.6
-/// "Form Encodings"). `spec` is the pair of attribute and form in the abbreviation. Local references count from the start of
-/// the entry's unit, and the value has to end in the unit. The fault is `Form` where the form is unknown, or where the form
-/// behind `DW_FORM_indirect` is that form again or `DW_FORM_implicit_const`, `Supplementary` where the form leads to another
-/// file, `Cut` where the value does not end in the unit or has a number of more than 64 bits; each is at the entry.
+// Inlined because the result is large: copying it would cost a reader of all entries a third of its time.
+/// The value of an attribute of an entry, at an offset in `.debug_info`, and the offset after it (DWARF 5, section 7.5.6 "Form
+/// Encodings"). `spec` is the attribute specification in the abbreviation. Local references count from the start of the entry's
+/// unit. The value has to end in the unit. The faults, each at the entry, are: `Form` where the form is unknown, or where
+/// `DW_FORM_indirect` is followed by itself or by `DW_FORM_implicit_const`; `Supplementary` where the form refers to another file;
+/// `Cut` where the value does not end in the unit or has a number of more than 64 bits.
 #[inline(always)]
 pub fn value(
     bytes: &[u8],
@@ -142,7 +142,7 @@ pub fn value(
     }
 }
 
-/// How many bytes each value of a form has, where all have the same number of bytes.
+/// The size of the values of a form in bytes, if all have the same size.
 #[inline(always)]
 #[tactic(auto, unfolding(crate::specs::Values::shape_of, crate::specs::Values::forms))]
 pub fn fixed_size(form: u64) -> Option<u16>
@@ -166,8 +166,8 @@ pub fn fixed_size(form: u64) -> Option<u16>
     }
 }
 
-/// The place after the value of a form whose values all have the same size, where the value ends in the unit: a reader skips it
-/// and reads none of its bytes. None where values of the form differ in size, and where the unit ends before the value does.
+/// The offset after a value of a form with a fixed size, so that a reader can skip the value without reading it. None where values
+/// of the form differ in size, and where the value does not end in the unit.
 #[inline(always)]
 #[tactic(auto, using(crate::proofs::FormLemmas::fixed_ends))]
 pub fn fixed_end(form: u64, unit_end: u64, at: usize) -> Option<usize>
@@ -188,7 +188,7 @@ pub fn fixed_end(form: u64, unit_end: u64, at: usize) -> Option<usize>
     }
 }
 
-// The place after what was read.
+// The offset after what was read.
 #[inline(always)]
 fn after(read: Result<(Value, usize), Fault>) -> Result<usize, Fault>
     ensures { result ≡ place_after read }
@@ -199,8 +199,8 @@ fn after(read: Result<(Value, usize), Fault>) -> Result<usize, Fault>
     }
 }
 
-/// The place after the value of an attribute of this form, from a place of `.debug_info` on, and the same faults as `value`: a
-/// reader calls it to skip the value. The place does not depend on the constant in the abbreviation or on the start of the unit.
+/// The offset after the value of an attribute with this form, at an offset in `.debug_info`. Its faults are those of `value`. A
+/// reader uses it to skip a value. The result does not depend on the constant in the abbreviation or on the start of the unit.
 #[tactic(auto, using(crate::proofs::FormLemmas::after_is_same))]
 pub fn value_end(
     form: u64,

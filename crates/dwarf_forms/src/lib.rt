@@ -1,4 +1,4 @@
-//! Values of attributes: how each form encodes one in `.debug_info`, where it ends, and the sections that values refer to.
+//! Attribute values: how each form encodes one in `.debug_info`, where it ends, and the sections to which values refer.
 #![tactic(auto)]
 
 pub mod abbreviations;

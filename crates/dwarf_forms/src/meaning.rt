@@ -1,6 +1,6 @@
-// What the numbers in values mean.
+// The meanings of numbers in attribute values.
 
-/// What a number in a value means.
+/// The meaning of the number that a form encodes.
 #[derive(Clone, Copy, Debug, PartialEq, Eq)]
 pub enum Meaning {
     Address,

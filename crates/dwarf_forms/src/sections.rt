@@ -1,9 +1,9 @@
-// The sections of debug information.
+// The debug sections of a file.
 ghost use Rattle.std.specs.Prelude.{◌≤◌, length};
 ghost use Rattle.abi_base.specs.Limits.{input_limit};
 
-/// The bytes of a file's sections of debug information (DWARF 5, section 7.3 "Executable Objects and Shared Objects";
-/// `.debug_ranges` is of DWARF 4). A section that is missing is empty. None is longer than the limit of an input.
+/// The bytes of a file's debug sections (DWARF 5, section 7.3 "Executable Objects and Shared Objects"; `.debug_ranges` is
+/// from DWARF 4). A missing section is empty. None is longer than the limit on inputs.
 #[derive(Clone, Copy)]
 pub struct Sections<'a> {
     /// `.debug_info`

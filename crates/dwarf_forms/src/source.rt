@@ -1,5 +1,5 @@
-// What encodes a value: numbers, blocks and texts, each in the bytes up to the end of the unit. None of these reads the
-// constant in the abbreviation, so clauses write 0 for it.
+// The encodings of values: numbers, blocks and strings, read from the bytes up to the end of the unit. No encoding here
+// involves the constant in the abbreviation, so the contracts pass 0 for it.
 ghost use Rattle.std.specs.Prelude.{◌≡◌, ◌≤◌, ◌+◌, ◌<◌, length, pos, IfSome, IfOk, Err};
 ghost use Rattle.abi_base.specs.Numbers.{number_at};
 ghost use Rattle.abi_base.specs.declared.fault.FaultKind.TheVariants as kind;
@@ -13,18 +13,18 @@ use abi_base::{Fault, FaultKind, sleb, text_at, u16_at, u32_at, u64_at, uint_at,
 // A number of 16 bytes.
 const WIDE_SIZE: usize = 16;
 
-// What the values of an entry are read from.
+// The bytes from which an entry's values are read.
 #[derive(Clone, Copy)]
 pub(crate) struct Source<'a> {
     // `.debug_info` up to the end of the unit
     pub(crate) unit: &'a [u8],
-    // where the unit begins
+    // the offset of the unit
     pub(crate) unit_start: u64,
-    // where the entry begins
+    // the offset of the entry
     pub(crate) entry: u64,
 }
 
-// The number in the byte at a place.
+// The number in the byte at an offset.
 #[tactic(auto, using(crate::proofs::FormLemmas::number_one))]
 fn u8_at(bytes: &[u8], at: usize) -> Option<u64>
     ensures { result ≡ number_at 1 bytes.now at }
@@ -36,7 +36,7 @@ fn u8_at(bytes: &[u8], at: usize) -> Option<u64>
     }
 }
 
-// The number in `size` bytes at a place. Most have 1, 2, 4 or 8 bytes, and are read in one piece.
+// The number in `size` bytes at an offset. Sizes 1, 2, 4 and 8 are usual and are read in one piece.
 #[inline(always)]
 fn fixed_at(bytes: &[u8], at: usize, size: usize) -> Option<u64>
     requires some { 0 < size }
@@ -53,7 +53,7 @@ fn fixed_at(bytes: &[u8], at: usize, size: usize) -> Option<u64>
     }
 }
 
-// The value that a number means.
+// The value of a number with this meaning.
 #[inline(always)]
 fn meant(meaning: Meaning, unit_start: u64, number: u64) -> Value
     ensures { result ≡ means meaning unit_start number }
@@ -105,7 +105,7 @@ impl<'a> Source<'a> {
         }
     }
 
-    // An unsigned number of variable length.
+    // An unsigned LEB128 number.
     pub(crate) fn uleb(&self, meaning: Meaning, at: usize) -> Result<(Value, usize), Fault>
         ensures read { result ≡ spelled (of_uleb meaning) (pos 0) self.now.unit_start self.now.entry self.now.unit.now at }
         ensures after { IfOk result (λ r. at ≤ r.1) }
@@ -117,7 +117,7 @@ impl<'a> Source<'a> {
         }
     }
 
-    // A signed number of variable length.
+    // A signed LEB128 number.
     pub(crate) fn sleb(&self, at: usize) -> Result<(Value, usize), Fault>
         ensures read { result ≡ spelled of_sleb (pos 0) self.now.unit_start self.now.entry self.now.unit.now at }
         ensures after { IfOk result (λ r. at ≤ r.1) }
@@ -142,7 +142,7 @@ impl<'a> Source<'a> {
         }
     }
 
-    // `len` bytes from a place on.
+    // A block of `len` bytes.
     fn bytes(&self, from: usize, len: u64) -> Result<(Value, usize), Fault>
         requires { from ≤ length self.now.unit.now }
         ensures read { result ≡ spec.block self.now.unit.now from len (Err (fault kind.Cut self.now.entry)) }
@@ -162,7 +162,7 @@ impl<'a> Source<'a> {
         ))
     }
 
-    // Bytes behind a length of `size` bytes.
+    // A block after its length in `size` bytes.
     pub(crate) fn block(&self, size: usize, at: usize) -> Result<(Value, usize), Fault>
         requires some { 0 < size }
         requires few { size ≤ 8 }
@@ -176,7 +176,7 @@ impl<'a> Source<'a> {
         }
     }
 
-    // Bytes behind a length of variable length.
+    // A block after its length as an unsigned LEB128.
     pub(crate) fn uleb_block(&self, at: usize) -> Result<(Value, usize), Fault>
         ensures read { result ≡ spelled block_behind_uleb (pos 0) self.now.unit_start self.now.entry self.now.unit.now at }
         ensures after { IfOk result (λ r. at ≤ r.1) }
@@ -188,7 +188,7 @@ impl<'a> Source<'a> {
         }
     }
 
-    // A text with its 0 byte.
+    // A string with its terminating 0 byte.
     pub(crate) fn inline(&self, at: usize) -> Result<(Value, usize), Fault>
         ensures read { result ≡ spelled inline_text (pos 0) self.now.unit_start self.now.entry self.now.unit.now at }
         ensures after { IfOk result (λ r. at ≤ r.1) }

@@ -1,47 +1,47 @@
-// What an attribute's value is.
+// The values of attributes.
 ghost use Rattle.std.specs.Prelude.{◌≡◌};
 ghost use Rattle.dwarf_forms.specs.Constants.{number_of, word_of, count_up_to_of, flag_holds};
 
-/// The value of an attribute, by its class (DWARF 5, section 7.5.5 "Classes and Forms"). Places count from the start of
-/// `.debug_info`.
+/// The value of an attribute, by class (DWARF 5, section 7.5.5 "Classes and Forms"). Offsets count from the start of
+/// `.debug_info` unless another section is named.
 #[derive(Clone, Copy, Debug, PartialEq, Eq)]
 pub enum Value {
     /// An address.
     Address(u64),
-    /// The number of an address in the unit's part of `.debug_addr`.
+    /// An index into the unit's part of `.debug_addr`.
     AddressIndex(u64),
-    /// A constant without a sign.
+    /// An unsigned constant.
     Unsigned(u64),
-    /// A constant with a sign.
+    /// A signed constant.
     Signed(i64),
-    /// A constant of 16 bytes, which begin here.
+    /// A constant of 16 bytes at this offset.
     Wide { from: u64 },
-    /// Bytes, or an expression: the bytes from `from` on and before `to`.
+    /// A block or an expression: the bytes from `from` up to `to`.
     Block { from: u64, to: u64 },
-    /// A text that begins here and ends with a 0 byte.
+    /// A string at this offset, up to a 0 byte.
     Inline { from: u64 },
-    /// A place in `.debug_str`.
+    /// An offset into `.debug_str`.
     StrOffset(u64),
-    /// A place in `.debug_line_str`.
+    /// An offset into `.debug_line_str`.
     LineOffset(u64),
-    /// The number of a text in the unit's part of `.debug_str_offsets`.
+    /// An index into the unit's part of `.debug_str_offsets`.
     StrIndex(u64),
-    /// Whether something holds.
+    /// A flag.
     Flag(bool),
-    /// The place of another entry.
+    /// The offset of another entry.
     Reference(u64),
     /// The signature of a type unit.
     Signature(u64),
-    /// A place in another section, by what the attribute says.
+    /// An offset into another section. The attribute decides which.
     SectionOffset(u64),
-    /// The number of a list in the unit's part of `.debug_rnglists`.
+    /// An index into the unit's part of `.debug_rnglists`.
     RangeIndex(u64),
-    /// The number of a list in the unit's part of `.debug_loclists`.
+    /// An index into the unit's part of `.debug_loclists`.
     LocationIndex(u64),
 }
 
 impl Value {
-    /// The constant where it is at least 0, else none (DWARF 5, section 7.5.5 "Classes and Forms", class constant).
+    /// The constant if it is at least 0, else None (DWARF 5, section 7.5.5 "Classes and Forms", class constant).
     pub fn number(&self) -> Option<u64>
         ensures { result ≡ number_of self.now }
     {
@@ -52,7 +52,7 @@ impl Value {
         }
     }
 
-    /// The constant modulo 2^64, with a sign or without, and none where the value is no constant.
+    /// The constant modulo 2^64, signed or unsigned, or None where the value is not a constant.
     pub fn word(&self) -> Option<u64>
         ensures { result ≡ word_of self.now }
     {
@@ -63,7 +63,7 @@ impl Value {
         }
     }
 
-    /// How many numbers there are from 0 to the constant inclusive, modulo 2^64, and none where the value is no constant.
+    /// How many numbers there are from 0 through the constant, modulo 2^64, or None where the value is not a constant.
     pub fn count_up_to(&self) -> Option<u64>
         ensures { result ≡ count_up_to_of self.now }
     {
@@ -73,7 +73,7 @@ impl Value {
         }
     }
 
-    /// Whether the value is a flag that holds. False for a value of another class.
+    /// Whether the value is a flag that is set. False for a value of another class.
     pub fn holds(&self) -> bool
         ensures { result ≡ flag_holds self.now }
     {

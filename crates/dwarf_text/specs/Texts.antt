@@ -1,4 +1,4 @@
--- The texts and addresses that values of attributes refer to.
+-- The strings and addresses to which attribute values refer.
 use Rattle.std.specs.Prelude.{◌≡◌, ℕ, nat_lt, is_some, List, Option, Some, None, Result, Ok, Err}
 use Rattle.abi_base.specs.declared.fault.Fault.{Fault}
 use Rattle.abi_base.specs.declared.fault.FaultKind.TheVariants as kind
@@ -9,13 +9,13 @@ use Rattle.dwarf_forms.specs.Values.{fault}
 use Rattle.dwarf_forms.specs.declared.values.Value.{Value}
 use Rattle.dwarf_forms.specs.declared.values.Value.TheVariants as value
 
--- a text of a section, which has to end with a 0 byte inside the section
+-- the string at an offset in a section, which must end with a 0 byte inside the section
 abbrev pub text_in : List ℕ → ℕ → ℕ → Result (List ℕ) Fault
 text_in section place entry = or_end (text_at section place) (fault kind.Text entry)
 
--- The text of a value (DWARF 5, section 7.5.5 "Classes and Forms", class string): it is in `.debug_info` itself, or at an offset
--- into `.debug_str` or `.debug_line_str`, or at an offset into `.debug_str` that `.debug_str_offsets` holds, whose part for the
--- unit begins at a base.
+-- The string of a value (DWARF 5, section 7.5.5 "Classes and Forms", class string): it is in `.debug_info` itself, at an offset in
+-- `.debug_str` or `.debug_line_str`, or at an offset in `.debug_str` that `.debug_str_offsets` holds. The unit's part of the latter
+-- begins at a base.
 abbrev pub text_of : (info str line_str str_offsets : List ℕ) → Option ℕ → ℕ → Value → Result (List ℕ) Fault
 text_of info str line_str str_offsets base entry (value.Inline place) = text_in info place entry
 text_of info str line_str str_offsets base entry (value.StrOffset place) = text_in str place entry
@@ -25,17 +25,17 @@ text_of info str line_str str_offsets base entry (value.StrIndex k) = do
   text_in str place entry
 text_of info str line_str str_offsets base entry other = Err (fault kind.Text entry)
 
--- the fault of what was read, if it has one
+-- the fault of what was read, if any
 abbrev pub fault_of : {A : Type 0} → Result A Fault → Option Fault
 fault_of (Ok x) = None
 fault_of (Err f) = Some f
 
--- texts begin at the places before this one, and at no other
+-- strings begin at the offsets before this one, and at no other
 abbrev pub TextsEnd : List ℕ → ℕ → Type 0
 TextsEnd section end = (place : ℕ) → is_some (text_at section place) ≡ nat_lt place end
 
--- The address of a value (DWARF 5, section 7.5.5, class address): it is the value itself, or in `.debug_addr`, whose part for
--- the unit begins at a base.
+-- The address of a value (DWARF 5, section 7.5.5, class address): the value itself, or an entry of `.debug_addr`. The unit's part
+-- of that section begins at a base.
 abbrev pub address_of : List ℕ → Option ℕ → ℕ → Value → Result ℕ Fault
 address_of addr base entry (value.Address address) = Ok address
 address_of addr base entry (value.AddressIndex k) = or_end (entry_of_table 8 addr base k) (fault kind.Index entry)

@@ -1,4 +1,4 @@
-// The addresses of values.
+// The addresses that attribute values denote.
 ghost use Rattle.std.specs.Prelude.{◌≡◌};
 ghost use Rattle.abi_base.specs.declared.fault.FaultKind.TheVariants as kind;
 ghost use Rattle.dwarf_forms.specs.Values.{fault};
@@ -17,9 +17,9 @@ fn no_address(entry: u64) -> Fault
     }
 }
 
-/// The address of a value of an attribute (DWARF 5, sections 7.5.5 "Classes and Forms" and 7.27 "Address Table"). The fault is
-/// `Index`, at the entry, where the value is an index and the unit has no base for it, or the index is outside `.debug_addr`,
-/// and where the value is no address.
+/// The address of an attribute value (DWARF 5, sections 7.5.5 "Classes and Forms" and 7.27 "Address Table"). The fault is `Index`,
+/// at the entry, where the value is not an address, where it is an index for which the unit has no base, and where the index leads
+/// outside `.debug_addr`.
 pub fn address(value: &Value, bases: &Bases, sections: &Sections, entry: u64) -> Result<u64, Fault>
     ensures { result ≡ spec.address_of sections.now.addr.now bases.now.addr entry value.now }
 {

@@ -1,7 +1,7 @@
-// Where a unit's parts of other sections begin.
+// The bases of a unit's parts of other sections.
 
-/// Where a unit's parts of other sections begin, by the attributes of its root (DWARF 5, section 3.1.1 "Full and Partial
-/// Compilation Unit Entries"). Each is a place from the start of its section, and none where the root has no such attribute.
+/// The bases of a unit's parts of other sections, from the attributes of its root (DWARF 5, section 3.1.1 "Full and Partial
+/// Compilation Unit Entries"). Each is an offset in its section, or None where the root lacks the attribute.
 #[derive(Clone, Copy, Debug, PartialEq, Eq)]
 pub struct Bases {
     /// The unit's part of `.debug_str_offsets` (`DW_AT_str_offsets_base`).
@@ -10,6 +10,6 @@ pub struct Bases {
     pub addr: Option<u64>,
     /// The unit's part of `.debug_rnglists` (`DW_AT_rnglists_base`).
     pub rnglists: Option<u64>,
-    /// The address from which ranges of addresses count (`DW_AT_low_pc`), or 0.
+    /// The base address of the unit's ranges (`DW_AT_low_pc`), or 0.
     pub low: u64,
 }

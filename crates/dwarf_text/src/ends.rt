@@ -1,9 +1,9 @@
-// Where the last text of a section ends.
+// The end of the last string of a section.
 ghost use Rattle.std.specs.Prelude.{◌≤◌, length};
 ghost use Rattle.dwarf_text.specs.Texts.{TextsEnd};
 
-/// The place after the last 0 byte of a section of texts, and 0 where there is none: a text, maybe an empty one, begins at each
-/// place before it and at no other place. A caller that tests many places need not search for the end of each text.
+/// The offset after the last 0 byte of a string section, or 0 where there is none. A string, possibly empty, begins at each offset
+/// before it and at no other. A caller that tests many offsets thus need not search for the end of each string.
 pub fn texts_end(section: &[u8]) -> usize
     ensures end { TextsEnd section.now result }
     ensures inside { result ≤ length section.now }

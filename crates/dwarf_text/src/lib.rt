@@ -1,4 +1,4 @@
-//! The texts and addresses that values of attributes refer to.
+//! The strings and addresses to which attribute values refer.
 #![tactic(auto)]
 
 mod addresses;

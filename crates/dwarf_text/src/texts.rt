@@ -1,4 +1,4 @@
-// The texts of values.
+// The strings that attribute values denote.
 ghost use Rattle.std.specs.Prelude.{◌≡◌, ℕ, List};
 ghost use Rattle.std.specs.Result.{result_map_both};
 ghost use Rattle.abi_base.specs.declared.fault.FaultKind.TheVariants as kind;
@@ -19,7 +19,7 @@ fn no_text(entry: u64) -> Fault
     }
 }
 
-// The text at a place of a section.
+// The string at an offset in a section.
 fn text_in(section: &[u8], place: u64, entry: u64) -> Result<&[u8], Fault>
     ensures { result_map_both (λ t. t.now) (λ f. f) result ≡ spec.text_in section.now place entry }
 {
@@ -29,10 +29,10 @@ fn text_in(section: &[u8], place: u64, entry: u64) -> Result<&[u8], Fault>
     }
 }
 
-/// The text of a value of an attribute, as bytes of the file without the 0 byte (DWARF 5, sections 7.5.5 "Classes and Forms" and
-/// 7.26 "String Offsets Table"). The fault is `Index` where the value is an index and the unit has no base for it, or the index
-/// is outside `.debug_str_offsets`, and `Text` where the value has no form of texts, or the text does not end inside its
-/// section; each is at the entry.
+/// The string of an attribute value, as bytes of the file without the 0 byte (DWARF 5, sections 7.5.5 "Classes and Forms" and
+/// 7.26 "String Offsets Table"). The fault is `Index` where the value is an index for which the unit has no base, or which leads
+/// outside `.debug_str_offsets`, and `Text` where the value is not of class string, or the string does not end inside its section.
+/// Each is at the entry.
 pub fn text<'a>(
     value: &Value,
     bases: &Bases,
@@ -60,7 +60,7 @@ pub fn text<'a>(
     }
 }
 
-// The fault of the text at a place of a section whose texts end at another one.
+// The fault of the string at an offset in a section whose strings end at `end`.
 fn fault_before(end: usize, place: u64, entry: u64) -> Option<Fault>
     ensures { (section : List ℕ) → TextsEnd section end → result ≡ spec.fault_of (spec.text_in section place entry) }
 {
@@ -71,7 +71,7 @@ fn fault_before(end: usize, place: u64, entry: u64) -> Option<Fault>
     }
 }
 
-// The fault of what was read.
+// The fault of what was read, if any.
 fn fault_of(read: Result<&[u8], Fault>) -> Option<Fault>
     ensures { result ≡ spec.fault_of (result_map_both (λ t. t.now) (λ f. f) read.entry) }
 {
@@ -81,8 +81,8 @@ fn fault_of(read: Result<&[u8], Fault>) -> Option<Fault>
     }
 }
 
-/// The fault of the text of a value, the same as that of `text`. `str_end` is where the texts of `.debug_str` end, so this call
-/// need not search for the end of a text there.
+/// The fault of the string of a value, the same as that of `text`. `str_end` is where the strings of `.debug_str` end, and saves
+/// the search for the end of a string there.
 pub fn text_fault(
     value: &Value,
     bases: &Bases,

@@ -1,4 +1,4 @@
--- The entries of all units of `.debug_info` as one list in order of offset, and which entries are below which (DWARF 5, section 2.3
+-- The entries of all units of `.debug_info` as one list by offset, and their parents and children (DWARF 5, section 2.3
 -- "Relationship of Debugging Information Entries").
 use Rattle.std.specs.Prelude.{◌≡◌, ◌↔◌, ◌<◌, ◌≤◌, ◌+◌, ◌^◌, ◌==◌, nat_lt, ℕ, Bool, true, List, [], ◌∷◌, length, map, flat_map, filter, find, position, drop, slice_index_or, Option, Some, None, IsSome}
 use Rattle.std.specs.List.{range_with_len, enumerate_from, take_while}
@@ -27,7 +27,7 @@ head_of u = record { offset = u.offset; end = u.end; version = u.version; signat
 abbrev pub placed : ℕ → Entry → TreeEntry
 placed unit e = record { offset = e.offset; depth = e.depth; tag = e.tag; attributes = e.attributes; unit = unit }
 
--- the entries of a unit, which has a number
+-- the entries of the unit with a number
 abbrev pub placed_entries : ℕ × PlainUnit → List TreeEntry
 placed_entries u = map (placed u.0) (entries_of u.1).items
 
@@ -38,7 +38,7 @@ tree_of info abbrevs = record {
   entries = flat_map placed_entries (enumerate_from 0 (units_of info abbrevs).items);
 }
 
--- ---- look-ups, which give an entry without attributes past the end
+-- ---- look-ups; past the end they give an entry without attributes
 
 abbrev pub no_entry : TreeEntry
 no_entry = record { offset = 0; depth = 0; tag = 0; attributes = []; unit = 0 }
@@ -50,7 +50,7 @@ entry_at t e = slice_index_or t.entries e no_entry
 abbrev pub depth_at : PlainTree → ℕ → ℕ
 depth_at t e = (entry_at t e).depth
 
--- the header of a unit, by its number
+-- the header of the unit with this number
 abbrev pub no_head : Head
 no_head = record { offset = 0; end = 0; version = 0; signature = None; type_entry = 0 }
 
@@ -61,7 +61,7 @@ head_at t k = slice_index_or t.units k no_head
 abbrev pub own_of : PlainTree → ℕ → ℕ → Option Value
 own_of t e name = attribute_of (entry_at t e).attributes name
 
--- the position of the entry that starts at an offset
+-- the position of the entry at an offset
 unfoldable pub entry_of : PlainTree → ℕ → Option ℕ
 entry_of t offset = position (λ e. e.offset == offset) t.entries
 
@@ -71,11 +71,11 @@ root_of t unit = position (λ e. e.unit == unit) t.entries
 
 -- ---- children
 
--- how many entries are below an entry: those after it, up to the next one that is no deeper than it
+-- the number of entries in an entry's subtree: those after it, up to the next one that is no deeper
 unfoldable pub count_below : PlainTree → ℕ → ℕ
 count_below t e = length (take_while (λ x. nat_lt (depth_at t e) x.depth) (drop (e + 1) t.entries))
 
--- the positions of the children of an entry: the entries below it that are one deeper
+-- the positions of the children of an entry: the entries in its subtree that are one deeper
 unfoldable pub children_of : PlainTree → ℕ → List ℕ
 children_of t e = filter (λ i. depth_at t i == depth_at t e + 1) (range_with_len (e + 1) (count_below t e))
 
@@ -87,19 +87,19 @@ is_after (Some child) i = nat_lt child i
 abbrev pub next_child_of : PlainTree → ℕ → Option ℕ → Option ℕ
 next_child_of t e after = find (is_after after) (children_of t e)
 
--- a child and the later ones
+-- a child and those after it
 abbrev pub from_child : PlainTree → ℕ → Option ℕ → List ℕ
 from_child t e None = []
 from_child t e (Some child) = child ∷ filter (is_after (Some child)) (children_of t e)
 
--- an entry has a tag
+-- whether an entry has a tag
 abbrev pub is_tagged : PlainTree → ℕ → ℕ → Bool
 is_tagged t tag e = (entry_at t e).tag == tag
 
--- ---- what holds of the tree of a section without a fault
+-- ---- the invariants of the tree of a section without a fault
 
--- Entries are in order of offset, none at 0, each at most one deeper than the one before it; units are numbered from 0 in their
--- order; the entries of depth 0 are their roots; and each type unit has an entry at the place that it gives for its type.
+-- Offsets of entries ascend, and none is 0. Each entry is at most one deeper than the one before it. Units are numbered from 0 in
+-- order, and the entries of depth 0 are their roots. Each type unit has an entry at its type offset.
 pub record IsOrdered (t : PlainTree) : Type 0 where
   pub count : length t.entries < 2 ^ 32
   pub positive : (i : ℕ) → i < length t.entries → 0 < (entry_at t i).offset

@@ -1,4 +1,4 @@
-// The value of an attribute, read from the bytes on demand.
+// The values of attributes, read from the bytes on demand.
 ghost use Rattle.std.specs.Prelude.{◌≡◌, ◌≢◌, ◌<◌, ◌≤◌, ◌^◌, ◌%◌, ◌/◌, ◌==◌, [], IfNone, IfSome, Some, length, map};
 ghost use Rattle.std.specs.Int.RustNames.{bit_or};
 ghost use Rattle.dwarf_forms.specs.Values.{place_after, value_at};
@@ -21,7 +21,8 @@ use dwarf_forms::abbreviations::{ShortPair, Spec, next_spec, short_pair};
 use dwarf_forms::laws::references_count_from_their_unit;
 use dwarf_forms::{UnitSpan, Value, fixed_end, value, value_end};
 
-// Where the attributes of an entry are read from: the bytes, the slots of all shapes, the record of the entry, and its unit.
+// What an entry's attributes are read from: the bytes, the slots of all shapes, the header of its unit, and the entry's shape and
+// record.
 #[derive(Clone, Copy)]
 pub(crate) struct AttributeSource<'t> {
     pub info: &'t [u8],
@@ -32,15 +33,15 @@ pub(crate) struct AttributeSource<'t> {
     pub stored: EntryRecord,
 }
 
-// The bits, with that of an attribute set.
+// The attribute bits, with that of one more attribute.
 fn with_name(names: u64, name: u64) -> u64
     ensures { result ≡ bit_or names (2 ^ keeping.bit_of name) }
 {
     names | (1 << bit_of(name))
 }
 
-// Whether the bit of an attribute is set. False says that the entry has no such attribute. True says nothing, since the
-// attributes that readers do not use share a bit: it only saves time.
+// Whether the bit of an attribute is set. If not, the entry does not have the attribute. If so, nothing follows, since all
+// attributes that readers do not use share one bit. The test only saves time.
 #[inline(always)]
 pub(crate) fn may_have(names: u64, name: u64) -> bool
     ensures { result ≡ (names / 2 ^ keeping.bit_of name % 2 == 1) }
@@ -48,7 +49,7 @@ pub(crate) fn may_have(names: u64, name: u64) -> bool
     (names >> bit_of(name)) % 2 == 1
 }
 
-// The bits of the attributes of these pairs of attribute and form.
+// The bits of the attributes in these specifications.
 #[tactic(auto, using(crate::proofs::NameLemmas::names_more, crate::proofs::NameLemmas::names_none, crate::proofs::NameLemmas::names_end))]
 pub(crate) fn names_of(specs: &[Spec]) -> u64
     ensures { HaveNames result (map (λ s. s.attribute) specs.now) }
@@ -60,7 +61,7 @@ pub(crate) fn names_of(specs: &[Spec]) -> u64
     names
 }
 
-// The value of one attribute of an entry, where it has no fault.
+// The value of one attribute of an entry, if it has no fault.
 #[inline(always)]
 fn value_in(info: &[u8], head: Head, kept: EntryHead, spec: Spec, at: usize) -> Option<Value>
     requires { head.end ≤ length info.now }
@@ -76,7 +77,7 @@ fn value_in(info: &[u8], head: Head, kept: EntryHead, spec: Spec, at: usize) -> 
     }
 }
 
-// The place after that value, without the value. Texts are skipped here, since most values without a fixed size are short names.
+// The offset after that value. Inline strings are skipped here, since most values without a fixed size are short names.
 #[inline(always)]
 #[tactic(auto, using(crate::proofs::AskLemmas::text_passed))]
 fn end_in(info: &[u8], head: Head, kept: EntryHead, spec: Spec, at: usize) -> Result<usize, Fault>
@@ -91,7 +92,7 @@ fn end_in(info: &[u8], head: Head, kept: EntryHead, spec: Spec, at: usize) -> Re
     value_end(spec.form, head.end, u64::from(kept.offset), info, at)
 }
 
-// The pair whose numbers have one byte each.
+// The attribute specification in two bytes.
 #[inline(always)]
 fn plain(pair: ShortPair) -> Spec
     ensures { result ≡ plain_pair pair.attribute pair.form }
@@ -103,7 +104,7 @@ fn plain(pair: ShortPair) -> Spec
     }
 }
 
-// The pair at a place, and the place of the next. Most have two numbers of one byte each.
+// The attribute specification at an offset, and the offset of the next one. Most have two bytes.
 #[inline(always)]
 #[tactic(auto, using(crate::proofs::AskLemmas::plain_front))]
 fn pair_at(abbrevs: &[u8], at: usize) -> Option<(Spec, usize)>
@@ -118,8 +119,8 @@ fn pair_at(abbrevs: &[u8], at: usize) -> Option<(Spec, usize)>
     }
 }
 
-// Skips pairs before the attribute whose numbers have one byte each and whose forms have fixed sizes, as most have: the place of
-// the next pair, and that of its value.
+// Skips attribute specifications before the attribute while they have two bytes and a form with a fixed size, as most have. Answers
+// the offset of the next specification, and that of its value.
 fn pass_plain(abbrevs: &[u8], unit_end: u64, name: u64, first: usize, from: usize) -> (usize, usize)
     ensures same { FindSame abbrevs.now unit_end name result (first, from) }
     ensures after { first ≤ result.0 }
@@ -139,8 +140,8 @@ fn pass_plain(abbrevs: &[u8], unit_end: u64, name: u64, first: usize, from: usiz
     (pairs, at)
 }
 
-// The first value of an attribute of an entry: it reads the pairs of attribute and form beside the values, up to the attribute,
-// and skips the values before it.
+// The first value of an attribute of an entry. Reads attribute specifications and values side by side up to the attribute, and
+// skips the values before it.
 #[tactic(auto, using(crate::proofs::AskLemmas::ask_more, crate::proofs::AskLemmas::ask_cut, crate::proofs::AskLemmas::ask_met, crate::proofs::AskLemmas::ask_end, crate::proofs::AskLemmas::ask_start, crate::proofs::AskLemmas::ask_nothing))]
 fn first_value(info: &[u8], abbrevs: &[u8], head: Head, kept: EntryHead, name: u64) -> Option<Value>
     requires { head.end ≤ length info.now }
@@ -179,8 +180,8 @@ fn walked(asked: &AttributeSource<'_>, name: u64) -> Option<Value>
     first_value(asked.info, asked.abbrevs, *asked.head, kept, name)
 }
 
-// The first value of an attribute of a stored entry. A slot of its shape gives the place of the value, where all values before it
-// have fixed sizes; without a slot, the search for the value starts at the first pair.
+// The first value of an attribute of a stored entry. A slot of its shape gives the offset of the value, if all values before it
+// have fixed sizes. Without a slot, the search begins at the first specification.
 #[tactic(auto, using(crate::proofs::AskLemmas::ask_nothing))]
 pub(crate) fn value_of(asked: &AttributeSource<'_>, name: u64) -> Option<Value>
     requires inside { asked.now.head.now.end ≤ length asked.now.info.now }
@@ -209,8 +210,8 @@ pub(crate) fn value_of(asked: &AttributeSource<'_>, name: u64) -> Option<Value>
     value_in(asked.info, head, kept, plain(pair), at)
 }
 
-// The number of four bytes that encodes the first value of an attribute of a stored entry, where a slot of its shape gives the
-// value's place and this form.
+// The four-byte number that encodes the first value of an attribute of a stored entry, if a slot of its shape gives the value's
+// offset and this form.
 #[inline(always)]
 fn short_number(asked: &AttributeSource<'_>, name: u64, form: u64) -> Option<u32>
     requires inside { asked.now.head.now.end ≤ length asked.now.info.now }
@@ -227,8 +228,8 @@ fn short_number(asked: &AttributeSource<'_>, name: u64, form: u64) -> Option<u32
     u32_at(unit, after + usize::from(slot.from))
 }
 
-// The place of the entry that an attribute of a stored entry refers to, where the attribute has the form `DW_FORM_ref4` and a slot
-// gives its place. It only saves time: none says nothing, and `value_of` gives the answer.
+// The offset of the entry to which an attribute of a stored entry refers, if the attribute has the form `DW_FORM_ref4` and a slot.
+// The call only saves time: None means nothing, and `value_of` answers in all cases.
 #[inline(always)]
 #[tactic(auto, using(crate::proofs::ShortLemmas::refers_short))]
 pub(crate) fn short_reference_of(asked: &AttributeSource<'_>, name: u64) -> Option<u64>
@@ -241,8 +242,8 @@ pub(crate) fn short_reference_of(asked: &AttributeSource<'_>, name: u64) -> Opti
     Some(u64::from(number).wrapping_add(asked.head.offset))
 }
 
-// The place in `.debug_str` of the text of an attribute of a stored entry, where the attribute has the form `DW_FORM_strp` and a
-// slot gives its place. It only saves time: none says nothing, and `value_of` gives the answer.
+// The offset in `.debug_str` of the string of an attribute of a stored entry, if the attribute has the form `DW_FORM_strp` and a
+// slot. The call only saves time: None means nothing, and `value_of` answers in all cases.
 #[inline(always)]
 #[tactic(auto, using(crate::proofs::ShortLemmas::text_short))]
 pub(crate) fn short_text_of(asked: &AttributeSource<'_>, name: u64) -> Option<u64>

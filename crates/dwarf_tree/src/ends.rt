@@ -1,4 +1,4 @@
-// Where the entries below each entry end.
+// Where the subtree of each entry ends.
 ghost use Rattle.std.specs.Prelude.{◌≡◌, ◌<◌, ◌+◌, ◌≤◌, ◌^◌, length, IfOk};
 ghost use Rattle.dwarf_tree.specs.Keeping.{AreEnds, EndsFrom, end_below};
 
@@ -6,7 +6,7 @@ use crate::tree_builder::TreeBuilder;
 use abi_base::NoMemory;
 use std::alloc::Global;
 
-// The position of the next entry that is no deeper than this one, where the ends of the later entries are known. Only its parent
+// The position of the next entry that is no deeper than this one, given the ends of all later entries. Only the call for its parent
 // steps over an entry, so all calls together take as many steps as there are entries.
 fn end_in(growing: &TreeBuilder<'_>, ends: &[u32], e: usize) -> usize
     requires inside { e < length growing.now.tree.entries }
@@ -28,7 +28,7 @@ fn end_in(growing: &TreeBuilder<'_>, ends: &[u32], e: usize) -> usize
     }
 }
 
-// The end of each entry.
+// The end of each entry's subtree.
 pub(crate) fn ends_of(alloc: Global, growing: &TreeBuilder<'_>) -> Result<Vec<u32>, NoMemory>
     requires { length growing.now.tree.entries < 2 ^ 32 }
     ensures { IfOk result (λ ends. AreEnds growing.now.tree ends.items) }

@@ -1,39 +1,39 @@
-// An entry as the tree keeps it.
+// Entries as the tree stores them.
 ghost use Rattle.std.specs.Prelude.{◌≡◌};
 ghost use Rattle.dwarf_tree.specs.Keeping as spec;
 
-// The form in the slot of a pair with a constant after it, which the slot does not keep: `DW_FORM_implicit_const`. No form has
+// The form in a slot whose attribute has the form `DW_FORM_implicit_const`, since a slot does not store the constant. No form has
 // this number.
 pub(crate) const FORM_UNKNOWN: u8 = 0;
 
-// A pair of attribute and form, and where its value begins, which is known without reading the values before it: their forms have
-// fixed sizes.
+// An attribute specification and the offset of its value. The offset is fixed, because all values before it have forms with fixed
+// sizes.
 #[derive(Clone, Copy)]
 pub(crate) struct Slot {
     pub attribute: u8,
-    // How the value is encoded, or `FORM_UNKNOWN`.
+    // The form of the value, or `FORM_UNKNOWN`.
     pub form: u8,
-    // How many bytes after the end of the entry's code the value begins.
+    // The offset of the value, from the end of the entry's code.
     pub from: u16,
 }
 
-// What an abbreviation says of its entries in one unit, which the tree keeps once for all of them. Almost every unit has
-// abbreviations of its own, so naming the unit here adds few shapes, and an entry does not have to name it.
+// The shape of entries: what an abbreviation gives for all its entries in one unit, stored once. Almost every unit has
+// abbreviations of its own. A unit number in the shape therefore adds few shapes, and saves one in each entry.
 #[derive(Clone, Copy)]
 pub(crate) struct AbbreviationLayout {
     pub tag: u64,
-    // The bits of its attributes. The attributes that readers do not use share one.
+    // The bits of its attributes. All attributes that readers do not use share one bit.
     pub names: u64,
-    // Where its pairs of attribute and form begin in `.debug_abbrev`.
+    // The offset of its attribute specifications in `.debug_abbrev`.
     pub specs_from: u32,
-    // Its slots, in the list of all slots: from the first one on and before the second.
+    // Its slots, in the list of all slots: from this index up to `slots_to`.
     pub slots_from: u32,
     pub slots_to: u32,
     // The number of the unit.
     pub unit: u32,
 }
 
-// The record of an entry: its shape, by its number, has what its abbreviation says, and its unit.
+// The record of an entry, with the number of its shape.
 #[derive(Clone, Copy)]
 pub(crate) struct EntryRecord {
     pub offset: u32,
@@ -41,7 +41,7 @@ pub(crate) struct EntryRecord {
     pub depth: u32,
 }
 
-// An entry without its attributes: where their pairs begin in `.debug_abbrev`. Their values are in `.debug_info`, after its code.
+// An entry without its attributes: they are specified in `.debug_abbrev` at `specs_from`, and their values follow the entry's code.
 #[derive(Clone, Copy)]
 pub(crate) struct EntryHead {
     pub tag: u64,
@@ -52,7 +52,7 @@ pub(crate) struct EntryHead {
     pub names: u64,
 }
 
-// A stored entry, with what its shape says.
+// A stored entry, completed from its shape.
 #[inline(always)]
 pub(crate) fn shaped(shape: AbbreviationLayout, stored: EntryRecord) -> EntryHead
     ensures { result ≡ spec.shaped shape stored }
@@ -67,7 +67,7 @@ pub(crate) fn shaped(shape: AbbreviationLayout, stored: EntryRecord) -> EntryHea
     }
 }
 
-// The number of the unit of a stored entry.
+// The number of a stored entry's unit.
 pub(crate) fn unit_in(shapes: &[AbbreviationLayout], stored: EntryRecord) -> u32
     ensures { result ≡ spec.unit_in shapes.now stored }
 {

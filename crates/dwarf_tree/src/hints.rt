@@ -1,5 +1,5 @@
-// Where a search looks first for the entry that begins at an offset. Hints only save time: a search checks each one, and finds
-// the same entry whatever they say.
+// Hints of where to search for the entry at an offset. Hints only save time: a search checks each one, and finds the same
+// entry whatever they are.
 ghost use Rattle.std.specs.Prelude.{◌<◌, ◌^◌, length};
 
 use crate::entry_records::EntryRecord;
@@ -9,11 +9,11 @@ use std::alloc::Global;
 // How many bytes of `.debug_info` share a hint.
 const HINT_BYTES: u32 = 32;
 
-// How many entries at most begin in that many bytes: each has at least one byte.
+// The most entries that begin in that many bytes: each has at least one byte.
 pub(crate) const MOST_BETWEEN: usize = 32;
 
-// For each block of that many bytes of `.debug_info` the place of the first entry that begins in it, and 0 where none does. No
-// contract says so, since hints only save time.
+// For each block of that many bytes of `.debug_info` the position of the first entry that begins in it, or 0. The contract does not
+// say this, since hints only save time.
 pub(crate) fn hints_of(alloc: Global, entries: &[EntryRecord]) -> Result<Vec<u32>, NoMemory>
     requires { length entries.now < 2 ^ 32 }
 {

@@ -1,4 +1,4 @@
-//! What follows from the definitions of trees. Each law is the contract of a function that does nothing.
+//! Laws about trees, as the contracts of functions with empty bodies.
 ghost use Rattle.std.specs.Prelude.{◌≡◌, ◌↔◌, ◌<◌, ◌≤◌, ◌+◌, ◌^◌, ℕ, List, Option, None, Some, Contains, filter, length, slice_get};
 ghost use Rattle.dwarf_units.specs.Sequence.{entries_fault};
 ghost use Rattle.dwarf_tree.specs.Parents.{HasOneParent, StandsBelow};
@@ -8,7 +8,7 @@ use dwarf_units::laws::{
     a_unit_is_one_tree, tokens_stand_one_after_another, units_stand_one_after_another,
 };
 
-/// The tree of a section without a fault is in order, and no section has more entries than bytes.
+/// The tree of a section without a fault is in order. No section has more entries than bytes.
 pub fn a_section_is_in_order()
     ensures ordered { (info abbrevs : List ℕ) → length info < 2 ^ 32 → entries_fault info abbrevs ≡ None → IsOrdered (tree_of info abbrevs) }
     ensures few { (info abbrevs : List ℕ) → length (tree_of info abbrevs).entries ≤ length info }
@@ -18,13 +18,13 @@ pub fn a_section_is_in_order()
     tokens_stand_one_after_another();
 }
 
-/// The children of an entry are the later entries that are one deeper, where all entries between are deeper than the parent
-/// (DWARF 5, section 2.3 "Relationship of Debugging Information Entries").
+/// The children of an entry are the later entries that are one deeper, where all entries between them and the parent are deeper
+/// than the parent (DWARF 5, section 2.3 "Relationship of Debugging Information Entries").
 pub fn children_stand_one_deeper()
     ensures { (t : PlainTree) (e i : ℕ) → e < length t.entries → Contains (children_of t e) i ↔ StandsBelow t e i }
 {}
 
-/// Where a section has no fault, each entry of a depth above 0 is the child of exactly one entry.
+/// If a section has no fault, each entry of a depth above 0 is the child of exactly one entry.
 pub fn each_has_one_parent()
     ensures { (info abbrevs : List ℕ) (i : ℕ) → entries_fault info abbrevs ≡ None → i < length (tree_of info abbrevs).entries → 0 < depth_at (tree_of info abbrevs) i → HasOneParent (tree_of info abbrevs) i }
 {
@@ -33,8 +33,8 @@ pub fn each_has_one_parent()
     tokens_stand_one_after_another();
 }
 
-/// Going from the first child to the next one, and on from each, lists the children of an entry in order. The children after a
-/// position are the next child and the children after it.
+/// `next_child`, from the first child on, lists the children of an entry in order: the children after a position are the next child
+/// and the children after that.
 pub fn children_follow_one_another()
     ensures first { (t : PlainTree) (e : ℕ) → next_child_of t e None ≡ slice_get (children_of t e) 0 }
     ensures next { (t : PlainTree) (e k child : ℕ) → slice_get (children_of t e) k ≡ Some child → next_child_of t e (Some child) ≡ slice_get (children_of t e) (k + 1) }

@@ -1,4 +1,4 @@
-//! The entries of all units of `.debug_info` as one tree, kept close together.
+//! The entries of all units of `.debug_info` as one compact tree.
 #![tactic(auto)]
 
 mod attribute_source;

@@ -11,11 +11,11 @@ use abi_base::dwarf::{
     DW_AT_specification, DW_AT_str_offsets_base, DW_AT_type, DW_AT_upper_bound,
 };
 
-// The bit of all attributes that readers do not use.
+// The bit that all attributes share that readers do not use.
 const OTHER_NAMES: u32 = 63;
 
-// The bit of an attribute. Each attribute that readers use has a bit of its own, and all others share one, so that none of them
-// sets a bit of a used attribute.
+// The bit of an attribute. Each attribute that readers use has its own bit. All others share one, so that none of them sets the bit
+// of a used attribute.
 #[inline(always)]
 #[tactic(auto, unfolding(crate::specs::Keeping::bit_of, crate::specs::Keeping::own_bits))]
 pub(crate) fn bit_of(name: u64) -> u32

@@ -1,4 +1,4 @@
-// Reading the units of a section and their entries.
+// Reads the units of a section and their entries.
 ghost use Rattle.std.specs.Prelude.{◌≡◌, ◌<◌, ◌+◌, ◌^◌, ◌++◌, All, length, IfOk, OnOk};
 ghost use Rattle.abi_base.specs.Outcome.{Judges};
 ghost use Rattle.dwarf_units.specs.Plain.{plain_unit};
@@ -17,7 +17,7 @@ use dwarf_units::laws::values_stand_where_told;
 use dwarf_units::{Unit, entries, units};
 use std::alloc::Global;
 
-// Appends the entries of a unit, which has a number.
+// Appends the entries of the unit with a number.
 fn push_entries(
     alloc: Global,
     growing: &mut TreeBuilder<'_>,

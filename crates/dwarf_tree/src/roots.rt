@@ -7,7 +7,7 @@ use crate::tree_builder::TreeBuilder;
 use abi_base::NoMemory;
 use std::alloc::Global;
 
-// The position of the root of each unit.
+// The position of each unit's root.
 pub(crate) fn roots_of(alloc: Global, growing: &TreeBuilder<'_>) -> Result<Vec<u32>, NoMemory>
     requires { IsOrdered growing.now.tree }
     ensures { IfOk result (λ roots. AreRoots growing.now.tree roots.items) }

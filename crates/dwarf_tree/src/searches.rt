@@ -6,7 +6,7 @@ ghost use Rattle.dwarf_tree.specs.Keeping as spec;
 use crate::entry_records::{AbbreviationLayout, EntryRecord, unit_in};
 use crate::hints::MOST_BETWEEN;
 
-// The place of the entry that begins at an offset, by binary search from one place to another.
+// The position of the entry at an offset, by binary search between two positions.
 fn place_between(entries: &[EntryRecord], offset: u64, from: usize, to: usize) -> Option<usize>
     requires ascend { Ascend entries.now }
     requires inside { to ≤ length entries.now }
@@ -30,7 +30,7 @@ fn place_between(entries: &[EntryRecord], offset: u64, from: usize, to: usize) -
     None
 }
 
-// Whether all entries before a place begin before an offset.
+// Whether all entries before a position have smaller offsets.
 fn are_before(entries: &[EntryRecord], place: usize, offset: u64) -> bool
     requires { Ascend entries.now }
     ensures { result ≡ true → BeginBefore entries.now offset place }
@@ -44,8 +44,8 @@ fn are_before(entries: &[EntryRecord], place: usize, offset: u64) -> bool
     }
 }
 
-// The place of the entry that begins at an offset. A hint is a place where the entry may be, or up to some places later: a wrong
-// one only costs time. Most entries are at most a few places later, so the search tries these one by one.
+// The position of the entry at an offset. The entry may be at the hint or a few positions after it, as most are, so the search
+// tries these one by one. A wrong hint only costs time.
 pub(crate) fn place_near(entries: &[EntryRecord], offset: u64, hint: usize) -> Option<usize>
     requires { Ascend entries.now }
     ensures { result ≡ position (λ stored. stored.offset == offset) entries.now }
@@ -70,7 +70,7 @@ pub(crate) fn place_near(entries: &[EntryRecord], offset: u64, hint: usize) -> O
     place_between(entries, offset, place, entries.len())
 }
 
-// The place of the first entry of a unit that has entries, by binary search.
+// The position of the first entry of a unit that has entries, by binary search.
 pub(crate) fn root_in(shapes: &[AbbreviationLayout], entries: &[EntryRecord], unit: usize) -> usize
     requires rise { UnitsRise shapes.now entries.now }
     requires there { IsSome (position (λ stored. spec.unit_in shapes.now stored == unit) entries.now) }

@@ -1,4 +1,4 @@
-// The shapes of the entries that were read.
+// The shapes of the entries read so far.
 ghost use Rattle.std.specs.Prelude.{◌≡◌, ◌<◌, ◌+◌, ◌≤◌, ◌^◌, [], All, length, IfOk, IfSome, OnErr, OnOk};
 ghost use Rattle.dwarf_tree.specs.Keeping.{AreSlots, Extends, IsNewLayout, IsLayout, shape_at};
 
@@ -15,8 +15,8 @@ use std::marker::Model;
 pub(crate) struct AbbreviationLayouts {
     list: Vec<AbbreviationLayout>,
     slots: Vec<Slot>,
-    // For each place of `.debug_abbrev` the number of the last shape whose pairs begin there, plus 1; 0 where there is none. It is
-    // a hint: a caller checks the shape before it takes it.
+    // For each offset in `.debug_abbrev` the number of the last shape whose attribute specifications begin there, plus 1; 0 where
+    // there is none. It is a hint: a caller checks the shape before it uses it.
     at: Vec<u32>,
 }
 
@@ -32,7 +32,7 @@ impl Model for AbbreviationLayouts {
 }
 
 impl AbbreviationLayouts {
-    /// No shape, and room for the hints of all places of `.debug_abbrev`.
+    /// No shapes, and room for hints at all offsets in `.debug_abbrev`.
     pub fn new(alloc: Global, bytes: usize) -> Result<AbbreviationLayouts, NoMemory>
         ensures { IfOk result (λ shapes. shapes ≡ record { shapes = []; slots = [] }) }
     {
@@ -43,7 +43,7 @@ impl AbbreviationLayouts {
         })
     }
 
-    // The number of the last shape noted for the place where its pairs begin.
+    // The number of the last shape noted for the offset of its attribute specifications.
     fn noted(&self, specs_from: u64) -> Option<u32>
         ensures inside { IfSome result (λ number. number < length self.now.shapes) }
         ensures place { IfSome result (λ number. (shape_at self.now.shapes number).specs_from ≡ specs_from) }
@@ -58,7 +58,8 @@ impl AbbreviationLayouts {
         }
     }
 
-    /// The number of a shape of a unit and a tag whose pairs begin at a place, where it is the last one noted there.
+    /// The number of the shape of a unit and a tag whose attribute specifications are at an offset, if it is the last one noted
+    /// there.
     pub fn find(&self, unit: u32, tag: u64, specs_from: u64) -> Option<u32>
         ensures inside { IfSome result (λ number. number < length self.now.shapes) }
         ensures unit { IfSome result (λ number. (shape_at self.now.shapes number).unit ≡ unit) }
@@ -74,8 +75,8 @@ impl AbbreviationLayouts {
         }
     }
 
-    // The slots of pairs: from the first number on and before the second. They are the slots of a shape noted for the same pairs, if
-    // there is one, so that units that share their abbreviations share slots too; otherwise new ones.
+    // The slots of attribute specifications: from the first number up to the second. A shape noted for the same specifications
+    // shares its slots, so that units with shared abbreviations share slots too; otherwise they are new.
     fn slots_of(&mut self, abbrevs: &[u8], specs_from: u64) -> Result<(u32, u32), NoMemory>
         requires say { All (IsLayout abbrevs.now self.old.slots) self.old.shapes }
         ensures there { IfOk result (λ place. place.1 ≤ length self.new.slots) }
@@ -92,7 +93,8 @@ impl AbbreviationLayouts {
         Ok((slots_from, self.slots.len() as u32))
     }
 
-    /// Appends the shape of an entry of a unit, and notes where its pairs begin. It returns the number of the shape.
+    /// Appends the shape of an entry of a unit, and notes the offset of its attribute specifications. Answers the number of the
+    /// shape.
     pub fn push(
         &mut self,
         abbrevs: &[u8],
@@ -131,7 +133,7 @@ impl AbbreviationLayouts {
         self.list.as_slice()
     }
 
-    /// Frees the unused room.
+    /// Frees unused capacity.
     pub fn shrink(&mut self)
         ensures { self.new ≡ self.old }
     {

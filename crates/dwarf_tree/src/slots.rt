@@ -1,4 +1,4 @@
-// Where the values of the entries of an abbreviation begin.
+// Slots: where the values of an abbreviation's entries begin.
 ghost use Rattle.std.specs.Prelude.{◌≡◌, ◌<◌, ◌≤◌, ◌^◌, length, true, IfSome, OnOk, Some};
 ghost use Rattle.dwarf_forms.specs.Values.{fixed_size_of, shape_of};
 ghost use Rattle.dwarf_tree.specs.Keeping.{AreSlots, Extends, IsAsked, IsSlotFor, IsSlotOf, PassSame};
@@ -11,11 +11,11 @@ use dwarf_forms::abbreviations::{Spec, next_spec};
 use dwarf_forms::laws::values_of_a_fixed_size_end_behind_it;
 use dwarf_forms::{fixed_end, fixed_size};
 
-// The maximal number of slots of an abbreviation.
+// The most slots of an abbreviation.
 const MOST_SLOTS: usize = 255;
 
-// The slot of a pair whose value begins `from` bytes after the code. None where a number of the pair has more than one byte, as
-// in extensions.
+// The slot of an attribute specification whose value begins `from` bytes after the code. None where one of its numbers has more
+// than one byte, as in extensions.
 fn slot_of(spec: Spec, from: usize) -> Option<Slot>
     requires { from < 2 ^ 16 }
     ensures { IfSome result (IsSlotOf spec from) }
@@ -37,7 +37,7 @@ fn slot_of(spec: Spec, from: usize) -> Option<Slot>
     })
 }
 
-// Whether a pair gets no slot: readers of entries do not use its attribute, and its values take no bytes.
+// Whether an attribute specification gets no slot: readers do not use its attribute, and its values take no bytes.
 fn is_passed(spec: Spec) -> bool
     ensures other { result ≡ true → keeping.bit_of spec.attribute ≡ 63 }
     ensures sized { result ≡ true → fixed_size_of (shape_of spec.form) ≡ Some 0 }
@@ -45,7 +45,7 @@ fn is_passed(spec: Spec) -> bool
     !is_asked(spec.attribute) && matches!(fixed_size(spec.form), Some(0))
 }
 
-// The place of the next pair that gets a slot. It only saves time: without it the pairs that it skips would have slots, too.
+// The offset of the next specification that gets a slot. It only saves time: the specifications that it skips could have slots too.
 #[tactic(auto, using(crate::proofs::SlotLemmas::passed_self, crate::proofs::SlotLemmas::passed_next))]
 fn pass_unasked(abbrevs: &[u8], from: usize) -> usize
     ensures { PassSame abbrevs.now result from }
@@ -61,8 +61,8 @@ fn pass_unasked(abbrevs: &[u8], from: usize) -> usize
     pairs
 }
 
-// Appends the slots of the pairs from a place of `.debug_abbrev` on. All slots together are at most as many as that section has
-// bytes, whatever it holds.
+// Appends the slots of the attribute specifications at an offset in `.debug_abbrev`. There are never more slots than that section
+// has bytes.
 pub(crate) fn push_slots(
     abbrevs: &[u8],
     specs_from: usize,

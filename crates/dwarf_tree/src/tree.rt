@@ -24,22 +24,22 @@ use dwarf_forms::{Sections, Value};
 use std::alloc::Global;
 use std::marker::Model;
 
-/// The entries of all units of `.debug_info`, in order of offset. Contracts see it as a `PlainTree`. A position counts the
-/// entries from 0, and is below `len`. It keeps no values: a look-up reads a value from the bytes.
+/// The entries of all units of `.debug_info`, ordered by offset. Contracts see it as a `PlainTree`. A position numbers the entries
+/// from 0, and is below `len`. The tree stores no attribute values: look-ups read them from the bytes.
 #[derive(Drop)]
 pub struct Tree<'a> {
     info: &'a [u8],
     abbrevs: &'a [u8],
     units: Vec<Head>,
-    // What the abbreviations say of their entries.
+    // The shapes of entries.
     shapes: Vec<AbbreviationLayout>,
     slots: Vec<Slot>,
     entries: Vec<EntryRecord>,
-    // For each entry the position where the entries below it end.
+    // For each entry the position where its subtree ends.
     ends: Vec<u32>,
     // For each unit the position of its root.
     roots: Vec<u32>,
-    // Where a search looks first for the entry that begins at an offset. They only save time.
+    // Hints for the search of the entry at an offset. They only save time.
     hints: Vec<u32>,
 }
 
@@ -55,7 +55,7 @@ impl<'a> Model for Tree<'a> {
     ghost invariant = { λ t. IsKept t.info.now t.abbrevs.now t.units.items t.shapes.items t.slots.items t.entries.items t.ends.items t.roots.items };
 }
 
-// The tree that was read, without unused room.
+// The tree of the entries that were read, without unused capacity.
 fn finished<'a>(alloc: Global, mut growing: TreeBuilder<'a>) -> Result<Tree<'a>, NoMemory>
     requires { IsOrdered growing.tree }
     ensures { IfOk result (λ t. t ≡ growing.entry.tree) }
@@ -85,7 +85,7 @@ fn finished<'a>(alloc: Global, mut growing: TreeBuilder<'a>) -> Result<Tree<'a>,
     })
 }
 
-/// The tree of the entries of a file's units. The fault is the first one of units and entries.
+/// The tree of the entries of a file's units. Err is the first fault of units and entries.
 pub fn read_tree<'a>(alloc: Global, sections: &Sections<'a>) -> Result<Tree<'a>, Refusal>
     ensures judged { Judges result (entries_fault sections.now.info.now sections.now.abbrev.now) }
     ensures read { IfOk result (λ t. t ≡ tree_of sections.now.info.now sections.now.abbrev.now) }
@@ -98,14 +98,14 @@ pub fn read_tree<'a>(alloc: Global, sections: &Sections<'a>) -> Result<Tree<'a>,
 }
 
 impl<'a> Tree<'a> {
-    /// How many entries there are.
+    /// The number of entries.
     pub fn len(&self) -> usize
         ensures { result ≡ length self.now.entries }
     {
         self.entries.len()
     }
 
-    /// Where an entry begins in `.debug_info`.
+    /// The offset of an entry in `.debug_info`.
     pub fn offset(&self, e: usize) -> u64
         requires { e < length self.now.entries }
         ensures { result ≡ (entry_at self.now e).offset }
@@ -132,7 +132,7 @@ impl<'a> Tree<'a> {
         self.shapes[stored.shape as usize].tag
     }
 
-    /// The number of the unit of an entry.
+    /// The number of an entry's unit.
     pub fn unit(&self, e: usize) -> usize
         requires { e < length self.now.entries }
         ensures { result ≡ (entry_at self.now e).unit }
@@ -141,8 +141,8 @@ impl<'a> Tree<'a> {
         self.shapes[stored.shape as usize].unit as usize
     }
 
-    /// Whether an entry may have an attribute, by the bits of its abbreviation. False says that it does not have it, and true says
-    /// nothing: this call only saves time, since `own` gives the answer.
+    /// Whether an entry may have an attribute. If not, it does not have it; if so, nothing follows. The call only saves time: `own`
+    /// answers in all cases.
     #[inline(always)]
     pub fn may_have(&self, e: usize, name: u64) -> bool
         requires { e < length self.now.entries }
@@ -152,7 +152,7 @@ impl<'a> Tree<'a> {
         may_have(self.shapes[stored.shape as usize].names, name)
     }
 
-    // Where the attributes of an entry are read from.
+    // What the attributes of an entry are read from.
     #[inline(always)]
     fn asked(&self, e: usize) -> AttributeSource<'_>
         requires { e < length self.now.entries }
@@ -172,7 +172,7 @@ impl<'a> Tree<'a> {
         }
     }
 
-    /// The first value of an attribute of an entry itself, and none where it has none. The call reads it from the bytes.
+    /// The first value of an attribute of an entry itself, or None where it has none. Reads it from the bytes.
     #[inline(always)]
     pub fn own(&self, e: usize, name: u64) -> Option<Value>
         requires { e < length self.now.entries }
@@ -184,7 +184,7 @@ impl<'a> Tree<'a> {
         self.read_own(e, name)
     }
 
-    // The same, stated by the bytes.
+    // The same, with a contract on the bytes.
     #[inline(never)]
     fn read_own(&self, e: usize, name: u64) -> Option<Value>
         requires { e < length self.now.entries }
@@ -193,9 +193,9 @@ impl<'a> Tree<'a> {
         value_of(&self.asked(e), name)
     }
 
-    /// The place of the entry that an attribute of an entry itself refers to, where the attribute has the form `DW_FORM_ref4` and
-    /// the entry's abbreviation fixes the place of its value, as for most references. None says nothing of the attribute: this
-    /// call only saves time, since `own` gives the answer.
+    /// The offset of the entry to which an attribute of an entry itself refers, if the attribute has the form `DW_FORM_ref4` and
+    /// the abbreviation fixes the offset of its value, as for most references. The call only saves time: None means nothing, and
+    /// `own` answers in all cases.
     #[inline(always)]
     pub fn short_reference(&self, e: usize, name: u64) -> Option<u64>
         requires { e < length self.now.entries }
@@ -207,7 +207,7 @@ impl<'a> Tree<'a> {
         self.read_reference(e, name)
     }
 
-    // The same, stated by the bytes.
+    // The same, with a contract on the bytes.
     #[inline(never)]
     fn read_reference(&self, e: usize, name: u64) -> Option<u64>
         requires { e < length self.now.entries }
@@ -216,9 +216,9 @@ impl<'a> Tree<'a> {
         short_reference_of(&self.asked(e), name)
     }
 
-    /// The place in `.debug_str` of the text of an attribute of an entry itself, where the attribute has the form `DW_FORM_strp` and
-    /// the entry's abbreviation fixes the place of its value. None says nothing of the attribute: this call only saves time, since
-    /// `own` gives the answer.
+    /// The offset in `.debug_str` of the string of an attribute of an entry itself, if the attribute has the form `DW_FORM_strp`
+    /// and the abbreviation fixes the offset of its value. The call only saves time: None means nothing, and `own` answers in all
+    /// cases.
     #[inline(always)]
     pub fn short_text(&self, e: usize, name: u64) -> Option<u64>
         requires { e < length self.now.entries }
@@ -230,7 +230,7 @@ impl<'a> Tree<'a> {
         self.read_text(e, name)
     }
 
-    // The same, stated by the bytes.
+    // The same, with a contract on the bytes.
     #[inline(never)]
     fn read_text(&self, e: usize, name: u64) -> Option<u64>
         requires { e < length self.now.entries }
@@ -239,14 +239,14 @@ impl<'a> Tree<'a> {
         short_text_of(&self.asked(e), name)
     }
 
-    /// How many units there are.
+    /// The number of units.
     pub fn units_len(&self) -> usize
         ensures { result ≡ length self.now.units }
     {
         self.units.len()
     }
 
-    /// The header of a unit, by its number.
+    /// The header of the unit with this number.
     pub fn head(&self, unit: usize) -> Head
         requires { unit < length self.now.units }
         ensures { result ≡ head_at self.now unit }
@@ -254,7 +254,7 @@ impl<'a> Tree<'a> {
         self.units[unit]
     }
 
-    /// The position of the root of a unit, by the unit's number.
+    /// The position of the root of the unit with this number.
     pub fn root(&self, unit: usize) -> usize
         requires { unit < length self.now.units }
         ensures root { root_of self.now unit ≡ Some result }
@@ -263,7 +263,7 @@ impl<'a> Tree<'a> {
         self.roots[unit] as usize
     }
 
-    // The position where the entries below an entry end.
+    // The position where the subtree of an entry ends.
     fn end(&self, e: usize) -> usize
         requires { e < length self.now.entries }
         ensures end { result ≡ end_below self.now e }
@@ -272,7 +272,7 @@ impl<'a> Tree<'a> {
         self.ends[e] as usize
     }
 
-    // A place after an entry such that each of its children after a position is there or later.
+    // A position after an entry, such that no child that comes after `after` is before it.
     fn start(&self, e: usize, after: Option<usize>) -> usize
         requires { e < length self.now.entries }
         ensures { LooksFrom self.now e after result }
@@ -287,8 +287,8 @@ impl<'a> Tree<'a> {
         if place > e { self.end(place) } else { e + 1 }
     }
 
-    /// The first child of an entry, or the next one after a position. None exactly where there is no other. From one child to the
-    /// next it takes one step.
+    /// The first child of an entry, or the next one after a position. None exactly where there is no other. Takes one step from a
+    /// child to the next.
     pub fn next_child(&self, e: usize, after: Option<usize>) -> Option<usize>
         requires { e < length self.now.entries }
         ensures next { result ≡ next_child_of self.now e after }
@@ -308,7 +308,7 @@ impl<'a> Tree<'a> {
         None
     }
 
-    /// The children of an entry with one tag, in order.
+    /// The children of an entry with a tag, in order.
     pub fn tagged(&self, alloc: Global, e: usize, tag: u64) -> Result<Vec<usize>, NoMemory>
         requires { e < length self.now.entries }
         ensures { IfOk result (λ list. list.items ≡ filter (is_tagged self.now tag) (children_of self.now e)) }
@@ -322,7 +322,7 @@ impl<'a> Tree<'a> {
         Ok(list)
     }
 
-    // Appends a child if it has a tag.
+    // Appends a child if it has the tag.
     fn take_tagged(&self, list: &mut Vec<usize>, child: usize, tag: u64) -> Result<(), NoMemory>
         requires { child < length self.now.entries }
         ensures { OnOk result (list.new.items ≡ list.old.items ++ filter (is_tagged self.now tag) (child ∷ [])) }
@@ -333,14 +333,14 @@ impl<'a> Tree<'a> {
         Ok(())
     }
 
-    /// Does nothing. Its contract says what holds of each tree: the order of its entries, and a bound on their number.
+    /// The invariants of each tree as a contract: the order of its entries, and a bound on their number. Does nothing.
     pub fn known(&self)
         ensures { IsOrdered self.now }
     {
         let _ = &self.entries;
     }
 
-    /// The position of the entry that begins at an offset. None exactly where no entry begins there.
+    /// The position of the entry at an offset. None exactly where no entry begins there.
     pub fn find(&self, offset: u64) -> Option<usize>
         ensures found { result ≡ entry_of self.now offset }
         ensures inside { IfSome result (λ e. e < length self.now.entries) }

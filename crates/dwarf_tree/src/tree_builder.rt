@@ -1,4 +1,4 @@
-// A tree during reading.
+// A tree while it is read.
 ghost use Rattle.std.specs.Prelude.{◌≡◌, ◌<◌, ◌≤◌, ◌+◌, ◌^◌, [], ◌∷◌, ◌++◌, All, length, IfOk, OnErr, OnOk, Some};
 ghost use Rattle.dwarf_tree.specs.Keeping.{Extends, IsLayout, IsStored, decoder, kept_of, names_in, now_with, pair_names, stored_of};
 ghost use Rattle.dwarf_tree.specs.Trees.{IsOrdered, depth_at, placed, root_of};
@@ -12,7 +12,7 @@ use dwarf_units::Outline;
 use std::alloc::Global;
 use std::marker::Model;
 
-// The record of an entry whose shape has a number.
+// The record of an entry whose shape has this number.
 fn entry_record_of(shape: u32, entry: &Outline<'_, '_>) -> EntryRecord
     requires { entry.now.offset < 2 ^ 32 }
     ensures { result ≡ stored_of shape entry.now }
@@ -24,7 +24,7 @@ fn entry_record_of(shape: u32, entry: &Outline<'_, '_>) -> EntryRecord
     }
 }
 
-// Stores an entry of the unit of a number, which is the first of its shape, and the shape.
+// Stores an entry of a unit that is the first with its shape, and the shape.
 fn store_first(
     abbrevs: &[u8],
     shapes: &mut AbbreviationLayouts,
@@ -41,14 +41,14 @@ fn store_first(
     ensures same_shapes { OnErr result (shapes.new.shapes ≡ shapes.old.shapes) }
     ensures same_entries { OnErr result (entries.new.items ≡ entries.old.items) }
 {
-    // With room for the entry, nothing can fail after its shape is stored.
+    // Reserves first: nothing may fail after the shape is stored.
     entries.reserve(1)?;
     let shape = shapes.push(abbrevs, unit, entry)?;
     entries.push(entry_record_of(shape, entry))?;
     Ok(())
 }
 
-// Stores an entry of the unit of a number, and its shape where it is a new one.
+// Stores an entry of a unit, and its shape if it is new.
 fn store(
     abbrevs: &[u8],
     shapes: &mut AbbreviationLayouts,
@@ -72,7 +72,7 @@ fn store(
     Ok(())
 }
 
-// The units and entries that were read so far, and the bytes that they are read from. Contracts see them as a tree.
+// The units and entries read so far, and the bytes from which they are read. Contracts see them as a tree.
 #[derive(Drop)]
 pub(crate) struct TreeBuilder<'a> {
     pub info: &'a [u8],
@@ -93,7 +93,7 @@ impl<'a> Model for TreeBuilder<'a> {
 }
 
 impl<'a> TreeBuilder<'a> {
-    /// Nothing was read yet.
+    /// A builder that has read nothing yet.
     pub fn new(
         alloc: Global,
         info: &'a [u8],
@@ -110,14 +110,14 @@ impl<'a> TreeBuilder<'a> {
         })
     }
 
-    /// How many units were read.
+    /// The number of units read.
     pub fn units_len(&self) -> usize
         ensures { result ≡ length self.now.tree.units }
     {
         self.units.len()
     }
 
-    /// How many entries were read.
+    /// The number of entries read.
     pub fn len(&self) -> usize
         ensures { result ≡ length self.now.tree.entries }
     {
@@ -143,7 +143,7 @@ impl<'a> TreeBuilder<'a> {
         root_in(self.shapes.as_slice(), self.entries.as_slice(), unit)
     }
 
-    /// Frees the unused room.
+    /// Frees unused capacity.
     pub fn shrink(&mut self)
         ensures { self.new ≡ self.old }
     {
@@ -161,7 +161,7 @@ impl<'a> TreeBuilder<'a> {
         Ok(())
     }
 
-    /// Appends an entry of the unit of a number, whose values are in the bytes.
+    /// Appends an entry of the unit with a number. Its values remain in the bytes.
     pub fn push_entry(&mut self, unit: u32, entry: &Outline<'_, '_>) -> Result<(), NoMemory>
         requires inside { unit < length self.old.tree.units }
         requires offset { entry.now.offset < 2 ^ 32 }

@@ -1,4 +1,4 @@
--- What the reader of entries returns.
+-- The answers of the reader of entries.
 use Rattle.std.specs.Prelude.{◌≡◌, ◌≤◌, ◌||◌, Bool, Option, Some, None, Result, Ok, Err}
 use Rattle.abi_base.specs.declared.fault.Refusal.{Refusal}
 use Rattle.abi_base.specs.declared.fault.Refusal.TheVariants as refusal
@@ -6,12 +6,12 @@ use Rattle.abi_base.specs.Runs.{ended, put_front}
 use Rattle.dwarf_units.specs.declared.reader.Following.{Following}
 use Rattle.dwarf_units.specs.Units.{PlainUnit, State, entries_left, is_type_entry}
 
--- an entry is the first of the remaining ones, and the rest goes on from the place after it
+-- the entry is the first of the remaining ones, and the rest begins at the offset after it
 pub record IsNext (u : PlainUnit) (s : State) (met : Bool) (f : Following) : Type 0 where
   pub few : f.lists ≤ f.at
   pub left : entries_left u s met ≡ put_front f.entry (entries_left u (f.at, Some f.lists) (met || is_type_entry u f.entry))
 
--- what a reader of the next entry returns
+-- what the reader of the next entry answers
 abbrev pub ComesTo : PlainUnit → State → Bool → Result (Option Following) Refusal → Type 0
 ComesTo u s met (Ok (Some f)) = IsNext u s met f
 ComesTo u s met (Ok None) = entries_left u s met ≡ ended None

@@ -1,5 +1,5 @@
--- The faults of a unit's header row by row: each row is a condition at the unit's place, and the first row that holds there
--- decides.
+-- The faults of a unit's header as rows of a table. Each row is a condition on the bytes at the unit's offset, and the first row
+-- that holds decides.
 use Rattle.std.specs.Prelude.{◌≡◌, ◌<◌, ◌≤◌, ◌⊎◌, ℕ, ◌+◌, List, [], ◌∷◌, length, Some, None}
 use Rattle.abi_base.specs.Dwarf.{dw_ut_compile, dw_ut_type, dw_ut_partial, dwarf_4, dwarf_5, length_size, dwarf64_length, reserved_length, header_size_4, x86_64_address_size}
 use Rattle.abi_base.specs.declared.fault.Fault.{Fault}
@@ -27,29 +27,29 @@ HeaderRow info at kind.UnitType =
 HeaderRow info at kind.AddressSize = unit_address_size info at ≡ x86_64_address_size → ⊥
 HeaderRow info at other = ⊥
 
--- the rows in their order
+-- the rows, in order
 abbrev pub header_rows : List FaultKind
 header_rows = kind.Dwarf64 ∷ kind.UnitHeader ∷ kind.DwarfVersion ∷ kind.UnitType ∷ kind.AddressSize ∷ []
 
--- a unit begins there, no row of its header holds, and its table has no fault
+-- a unit begins at this offset, no row of its header holds, and its abbreviation table has no fault
 pub record UnitWhole (info abbrevs : List ℕ) (at : ℕ) : Type 0 where
   pub inside : at < length info
   pub header : NoRow (HeaderRow info at) header_rows
   pub table : (table_run abbrevs (unit_abbrevs info at)).end ≡ None
 
--- A unit begins there, and the fault is that of the first row of its header that holds, or where none holds, that of its table.
+-- A unit begins at this offset. The fault is that of the first row of its header that holds, or else that of its table.
 abbrev pub UnitFaulty : List ℕ → List ℕ → ℕ → Fault → Type 0
 UnitFaulty info abbrevs at f =
     (at < length info)
     × (((f.at ≡ at) × IsFirst (HeaderRow info at) header_rows f.kind)
     ⊎ (NoRow (HeaderRow info at) header_rows × ((table_run abbrevs (unit_abbrevs info at)).end ≡ Some f)))
 
--- these are whole, one after the other, up to a place
+-- these units are whole and follow one another up to an offset
 abbrev pub UnitsUpTo : List ℕ → List ℕ → ℕ → List PlainUnit → ℕ → Type 0
 UnitsUpTo info abbrevs at [] end = at ≡ end
 UnitsUpTo info abbrevs at (u ∷ others) end = UnitWhole info abbrevs at × (u ≡ unit_of info abbrevs at) × UnitsUpTo info abbrevs u.end others end
 
--- The fault of the units: whole units from the section's start on, and the fault of the next one.
+-- The fault of the units: after whole units from the section's start on, the fault of the next one.
 abbrev pub IsFaultOfUnits : List ℕ → List ℕ → Fault → Type 0
 IsFaultOfUnits info abbrevs f = (units : List PlainUnit) × (at : ℕ) × UnitsUpTo info abbrevs 0 units at × UnitFaulty info abbrevs at f
 

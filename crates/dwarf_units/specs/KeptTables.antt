@@ -1,4 +1,4 @@
--- What the reader of units returns, and what it keeps.
+-- The answers of the reader of units, and the tables that it stores.
 use Rattle.std.specs.Prelude.{◌≡◌, ℕ, List, Option, Some, None, Result, Ok, Err, IfSome, nat_eq}
 use Rattle.std.specs.HashMap.{HashMap, get}
 use Rattle.std.specs.declared.rc.Rc.{Rc}
@@ -13,25 +13,25 @@ use Rattle.dwarf_units.specs.declared.unit.Unit.{Unit}
 use Rattle.dwarf_units.specs.Plain.{plain_unit}
 use Rattle.dwarf_units.specs.Sequence.{unit_step}
 
--- a reader's result as in `NextIs`, where the item is seen by a view
+-- an answer as in `NextIs`, for items that contracts see through a view
 abbrev pub NextIsBy : {T X : Type 0} → (T → X) → Run X (Option Fault) → Result (Option T) Refusal → Run X (Option Fault) → Type 0
 NextIsBy see old (Ok (Some x)) new = old ≡ put_front (see x) new
 NextIsBy see old (Ok None) new = (old ≡ ended None) × (new ≡ old)
 NextIsBy see old (Err (refusal.Fault f)) new = (old ≡ ended (Some f)) × (new ≡ old)
 NextIsBy see old (Err refusal.NoMemory) new = new ≡ old
 
--- what a reader of one unit returns, where a unit begins
+-- what the reader of one unit answers, where a unit begins
 abbrev pub IsUnit : List ℕ → List ℕ → ℕ → Result Unit Refusal → Type 0
 IsUnit info abbrevs at (Ok u) = unit_step info abbrevs at ≡ Ok (plain_unit u, u.end)
 IsUnit info abbrevs at (Err (refusal.Fault f)) = unit_step info abbrevs at ≡ Err (Some f)
 IsUnit info abbrevs at (Err refusal.NoMemory) = Prim.Unit {0}
 
--- a table that was read, without a fault, at its place
+-- a table at an offset that was read without a fault
 pub record IsTable (abbrevs : List ℕ) (at : ℕ) (table : List Abbrev) : Type 0 where
   pub faultless : (table_run abbrevs at).end ≡ None
   pub items : table ≡ (table_run abbrevs at).items
 
--- each table that is kept is the one at its place
+-- each stored table is the one at its offset
 pub record AreTables {Z S : Type 0} (abbrevs : List ℕ) (kept : HashMap ℕ (Rc (List Abbrev) Z) S) : Type 0 where
   pub each : (at : ℕ) → IfSome (get nat_eq kept at) (λ t. IsTable abbrevs at t.value)
 

@@ -1,4 +1,4 @@
--- Units and tokens of the code, without their places in memory.
+-- Units and tokens of the code, without their addresses in memory.
 use Rattle.std.specs.Prelude.{◌≡◌, Some, None, Result, Ok, Err}
 use Rattle.abi_base.specs.declared.fault.Refusal.{Refusal}
 use Rattle.abi_base.specs.declared.fault.Refusal.TheVariants as refusal
@@ -19,7 +19,7 @@ plain_unit u = record {
   info = u.info.now;
 }
 
--- what a reader of one token returns
+-- what the reader of one token answers
 abbrev pub IsToken : PlainUnit → State → Result Token Refusal → Type 0
 IsToken u s (Ok (token.Given entry at lists)) = token_at u s ≡ Ok (Some entry, (at, Some lists))
 IsToken u s (Ok (token.Closed at lists)) = token_at u s ≡ Ok (None, (at, Some lists))

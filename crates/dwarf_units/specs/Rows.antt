@@ -1,5 +1,5 @@
--- The faults of a unit's entries row by row: each row is a condition at a place, and the first row that holds there decides. No
--- row depends on how a reader goes on.
+-- The faults of a unit's entries as rows of a table. Each row is a condition at an offset, and the first row that holds decides. No
+-- row depends on how a reader continues after it.
 use Rattle.std.specs.Prelude.{◌≡◌, ◌≢◌, ◌<◌, ◌≤◌, ◌⊎◌, ℕ, zero, suc, ◌+◌, Bool, true, false, List, [], ◌∷◌, Option, Some, None, Ok, slice_index}
 use Rattle.std.specs.List.{list_any, filter_map}
 use Rattle.abi_base.specs.Dwarf.{dw_at_language}
@@ -18,52 +18,52 @@ use Rattle.dwarf_units.specs.Units.{PlainUnit, State, unit_bytes, is_root_tag, l
 
 -- ---- one value
 
--- a pair of attribute and form has this value at a place, and the place after it
+-- an attribute specification has this value at an offset, with the offset after it
 abbrev pub HasValue : PlainUnit → ℕ → Spec → ℕ → Value × ℕ → Type 0
 HasValue u entry s at v = value_at s.form s.implicit u.offset u.end entry u.info at ≡ Ok v
 
--- the form is unknown, or it is DW_FORM_indirect and names a form that is unknown or not allowed there
+-- the form is unknown, or is DW_FORM_indirect before a form that is unknown or not allowed there
 abbrev pub IsUnknown : PlainUnit → Spec → ℕ → Type 0
 IsUnknown u s at =
     (shape_of s.form ≡ None)
     ⊎ ((shape_of s.form ≡ Some indirect) × (n : ℕ × ℕ) × (uleb_at (unit_bytes u) at ≡ Some n) × (named_shape (shape_of n.0) ≡ None))
 
--- the form, or the one that it names as DW_FORM_indirect, refers to a supplementary file
+-- the form, or the one after DW_FORM_indirect, refers to a supplementary file
 abbrev pub IsElsewhere : PlainUnit → Spec → ℕ → Type 0
 IsElsewhere u s at =
     (shape_of s.form ≡ Some supplementary)
     ⊎ ((shape_of s.form ≡ Some indirect) × (n : ℕ × ℕ) × (uleb_at (unit_bytes u) at ≡ Some n) × (named_shape (shape_of n.0) ≡ Some supplementary))
 
--- the form is a known one of this file, and no value of it ends inside the unit
+-- the form is known and stays within this file, but its value does not end inside the unit
 pub record IsCut (u : PlainUnit) (entry : ℕ) (s : Spec) (at : ℕ) : Type 0 where
   pub no_value : (v : Value × ℕ) → HasValue u entry s at v → ⊥
   pub known : IsUnknown u s at → ⊥
   pub here : IsElsewhere u s at → ⊥
 
--- the fault of the first value from a place on that has one is of this kind
+-- the first value, from an offset on, that has a fault has one of this kind
 abbrev pub FirstUnread : PlainUnit → ℕ → (Spec → ℕ → Type 0) → List Spec → ℕ → Type 0
 FirstUnread u entry Kind [] at = ⊥
 FirstUnread u entry Kind (s ∷ specs) at = Kind s at ⊎ ((v : Value × ℕ) × HasValue u entry s at v × FirstUnread u entry Kind specs v.1)
 
--- ---- what begins at a place
+-- ---- what begins at an offset
 
--- The place is before the unit's end, and the root or an entry of an open list is due there.
+-- The offset is before the unit's end, and the root or an entry of an open list is due there.
 pub record IsDue (u : PlainUnit) (s : State) : Type 0 where
   pub inside : s.0 < u.end
   pub in_list : s.1 ≢ Some 0
 
--- an entry begins with its code there
+-- an entry begins there with its code
 pub record Begins (u : PlainUnit) (s : State) (code : ℕ × ℕ) : Type 0 where
   pub due : IsDue u s
   pub code_is : uleb_at (unit_bytes u) s.0 ≡ Some code
   pub no_end : code.0 ≢ 0
 
--- the same for a code that the table has
+-- the same for a code in the abbreviation table
 pub record HasForm (u : PlainUnit) (s : State) (code : ℕ × ℕ) (form : Abbrev) : Type 0 where
   pub begins : Begins u s code
   pub form_is : abbrev_of u.table code.0 ≡ Some form
 
--- an entry begins there, and the fault of the first of its values that has one is of this kind
+-- an entry begins there, and its first value with a fault has one of this kind
 abbrev pub HasUnread : PlainUnit → State → (Spec → ℕ → Type 0) → Type 0
 HasUnread u s Kind = (code : ℕ × ℕ) × (form : Abbrev) × HasForm u s code form × FirstUnread u s.0 Kind form.specs code.1
 
@@ -79,7 +79,7 @@ CodeRow u s = (code : ℕ × ℕ) × Begins u s code × (abbrev_of u.table code.
 abbrev pub HasOtherRoot : PlainUnit → State → Type 0
 HasOtherRoot u s = (code : ℕ × ℕ) × (form : Abbrev) × HasForm u s code form × (is_root_tag u form.tag ≡ false)
 
--- The unit ends before its root, or a code 0 is there, or a root with another tag; a byte other than 0 follows the root's own
+-- The unit ends before its root, or has a code 0 or a root with another tag there; a byte other than 0 follows the root's own
 -- list; the unit ends inside a list.
 abbrev pub TreeRow : PlainUnit → ℕ → Option ℕ → Type 0
 TreeRow u at None = (u.end ≤ at) ⊎ (((after : ℕ) × IsEnd u at after) ⊎ HasOtherRoot u (at, None))
@@ -100,7 +100,7 @@ Row u s kind.Tree = TreeRow u s.0 s.1
 Row u s kind.Language = LanguageRow u s.0 s.1
 Row u s other = ⊥
 
--- the rows in their order
+-- the rows, in order
 abbrev pub rows : List FaultKind
 rows = kind.Cut ∷ kind.AbbrevCode ∷ kind.Form ∷ kind.Supplementary ∷ kind.Tree ∷ kind.Language ∷ []
 
@@ -116,37 +116,37 @@ NoRow Holds (j ∷ others) = (Holds j → ⊥) × NoRow Holds others
 
 -- ---- one after the other
 
--- The token at a place, and the next place: an entry, the code 0 that ends a list, or a byte 0 after the root's own list.
+-- The token at an offset, and the next offset: an entry, the code 0 that ends a list, or a 0 byte after the root's own list.
 abbrev pub GoesOn : PlainUnit → State → Option Entry → State → Type 0
 GoesOn u s (Some e) next = EntryStands u s e next
 GoesOn u (at, None) None next = ⊥
 GoesOn u (at, Some zero) None next = (at < u.end) × (slice_index u.info at ≡ 0) × (next ≡ (at + 1, Some 0))
 GoesOn u (at, Some (suc n)) None next = (after : ℕ) × IsEnd u at after × (next ≡ (after, Some n))
 
--- these follow one another up to a place, later ones at greater places, and no row holds at any of them
+-- these tokens follow one another up to an offset, at ascending offsets, and no row holds at any of them
 abbrev pub WholeUpTo : PlainUnit → State → List (Option Entry) → State → Type 0
 WholeUpTo u s [] end = s ≡ end
 WholeUpTo u s (x ∷ others) end = (next : State) × GoesOn u s x next × (s.0 < next.0) × NoRow (Row u s) rows × WholeUpTo u next others end
 
--- the fault of the first row that holds at a place, where all is whole up to that place
+-- the fault of the first row that holds at an offset, where everything before is whole
 abbrev pub FaultStands : PlainUnit → State → List (Option Entry) → Fault → Type 0
 FaultStands u s before f = (lists : Option ℕ) × WholeUpTo u s before (f.at, lists) × IsFirst (Row u (f.at, lists)) rows f.kind
 
--- all is whole up to the unit's end, after the root's own list, and there too
+-- everything is whole up to the unit's end, which comes after the root's own list, and no row holds there
 abbrev pub AllWhole : PlainUnit → State → List (Option Entry) → Type 0
 AllWhole u s all = (at : ℕ) × WholeUpTo u s all (at, Some 0) × (u.end ≤ at) × NoRow (Row u (at, Some 0)) rows
 
--- a type unit with no entry at the place that it gives for its type
+-- a type unit without an entry at its type offset
 abbrev pub LacksType : PlainUnit → List (Option Entry) → Type 0
 LacksType u all = (is_type_unit u ≡ true) × (list_any (is_type_entry u) (filter_map (λ x. x) all) ≡ false)
 
--- The fault of a unit's entries: that of the first row of the first place where one holds, or, where all is whole, that of the
--- type's entry.
+-- The fault of a unit's entries: that of the first row at the first offset where one holds, or, where everything is whole, that of
+-- a missing entry at the type offset.
 abbrev pub IsFaultOf : PlainUnit → Fault → Type 0
 IsFaultOf u f =
     ((before : List (Option Entry)) × FaultStands u (root_of u, None) before f)
     ⊎ ((all : List (Option Entry)) × AllWhole u (root_of u, None) all × LacksType u all × (f ≡ record { kind = kind.TypeOffset; at = u.offset }))
 
--- no row holds at any place of the unit's entries, and it has the entry of its type
+-- no row holds at any offset of the unit's entries, and a type unit has an entry at its type offset
 abbrev pub IsWhole : PlainUnit → Type 0
 IsWhole u = (all : List (Option Entry)) × AllWhole u (root_of u, None) all × (LacksType u all → ⊥)

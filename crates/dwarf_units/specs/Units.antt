@@ -17,8 +17,8 @@ use Rattle.dwarf_forms.specs.declared.values.Value.TheVariants as value
 use Rattle.dwarf_forms.specs.Values.{value_at, fault}
 use Rattle.dwarf_units.specs.declared.entry.Entry.{Entry}
 
--- A unit: where it starts and where the next one does, the version of DWARF, whether it is a partial unit, its signature
--- where it is a type unit, the entry of that type, its abbreviations, and the section.
+-- A unit: its start and its end, the DWARF version, whether it is a partial unit, its signature if it is a type unit, the offset of
+-- that type's entry, its abbreviations, and the section.
 pub record PlainUnit : Type 0 where
   pub offset : ℕ
   pub end : ℕ
@@ -36,7 +36,7 @@ is_type_unit u = is_some u.signature
 abbrev pub header_size_of : ℕ → Bool → ℕ
 header_size_of version is_type = if version == dwarf_4 then header_size_4 else (if is_type then type_header_size else header_size)
 
--- the place of the root
+-- the offset of the root
 abbrev pub root_of : PlainUnit → ℕ
 root_of u = u.offset + header_size_of u.version (is_type_unit u)
 
@@ -44,7 +44,7 @@ root_of u = u.offset + header_size_of u.version (is_type_unit u)
 abbrev pub unit_bytes : PlainUnit → List ℕ
 unit_bytes u = take u.end u.info
 
--- the values of an entry, in the order of its abbreviation, and the place after them
+-- the values of an entry, in the order of its abbreviation, and the offset after them
 unfoldable pub values_at : PlainUnit → ℕ → List Spec → ℕ → Result (List (ℕ × Value) × ℕ) Fault
 values_at u entry [] at = Ok ([], at)
 values_at u entry (s ∷ specs) at = do
@@ -76,14 +76,14 @@ is_root_tag u tag =
     then tag == dw_tag_compile_unit || tag == dw_tag_partial_unit
     else tag == (if is_type_unit u then dw_tag_type_unit else (if u.partial then dw_tag_partial_unit else dw_tag_compile_unit))
 
--- an entry that begins with a code other than 0, inside a number of open lists; whether it has children; the place after it
+-- the entry that begins with a code other than 0, at a depth; whether it has children; the offset after it
 unfoldable pub entry_at : PlainUnit → ℕ → ℕ → ℕ × ℕ → Result (Entry × (Bool × ℕ)) Fault
 entry_at u at depth code = do
   form ← or_end (abbrev_of u.table code.0) (fault kind.AbbrevCode at)
   values ← values_at u at form.specs code.1
   Ok (record { offset = at; depth = depth; tag = form.tag; specs_from = form.specs_from; attributes = values.0 }, (form.children, values.1))
 
--- The state of reading: a place, and the number of open lists, which is none before the root.
+-- The state of the reader: an offset, and the number of open sibling lists, which is None before the root.
 abbrev pub State : Type 0
 State = ℕ × Option ℕ
 
@@ -92,14 +92,14 @@ abbrev pub open_lists : Option ℕ → ℕ
 open_lists None = 0
 open_lists (Some n) = n
 
--- an entry or, as none, the end of a list, and the state after it; else how the unit ends
+-- an entry, or None for the end of a list, and the state after it; else how the unit ends
 abbrev pub Token : Type 0
 Token = Result (Option Entry × State) (Option Fault)
 
 abbrev pub tree_fault : ℕ → Token
 tree_fault at = Err (Some (fault kind.Tree at))
 
--- an entry that has children opens a list
+-- the number of open lists after an entry: one more if it has children
 abbrev pub opened : Bool → ℕ → ℕ
 opened true n = suc n
 opened false n = n
@@ -116,8 +116,8 @@ abbrev pub inner_token : ℕ → Result (Entry × (Bool × ℕ)) Fault → Token
 inner_token n (Err f) = Err (Some f)
 inner_token n (Ok e) = Ok (Some e.0, (e.1.1, Some (opened e.1.0 n)))
 
--- The token at a place: the root, where nothing was read; after the root's own list only 0 bytes up to the unit's end; inside a
--- list an entry, or the code 0 that ends the list.
+-- The token at an offset: first the root; inside a list an entry, or the code 0 that ends the list; after the root's own list only
+-- 0 bytes up to the unit's end.
 unfoldable pub token_at : PlainUnit → State → Token
 token_at u (at, None) =
     if not (nat_lt at u.end) then tree_fault at else (do
@@ -131,22 +131,21 @@ token_at u (at, Some (suc n)) =
       code ← or_end (uleb_at (unit_bytes u) at) (Some (fault kind.Cut at))
       if code.0 == 0 then Ok (None, (code.1, Some n)) else inner_token (suc n) (entry_at u at (suc n) code))
 
--- all tokens from a state on, entries and ends of lists, and the fault of an entry or of the tree that they end with, if there
--- is one
+-- all tokens from a state on, entries and ends of lists, and the fault of an entry or of the tree at their end, if there is one
 unfoldable pub tokens_from : PlainUnit → State → Run (Option Entry) (Option Fault)
 tokens_from u s = run (token_at u) None (suc u.end) s
 
--- the entries alone
+-- only the entries
 unfoldable pub entries_from : PlainUnit → State → Run Entry (Option Fault)
 entries_from u s = given (tokens_from u s)
 
 -- ---- the entry of a type unit's type
 
--- the entry is at the place that the unit gives for its type
+-- the entry is at the unit's type offset
 abbrev pub is_type_entry : PlainUnit → Entry → Bool
 is_type_entry u e = e.offset == u.type_entry
 
--- A type unit without an entry at that place has a fault at its end. `met` says whether an earlier entry was there.
+-- A type unit without an entry at its type offset has a fault at its end. `met` tells whether an earlier entry was there.
 abbrev pub end_with : PlainUnit → Bool → Option Fault → Option Fault
 end_with u met None = fault_if (is_type_unit u && not met) kind.TypeOffset u.offset
 end_with u met (Some f) = Some f
@@ -154,10 +153,10 @@ end_with u met (Some f) = Some f
 unfoldable pub judged : PlainUnit → Bool → Run Entry (Option Fault) → Run Entry (Option Fault)
 judged u met r = record { items = r.items; end = end_with u (met || list_any (is_type_entry u) r.items) r.end }
 
--- the remaining entries, and the fault that they end with
+-- the remaining entries, and the fault at their end
 abbrev pub entries_left : PlainUnit → State → Bool → Run Entry (Option Fault)
 entries_left u s met = judged u met (entries_from u s)
 
--- all entries of the unit, and the fault that they end with, if it has one
+-- all entries of the unit, and the fault at their end, if there is one
 unfoldable pub entries_of : PlainUnit → Run Entry (Option Fault)
 entries_of u = entries_left u (root_of u, None) false

@@ -5,13 +5,13 @@ use dwarf_forms::Value;
 /// A debugging information entry (DWARF 5, section 2.1 "The Debugging Information Entry").
 #[derive(Drop)]
 pub struct Entry {
-    /// Where it begins in `.debug_info`.
+    /// Its offset in `.debug_info`.
     pub offset: u64,
     /// Its depth: the number of entries above it. The root of a unit has 0.
     pub depth: u32,
     /// Its tag, `DW_TAG_..`.
     pub tag: u64,
-    /// Where the pairs of attribute and form of its abbreviation begin in `.debug_abbrev`.
+    /// The offset of its abbreviation's attribute specifications in `.debug_abbrev`.
     pub specs_from: u64,
     /// The attributes, `DW_AT_..`, and their values, in order.
     pub attributes: List<(u64, Value)>,

@@ -22,7 +22,7 @@ fn fault_at(kind: FaultKind, at: usize) -> Fault
     }
 }
 
-// The size of the header that a unit of its version and type has.
+// The size of a unit's header, by version and unit type.
 fn header_size_in(info: &[u8], at: usize) -> u64
     requires { at + header_size_4 ≤ length info.now }
     ensures { result ≡ header_size_at info.now at }
@@ -49,7 +49,7 @@ fn is_short(info: &[u8], at: usize, rest: u64) -> bool
     LENGTH_SIZE + rest < header_size_in(info, at)
 }
 
-// The fault of a unit's length, where the unit begins inside the section.
+// The fault of a unit's length. The unit begins inside the section.
 fn length_fault_in(info: &[u8], at: usize) -> Option<Fault>
     requires { at < length info.now }
     ensures fault { result ≡ first (length_rows info.now at) }
@@ -89,7 +89,7 @@ fn is_read_type(kind: u8) -> bool
     matches!(kind, DW_UT_compile | DW_UT_type | DW_UT_partial)
 }
 
-// The fault of the fields of a header that is inside the section.
+// The fault of a header's fields. The header is inside the section.
 fn kind_fault_in(info: &[u8], at: usize) -> Option<Fault>
     requires header { at + header_size_at info.now at ≤ length info.now }
     requires least { at + header_size_4 ≤ length info.now }
@@ -114,7 +114,7 @@ fn kind_fault_in(info: &[u8], at: usize) -> Option<Fault>
     None
 }
 
-/// The first fault of a unit's header, where the unit begins inside the section.
+/// The first fault of a unit's header. The unit begins inside the section.
 #[tactic(auto, using(crate::proofs::UnitsLeft::header_fault_is))]
 pub fn header_fault_in(info: &[u8], at: usize) -> Option<Fault>
     requires { at < length info.now }
@@ -129,7 +129,7 @@ pub fn header_fault_in(info: &[u8], at: usize) -> Option<Fault>
     }
 }
 
-/// The place of a unit's abbreviations.
+/// The offset of a unit's abbreviations in `.debug_abbrev`.
 pub fn abbrevs_in(info: &[u8], at: usize) -> u64
     requires { at + header_size_at info.now at ≤ length info.now }
     ensures { result ≡ unit_abbrevs info.now at }

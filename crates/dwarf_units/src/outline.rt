@@ -1,4 +1,4 @@
-// An entry without its values.
+// Entries without their attribute values.
 ghost use Rattle.std.specs.Prelude.{◌≡◌, IfOk, map};
 
 use crate::entry::Entry;
@@ -9,7 +9,7 @@ use dwarf_forms::abbreviations::{Abbrev, Spec};
 use std::alloc::Global;
 use std::marker::Model;
 
-/// An entry of a unit whose values were skipped: a call of `entry` reads them. Contracts see it as the entry, with its values.
+/// An entry of a unit whose values were skipped. `entry` reads them. Contracts see the entry with its values.
 #[derive(Drop)]
 pub struct Outline<'u, 'a> {
     pub(crate) unit: &'u Unit<'a>,
@@ -17,7 +17,7 @@ pub struct Outline<'u, 'a> {
     pub(crate) form: &'u Abbrev,
     pub(crate) offset: u64,
     pub(crate) depth: u32,
-    // Where its values begin, after its code.
+    // The offset of its values, after the abbreviation code.
     pub(crate) values: usize,
 }
 
@@ -37,7 +37,7 @@ impl<'u, 'a> Model for Outline<'u, 'a> {
 }
 
 impl<'u, 'a> Outline<'u, 'a> {
-    /// Where it begins in `.debug_info`.
+    /// The offset of the entry in `.debug_info`.
     #[inline]
     pub fn offset(&self) -> u64
         ensures { result ≡ self.now.offset }
@@ -61,7 +61,7 @@ impl<'u, 'a> Outline<'u, 'a> {
         self.form.tag
     }
 
-    /// Where the pairs of attribute and form of its abbreviation begin in `.debug_abbrev`.
+    /// The offset of its abbreviation's attribute specifications in `.debug_abbrev`.
     #[inline]
     pub fn specs_from(&self) -> u64
         ensures { result ≡ self.now.specs_from }
@@ -69,7 +69,7 @@ impl<'u, 'a> Outline<'u, 'a> {
         self.form.specs_from
     }
 
-    /// The pairs of attribute and form of its abbreviation, in the order of its attributes.
+    /// The attribute specifications of its abbreviation, in order.
     #[inline]
     pub fn specs(&self) -> &[Spec]
         ensures { map (λ s. s.attribute) result.now ≡ map (λ a. a.0) self.now.attributes }
@@ -77,7 +77,7 @@ impl<'u, 'a> Outline<'u, 'a> {
         self.form.specs.as_slice()
     }
 
-    /// The entry with its values, or `NoMemory`.
+    /// The entry with its attribute values, or `NoMemory`.
     pub fn entry(&self, alloc: Global) -> Result<Entry, NoMemory>
         ensures { IfOk result (λ e. e ≡ self.now) }
     {

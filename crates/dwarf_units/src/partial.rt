@@ -12,7 +12,7 @@ use abi_base::dwarf::{DW_TAG_partial_unit, DW_UT_partial};
 use abi_base::{NoMemory, Refusal};
 use std::alloc::Global;
 
-// Whether the root of a unit has no fault and the tag of a partial unit.
+// Whether the root of a unit has no fault and the tag `DW_TAG_partial_unit`.
 fn has_partial_root(alloc: Global, unit: &Unit<'_>) -> Result<bool, NoMemory>
     ensures { IfOk result (λ is. is ≡ begins_partial (entries_of (plain_unit unit.now)).items) }
 {
@@ -25,7 +25,7 @@ fn has_partial_root(alloc: Global, unit: &Unit<'_>) -> Result<bool, NoMemory>
     }
 }
 
-/// Whether a unit is a partial unit: in version 5 its type decides, in version 4 the tag of its root, where that has no fault.
+/// Whether a unit is a partial unit. In version 5 the unit type decides, in version 4 the tag of the root if that has no fault.
 #[tactic(auto, unfolding(crate::specs::Sequence::is_partial))]
 pub fn is_partial(alloc: Global, unit: &Unit<'_>) -> Result<bool, NoMemory>
     ensures { IfOk result (λ is. is ≡ spec.is_partial (plain_unit unit.now)) }

@@ -16,16 +16,16 @@ use dwarf_forms::laws::reading_moves_on_inside_the_unit;
 use std::alloc::Global;
 use std::marker::Model;
 
-/// The remaining entries of a unit. Contracts see them as a list, and the fault that they end with, if there is one.
+/// The remaining entries of a unit. Contracts see them as a list with the fault at its end, if there is one.
 #[derive(Drop)]
 pub struct Entries<'u, 'a> {
     pub(crate) unit: &'u Unit<'a>,
     pub(crate) at: usize,
-    // The number of open lists, or none before the root.
+    // The number of open sibling lists, or None before the root.
     pub(crate) lists: Option<u32>,
-    // Whether the entry of the unit's type was given.
+    // Whether the reader has given the entry at the unit's type offset.
     pub(crate) met: bool,
-    // How many more attributes may be passed.
+    // The budget for attributes to skip.
     pub(crate) effort: Effort,
 }
 
@@ -44,7 +44,7 @@ impl<'u, 'a> Model for Entries<'u, 'a> {
     ghost invariant = { λ r. open_lists r.lists ≤ r.at };
 }
 
-// Whether an entry is the one of its unit's type, or that entry came before.
+// Whether an entry is at the unit's type offset, or an earlier entry was.
 #[inline]
 fn is_met(unit: &Unit<'_>, met: bool, entry: &Outline<'_, '_>) -> bool
     ensures { result ≡ (met || spec.is_type_entry (plain_unit unit.now) entry.now) }
@@ -52,7 +52,7 @@ fn is_met(unit: &Unit<'_>, met: bool, entry: &Outline<'_, '_>) -> bool
     met || entry.offset() == unit.type_entry
 }
 
-// The fault of a type unit without the entry of its type.
+// The fault of a type unit without an entry at its type offset.
 fn unmet(unit: &Unit<'_>, met: bool) -> Option<Fault>
     ensures { result ≡ fault_if (is_some unit.now.signature && not met) kind.TypeOffset unit.now.offset }
 {
@@ -66,7 +66,7 @@ fn unmet(unit: &Unit<'_>, met: bool) -> Option<Fault>
     }
 }
 
-/// An entry, the place after it, and the number of open lists there.
+/// An entry, the offset after it, and the number of open sibling lists there.
 #[derive(Drop)]
 pub struct Following<'u, 'a> {
     pub entry: Outline<'u, 'a>,
@@ -74,7 +74,7 @@ pub struct Following<'u, 'a> {
     pub lists: u32,
 }
 
-// The next entry from a place on, inside a number of open lists, or none at the unit's end.
+// The next entry at an offset, with this many open sibling lists, or None at the unit's end.
 #[inline]
 #[tactic(auto, using(crate::proofs::EntriesLeft::left_pass, crate::proofs::EntriesLeft::left_end, crate::proofs::TokenLaws::token_moves))]
 fn next_in<'u, 'a>(
@@ -126,11 +126,11 @@ fn next_in<'u, 'a>(
 }
 
 impl<'u, 'a> Entries<'u, 'a> {
-    /// The next entry, whose values are skipped, or none at the unit's end. It allocates only for the root. The faults are
-    /// `Cut`, `AbbrevCode`, `Form` and `Supplementary` at an entry, `Tree` at the place where the tree of entries breaks,
-    /// `Language` at the root, and at the end of a type unit `TypeOffset` at the unit. After a fault every later call returns
-    /// the same fault; after `NoMemory` the reader is as before, and the caller may call again. It fails with
-    /// `NoMemory` also where the entries of the unit have more than 64 attributes for each byte of the unit.
+    /// The next entry without its values, or None at the unit's end. Allocates only for the root. The faults are `Cut`,
+    /// `AbbrevCode`, `Form` and `Supplementary` at an entry, `Tree` at the offset where the tree of entries breaks, `Language` at
+    /// the root, and `TypeOffset` at the unit, after the last entry of a type unit. After a fault every later call returns the same
+    /// fault. After `NoMemory` the reader is unchanged, and the caller may call again. `NoMemory` also comes where the unit's
+    /// entries have more than 64 attributes for each byte of the unit.
     #[inline]
     pub fn next_outline(&mut self, alloc: Global) -> Result<Option<Outline<'u, 'a>>, Refusal>
         ensures { NextIs self.old result self.new }

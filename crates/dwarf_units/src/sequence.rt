@@ -13,13 +13,13 @@ use abi_base::{Refusal, u16_in, u32_in, u64_in};
 use std::alloc::Global;
 use std::marker::Model;
 
-/// The remaining units. Contracts see them as a list, and the fault that they end with, if there is one.
+/// The remaining units. Contracts see them as a list with the fault at its end, if there is one.
 #[derive(Drop)]
 pub struct Units<'a> {
     pub(crate) info: &'a [u8],
     pub(crate) abbrevs: &'a [u8],
     pub(crate) at: usize,
-    // The tables of the units before.
+    // The abbreviation tables of earlier units.
     pub(crate) tables: Tables,
 }
 
@@ -39,7 +39,7 @@ impl<'a> Model for Units<'a> {
     ghost invariant = { λ r. (length r.info.now ≤ input_limit) × IsKept r.abbrevs.now r.tables };
 }
 
-// The unit that begins at a place inside the section.
+// The unit at an offset inside the section.
 #[tactic(auto, unfolding(crate::specs::Sequence::unit_of, crate::specs::Sequence::unit_fault, crate::specs::Sequence::unit_step))]
 fn unit_in<'a>(
     alloc: Global,
@@ -88,9 +88,9 @@ fn unit_in<'a>(
 }
 
 impl<'a> Units<'a> {
-    /// The next unit, or none at the end of the section. The faults are `Dwarf64`, `UnitHeader`, `DwarfVersion`, `UnitType`
-    /// and `AddressSize` at the unit, and `Abbrev` at the abbreviation. After a fault every later call returns the same fault;
-    /// after `NoMemory` the reader is as before, and the caller may call again.
+    /// The next unit, or None at the end of the section. The faults are `Dwarf64`, `UnitHeader`, `DwarfVersion`, `UnitType`
+    /// and `AddressSize` at the unit, and `Abbrev` at the abbreviation. After a fault every later call returns the same fault.
+    /// After `NoMemory` the reader is unchanged, and the caller may call again.
     #[tactic(auto, using(crate::proofs::UnitsLeft::units_give, crate::proofs::UnitsLeft::units_end, crate::proofs::UnitsLeft::units_done), unfolding(crate::specs::Sequence::unit_step))]
     pub fn next_unit(&mut self, alloc: Global) -> Result<Option<Unit<'a>>, Refusal>
         ensures { NextIsBy plain_unit self.old result self.new }

@@ -1,4 +1,4 @@
-// Abbreviations with the sizes of their entries' values.
+// Abbreviations, with the size of their entries' values where it is fixed.
 ghost use Rattle.std.specs.Prelude.{◌≡◌, IfOk, IfSome};
 ghost use Rattle.std.specs.Option.{option_copied};
 ghost use Rattle.dwarf_forms.specs.abbreviations.Abbrevs.{abbrev_of};
@@ -12,18 +12,18 @@ use dwarf_forms::laws::values_of_a_fixed_size_end_behind_it;
 use std::alloc::Global;
 use std::marker::Model;
 
-// Few units have more abbreviations.
+// A capacity that suffices for most units.
 const USUAL_CODES: usize = 64;
 
-// From this code on sizes are not kept.
+// Sizes are not stored from this code on.
 const MOST_CODES: u64 = 0x10000;
 
-/// A table of abbreviations, and for an abbreviation whose forms all have fixed sizes, how many bytes the values of its entries
-/// have. Contracts see it as the list of its abbreviations.
+/// An abbreviation table with, for each abbreviation whose forms all have fixed sizes, the size of its entries' values in bytes.
+/// Contracts see it as the list of its abbreviations.
 #[derive(Drop)]
 pub struct SizedTable {
     table: Table,
-    // The sizes by code, from code 1 on. Producers number from 1 on. Sizes of codes after the first gap are not kept.
+    // The sizes by code, from code 1 up to the first gap. Producers number codes from 1.
     sizes: Vec<Option<u16>>,
 }
 
@@ -39,7 +39,7 @@ impl Model for SizedTable {
     ghost invariant = { λ t. AreSizes t.table t.sizes.items };
 }
 
-// How many bytes the values of these pairs have together, where each form has a fixed size and the sum fits in 16 bits.
+// The total size of the values of these specifications, if each form has a fixed size and the total fits 16 bits.
 fn whole_size(specs: &[Spec]) -> Option<u16>
     ensures { IfSome result (EndBehind specs.now) }
 {
@@ -57,7 +57,7 @@ fn whole_size(specs: &[Spec]) -> Option<u16>
     Some(size)
 }
 
-// The sizes for the consecutive codes of a table from 1 on.
+// The sizes for the codes of a table from 1 up to the first gap.
 fn sizes_of(alloc: Global, table: &Table) -> Result<Vec<Option<u16>>, NoMemory>
     ensures { IfOk result (λ sizes. AreSizes table.now sizes.items) }
 {
@@ -82,14 +82,19 @@ impl SizedTable {
         Ok(SizedTable { table, sizes })
     }
 
+<<<<<<< HEAD
     /// How many bytes of `.debug_abbrev` the table has at least.
     pub fn least_bytes(&self) -> usize
         ensures { result ≡ least_bytes_of self.now }
     {
+=======
+    /// A lower bound of the table's size in `.debug_abbrev`, in bytes.
+    pub fn least_bytes(&self) -> usize {
+>>>>>>> 2825b4367d36919bd6f503536fd8f90e3dd827d9
         self.table.least_bytes()
     }
 
-    /// The abbreviation of a code, or none exactly where the table has no such code.
+    /// The abbreviation with a code, or None exactly where the table has none.
     #[inline]
     pub fn find(&self, code: u64) -> Option<&Abbrev>
         ensures { option_copied result ≡ abbrev_of self.now code }
@@ -97,8 +102,8 @@ impl SizedTable {
         self.table.find(code)
     }
 
-    /// How many bytes the values of an entry of a code have, where the forms of its abbreviation have fixed sizes. None says
-    /// nothing.
+    /// The size in bytes of the values of an entry with this code, if the forms of its abbreviation have fixed sizes. None does not
+    /// rule that out.
     #[inline]
     pub fn size(&self, code: u64) -> Option<u16>
         ensures { IfSome result (IsSizeIn self.now code) }

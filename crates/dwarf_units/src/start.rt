@@ -1,4 +1,4 @@
-// Where the units of a section and the entries of a unit begin.
+// The readers of a section's units and of a unit's entries, at their start.
 ghost use Rattle.std.specs.Prelude.{◌≡◌, None};
 ghost use Rattle.dwarf_units.specs.Plain.{plain_unit};
 ghost use Rattle.dwarf_units.specs.Sequence.{units_of};
@@ -24,7 +24,7 @@ pub fn units<'a>(sections: &Sections<'a>) -> Units<'a>
     }
 }
 
-/// All entries of a unit: the root first, and each entry before those below it.
+/// All entries of a unit: the root first, and each entry before its children.
 #[tactic(auto, unfolding(crate::specs::Units::entries_of))]
 pub fn entries<'u, 'a>(unit: &'u Unit<'a>) -> Entries<'u, 'a>
     ensures { result ≡ entries_of (plain_unit unit.now) }

@@ -1,4 +1,4 @@
-// Tables of abbreviations that units share.
+// Abbreviation tables, which units share.
 ghost use Rattle.std.specs.Prelude.{◌≡◌, IfOk};
 ghost use Rattle.abi_base.specs.Outcome.{Judges};
 ghost use Rattle.dwarf_forms.specs.abbreviations.Abbrevs.{table_run};
@@ -11,22 +11,22 @@ use std::alloc::Global;
 use std::collections::HashMap;
 use std::rc::Rc;
 
-// Tables that come to more bytes are not kept side by side. Those of few libraries do.
+// Tables whose sizes add up to more bytes are not stored together. Few libraries have so many.
 const MOST_KEPT_BYTES: usize = 0x10_0000;
 
-/// The tables that were read, and how much more may be read.
+/// The tables that were read, and the budget for reading more.
 #[derive(Drop)]
 pub struct Tables {
-    // The tables that are kept, by their places in `.debug_abbrev`. None before the first one.
+    // The stored tables, by their offsets in `.debug_abbrev`. None before the first one.
     pub kept: Option<HashMap<u64, Rc<SizedTable>>>,
-    // How many more bytes of the section the kept tables may come to. They come to no more than the section has, and to no more
-    // than `MOST_KEPT_BYTES`, where there is more than one.
+    // How many more bytes the stored tables may have in the section. More than one table is stored only while all have no more
+    // bytes than the section and than `MOST_KEPT_BYTES`.
     pub room: usize,
     pub effort: Effort,
 }
 
 impl Tables {
-    /// No tables yet.
+    /// No tables.
     pub fn of(abbrevs: &[u8]) -> Tables
         ensures { IsKept abbrevs.now result }
     {
@@ -38,7 +38,7 @@ impl Tables {
     }
 }
 
-// Keeps a table beside the others, or alone where there is no room for it.
+// Stores a table with the others, or alone where there is no room for both.
 #[tactic(auto, using(crate::proofs::TableLemmas::kept_none, crate::proofs::TableLemmas::kept_more))]
 fn keep(
     alloc: Global,
@@ -70,7 +70,7 @@ fn keep(
     Ok(())
 }
 
-// Reads the table at a place, and keeps it.
+// Reads the table at an offset, and stores it.
 fn read_table(
     alloc: Global,
     abbrevs: &[u8],
@@ -89,8 +89,8 @@ fn read_table(
     Ok(table)
 }
 
-/// The table at a place: one that is kept, if it is the one at this place. Else it is read, and kept. It fails with `NoMemory`
-/// also where the tables that were read come to more than 64 times the bytes of the section.
+/// The table at an offset: the stored one if there is one, else read and stored. `NoMemory` also comes where the tables that were
+/// read have more than 64 times the bytes of the section.
 pub fn table_in(
     alloc: Global,
     abbrevs: &[u8],

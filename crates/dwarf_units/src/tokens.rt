@@ -1,4 +1,4 @@
-// One entry, or one end of a list of siblings.
+// Tokens: entries, and the ends of sibling lists.
 ghost use Rattle.std.specs.Prelude.{◌≡◌, ◌≤◌, ◌<◌, ◌==◌, find, Some, None};
 ghost use Rattle.std.specs.Option.{option_copied};
 ghost use Rattle.abi_base.specs.declared.fault.FaultKind.TheVariants as kind;
@@ -19,7 +19,7 @@ use abi_base::{Fault, FaultKind, Refusal, uleb};
 use dwarf_forms::Value;
 use std::alloc::Global;
 
-/// An entry, the end of a list of siblings, or the unit's end, with the place after it and the number of open lists.
+/// An entry, the end of a list of siblings, or the unit's end, with the offset after it and the number of open sibling lists.
 #[derive(Drop)]
 pub enum Token<'u, 'a> {
     Given {
@@ -52,7 +52,7 @@ fn tree(at: usize) -> Refusal
     })
 }
 
-// The entry that begins with a code, whether it has children, and the place after it.
+// The entry that begins with a code, whether it has children, and the offset after it.
 #[inline(always)]
 #[tactic(auto, unfolding(crate::specs::Units::entry_at))]
 fn entry_in<'u, 'a>(
@@ -123,7 +123,7 @@ fn fits(language: Option<Value>) -> bool
     }
 }
 
-// Whether the root of a unit may have a tag.
+// Whether the root of a unit may have this tag.
 fn has_root_tag(unit: &Unit<'_>, tag: u64) -> bool
     ensures { result ≡ is_root_tag (plain_unit unit.now) tag }
 {
@@ -140,7 +140,7 @@ fn has_root_tag(unit: &Unit<'_>, tag: u64) -> bool
     tag == wanted
 }
 
-// The root, at a place before the unit's end. It reads the values, for the language.
+// The root, at an offset before the unit's end. Reads the values to get the language.
 #[inline(never)]
 #[tactic(auto, unfolding(crate::specs::Units::token_at))]
 fn root_in<'u, 'a>(alloc: Global, unit: &'u Unit<'a>, at: usize) -> Result<Token<'u, 'a>, Refusal>
@@ -175,7 +175,7 @@ fn root_in<'u, 'a>(alloc: Global, unit: &'u Unit<'a>, at: usize) -> Result<Token
     }
 }
 
-// The token at a place before the unit's end, inside a number of open lists.
+// The token at an offset before the unit's end, with this many open sibling lists.
 #[inline]
 #[tactic(auto, unfolding(crate::specs::Units::token_at))]
 fn inner_in<'u, 'a>(unit: &'u Unit<'a>, at: usize, lists: u32) -> Result<Token<'u, 'a>, Refusal>
@@ -203,7 +203,7 @@ fn inner_in<'u, 'a>(unit: &'u Unit<'a>, at: usize, lists: u32) -> Result<Token<'
     }
 }
 
-/// The token at a place, inside a number of open lists, or none before the root. It allocates only at the root.
+/// The token at an offset, with this many open sibling lists, or None before the root. Allocates only at the root.
 #[inline]
 #[tactic(auto, unfolding(crate::specs::Units::token_at))]
 pub fn token_in<'u, 'a>(

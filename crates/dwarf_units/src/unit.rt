@@ -6,23 +6,23 @@ ghost use Rattle.dwarf_units.specs.Units.{header_size_of};
 use crate::sizes::SizedTable;
 use std::rc::Rc;
 
-/// A unit of `.debug_info` (DWARF 5, section 7.5.1 "Unit Headers"), whose header and abbreviations have no fault. Places
+/// A unit of `.debug_info` (DWARF 5, section 7.5.1 "Unit Headers") whose header and abbreviations have no fault. Offsets
 /// count from the start of `.debug_info`.
 #[derive(Drop)]
 pub struct Unit<'a> {
-    /// Where its header begins.
+    /// The offset of its header.
     pub offset: u64,
-    /// Where the next unit begins.
+    /// The offset of the next unit.
     pub end: u64,
-    /// The version of DWARF: 4 or 5.
+    /// The DWARF version: 4 or 5.
     pub version: u16,
-    /// Whether it is a partial unit. In version 4 the tag of its root decides, where the root has no fault.
+    /// Whether it is a partial unit. In version 4 the tag of its root decides, if the root has no fault.
     pub partial: bool,
-    /// Its signature, where it is a type unit.
+    /// Its signature, if it is a type unit.
     pub signature: Option<u64>,
-    /// The place of the entry of its type, or 0 where it is no type unit.
+    /// The offset of its type's entry, or 0 where it is not a type unit.
     pub type_entry: u64,
-    /// Its abbreviations. Units with the same table share it.
+    /// Its abbreviations, shared among the units with the same table.
     pub table: Rc<SizedTable>,
     /// The whole of `.debug_info`.
     pub info: &'a [u8],

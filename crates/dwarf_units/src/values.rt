@@ -1,4 +1,4 @@
-// The values of an entry, and the place after them.
+// The attribute values of an entry, and the offset after them.
 ghost use Rattle.std.specs.Prelude.{◌≡◌, Some};
 ghost use Rattle.dwarf_forms.specs.abbreviations.Abbrevs.{abbrev_of};
 ghost use Rattle.abi_base.specs.Outcome.{Gives};
@@ -23,7 +23,7 @@ fn value_in(unit: &Unit<'_>, spec: Spec, entry: u64, at: usize) -> Result<(Value
     value(unit.info, span, entry, spec, at)
 }
 
-/// The attributes of an entry with their values, and the place after them.
+/// The attributes of an entry with their values, and the offset after them.
 #[tactic(auto, using(crate::proofs::ValuesLoop::values_end))]
 pub fn values_in(
     alloc: Global,
@@ -48,7 +48,7 @@ pub fn values_in(
     Ok((attributes, place))
 }
 
-// The place after the values of an entry, which are skipped, or the fault of the first value that has one.
+// The offset after the values of an entry, which are skipped, or the fault of the first value that has one.
 #[inline(never)]
 #[tactic(auto, using(crate::proofs::ValuesLoop::passed_all))]
 fn values_end(unit: &Unit<'_>, entry: u64, specs: &[Spec], at: usize) -> Result<usize, Fault>
@@ -67,8 +67,8 @@ fn values_end(unit: &Unit<'_>, entry: u64, specs: &[Spec], at: usize) -> Result<
     Ok(place)
 }
 
-/// The place after the values of an entry of a code, which begin at a place and are skipped, or the fault of the first value that
-/// has one.
+/// The offset after the values of an entry with this code, which begin at `at` and are skipped, or the fault of the first value
+/// that has one.
 #[inline(always)]
 pub fn entry_end(
     unit: &Unit<'_>,

@@ -1,5 +1,5 @@
-//! An ELF-64 x86-64 shared object: its section table, dynamic symbols, symbol versions and sections of debug information, and the
-//! first fault of each (System V gABI; GNU symbol versioning).
+//! ELF-64 x86-64 shared objects: the section header table, dynamic symbols, symbol versions and debug sections of a file, and its
+//! first faults (System V gABI; GNU symbol versioning).
 #![tactic(auto)]
 
 pub mod constants;

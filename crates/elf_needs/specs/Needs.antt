@@ -1,7 +1,7 @@
--- The version needs of a file, and their first fault. They stand in the first section of type GNU verneed: as many as its
--- header's info says, each with the name of a file, a list of auxiliary entries and where the next need begins. An auxiliary
--- entry has an index, the name of a version of that file, and where the next entry begins. Names stand in the string table
--- that the section's link names. All look-ups are total: where a need is damaged, its fault says that they mean nothing.
+-- The version needs of a file, and their first fault. The first section of type GNU verneed has a chain of needs, which the section
+-- header's info counts. Each need has the name of a file, a list of auxiliary entries, and the offset of the next need. An
+-- auxiliary entry has an index, the name of a version of that file, and the offset of the next entry. The section's link is the
+-- index of the string table. All look-ups are total; where a need is damaged, its fault says that they mean nothing.
 use Rattle.std.specs.Prelude.{ℕ, zero, suc, ◌+◌, ◌%◌, ◌==◌, nat_lt, Bool, false, not, ◌||◌, ◌&&◌, is_none, List, [], ◌∷◌, length, map, find, Option, unwrap_or, option_and_then}
 use Rattle.std.specs.List.{range_with_len, list_any, flat_map}
 use Rattle.std.specs.Option.{option_map, option_map_or}
@@ -17,38 +17,38 @@ use Rattle.elf_needs.specs.GnuNeeds.{verneed_size, vn_version, vn_cnt, vn_file, 
 
 -- ---- one need, by its number, in the contents of the section
 
--- where the need of a number begins: the first one at the beginning, and each other one where the one before it says
+-- the offset of the need with this number: the first is at the start, and each other one at the offset that its predecessor gives
 unfoldable pub place_of : List ℕ → ℕ → ℕ
 place_of table zero = 0
 place_of table (suc k) = place_of table k + number 4 table (place_of table k + vn_next)
 
--- the name of its file, where it ends in the strings
+-- the name of its file, if it ends in the string table
 unfoldable pub file_at : List ℕ → List ℕ → ℕ → Option (List ℕ)
 file_at table strings k = text_at strings (number 4 table (place_of table k + vn_file))
 
--- how many auxiliary entries it has
+-- the number of its auxiliary entries
 unfoldable pub entry_count : List ℕ → ℕ → ℕ
 entry_count table k = number 2 table (place_of table k + vn_cnt)
 
 -- ---- one auxiliary entry of a need, by its number in the need's list
 
--- where it begins: the first one where the need says, and each other one where the one before it says
+-- its offset: the need gives that of the first, and each entry that of the next
 unfoldable pub entry_place : List ℕ → ℕ → ℕ → ℕ
 entry_place table k zero = place_of table k + number 4 table (place_of table k + vn_aux)
 entry_place table k (suc j) = entry_place table k j + number 4 table (entry_place table k j + vna_next)
 
--- the index by which symbols name it, without the bit that says hidden
+-- the index by which symbols refer to it, without the hidden bit
 unfoldable pub index_at : List ℕ → ℕ → ℕ → ℕ
 index_at table k j = number 2 table (entry_place table k j + vna_other) % versym_hidden
 
--- the name of its version, where it ends in the strings
+-- the name of its version, if it ends in the string table
 unfoldable pub version_at : List ℕ → List ℕ → ℕ → ℕ → Option (List ℕ)
 version_at table strings k j = text_at strings (number 4 table (entry_place table k j + vna_name))
 
 -- ---- faults
 
--- An auxiliary entry lies outside, has a name that does not end in the strings, or is not the last of its list and names no
--- next.
+-- An auxiliary entry is not inside the section, has a name without an end in the string table, or is not the last of its list and
+-- has no next.
 unfoldable pub is_bad_entry : List ℕ → List ℕ → ℕ → ℕ → Bool
 is_bad_entry table strings k j =
     let at = entry_place table k j in
@@ -60,8 +60,8 @@ is_bad_entry table strings k j =
 abbrev pub has_bad_entry : List ℕ → List ℕ → ℕ → Bool
 has_bad_entry table strings k = list_any (is_bad_entry table strings k) (range_with_len 0 (entry_count table k))
 
--- A need lies outside, is of another version, has a file whose name does not end in the strings, or is not the last and names
--- no next.
+-- A need is not inside the section, has another format version or a file name without an end in the string table, or is not the
+-- last and has no next.
 unfoldable pub is_malformed : List ℕ → List ℕ → ℕ → ℕ → Bool
 is_malformed table strings count k =
     let at = place_of table k in
@@ -78,20 +78,20 @@ need_fault table strings count k = fault_if (is_malformed table strings count k 
 abbrev pub bad_need_at : ℕ → Refusal
 bad_need_at k = refusal.Fault (record { kind = kind.VersionNeed; at = k })
 
--- ---- what is needed
+-- ---- what a file needs
 
--- what an auxiliary entry says: its index, its version, and the file of its need
+-- an auxiliary entry: its index, its version, and the file of its need
 pub record Entry : Type 0 where
   pub index : ℕ
   pub version : List ℕ
   pub file : List ℕ
 
--- a version of a file, without where the names lie in memory
+-- a version of a file, without the addresses of the names in memory
 pub record PlainNeed : Type 0 where
   pub version : List ℕ
   pub file : List ℕ
 
--- an auxiliary entry of a need; a name that does not end in the strings, which is a fault, stands as the empty one
+-- an auxiliary entry of a need; a name without an end in the string table, which is a fault, counts as empty
 unfoldable pub entry_of : List ℕ → List ℕ → ℕ → ℕ → Entry
 entry_of table strings k j = record {
   index = index_at table k j;
@@ -99,7 +99,7 @@ entry_of table strings k j = record {
   file = unwrap_or (file_at table strings k) [];
 }
 
--- the first so many auxiliary entries of a need, in order
+-- the first n auxiliary entries of a need, in order
 abbrev pub first_entries : List ℕ → List ℕ → ℕ → ℕ → List Entry
 first_entries table strings k n = map (entry_of table strings k) (range_with_len 0 n)
 
@@ -107,7 +107,7 @@ first_entries table strings k n = map (entry_of table strings k) (range_with_len
 abbrev pub entries_of_need : List ℕ → List ℕ → ℕ → List Entry
 entries_of_need table strings k = first_entries table strings k (entry_count table k)
 
--- the auxiliary entries of the first so many needs, need by need
+-- the auxiliary entries of the first n needs, need by need
 abbrev pub entries_of : List ℕ → List ℕ → ℕ → List Entry
 entries_of table strings count = flat_map (entries_of_need table strings) (range_with_len 0 count)
 
@@ -115,13 +115,13 @@ entries_of table strings count = flat_map (entries_of_need table strings) (range
 abbrev pub said_by : Entry → PlainNeed
 said_by e = record { version = e.version; file = e.file }
 
--- what the first entry with an index says, where one has it
+-- the version and file of the first entry with an index, if there is one
 abbrev pub need_among : List Entry → ℕ → Option PlainNeed
 need_among entries index = option_map said_by (find (λ e. e.index == index) entries)
 
 -- ---- of a file
 
--- what the section of needs and its string table hold, and how many needs there are; nothing where there is none
+-- the contents of the section of needs and of its string table, and the number of needs; empty and 0 where there is none
 abbrev pub need_table : List ℕ → List ℕ
 need_table f = option_map_or (λ s. s.bytes) (section_of_kind f sht_gnu_verneed) []
 
@@ -135,15 +135,15 @@ need_count f = option_map_or (λ s. s.info) (section_of_kind f sht_gnu_verneed) 
 abbrev pub file_entries : List ℕ → List Entry
 file_entries f = entries_of (need_table f) (need_strings f) (need_count f)
 
--- the version and file that an index names, where an auxiliary entry has the index
+-- the version and the file for a version index, if an auxiliary entry has it
 unfoldable pub need_with : List ℕ → ℕ → Option PlainNeed
 need_with f index = need_among (file_entries f) index
 
--- The needs have a string table.
+-- the fault of needs without a string table
 abbrev pub strings_fault : List ℕ → Option Fault
 strings_fault f = fault_if (option_map_or (λ s. is_none (strings_of f s.link)) (section_of_kind f sht_gnu_verneed) false) kind.VersionNeed 0
 
--- the string table; then the needs, one by one
+-- the string table, then the needs one by one
 abbrev pub need_faults : List ℕ → List (Option Fault)
 need_faults f = strings_fault f ∷ map (need_fault (need_table f) (need_strings f) (need_count f)) (range_with_len 0 (need_count f))
 

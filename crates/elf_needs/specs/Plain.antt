@@ -1,4 +1,4 @@
--- The needs of the code, without where their names lie in memory.
+-- The needs of the code, without the addresses of their names in memory.
 use Rattle.std.specs.Prelude.{◌≡◌, ◌+◌, ℕ, nat_eq, List, Option, Some}
 use Rattle.std.specs.Option.{option_map}
 use Rattle.std.specs.HashMap.{HashMap, get}
@@ -21,15 +21,15 @@ ByIndex = HashMap ℕ Need (BuildHasherDefault FoldHasher)
 abbrev pub need_under : ByIndex → ℕ → Option PlainNeed
 need_under by_index index = option_map plain_need (get nat_eq by_index index)
 
--- what an index names
+-- the version and the file for a version index
 abbrev pub needed : Needs → ℕ → Option PlainNeed
 needed needs = need_under needs.by_index
 
--- an auxiliary entry that was read
+-- an auxiliary entry of the code
 abbrev pub plain_entry : Auxiliary → Entry
 plain_entry a = record { index = a.index; version = a.need.version.now; file = a.need.file.now }
 
--- A need that was read says what stands at its number.
+-- A need of the code has the fields of the need with its number.
 pub record IsNeed (need : Record) (table strings : List ℕ) : Type 0 where
   pub file : file_at table strings need.number ≡ Some need.file.now
   pub entries : need.entries ≡ entry_count table need.number

@@ -1,34 +1,34 @@
-//! The numbers of version needs under their standard names (Linux Standard Base, "Symbol Versioning").
+//! The constants of version requirements under their standard names (Linux Standard Base, "Symbol Versioning").
 
-/// How many bytes a need has, `Elf64_Verneed`.
+/// The size of a version need, `Elf64_Verneed`.
 pub const VERNEED_SIZE: usize = 16;
 
-/// Where a need says its own version.
+/// The offset in a need of the version of its format.
 pub const VN_VERSION: usize = 0;
 
-/// Where a need says how many auxiliary entries it has.
+/// The offset in a need of the number of its auxiliary entries.
 pub const VN_CNT: usize = 2;
 
-/// Where a need says where the name of its file begins in the string table.
+/// The offset in a need of the offset of its file's name in the string table.
 pub const VN_FILE: usize = 4;
 
-/// Where a need says where its first auxiliary entry begins, counted from the need.
+/// The offset in a need of the offset of its first auxiliary entry, which counts from the need.
 pub const VN_AUX: usize = 8;
 
-/// Where a need says where the next need begins, counted from this one.
+/// The offset in a need of the offset of the next need, which counts from this one.
 pub const VN_NEXT: usize = 12;
 
-/// The one version of needs.
+/// The only version of the format of needs.
 pub const VER_NEED_CURRENT: u16 = 1;
 
-/// How many bytes an auxiliary entry has, `Elf64_Vernaux`.
+/// The size of an auxiliary entry, `Elf64_Vernaux`.
 pub const VERNAUX_SIZE: usize = 16;
 
-/// Where an auxiliary entry says its index, in the 15 low bits.
+/// The offset in an auxiliary entry of its version index, in the 15 low bits.
 pub const VNA_OTHER: usize = 6;
 
-/// Where an auxiliary entry says where the name of its version begins in the string table.
+/// The offset in an auxiliary entry of the offset of its version's name in the string table.
 pub const VNA_NAME: usize = 8;
 
-/// Where an auxiliary entry says where the next one begins, counted from this one.
+/// The offset in an auxiliary entry of the offset of the next one, which counts from this one.
 pub const VNA_NEXT: usize = 12;

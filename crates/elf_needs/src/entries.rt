@@ -1,4 +1,4 @@
-// Needs by their indexes, while they are read.
+// Collects the needs of a table by version index.
 ghost use Rattle.std.specs.Prelude.{◌≡◌, ◌≤◌, ℕ, nat_eq, Some, None, length, map, IfOk, OnOk, if◌then◌else◌};
 ghost use Rattle.std.specs.List.{range_with_len};
 ghost use Rattle.std.specs.Option.{option_or};
@@ -15,7 +15,7 @@ use abi_base::{Effort, Fault, FaultKind, NoMemory, Refusal};
 use std::alloc::Global;
 use std::collections::HashMap;
 
-/// The refusal of the need of a number.
+/// The refusal of the need with this number.
 pub fn bad_need(number: u32) -> Refusal
     ensures { result ≡ bad_need_at number }
 {
@@ -25,7 +25,7 @@ pub fn bad_need(number: u32) -> Refusal
     })
 }
 
-// Keeps a need under an index, where none stands there.
+// Enters a need under an index, unless the index has one already.
 fn keep_first<'a>(
     by_index: &mut HashMap<u16, Need<'a>>,
     index: u16,
@@ -41,7 +41,7 @@ fn keep_first<'a>(
     Ok(())
 }
 
-// Keeps the auxiliary entries of a need. The fault is that of a bad one, at the need's number.
+// Enters the auxiliary entries of a need. Err is the fault of the first bad one, with the need's number.
 fn keep_each<'a>(
     by_index: &mut HashMap<u16, Need<'a>>,
     table: &[u8],
@@ -67,7 +67,7 @@ fn keep_each<'a>(
     Ok(())
 }
 
-// The same, where there is effort left for the need itself.
+// The same, where the budget still covers the need itself.
 fn keep_entries<'a>(
     by_index: &mut HashMap<u16, Need<'a>>,
     table: &[u8],
@@ -84,8 +84,8 @@ fn keep_entries<'a>(
     keep_each(by_index, table, strings, need, effort)
 }
 
-/// The needs of a table by their indexes, or the fault of the first bad one. The table may say any count, and lists of entries may
-/// share their bytes: where more is read again and again than there is effort for, memory counts as run out.
+/// The needs of a table by version index, or the fault of the first bad one. A table can claim any count, and lists of entries can
+/// share bytes: where reading them exceeds the budget (`Effort`), the answer is `NoMemory`.
 pub fn needs_in<'a>(
     alloc: Global,
     table: &[u8],

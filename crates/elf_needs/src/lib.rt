@@ -1,5 +1,5 @@
-//! What a file needs of other files, by GNU symbol versioning: the version and the file that an index of its symbols
-//! names, and the index of each symbol (Linux Standard Base, "Symbol Versioning").
+//! What a file needs of other files by GNU symbol versioning: the version index of each symbol, and for each index the
+//! version and the file that must define it (Linux Standard Base, "Symbol Versioning").
 #![tactic(auto)]
 
 pub mod constants;

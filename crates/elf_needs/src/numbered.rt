@@ -1,9 +1,9 @@
-// The version indexes of the symbols, as they are kept.
+// The version indexes of symbols.
 ghost use Rattle.std.specs.Prelude.{◌≡◌, slice_get};
 
 use std::marker::Model;
 
-/// The version indexes of the dynamic symbols of a file, without the bit that says hidden. Contracts see their list.
+/// The version indexes of a file's dynamic symbols, without the hidden bit. Contracts see them as a list.
 #[derive(Drop)]
 pub struct Indexes {
     all: Vec<u16>,
@@ -18,14 +18,14 @@ impl Model for Indexes {
 }
 
 impl Indexes {
-    /// These indexes, by the numbers of the symbols.
+    /// These indexes, by symbol number.
     pub(crate) fn of(all: Vec<u16>) -> Indexes
         ensures { result ≡ all.items }
     {
         Indexes { all }
     }
 
-    /// The index of the symbol of a number. None exactly where there are not so many symbols. It takes no memory.
+    /// The index of the symbol with this number. None exactly where there is no such symbol. Allocates nothing.
     pub fn index_of(&self, symbol: usize) -> Option<u16>
         ensures { result ≡ slice_get self.now symbol }
     {

@@ -1,4 +1,4 @@
-// Reads the needs of a file.
+// Reads the version needs of a file.
 ghost use Rattle.std.specs.Prelude.{◌≡◌, ℕ, IfOk};
 ghost use Rattle.abi_base.specs.Outcome.{Judges};
 ghost use Rattle.elf_needs.specs.Needs.{needs_fault, need_with};
@@ -12,7 +12,7 @@ use elf::file::ElfFile;
 use std::alloc::Global;
 use std::collections::HashMap;
 
-/// The version needs of a file, none where it has no section of needs. The fault is the first one of `VersionNeed`.
+/// The version needs of a file, empty where it has no section of needs. Err is the first fault of kind `VersionNeed`.
 #[tactic(auto, unfolding(crate::specs::Needs::needs_fault, crate::specs::Needs::need_with))]
 pub fn needs<'a>(alloc: Global, file: &ElfFile<'a>) -> Result<Needs<'a>, Refusal>
     ensures judged { Judges result (needs_fault file.now) }

@@ -1,4 +1,4 @@
-// One need, and one auxiliary entry of it.
+// A version need, and one of its auxiliary entries.
 ghost use Rattle.std.specs.Prelude.{◌≡◌, ◌≤◌, ◌+◌, ◌<◌, nat_lt, length, IfSome, is_none};
 ghost use Rattle.abi_base.specs.Limits.{input_limit};
 ghost use Rattle.elf_needs.specs.Needs.{place_of, entry_place, entry_of, is_malformed, is_bad_entry};
@@ -12,7 +12,7 @@ use crate::kept::Need;
 use abi_base::{INPUT_LIMIT, text_at, u16_in, u32_in};
 use elf::constants::VERSYM_HIDDEN;
 
-/// What a need says: its file, how many auxiliary entries it has, where the first one begins, and where the next need begins.
+/// A version need: its file, the number of its auxiliary entries, the offset of the first one, and the offset of the next need.
 #[derive(Clone, Copy)]
 pub struct Record<'a> {
     pub number: u32,
@@ -22,7 +22,7 @@ pub struct Record<'a> {
     pub next: usize,
 }
 
-/// What an auxiliary entry says: its index, its version with the need's file, and where the next entry begins.
+/// An auxiliary entry: its index, its version with the need's file, and the offset of the next entry.
 #[derive(Clone, Copy)]
 pub struct Auxiliary<'a> {
     pub index: u16,
@@ -30,14 +30,14 @@ pub struct Auxiliary<'a> {
     pub next: usize,
 }
 
-// Whether not all of so many bytes from a place on lie inside.
+// Whether the bytes from `at` to `at + size` are not all inside the table.
 fn is_outside(table: &[u8], at: usize, size: usize) -> bool
     ensures { result ≡ nat_lt (length table.now) (at + size) }
 {
     at > table.len() || table.len() - at < size
 }
 
-/// The need of a number, which begins at this place. None exactly where it is malformed by itself.
+/// The need with this number, at this offset. None exactly where it is malformed by itself.
 #[tactic(auto, unfolding(crate::specs::Needs::place_of, crate::specs::Needs::file_at, crate::specs::Needs::entry_count, crate::specs::Needs::entry_place, crate::specs::Needs::is_malformed))]
 pub fn need_in<'a>(
     table: &[u8],
@@ -73,7 +73,7 @@ pub fn need_in<'a>(
     }
 }
 
-/// The auxiliary entry of a number in the list of a need, which begins at this place. None exactly where it is bad.
+/// The auxiliary entry with this number in the list of a need, at this offset. None exactly where it is bad.
 #[tactic(auto, unfolding(crate::specs::Needs::entry_place, crate::specs::Needs::index_at, crate::specs::Needs::version_at, crate::specs::Needs::entry_of, crate::specs::Needs::is_bad_entry))]
 pub fn entry_in<'a>(
     table: &[u8],

@@ -1,4 +1,4 @@
-// The version indexes of the symbols, without the bit that says hidden.
+// Reads the version indexes of symbols, without the hidden bit.
 ghost use Rattle.std.specs.Prelude.{◌≡◌, ◌≤◌, ◌+◌, ◌*◌, ◌%◌, length, map, IfOk, IfSome};
 ghost use Rattle.std.specs.List.{range_with_len};
 ghost use Rattle.std.specs.Option.{option_copied};
@@ -13,7 +13,7 @@ use elf::constants::{SHT_GNU_VERSYM, VER_NDX_GLOBAL, VERSYM_HIDDEN, VERSYM_SIZE}
 use elf::file::ElfFile;
 use std::alloc::Global;
 
-// The table of the indexes of so many symbols, where the file has one. The fault is the one of `VersionTable`.
+// The table of the symbols' version indexes, if the file has one. Err is the fault `VersionTable`.
 fn table_of<'a>(file: &ElfFile<'a>, symbols: usize) -> Result<Option<&'a [u8]>, Fault>
     ensures judged { Settles result (table_fault file.now symbols) }
     ensures table { IfOk result (λ table. option_copied table ≡ index_table file.now) }
@@ -35,7 +35,7 @@ fn table_of<'a>(file: &ElfFile<'a>, symbols: usize) -> Result<Option<&'a [u8]>, 
     }
 }
 
-// The index of a symbol with its bit 15, where there is a table of indexes and where there is none.
+// The version index of a symbol including bit 15, with or without a table of indexes.
 fn index_at(table: Option<&[u8]>, symbol: usize) -> u16
     requires { IfSome table (λ t. versym_size * (symbol + 1) ≤ length t.now) }
     ensures { result ≡ index_in (option_copied table.entry) symbol }
@@ -46,7 +46,7 @@ fn index_at(table: Option<&[u8]>, symbol: usize) -> u16
     }
 }
 
-// The indexes of so many symbols, in order.
+// The version indexes of the first `symbols` symbols, in order.
 fn indexes_in(alloc: Global, table: Option<&[u8]>, symbols: usize) -> Result<Vec<u16>, NoMemory>
     requires { IfSome table (λ t. length t.now ≡ versym_size * symbols) }
     ensures { IfOk result (λ all. all.items ≡ map (λ i. index_in (option_copied table.entry) i % versym_hidden) (range_with_len 0 symbols)) }
@@ -58,8 +58,7 @@ fn indexes_in(alloc: Global, table: Option<&[u8]>, symbols: usize) -> Result<Vec
     Ok(all)
 }
 
-/// The version indexes of the dynamic symbols of a file, of which there are `symbols`. The fault is the one of
-/// `VersionTable`.
+/// The version indexes of a file's dynamic symbols, of which there are `symbols`. Err is the fault `VersionTable`.
 #[tactic(auto, unfolding(elf::specs::versions::Versions::version_index))]
 pub fn indexes(alloc: Global, file: &ElfFile<'_>, symbols: usize) -> Result<Indexes, Refusal>
     ensures judged { Judges result (table_fault file.now symbols) }

@@ -11,7 +11,7 @@ use Rattle.dwarf_files.specs.Names.{file_name_of, joined}
 use Rattle.dwarf_files.specs.Steps.{◌>>=◌}
 use Rattle.entry_places.specs.declared.coordinates.Coordinates.{Coordinates}
 
--- what the sections hold that places of entries depend on: `.debug_info`, `.debug_abbrev`, `.debug_line`, `.debug_str` and
+-- the sections on which declaration places depend: `.debug_info`, `.debug_abbrev`, `.debug_line`, `.debug_str` and
 -- `.debug_line_str`
 pub record DebugBytes : Type 0 where
   pub info : List ℕ
@@ -20,7 +20,7 @@ pub record DebugBytes : Type 0 where
   pub str : List ℕ
   pub line_str : List ℕ
 
--- a file of the source, and a line in it
+-- a source file, and a line in it
 pub record PlainPlace : Type 0 where
   pub file : List ℕ
   pub line : ℕ
@@ -29,7 +29,7 @@ pub record PlainPlace : Type 0 where
 abbrev pub entries_in : DebugBytes → PlainTree
 entries_in s = tree_of s.info s.abbrevs
 
--- the sections, where no unit and no entry has a fault
+-- the sections, if no unit and no entry has a fault
 abbrev pub unless_faulty : Option Fault → DebugBytes → Option DebugBytes
 unless_faulty None s = Some s
 unless_faulty (Some fault) s = None
@@ -37,29 +37,29 @@ unless_faulty (Some fault) s = None
 abbrev pub if_sound : DebugBytes → Option DebugBytes
 if_sound s = unless_faulty (entries_fault s.info s.abbrevs) s
 
--- a constant that is not negative (section 7.5.5 "Classes and Forms", class constant)
+-- a nonnegative constant (section 7.5.5 "Classes and Forms", class constant)
 abbrev pub number_of : Option Value → Option ℕ
 number_of (Some (value.Unsigned n)) = Some n
 number_of (Some (value.Signed (pos n))) = Some n
 number_of other = None
 
--- a place in another section (the same, classes lineptr and others)
+-- an offset into another section (section 7.5.5, classes lineptr and others)
 abbrev pub section_offset_of : Option Value → Option ℕ
 section_offset_of (Some (value.SectionOffset n)) = Some n
 section_offset_of other = None
 
--- a text that stands in `.debug_info` itself, or at an offset into `.debug_str` or `.debug_line_str` (the same, class string)
+-- a string in `.debug_info` itself, or at an offset in `.debug_str` or `.debug_line_str` (section 7.5.5, class string)
 abbrev pub text_of : DebugBytes → Option Value → Option (List ℕ)
 text_of s (Some (value.Inline place)) = text_at s.info place
 text_of s (Some (value.StrOffset place)) = text_at s.str place
 text_of s (Some (value.LineOffset place)) = text_at s.line_str place
 text_of s other = None
 
--- The value 0 says that no line has been given (section 2.14).
+-- The value 0 means that no line was given (section 2.14).
 abbrev pub if_given : ℕ → Option ℕ
 if_given n = if n == 0 then None else Some n
 
--- What an entry says of where it is declared: the number of a file under DW_AT_decl_file, which is 0x3a, and a line under
+-- The declaration coordinates of an entry: the number of a file from DW_AT_decl_file, which is 0x3a, and a line from
 -- DW_AT_decl_line, which is 0x3b.
 unfoldable pub coordinates_of : PlainTree → ℕ → Option Coordinates
 coordinates_of t offset = do
@@ -69,34 +69,34 @@ coordinates_of t offset = do
   line ← if_given number
   Some (record { file = file; line = line; unit = (entry_at t e).unit })
 
--- the first value that the root of a unit has of an attribute
+-- the first value of an attribute of a unit's root
 abbrev pub of_root : PlainTree → ℕ → ℕ → Option Value
 of_root t unit name = do
   root ← root_of t unit
   own_of t root name
 
--- where the line program of a unit begins in `.debug_line`: DW_AT_stmt_list, which is 0x10
+-- the offset of a unit's line program in `.debug_line`: DW_AT_stmt_list, which is 0x10
 abbrev pub line_program_of : PlainTree → ℕ → Option ℕ
 line_program_of t unit = section_offset_of (of_root t unit 0x10)
 
 -- The directory in which a unit was compiled: DW_AT_comp_dir, which is 0x1b. In version 5 it is directory 0 of the line program
--- itself; in version 4 the line program does not say it, and its names count from there (section 6.2.4).
+-- itself. A line program of version 4 does not have it, and its names are relative to it (section 6.2.4).
 unfoldable pub directory_of : DebugBytes → PlainTree → ℕ → Option (List ℕ)
 directory_of s t unit = if (head_at t unit).version == 4 then text_of s (of_root t unit 0x1b) else None
 
--- a name in a directory, where it is known
+-- a name in a directory, if that is known
 abbrev pub in_directory : Option (List ℕ) → List ℕ → List ℕ
 in_directory None name = name
 in_directory (Some directory) name = joined directory name
 
--- the file of a number, by the line program of a unit
+-- the file with this number in a unit's line program
 unfoldable pub file_of : DebugBytes → PlainTree → ℕ → ℕ → Option (List ℕ)
 file_of s t unit number = do
   program ← line_program_of t unit
   name ← file_name_of s.line s.str s.line_str program number
   Some (in_directory (directory_of s t unit) name)
 
--- where the entry that begins at an offset is declared
+-- the declaration place of the entry at an offset
 unfoldable pub place_of : DebugBytes → ℕ → Option PlainPlace
 place_of s offset = do
   c ← coordinates_of (entries_in s) offset

@@ -1,11 +1,11 @@
--- What a place is made of.
+-- The parts of a declaration place.
 use Rattle.std.specs.Prelude.{◌≡◌, ◌≢◌, ◌⊎◌, ℕ, List, Some}
 use Rattle.dwarf_tree.specs.Trees.{entry_at, entry_of, own_of, root_of}
 use Rattle.dwarf_files.specs.Names.{file_name_of, joined}
 use Rattle.entry_places.specs.Coordinates.{DebugBytes, PlainPlace, entries_in, number_of, section_offset_of, directory_of}
 
--- The entry at an offset says a file and a line; the root of its unit says where the line program stands; and that program has a
--- name for the file, which counts from the directory of the unit where that is known.
+-- The entry at an offset has a file and a line, the root of its unit has the offset of a line program, and that program has a
+-- name for the file, which is relative to the unit's directory if that is known.
 pub record IsMade (s : DebugBytes) (offset : ℕ) (place : PlainPlace) : Type 0 where
   pub e : ℕ
   pub root : ℕ

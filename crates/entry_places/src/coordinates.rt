@@ -1,17 +1,17 @@
-// What entries say of where they are declared.
+// Declaration coordinates of entries.
 ghost use Rattle.std.specs.Prelude.{◌≡◌, ◌<◌, length, IfSome};
 ghost use Rattle.entry_places.specs.Coordinates as spec;
 
 use crate::values::{if_given, number_of};
 use dwarf_tree::Tree;
 
-// The attributes of declarations (DWARF 5, section 7.5.4 "Attribute Encodings").
+// Attributes of declaration coordinates (DWARF 5, section 7.5.4 "Attribute Encodings").
 
 const DW_AT_decl_file: u64 = 0x3a;
 
 const DW_AT_decl_line: u64 = 0x3b;
 
-// The number of a file in the line program of a unit, and a line in that file.
+// The number of a file in a unit's line program, and a line of that file.
 #[derive(Clone, Copy)]
 pub(crate) struct Coordinates {
     pub(crate) file: u64,
@@ -20,7 +20,7 @@ pub(crate) struct Coordinates {
     pub(crate) unit: usize,
 }
 
-// What the entry that begins at an offset says.
+// The declaration coordinates of the entry at an offset.
 #[tactic(auto, unfolding(crate::specs::Coordinates::coordinates_of))]
 pub(crate) fn coordinates_of(tree: &Tree<'_>, offset: u64) -> Option<Coordinates>
     ensures said { result ≡ spec.coordinates_of tree.now offset }

@@ -1,4 +1,4 @@
-//! Where the entries of debug information are declared in the source: a file and a line, read when they are asked for.
+//! Where debugging information entries are declared in the source: a file and a line, read on demand.
 #![tactic(auto)]
 
 mod coordinates;

@@ -1,9 +1,9 @@
-// A place in the source.
+// A declaration place in the source.
 
-/// A file of the source, and a line in it.
+/// A source file, and a line in it.
 #[derive(Drop)]
 pub struct DeclarationPlace {
-    /// The name of the file. It is absolute where the debug information says so.
+    /// The name of the file, absolute if the debug information has it so.
     pub file: Vec<u8>,
     /// The line, counted from 1.
     pub line: u64,

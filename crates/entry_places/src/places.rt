@@ -1,4 +1,4 @@
-// The places of entries.
+// The declaration places of entries.
 ghost use Rattle.std.specs.Prelude.{◌≡◌, ◌<◌, length, IfOk};
 ghost use Rattle.std.specs.Option.{option_copied, option_map};
 ghost use Rattle.entry_places.specs.Coordinates.{directory_of, entries_in, file_of, if_sound, text_of};
@@ -15,11 +15,12 @@ use dwarf_tree::{Tree, read_tree};
 use std::alloc::Global;
 use std::marker::Model;
 
-/// The entries of a library, and the sections that say where they are declared. Contracts see what the sections hold.
+/// The entries of a library, and the sections from which their declaration places are read. Contracts see the bytes of these
+/// sections.
 #[derive(Drop)]
 pub struct EntryPlaces<'a> {
     info: &'a [u8],
-    // `.debug_abbrev`, of which the tree was read
+    // `.debug_abbrev`, from which the tree was read
     abbrevs: &'a [u8],
     lines: LineSections<'a>,
     tree: Tree<'a>,
@@ -37,7 +38,7 @@ impl<'a> Model for EntryPlaces<'a> {
     ghost invariant = { λ p. p.tree ≡ tree_of p.info.now p.abbrevs.now };
 }
 
-// A name in a directory, where that is known.
+// A name in a directory, if that is known.
 fn in_directory(alloc: Global, directory: Option<&[u8]>, name: Vec<u8>) -> Result<Vec<u8>, NoMemory>
     ensures { IfOk result (λ file. file.items ≡ spec.in_directory (option_copied directory.entry) name.items) }
 {
@@ -48,7 +49,7 @@ fn in_directory(alloc: Global, directory: Option<&[u8]>, name: Vec<u8>) -> Resul
 }
 
 impl<'a> EntryPlaces<'a> {
-    /// Reads the entries of a library. None exactly where a unit or an entry has a fault, as `dwarf_tree::read_tree` tells it.
+    /// Reads the entries of a library. None exactly where a unit or an entry has a fault (see `dwarf_tree::read_tree`).
     pub fn read(
         alloc: Global,
         sections: &Sections<'a>,
@@ -72,14 +73,14 @@ impl<'a> EntryPlaces<'a> {
         }
     }
 
-    /// The entries themselves.
+    /// The entries.
     pub fn tree(&self) -> &Tree<'a>
         ensures { result.now ≡ entries_in self.now }
     {
         &self.tree
     }
 
-    // The text that a value is.
+    // The string of a value.
     fn text(&self, value: Option<Value>) -> Option<&'a [u8]>
         ensures { option_copied result ≡ text_of self.now value }
     {
@@ -91,7 +92,7 @@ impl<'a> EntryPlaces<'a> {
         }
     }
 
-    // The directory in which a unit was compiled, where its line program does not say it.
+    // The directory in which a unit was compiled, where its line program does not give it.
     #[tactic(auto, unfolding(crate::specs::Coordinates::directory_of))]
     fn directory(&self, unit: usize) -> Option<&'a [u8]>
         requires { unit < length (entries_in self.now).units }
@@ -104,7 +105,7 @@ impl<'a> EntryPlaces<'a> {
         }
     }
 
-    // The file of a number, by the line program of a unit.
+    // The file with this number in a unit's line program.
     #[tactic(auto, unfolding(crate::specs::Coordinates::file_of))]
     fn file(&self, alloc: Global, unit: usize, number: u64) -> Result<Option<Vec<u8>>, NoMemory>
         requires { unit < length (entries_in self.now).units }
@@ -119,12 +120,11 @@ impl<'a> EntryPlaces<'a> {
         }
     }
 
-    /// Where the entry that begins at an offset is declared (DWARF 5, section 2.14 "Declaration Coordinates"; DWARF 4, the same
-    /// section). None exactly where no entry begins there, where the entry has no file or no line, where its unit has no line
-    /// program, or where that has no name for the file, as `dwarf_files::file_name` tells it.
+    /// The declaration place of the entry at an offset (DWARF 5, section 2.14 "Declaration Coordinates"; DWARF 4, the same
+    /// section). None exactly where no entry begins there, the entry has no file or no line, its unit has no line program, or that
+    /// has no name for the file (see `dwarf_files::file_name`).
     ///
-    /// A name that is not absolute comes behind the directory in which the unit was compiled, as far as the debug information
-    /// says that directory.
+    /// A relative name is prefixed with the directory in which the unit was compiled, if the debug information gives it.
     #[tactic(auto, unfolding(crate::specs::Coordinates::place_of))]
     pub fn place_of(&self, alloc: Global, offset: u64) -> Result<Option<DeclarationPlace>, NoMemory>
         ensures { IfOk result (λ place. option_map plain_place place ≡ spec.place_of self.now offset) }

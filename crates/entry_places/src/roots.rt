@@ -1,4 +1,4 @@
-// What the roots of units say of their files.
+// The attributes of unit roots that locate files.
 ghost use Rattle.std.specs.Prelude.{◌≡◌, ◌<◌, length};
 ghost use Rattle.entry_places.specs.Coordinates.{line_program_of};
 ghost use Rattle.entry_places.specs.Coordinates as spec;
@@ -7,13 +7,13 @@ use crate::values::section_offset;
 use dwarf_forms::Value;
 use dwarf_tree::Tree;
 
-// The attributes of units (DWARF 5, section 7.5.4 "Attribute Encodings").
+// Attributes of units (DWARF 5, section 7.5.4 "Attribute Encodings").
 
 const DW_AT_stmt_list: u64 = 0x10;
 
 pub(crate) const DW_AT_comp_dir: u64 = 0x1b;
 
-// The first value that the root of a unit has of an attribute.
+// The first value of an attribute of a unit's root.
 pub(crate) fn of_root(tree: &Tree<'_>, unit: usize, name: u64) -> Option<Value>
     requires { unit < length tree.now.units }
     ensures { result ≡ spec.of_root tree.now unit name }
@@ -21,7 +21,7 @@ pub(crate) fn of_root(tree: &Tree<'_>, unit: usize, name: u64) -> Option<Value>
     tree.own(tree.root(unit), name)
 }
 
-// Where the line program of a unit begins in `.debug_line`.
+// The offset of a unit's line program in `.debug_line`.
 pub(crate) fn line_program(tree: &Tree<'_>, unit: usize) -> Option<u64>
     requires { unit < length tree.now.units }
     ensures { result ≡ line_program_of tree.now unit }

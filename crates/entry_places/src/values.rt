@@ -1,11 +1,11 @@
-// What values of attributes say.
+// Attribute values as numbers.
 ghost use Rattle.std.specs.Prelude.{◌≡◌};
 ghost use Rattle.entry_places.specs.Coordinates.{section_offset_of};
 ghost use Rattle.entry_places.specs.Coordinates as spec;
 
 use dwarf_forms::Value;
 
-// A constant that is not negative.
+// A nonnegative constant.
 pub(crate) fn number_of(value: Option<Value>) -> Option<u64>
     ensures { result ≡ spec.number_of value }
 {
@@ -16,7 +16,7 @@ pub(crate) fn number_of(value: Option<Value>) -> Option<u64>
     }
 }
 
-// The place in another section that a value is.
+// The offset into another section that a value holds.
 pub(crate) fn section_offset(value: Option<Value>) -> Option<u64>
     ensures { result ≡ section_offset_of value }
 {
@@ -26,7 +26,7 @@ pub(crate) fn section_offset(value: Option<Value>) -> Option<u64>
     }
 }
 
-// A line, which 0 does not give.
+// A line number, unless it is 0, which means none.
 pub(crate) fn if_given(line: u64) -> Option<u64>
     ensures { result ≡ spec.if_given line }
 {

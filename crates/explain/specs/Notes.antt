@@ -1,4 +1,4 @@
--- The notes beside an answer: which ones come with which outcome.
+-- The notes beside an answer, and which of them belong to which outcome.
 use Rattle.std.specs.Prelude.{◌≡◌, ◌≢◌, ◌⊎◌, ◌==◌, ℕ, List, [], ◌∷◌, ◌++◌, All, Contains, Option, Some, None, codes, if◌then◌else◌}
 use Rattle.std.specs.Str.{bytes_eq}
 use Rattle.abi_base.specs.declared.remark.Remark.{Remark}
@@ -16,27 +16,27 @@ use Rattle.explain.specs.Sentences.{SaysFault, loses_types, lost_words, refused_
 abbrev pub IsReadUnder : List PlainFile → Input → List ℕ → Type 0
 IsReadUnder files which name = Contains files (which, name)
 
--- the input was read under no name
+-- the input was not read under a name
 abbrev pub IsUnnamed : List PlainFile → Input → Type 0
 IsUnnamed files which = All (λ (file : PlainFile). file.0 ≢ which) files
 
--- P holds of a name under which the input was read, or Q holds and there is none
+-- P holds for a name under which the input was read, or there is none and Q holds
 abbrev pub OnName : List PlainFile → Input → (List ℕ → Type 0) → Type 0 → Type 0
 OnName files which P Q = ((name : List ℕ) × IsReadUnder files which name × P name) ⊎ (IsUnnamed files which × Q)
 
--- the note on a library some of whose exports have no type, where it has one
+-- the note on a library, if some of its exports have no type
 abbrev pub untyped_notes : List ℕ → SizedExports → List (List ℕ)
 untyped_notes path exports = if exports.untyped == 0 then [] else said_of path (untyped_words exports) ∷ []
 
--- the notes on two libraries; a library that is compared with itself has one
+-- the notes on two libraries; a library that is compared with itself is noted once
 abbrev pub both_untyped : Remark → List ℕ → List ℕ → List (List ℕ)
 both_untyped remark old new = untyped_notes old remark.old ++ (if bytes_eq old new then [] else untyped_notes new remark.new)
 
--- the note on a new library that lost all types, where it did
+-- the note on a new library, if it lost all types
 abbrev pub lost_notes : Remark → (old new : List ℕ) → List (List ℕ)
 lost_notes remark old new = if loses_types remark then said_of new (lost_words old) ∷ [] else []
 
--- the note on a library none of whose exports has a size, where none has
+-- the note on a library, if none of its exports has a size
 abbrev pub sizeless_notes : List ℕ → SizedExports → List (List ℕ)
 sizeless_notes path exports = if exports.all == 0 then said_of path sizeless_words ∷ [] else []
 
@@ -44,21 +44,21 @@ sizeless_notes path exports = if exports.all == 0 then said_of path sizeless_wor
 abbrev pub compared_notes : Remark → (old new : List ℕ) → List (List ℕ)
 compared_notes remark old new = both_untyped remark old new ++ lost_notes remark old new ++ sizeless_notes old remark.old
 
--- the one note, of which P holds
+-- there is one note, and P holds for it
 abbrev pub IsOne : List (List ℕ) → (List ℕ → Type 0) → Type 0
 IsOne notes P = (note : List ℕ) × (notes ≡ note ∷ []) × P note
 
--- the notes on two certificates that do not compose
+-- the note on two certificates that do not compose
 abbrev pub TellsUncomposed : List PlainFile → List (List ℕ) → Type 0
 TellsUncomposed files notes = OnName files Certificate1 (λ one. OnName files Certificate2 (λ two. OnName files First (λ first. OnName files Last (λ last.
     notes ≡ said_of one (uncomposed_words two first last) ∷ []) (notes ≡ [])) (notes ≡ [])) (notes ≡ [])) (notes ≡ [])
 
--- the notes on a refusal: on the certificate, or on both; on the tag of a structure there is none here
+-- the notes on a refusal: on the certificate, or on both; a tag that no structure has is not noted here
 abbrev pub TellsRefused : List PlainFile → List (List ℕ) → Type 0
 TellsRefused files notes = OnName files Certificate (λ certificate. OnName files Old (λ old. OnName files New (λ new.
     notes ≡ said_of certificate (refused_words old new) ∷ []) (notes ≡ [])) (notes ≡ [])) (TellsUncomposed files notes)
 
--- the notes on two libraries that were compared
+-- the notes on two compared libraries
 abbrev pub TellsCompared : Option Remark → List PlainFile → List (List ℕ) → Type 0
 TellsCompared (Some remark) files notes = OnName files Old (λ old. OnName files New (λ new. notes ≡ compared_notes remark old new) (notes ≡ [])) (notes ≡ [])
 TellsCompared None files notes = notes ≡ []
@@ -70,8 +70,8 @@ TellsJudged Yes remark files notes = TellsCompared remark files notes
 TellsJudged No remark files notes = TellsCompared remark files notes
 TellsJudged Done remark files notes = TellsCompared remark files notes
 
--- The notes that come with an outcome: on exports without a type, on a certificate that is refused, on the fault of an input, or why
--- something failed.
+-- The notes on an outcome: on exports without a type, on a refused certificate, on the fault of an input, or on the cause of a
+-- failure.
 abbrev pub Tells : Outcome → List PlainFile → List (List ℕ) → Type 0
 Tells (Judged verdict remark) files notes = TellsJudged verdict remark files notes
 Tells (Unreadable which fault) files notes = OnName files which (λ path. IsOne notes (SaysFault path fault)) (notes ≡ [])

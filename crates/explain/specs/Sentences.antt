@@ -1,4 +1,4 @@
--- The sentences for people.
+-- The sentences for users.
 use Rattle.std.specs.Prelude.{◌≡◌, ◌==◌, ◌&&◌, ℕ, Bool, List, [], ◌∷◌, codes, decimal, if◌then◌else◌, nat_lt}
 use Rattle.std.specs.List.{concat}
 use Rattle.abi_base.specs.Fault.{fault_number, fault_name}
@@ -8,31 +8,30 @@ use Rattle.abi_base.specs.declared.remark.Remark.{Remark}
 use Rattle.cli_args.specs.WrongWords.{PlainWrong, missing_command, unknown_command, needless_option, wrong_count, unknown_style, wrong_number, unknown_option, missing_value, repeated_option, needless_value, other_words}
 use Rattle.explain.specs.Lines.{in_line}
 
--- what is said of an input at a path
+-- the sentence about an input at a path
 abbrev pub said_of : List ℕ → List ℕ → List ℕ
 said_of path said = concat (in_line path ∷ codes ": " ∷ in_line said ∷ [])
 
--- the number, the name and the place of a fault
+-- the number, the name and the position of a fault
 abbrev pub fault_mark : Fault → List ℕ
 fault_mark fault = concat (codes " (fault " ∷ decimal (fault_number fault.kind) ∷ codes " " ∷ fault_name fault.kind ∷ codes " at " ∷ decimal fault.at ∷ codes ")" ∷ [])
 
--- The sentence of an input at a path that has this fault: what is wrong in words, and then the number, the name and the place of
--- the fault.
+-- The sentence about an input at a path that has this fault: the fault in words, and then its number, its name and its position.
 pub record SaysFault (path : List ℕ) (fault : Fault) (text : List ℕ) : Type 0 where
   pub why : List ℕ
   pub is : text ≡ concat (said_of path why ∷ fault_mark fault ∷ [])
 
--- what is said of a library some of whose exports have no type in the debug information
+-- the words about a library some of whose exports have no type in the debug information
 abbrev pub untyped_words : SizedExports → List ℕ
 untyped_words exports =
     if exports.untyped == exports.all then codes "the debug information has no types for the exports: only names, versions, kinds and the sizes of objects were compared; compile with -g to compare types"
     else concat (codes "the debug information has no type for " ∷ decimal exports.untyped ∷ codes " of the " ∷ decimal exports.all ∷ codes " exports that have a size: of these only names, versions, kinds and the sizes of objects were compared" ∷ [])
 
--- a library has exports of a size, and types for none of them
+-- a library has exports with a size, but types for none of them
 abbrev pub lacks_types : SizedExports → Bool
 lacks_types exports = nat_lt 0 exports.all && (exports.untyped == exports.all)
 
--- a library has a type for an export of a size
+-- a library has a type for an export with a size
 abbrev pub has_types : SizedExports → Bool
 has_types exports = nat_lt exports.untyped exports.all
 
@@ -40,28 +39,28 @@ has_types exports = nat_lt exports.untyped exports.all
 abbrev pub loses_types : Remark → Bool
 loses_types remark = has_types remark.old && lacks_types remark.new
 
--- what is said of a library without types where the old one, at this path, has some
+-- the words about a library without types, if the old one, at this path, has some
 abbrev pub lost_words : List ℕ → List ℕ
 lost_words old =
     concat (codes "the debug information has no types for the exports, but that of " ∷ old ∷ codes " has: whether their types broke cannot be told" ∷ [])
 
--- what is said of a library none of whose exports has a size
+-- the words about a library none of whose exports has a size
 abbrev pub sizeless_words : List ℕ
 sizeless_words = codes "none of its exports has a size: names, versions and kinds were compared, and types only where an export without a size has one"
 
--- what is said of a certificate that does not prove what it should
+-- the words about a certificate that does not prove what it should
 abbrev pub refused_words : (old new : List ℕ) → List ℕ
 refused_words old new = concat (codes "the certificate does not prove that " ∷ new ∷ codes " may replace " ∷ old ∷ [])
 
--- what is said of the first of two certificates that do not compose
+-- the words about the first of two certificates that do not compose
 abbrev pub uncomposed_words : (second first last : List ℕ) → List ℕ
 uncomposed_words second first last = concat (codes "with " ∷ second ∷ codes " it does not prove that " ∷ last ∷ codes " may replace " ∷ first ∷ [])
 
--- something is said of a word
+-- the text is a sentence about the word
 abbrev pub SaysOf : List ℕ → List ℕ → Type 0
 SaysOf word text = (words : List ℕ) × (text ≡ said_of word words)
 
--- The sentence of words that are wrong: what is wrong with the word that is, where one is.
+-- The sentence about wrong arguments: what is wrong with the argument at fault, if there is one.
 abbrev pub SaysWrong : PlainWrong → List ℕ → Type 0
 SaysWrong missing_command text = text ≡ codes "no command is given"
 SaysWrong (unknown_command word) text = SaysOf word text
@@ -75,6 +74,6 @@ SaysWrong (repeated_option option) text = SaysOf option text
 SaysWrong (needless_value option) text = SaysOf option text
 SaysWrong other_words text = text ≡ codes "the words fit no command"
 
--- what is said of a rule file with a line whose value has ` #` or ` ;` in it
+-- the words about a rule file with a line whose value contains ` #` or ` ;`
 abbrev pub comment_words : List ℕ → List ℕ
 comment_words line = concat (codes "a comment stands on a line of its own, so what looks like one is a part of the value: " ∷ line ∷ [])

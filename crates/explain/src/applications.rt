@@ -1,4 +1,4 @@
-// How an application and a library belong together.
+// How an application and a library fit together.
 ghost use Rattle.std.specs.Prelude.{◌≡◌, ℕ, List, IfOk, IsTrue, string_bytes};
 ghost use Rattle.explain.specs.Lines.{is_one_line};
 ghost use Rattle.explain.specs.Sentences.{said_of};
@@ -8,8 +8,8 @@ use crate::tags::push_names;
 use abi_base::NoMemory;
 use std::alloc::{AllocError, Global};
 
-/// The sentence on an application at a path, of whose imports so many bind to a library. It is one line, whatever the characters of
-/// the paths are.
+/// The sentence on an application at a path, with the number of its imports that bind to a library. It is one line, whatever
+/// characters the paths have.
 pub fn links_sentence(
     alloc: Global,
     path: &str,
@@ -27,15 +27,15 @@ pub fn links_sentence(
     Ok(said(alloc, path, words.as_str())?)
 }
 
-// What a library lacks, with commas between names that are text.
+// The words about the exports that a library lacks. Names that are not UTF-8 are left out.
 fn lacking_words(alloc: Global, library: &str, names: &[&[u8]]) -> Result<String, AllocError> {
     let mut words = format!(in alloc; "it does not run with {library} either, which lacks")?;
     push_names(&mut words, " ", names)?;
     Ok(words)
 }
 
-/// The sentence on an application at a path that needs exports of these names of a library, which lacks them. It is one line, whatever
-/// the characters of the paths and of the names are.
+/// The sentence on an application at a path that needs exports with these names, which a library lacks. It is one line, whatever
+/// characters the paths and the names have.
 pub fn lacking_sentence(
     alloc: Global,
     path: &str,

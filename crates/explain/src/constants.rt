@@ -1,6 +1,6 @@
-// The numbers of ELF that sentences on files ask.
+// The ELF constants that sentences on files use.
 
-// What an ELF file begins with, and where its header says its class and the order of bytes (gABI, "ELF Identification").
+// The magic number of an ELF file, and the offsets of its class and byte order (gABI, "ELF Identification").
 pub(crate) const ELF_MAGIC: &[u8] = b"\x7fELF";
 
 pub(crate) const EI_CLASS: usize = 4;
@@ -11,7 +11,8 @@ pub(crate) const EI_DATA: usize = 5;
 
 pub(crate) const ELFDATA2MSB: u8 = 2;
 
-// Where an ELF header has its type, the place of the section table, and the number of the section of names (gABI, "ELF Header").
+// Offsets in an ELF header: the type, the position of the section table, and the index of the section of names (gABI, "ELF
+// Header").
 pub(crate) const E_TYPE: usize = 16;
 
 pub(crate) const ET_REL: u16 = 1;
@@ -24,10 +25,10 @@ pub(crate) const E_SHOFF: usize = 40;
 
 pub(crate) const E_SHSTRNDX: usize = 62;
 
-// The number that says that the number of the section of names stands in section 0.
+// The value that means that section 0 holds the index of the section of names.
 pub(crate) const SHN_XINDEX: u16 = 0xffff;
 
-// The size of a section header, and where it has its fields (gABI, "Section Header").
+// The size of a section header, and the offsets of its fields (gABI, "Section Header").
 pub(crate) const HEADER_SIZE: usize = 64;
 
 pub(crate) const SH_OFFSET: usize = 24;

@@ -7,8 +7,8 @@ use crate::lines::said;
 use abi_base::NoMemory;
 use std::alloc::Global;
 
-/// The sentence of an input at a path whose reading failed for this reason. It is one line, whatever the characters of the path and
-/// of the reason are.
+/// The sentence about an input at a path whose reading failed for this reason. It is one line, whatever characters the path and the
+/// reason have.
 pub fn failure_sentence(alloc: Global, path: &str, reason: &str) -> Result<String, NoMemory>
     ensures says { IfOk result (λ text. string_bytes text ≡ said_of path.now reason.now) }
     ensures line { IfOk result (λ text. IsTrue (is_one_line (string_bytes text))) }

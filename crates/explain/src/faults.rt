@@ -1,7 +1,7 @@
-// What is wrong at a place.
+// The words for faults.
 use abi_base::FaultKind;
 
-/// What is wrong with the section, the symbol, the entry or the definition of a number.
+/// The words for a fault in the section, the symbol, the entry or the definition with a number.
 pub(crate) fn numbered_sentence(kind: FaultKind) -> &'static str {
     match kind {
         FaultKind::SectionRange => "does not lie inside the file, which may have been cut short",
@@ -20,7 +20,7 @@ pub(crate) fn numbered_sentence(kind: FaultKind) -> &'static str {
     }
 }
 
-/// What is wrong with a whole table, where a fault of this kind stands at its entry 0.
+/// The words for a fault of a whole table, if a fault of this kind at entry 0 means that.
 pub(crate) fn whole_table_sentence(kind: FaultKind) -> Option<&'static str> {
     match kind {
         FaultKind::SymbolTable => Some("the table of dynamic symbols is damaged"),
@@ -31,7 +31,7 @@ pub(crate) fn whole_table_sentence(kind: FaultKind) -> Option<&'static str> {
     }
 }
 
-// What is wrong with a unit of debug information.
+// The words for a fault of a debug information unit.
 fn unit_sentence(kind: FaultKind) -> &'static str {
     match kind {
         FaultKind::UnitHeader => "the header of the unit is damaged",
@@ -48,7 +48,7 @@ fn unit_sentence(kind: FaultKind) -> &'static str {
     }
 }
 
-// What is wrong with an entry of debug information.
+// The words for a fault of a debug information entry.
 fn entry_sentence(kind: FaultKind) -> &'static str {
     match kind {
         FaultKind::AbbrevCode => "the entry has an abbreviation that is not in its table",
@@ -72,7 +72,7 @@ fn entry_sentence(kind: FaultKind) -> &'static str {
     }
 }
 
-/// What is wrong in `.debug_info`.
+/// The words for a fault in `.debug_info`.
 pub(crate) fn info_sentence(kind: FaultKind) -> &'static str {
     match kind {
         FaultKind::UnitHeader
@@ -86,7 +86,7 @@ pub(crate) fn info_sentence(kind: FaultKind) -> &'static str {
     }
 }
 
-/// What is wrong in a line of a rule file or of a certificate.
+/// The words for a fault in a line of a rule file or of a certificate.
 pub(crate) fn line_sentence(kind: FaultKind) -> &'static str {
     match kind {
         FaultKind::BadText => "it is not UTF-8",

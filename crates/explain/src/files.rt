@@ -1,21 +1,21 @@
-// What a file is that is no shared object.
+// The kind of a file that is not a shared object.
 use crate::constants::{
     E_TYPE, EI_CLASS, EI_DATA, ELF_MAGIC, ELFCLASS32, ELFDATA2MSB, ET_CORE, ET_EXEC, ET_REL,
 };
 use abi_base::{FaultKind, u16_at};
 
-// What a static archive begins with, and one that holds no copies.
+// The magic strings of a static archive, and of a thin archive, which holds no copies of its members.
 const ARCHIVE: &[u8] = b"!<arch>\n";
 
 const THIN_ARCHIVE: &[u8] = b"!<thin>\n";
 
-// What the first member of an archive that is a Debian package is called (deb(5)), behind the archive's own first bytes.
+// The beginning of a Debian package: the magic string of the archive, and the name of its first member (deb(5)).
 const DEBIAN_ARCHIVE: &[u8] = b"!<arch>\ndebian-binary";
 
-// What an RPM package begins with.
+// The magic number of an RPM package.
 const RPM_MAGIC: &[u8] = b"\xed\xab\xee\xdb";
 
-// What linker scripts begin with.
+// The usual beginnings of linker scripts.
 const SCRIPT_STARTS: [&[u8]; 5] = [
     b"/* GNU ld script",
     b"INPUT",
@@ -34,7 +34,7 @@ fn is_script(bytes: &[u8]) -> bool {
     false
 }
 
-// What a file is that does not begin as an ELF file does.
+// The words for a file that is not an ELF file.
 fn other_file(bytes: &[u8]) -> &'static str {
     if bytes.starts_with(DEBIAN_ARCHIVE) {
         "it is a Debian package; give a shared object (.so) out of it, or compare packages with abi-packages"
@@ -49,7 +49,7 @@ fn other_file(bytes: &[u8]) -> &'static str {
     }
 }
 
-// What an ELF file is that is no shared object.
+// The words for an ELF file that is not a shared object.
 fn other_object(bytes: &[u8]) -> &'static str {
     match u16_at(bytes, E_TYPE) {
         Some(ET_REL) => "it is an object file (.o), not a shared object",
@@ -61,7 +61,7 @@ fn other_object(bytes: &[u8]) -> &'static str {
     }
 }
 
-// What a file of so few bytes is that it has no ELF header.
+// The words for a file that is too short for an ELF header.
 fn short_file(bytes: &[u8], length: u64) -> &'static str {
     if length == 0 {
         "it is empty"
@@ -72,7 +72,7 @@ fn short_file(bytes: &[u8], length: u64) -> &'static str {
     }
 }
 
-// What a file is that is not of 64 bits.
+// The words for a file that is not 64-bit.
 fn other_class(bytes: &[u8]) -> &'static str {
     match bytes.get(EI_CLASS) {
         Some(&ELFCLASS32) => "it is a 32-bit file; only 64-bit shared objects for x86-64 are read",
@@ -80,7 +80,7 @@ fn other_class(bytes: &[u8]) -> &'static str {
     }
 }
 
-// What a file is whose numbers do not begin with the lowest byte.
+// The words for a file that is not little-endian.
 fn other_order(bytes: &[u8]) -> &'static str {
     match bytes.get(EI_DATA) {
         Some(&ELFDATA2MSB) => "it is a big-endian file; only shared objects for x86-64 are read",
@@ -88,8 +88,8 @@ fn other_order(bytes: &[u8]) -> &'static str {
     }
 }
 
-/// What is wrong with a file whose fault of this kind, at this place, stands in its header. The bytes may be none, where they
-/// cannot be read a second time.
+/// The words for a fault of this kind in the header of a file, at this position. The bytes may be empty, if they cannot be read a
+/// second time.
 pub(crate) fn file_sentence(kind: FaultKind, at: u64, bytes: &[u8]) -> &'static str {
     match kind {
         FaultKind::ShortFile => short_file(bytes, at),

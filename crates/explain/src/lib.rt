@@ -1,6 +1,6 @@
-//! Sentences for people, which go to standard error: what is wrong with an input, and what can be done about it. Each names its
-//! input by the path, and is one line; that of a fault has the number, the name and the place of the fault. What the program
-//! promises of its answer stands in its exit number and on standard output; nothing here changes either.
+//! Sentences for users, printed on standard error: what is wrong with an input, and what can be done about it. Each is one line and
+//! names its input by the path; a sentence about a fault has the number, the name and the position of the fault. The program's
+//! promised answer is its exit number and its standard output, and nothing here changes either.
 #![tactic(auto)]
 
 mod applications;

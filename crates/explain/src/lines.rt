@@ -1,4 +1,4 @@
-// Texts in one line.
+// Texts that fit in one line.
 ghost use Rattle.std.specs.Prelude.{◌≡◌, ◌++◌, IfOk, IsTrue, OnOk, string_bytes};
 ghost use Rattle.explain.specs.Lines as spec;
 ghost use Rattle.explain.specs.Lines.{in_line, is_one_line, shown_char};
@@ -14,7 +14,7 @@ fn is_escaped(c: char) -> bool
     code < 0x20 || 0x7f <= code && code < 0xa0 || code == 0x5c
 }
 
-// Appends a character as itself, or as `\x` and two hexadecimal digits.
+// Appends a character as itself, or escaped as `\x` and two hexadecimal digits.
 fn push_char(alloc: Global, text: &mut String, c: char) -> Result<(), AllocError>
     ensures { OnOk result (string_bytes text.new ≡ string_bytes text.old ++ shown_char c) }
 {
@@ -26,8 +26,8 @@ fn push_char(alloc: Global, text: &mut String, c: char) -> Result<(), AllocError
     text.push_str(digits.as_str())
 }
 
-/// Appends the characters of a text in one line: each control character and the backslash as `\x` and two hexadecimal digits, and
-/// each other one as itself.
+/// Appends the characters of a text in one line: each control character and the backslash escaped as `\x` and two hexadecimal
+/// digits, and each other character as itself.
 pub(crate) fn push_in_line(alloc: Global, text: &mut String, line: &str) -> Result<(), AllocError>
     ensures { OnOk result (string_bytes text.new ≡ string_bytes text.old ++ in_line line.now) }
 {
@@ -37,7 +37,7 @@ pub(crate) fn push_in_line(alloc: Global, text: &mut String, line: &str) -> Resu
     Ok(())
 }
 
-/// What is said of an input at a path, in one line.
+/// A sentence about an input at a path, in one line.
 pub(crate) fn said(alloc: Global, path: &str, words: &str) -> Result<String, AllocError>
     ensures text { IfOk result (λ text. string_bytes text ≡ said_of path.now words.now) }
     ensures line { IfOk result (λ text. IsTrue (is_one_line (string_bytes text))) }
@@ -46,7 +46,7 @@ pub(crate) fn said(alloc: Global, path: &str, words: &str) -> Result<String, All
     Ok(text)
 }
 
-// A path, a colon, and what is said.
+// A path, a colon, and the words.
 fn joined(alloc: Global, path: &str, words: &str) -> Result<String, AllocError>
     ensures { IfOk result (λ text. string_bytes text ≡ said_of path.now words.now) }
 {

@@ -14,7 +14,7 @@ use abi_base::{Fault, NoMemory, Remark, SizedExports};
 use commands::{File, Input, Outcome, Verdict};
 use std::alloc::Global;
 
-/// The name under which an input was read, if it was read under one.
+/// The name under which an input was read, or `None` if it was not read under a name.
 pub fn name_of<'a>(files: &[File<'a>], which: Input) -> Option<&'a str>
     ensures some { IfSome result (λ name. IsReadUnder (map plain_file files.now) which name.now) }
     ensures none { IfNone result (IsUnnamed (map plain_file files.now) which) }
@@ -27,7 +27,7 @@ pub fn name_of<'a>(files: &[File<'a>], which: Input) -> Option<&'a str>
     None
 }
 
-// The one note.
+// A list of one note.
 fn one(alloc: Global, note: String) -> Result<Vec<String>, NoMemory>
     ensures { IfOk result (λ notes. map string_bytes notes.items ≡ string_bytes note ∷ []) }
 {
@@ -36,7 +36,7 @@ fn one(alloc: Global, note: String) -> Result<Vec<String>, NoMemory>
     Ok(notes)
 }
 
-// The note on an input that has this fault and these bytes.
+// The note on an input with these bytes that has this fault.
 fn on_fault(
     alloc: Global,
     files: &[File<'_>],
@@ -69,7 +69,7 @@ fn on_failure(
     }
 }
 
-// Appends the note on a library some of whose exports have no type, where it has one.
+// Appends the note on a library, if some of its exports have no type.
 fn push_untyped(
     alloc: Global,
     notes: &mut Vec<String>,
@@ -86,7 +86,7 @@ fn push_untyped(
     }
 }
 
-// Appends the note on a new library that lost all types, where it did.
+// Appends the note on a new library, if it lost all types.
 fn push_lost(
     alloc: Global,
     notes: &mut Vec<String>,
@@ -104,7 +104,7 @@ fn push_lost(
     }
 }
 
-// Appends the note on a library none of whose exports has a size, where none has.
+// Appends the note on a library, if none of its exports has a size.
 fn push_sizeless(
     alloc: Global,
     notes: &mut Vec<String>,
@@ -121,7 +121,7 @@ fn push_sizeless(
     }
 }
 
-// The notes on the exports of libraries that were compared, where two were.
+// The notes on the exports of two libraries, if two were compared.
 fn on_remark(
     alloc: Global,
     files: &[File<'_>],
@@ -136,7 +136,7 @@ fn on_remark(
     }
 }
 
-// The notes on two libraries that were compared.
+// The notes on two compared libraries.
 fn on_both(alloc: Global, files: &[File<'_>], remark: Remark) -> Result<Vec<String>, NoMemory>
     ensures tells { IfOk result (λ notes. TellsCompared (Some remark) (map plain_file files.now) (map string_bytes notes.items)) }
     ensures lines { IfOk result (λ notes. All (λ note. IsTrue (is_one_line note)) (map string_bytes notes.items)) }
@@ -150,7 +150,7 @@ fn on_both(alloc: Global, files: &[File<'_>], remark: Remark) -> Result<Vec<Stri
     compared(alloc, old, new, remark)
 }
 
-// The notes on two libraries of these names.
+// The notes on two libraries with these names.
 fn compared(alloc: Global, old: &str, new: &str, remark: Remark) -> Result<Vec<String>, NoMemory>
     ensures notes { IfOk result (λ notes. map string_bytes notes.items ≡ compared_notes remark old.now new.now) }
     ensures lines { IfOk result (λ notes. All (λ note. IsTrue (is_one_line note)) (map string_bytes notes.items)) }
@@ -161,7 +161,7 @@ fn compared(alloc: Global, old: &str, new: &str, remark: Remark) -> Result<Vec<S
     Ok(notes)
 }
 
-// The notes on two libraries of these names, of which so many exports have no type.
+// The notes on exports without a type, for two libraries with these names.
 fn untyped(alloc: Global, old: &str, new: &str, remark: Remark) -> Result<Vec<String>, NoMemory>
     ensures notes { IfOk result (λ notes. map string_bytes notes.items ≡ both_untyped remark old.now new.now) }
     ensures lines { IfOk result (λ notes. All (λ note. IsTrue (is_one_line note)) (map string_bytes notes.items)) }
@@ -174,7 +174,7 @@ fn untyped(alloc: Global, old: &str, new: &str, remark: Remark) -> Result<Vec<St
     Ok(notes)
 }
 
-// The note on a certificate that is refused, or on two.
+// The note on a refused certificate, or on two.
 fn on_refusal(alloc: Global, files: &[File<'_>]) -> Result<Vec<String>, NoMemory>
     ensures tells { IfOk result (λ notes. TellsRefused (map plain_file files.now) (map string_bytes notes.items)) }
     ensures lines { IfOk result (λ notes. All (λ note. IsTrue (is_one_line note)) (map string_bytes notes.items)) }
@@ -231,7 +231,7 @@ fn on_verdict(
     }
 }
 
-/// The notes on how a run ended, beside its text: a line each. `bytes` are those of the input that has a fault, or none where they
+/// The notes on how a run ended, beside its text, one line each. `bytes` are those of the input that has a fault, or empty if they
 /// cannot be read a second time, and `reason` is why reading an input failed.
 pub fn notes_on(
     alloc: Global,

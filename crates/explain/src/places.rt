@@ -1,30 +1,30 @@
-// Where a fault stands.
+// The position of a fault.
 use abi_base::FaultKind;
 
-/// What the place of a fault counts.
+/// The unit of a fault's position.
 #[derive(Clone, Copy, Debug, PartialEq, Eq)]
 pub(crate) enum Place {
     /// The file as a whole.
     File,
-    /// Sections, by their numbers.
+    /// Sections, by their indexes.
     Section,
-    /// Dynamic symbols, by their numbers.
+    /// Dynamic symbols, by their indexes.
     Symbol,
     /// Entries of the dynamic table.
     DynamicEntry,
-    /// Definitions of versions.
+    /// Version definitions.
     Definition,
-    /// Needs of versions.
+    /// Version needs.
     Need,
     /// Bytes of `.debug_info`.
     Info,
     /// Bytes of `.debug_abbrev`.
     Abbreviations,
-    /// Lines, from 1 on.
+    /// Lines, counted from 1.
     Line,
 }
 
-/// What the place of a fault of this kind counts.
+/// The unit of the position of a fault of this kind.
 pub(crate) fn place_of(kind: FaultKind) -> Place {
     match kind {
         FaultKind::ShortFile

@@ -8,7 +8,7 @@ use crate::lines::said;
 use abi_base::NoMemory;
 use std::alloc::{AllocError, Global};
 
-// What is said of such a certificate.
+// The words about such a certificate.
 fn refused_words(alloc: Global, old: &str, new: &str) -> Result<String, AllocError>
     ensures { IfOk result (λ words. string_bytes words ≡ spec.refused_words old.now new.now) }
 {
@@ -16,7 +16,7 @@ fn refused_words(alloc: Global, old: &str, new: &str) -> Result<String, AllocErr
 }
 
 /// The sentence on a certificate at a path that does not prove that the library at the path `new` may replace the one at `old`. It
-/// is one line, whatever the characters of the paths are.
+/// is one line, whatever characters the paths have.
 pub fn refused_sentence(alloc: Global, path: &str, old: &str, new: &str) -> Result<String, NoMemory>
     ensures says { IfOk result (λ text. string_bytes text ≡ said_of path.now (spec.refused_words old.now new.now)) }
     ensures line { IfOk result (λ text. IsTrue (is_one_line (string_bytes text))) }
@@ -25,7 +25,7 @@ pub fn refused_sentence(alloc: Global, path: &str, old: &str, new: &str) -> Resu
     Ok(said(alloc, path, words.as_str())?)
 }
 
-// What is said of two certificates that do not compose.
+// The words about two certificates that do not compose.
 fn uncomposed_words(
     alloc: Global,
     second: &str,
@@ -38,7 +38,7 @@ fn uncomposed_words(
 }
 
 /// The sentence on a certificate at a path that does not compose with the one at `second`, so that they do not prove that the
-/// library at `last` may replace the one at `first`. It is one line, whatever the characters of the paths are.
+/// library at `last` may replace the one at `first`. It is one line, whatever characters the paths have.
 pub fn uncomposed_sentence(
     alloc: Global,
     path: &str,

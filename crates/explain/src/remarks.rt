@@ -8,7 +8,7 @@ use crate::lines::said;
 use abi_base::{NoMemory, Remark, SizedExports};
 use std::alloc::{AllocError, Global};
 
-// What is said of such exports.
+// The words about such exports.
 fn words_of(alloc: Global, exports: SizedExports) -> Result<String, AllocError>
     ensures { IfOk result (λ words. string_bytes words ≡ untyped_words exports) }
 {
@@ -25,8 +25,8 @@ fn words_of(alloc: Global, exports: SizedExports) -> Result<String, AllocError>
     }
 }
 
-/// The sentence on a library at a path, of whose exports some have no type in the debug information. There is none exactly where
-/// each export has its type. It is one line, whatever the characters of the path are.
+/// The sentence on a library at a path some of whose exports have no type in the debug information. It is `None` exactly if each
+/// export has its type. It is one line, whatever characters the path has.
 pub fn untyped_sentence(
     alloc: Global,
     path: &str,
@@ -43,14 +43,14 @@ pub fn untyped_sentence(
     Ok(Some(said(alloc, path, words.as_str())?))
 }
 
-// Whether a library has a type for an export of a size.
+// Whether a library has a type for an export with a size.
 fn has_types(exports: SizedExports) -> bool
     ensures { result ≡ spec.has_types exports }
 {
     exports.untyped < exports.all
 }
 
-// Whether a library has exports of a size, and types for none of them.
+// Whether a library has exports with a size, but types for none of them.
 fn lacks_types(exports: SizedExports) -> bool
     ensures { result ≡ spec.lacks_types exports }
 {
@@ -64,7 +64,7 @@ fn loses_types(remark: Remark) -> bool
     has_types(remark.old) && lacks_types(remark.new)
 }
 
-// What is said of a library without types, where the old one has some.
+// The words about a library without types, if the old one has some.
 fn lost_words(alloc: Global, old: &str) -> Result<String, AllocError>
     ensures { IfOk result (λ words. string_bytes words ≡ spec.lost_words old.now) }
 {
@@ -73,9 +73,9 @@ fn lost_words(alloc: Global, old: &str) -> Result<String, AllocError>
     )
 }
 
-/// The sentence on a new library at a path that has no types for its exports, where the old one, at the path `old`, has some. There
-/// is one exactly where the old library has a type for an export of a size, and the new one has such exports and a type for none.
-/// It is one line, whatever the characters of the paths are.
+/// The sentence on a new library at a path that has no types for its exports, although the old one, at the path `old`, has some. It
+/// is `Some` exactly if the old library has a type for an export with a size, and the new one has exports with a size but a type
+/// for none of them. It is one line, whatever characters the paths have.
 pub fn lost_sentence(
     alloc: Global,
     path: &str,
@@ -93,12 +93,12 @@ pub fn lost_sentence(
     Ok(Some(said(alloc, path, words.as_str())?))
 }
 
-// What is said of a library none of whose exports has a size.
+// The words about a library none of whose exports has a size.
 const SIZELESS_WORDS: &str =
     "none of its exports has a size: names, versions and kinds were compared, and types only where an export without a size has one";
 
-/// The sentence on a library at a path, none of whose exports has a size. There is one exactly where none has. It is one line,
-/// whatever the characters of the path are.
+/// The sentence on a library at a path none of whose exports has a size. It is `Some` exactly if none has. It is one line, whatever
+/// characters the path has.
 pub fn sizeless_sentence(
     alloc: Global,
     path: &str,

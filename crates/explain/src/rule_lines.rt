@@ -1,4 +1,4 @@
-// Lines of a rule file behind whose value a comment seems to stand.
+// Lines of a rule file whose value seems to be followed by a comment.
 ghost use Rattle.std.specs.Prelude.{◌≡◌, ◌≤◌, IfOk, IsTrue, drop, length, map, string_bytes};
 ghost use Rattle.explain.specs.Lines.{is_one_line};
 ghost use Rattle.explain.specs.RuleLines as spec;
@@ -24,21 +24,21 @@ fn is_mark(byte: u8) -> bool
     byte == b'#' || byte == b';'
 }
 
-// Whether a comment seems to begin with the second of two bytes.
+// Whether the second of two bytes seems to begin a comment.
 fn begins_comment(before: u8, byte: u8) -> bool
     ensures { result ≡ spec.begins_comment before byte }
 {
     is_blank(before) && is_mark(byte)
 }
 
-// Whether a line goes on as a property where it begins with this byte.
+// Whether a line that begins with this byte may be a property.
 fn is_plain(byte: u8) -> bool
     ensures { result ≡ spec.is_plain byte }
 {
     !(is_mark(byte) || byte == b'[')
 }
 
-// Whether behind this byte and these a blank stands before a mark.
+// Whether a blank is immediately followed by a mark, `#` or `;`, among this byte and those after it.
 fn is_marked(first: u8, bytes: &[u8]) -> bool
     ensures { result ≡ has_mark_behind first bytes.now }
 {
@@ -53,7 +53,7 @@ fn is_marked(first: u8, bytes: &[u8]) -> bool
     false
 }
 
-// The bytes from a place on.
+// The bytes from a position on.
 fn from(line: &[u8], at: usize) -> &[u8]
     requires { at ≤ length line.now }
     ensures { result.now ≡ drop at line.now }
@@ -61,7 +61,7 @@ fn from(line: &[u8], at: usize) -> &[u8]
     &line[at..]
 }
 
-// Whether behind the first `=` a blank stands before a mark.
+// Whether a blank is immediately followed by a mark, after the first `=`.
 fn has_marked_value(line: &[u8]) -> bool
     ensures { result ≡ has_mark_in_value line.now }
 {
@@ -74,7 +74,7 @@ fn has_marked_value(line: &[u8]) -> bool
     false
 }
 
-// Whether a line begins, behind blanks, neither as a comment nor as the head of a section.
+// Whether a line, apart from leading blanks, begins neither as a comment nor as the head of a section.
 fn is_property(line: &[u8]) -> bool
     ensures { result ≡ begins_property line.now }
 {
@@ -87,14 +87,15 @@ fn is_property(line: &[u8]) -> bool
     false
 }
 
-// Whether a line is a property whose value has ` #` or ` ;` in it.
+// Whether a line is a property whose value contains ` #` or ` ;`.
 fn has_comment_in_value(line: &str) -> bool
     ensures { result ≡ spec.has_comment_in_value line.now }
 {
     is_property(line.as_bytes()) && has_marked_value(line.as_bytes())
 }
 
-/// The lines of a rule file that are a property whose value has ` #` or ` ;` in it. This is no comment, but a part of the value.
+/// The lines of a rule file that are a property whose value contains ` #` or ` ;`. It does not begin a comment there, but is part
+/// of the value.
 pub fn commented_values<'a>(alloc: Global, text: &'a str) -> Result<Vec<&'a str>, NoMemory>
     ensures { IfOk result (λ found. map (λ line. line.now) found.items ≡ commented_lines text.entry.now) }
 {
@@ -107,7 +108,7 @@ pub fn commented_values<'a>(alloc: Global, text: &'a str) -> Result<Vec<&'a str>
     Ok(found)
 }
 
-// What is said of such a line.
+// The words about such a line.
 fn comment_words(alloc: Global, line: &str) -> Result<String, AllocError>
     ensures { IfOk result (λ words. string_bytes words ≡ sentences.comment_words line.now) }
 {
@@ -116,7 +117,7 @@ fn comment_words(alloc: Global, line: &str) -> Result<String, AllocError>
     )
 }
 
-/// The sentence on such a line of the rule file at a path. It is one line, whatever the characters of the path and of the line are.
+/// The sentence on such a line of the rule file at a path. It is one line, whatever characters the path and the line have.
 pub fn comment_sentence(alloc: Global, path: &str, line: &str) -> Result<String, NoMemory>
     ensures says { IfOk result (λ text. string_bytes text ≡ said_of path.now (sentences.comment_words line.now)) }
     ensures line { IfOk result (λ text. IsTrue (is_one_line (string_bytes text))) }

@@ -2,13 +2,13 @@
 use crate::constants::{E_SHOFF, E_SHSTRNDX, HEADER_SIZE, SH_LINK, SH_OFFSET, SHN_XINDEX};
 use abi_base::{text_at, u16_at, u32_at, u64_at};
 
-// Where the header of a section stands.
+// The offset of a section's header.
 fn header_at(bytes: &[u8], index: usize) -> Option<usize> {
     let table = usize::try_from(u64_at(bytes, E_SHOFF)?).ok()?;
     table.checked_add(index.checked_mul(HEADER_SIZE)?)
 }
 
-// The number of the section of names.
+// The index of the section of names.
 fn names_index(bytes: &[u8]) -> Option<usize> {
     match u16_at(bytes, E_SHSTRNDX)? {
         SHN_XINDEX => {
@@ -19,7 +19,7 @@ fn names_index(bytes: &[u8]) -> Option<usize> {
     }
 }
 
-/// The name of the section of a number: none where the table or the name lies outside of the file.
+/// The name of the section with an index, or `None` if the table or the name lies outside the file.
 pub(crate) fn section_name(bytes: &[u8], index: u64) -> Option<&[u8]> {
     let names = header_at(bytes, names_index(bytes)?)?.checked_add(SH_OFFSET)?;
     let start = usize::try_from(u64_at(bytes, names)?).ok()?;

@@ -18,7 +18,7 @@ fn is_visible(byte: &u8) -> bool {
     b'!' <= *byte && *byte <= b'~'
 }
 
-// Appends the name of a section in brackets, where all of it can be seen: a name does not break the line.
+// Appends the name of a section in brackets, if all its characters are visible, so that a name cannot break the line.
 fn push_name(text: &mut String, bytes: &[u8], index: u64) -> Result<(), AllocError> {
     let Some(name) = section_name(bytes, index) else {
         return Ok(());
@@ -32,7 +32,7 @@ fn push_name(text: &mut String, bytes: &[u8], index: u64) -> Result<(), AllocErr
     }
 }
 
-// Appends what is wrong with a dynamic symbol, or with their table.
+// Appends the words for a fault of a dynamic symbol, or of the whole table.
 fn push_symbol(text: &mut String, kind: FaultKind, at: u64) -> Result<(), AllocError> {
     match (at, whole_table_sentence(kind)) {
         (0, Some(sentence)) => text.push_str(sentence),
@@ -40,7 +40,7 @@ fn push_symbol(text: &mut String, kind: FaultKind, at: u64) -> Result<(), AllocE
     }
 }
 
-// Appends what is wrong with an entry of the dynamic table, or with the table.
+// Appends the words for a fault of an entry of the dynamic table, or of the whole table.
 fn push_dynamic(text: &mut String, kind: FaultKind, at: u64) -> Result<(), AllocError> {
     match (at, whole_table_sentence(kind)) {
         (0, Some(sentence)) => text.push_str(sentence),
@@ -52,8 +52,8 @@ fn push_dynamic(text: &mut String, kind: FaultKind, at: u64) -> Result<(), Alloc
     }
 }
 
-// Appends what is wrong with an input of these bytes that has this fault, with its place. The bytes may be none, where they cannot
-// be read a second time: the words are then less exact.
+// Appends the words for a fault of an input with these bytes, and its position. The bytes may be empty, if they cannot be read a
+// second time; the words are then less exact.
 fn push_why(text: &mut String, fault: Fault, bytes: &[u8]) -> Result<(), AllocError> {
     let kind = fault.kind;
     let at = fault.at;
@@ -81,9 +81,9 @@ fn push_why(text: &mut String, fault: Fault, bytes: &[u8]) -> Result<(), AllocEr
     }
 }
 
-/// The sentence of an input at a path, of these bytes, that has this fault: what is wrong in words, and then the number, the name
-/// and the place of the fault. It is one line, whatever the characters of the path are. The bytes may be none, where they cannot be
-/// read a second time: the words are then less exact.
+/// The sentence about an input at a path, with these bytes, that has this fault: the fault in words, and then its number, its name
+/// and its position. It is one line, whatever characters the path has. The bytes may be empty, if they cannot be read a second
+/// time; the words are then less exact.
 pub fn fault_sentence(
     alloc: Global,
     path: &str,
@@ -100,7 +100,7 @@ pub fn fault_sentence(
     Ok(text)
 }
 
-// Appends the number, the name and the place of a fault.
+// Appends the number, the name and the position of a fault.
 fn push_mark(text: &mut String, fault: Fault) -> Result<(), AllocError>
     ensures { OnOk result (string_bytes text.new ≡ string_bytes text.old ++ fault_mark fault) }
 {

@@ -7,7 +7,7 @@ use crate::lines::said;
 use abi_base::NoMemory;
 use std::alloc::{AllocError, Global};
 
-/// Appends the names that are text, with a mark before the first one and commas between.
+/// Appends those names that are UTF-8, with the text `first` in front of the first one and commas between them.
 pub(crate) fn push_names(
     text: &mut String,
     first: &str,
@@ -24,7 +24,7 @@ pub(crate) fn push_names(
     Ok(())
 }
 
-// What is wrong with a tag, and which tags are near it.
+// The words for an unknown tag, and the tags that are similar.
 fn words_of(
     alloc: Global,
     tag: &str,
@@ -40,8 +40,8 @@ fn words_of(
     Ok(words)
 }
 
-/// The sentence on a library at a path, whose exports reach no structure that is defined and has this tag: whether one is declared,
-/// and the tags near it. It is one line, whatever the characters of the path and of the tags are.
+/// The sentence on a library at a path whose exports reach no defined structure with this tag: whether one is declared, and the
+/// similar tags. It is one line, whatever characters the path and the tags have.
 pub fn tag_sentence(
     alloc: Global,
     path: &str,

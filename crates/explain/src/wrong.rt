@@ -1,4 +1,4 @@
-// Words that ask for nothing.
+// Arguments that form no request.
 ghost use Rattle.std.specs.Prelude.{IfOk, IsTrue, string_bytes};
 ghost use Rattle.cli_args.specs.WrongWords.{plain_wrong};
 ghost use Rattle.explain.specs.Lines.{is_one_line};
@@ -10,7 +10,7 @@ use cli_args::{OptionName, WrongWords};
 use std::alloc::{AllocError, Global};
 use strsim::generic_levenshtein;
 
-// The commands, with the words that each one takes.
+// The commands, with the arguments that each one takes.
 const COMMANDS: [(&str, &str); 9] = [
     ("check", "OLD NEW"),
     ("app", "APP OLD NEW"),
@@ -23,13 +23,13 @@ const COMMANDS: [(&str, &str); 9] = [
     ("trial", "N"),
 ];
 
-// From so many edits on, a word is not near a command.
+// A word that is this many edits away from a command is not similar to it.
 const FAR: usize = 3;
 
-// A word that is longer is near no command.
+// A longer word is not similar to any command.
 const LONGEST: usize = 16;
 
-// What is wrong with a word that is no style, no number of a trial or no option.
+// The words for an unknown style, a number that no trial may have, and an unknown option.
 const UNKNOWN_STYLE: &str =
     "it is no style of reports; the styles are text, table, counts, first and own";
 
@@ -37,7 +37,7 @@ const WRONG_NUMBER: &str = "it is no number from 1 to 50000 in decimal";
 
 const UNKNOWN_OPTION: &str = "it is no option; the options are --rules FILE and --report STYLE";
 
-// The command that is nearest to a word, where one is near.
+// The command that is most similar to a word, if one is similar.
 fn near_command(alloc: Global, word: &str) -> Result<Option<&'static str>, AllocError> {
     let mut found = None;
     let mut least = FAR;
@@ -54,7 +54,7 @@ fn near_command(alloc: Global, word: &str) -> Result<Option<&'static str>, Alloc
     Ok(found)
 }
 
-// The words that a command takes.
+// The arguments that a command takes.
 fn words_behind(command: &str) -> &'static str {
     for (name, words) in COMMANDS {
         if name == command {
@@ -64,7 +64,7 @@ fn words_behind(command: &str) -> &'static str {
     "other words"
 }
 
-// What is wrong with a command that takes no such option.
+// The words for an option that a command does not take.
 fn needless_option(option: OptionName) -> &'static str {
     match option {
         OptionName::Rules => "it takes no --rules FILE",
@@ -72,7 +72,7 @@ fn needless_option(option: OptionName) -> &'static str {
     }
 }
 
-// What is wrong with a word that is no command.
+// The words for an unknown command.
 fn unknown_command(alloc: Global, word: &str) -> Result<String, AllocError> {
     match near_command(alloc, word)? {
         Some(near) => format!(in alloc; "it is no command; did you mean {near}?"),
@@ -83,7 +83,7 @@ fn unknown_command(alloc: Global, word: &str) -> Result<String, AllocError> {
     }
 }
 
-// What is wrong with a command that is given so many words.
+// The words for a command with a wrong number of arguments.
 fn wrong_count(alloc: Global, command: &str, given: usize) -> Result<String, AllocError> {
     let wanted = words_behind(command);
     if given == 1 {
@@ -93,7 +93,7 @@ fn wrong_count(alloc: Global, command: &str, given: usize) -> Result<String, All
     }
 }
 
-// The sentence that says this of a word.
+// A sentence with these words about an argument.
 fn said_of_word(alloc: Global, word: &str, words: &str) -> Result<String, NoMemory>
     ensures says { IfOk result (λ text. SaysOf word.now (string_bytes text)) }
     ensures line { IfOk result (λ text. IsTrue (is_one_line (string_bytes text))) }
@@ -101,7 +101,7 @@ fn said_of_word(alloc: Global, word: &str, words: &str) -> Result<String, NoMemo
     Ok(said(alloc, word, words)?)
 }
 
-// The sentence on a word that is no command.
+// The sentence on an unknown command.
 fn command_sentence(alloc: Global, word: &str) -> Result<String, NoMemory>
     ensures says { IfOk result (λ text. SaysOf word.now (string_bytes text)) }
     ensures line { IfOk result (λ text. IsTrue (is_one_line (string_bytes text))) }
@@ -110,7 +110,7 @@ fn command_sentence(alloc: Global, word: &str) -> Result<String, NoMemory>
     said_of_word(alloc, word, words.as_str())
 }
 
-// The sentence on a command that is given so many words.
+// The sentence on a command with a wrong number of arguments.
 fn count_sentence(alloc: Global, command: &str, given: usize) -> Result<String, NoMemory>
     ensures says { IfOk result (λ text. SaysOf command.now (string_bytes text)) }
     ensures line { IfOk result (λ text. IsTrue (is_one_line (string_bytes text))) }
@@ -119,8 +119,8 @@ fn count_sentence(alloc: Global, command: &str, given: usize) -> Result<String, 
     said_of_word(alloc, command, words.as_str())
 }
 
-/// The sentence on words that ask for nothing: what is wrong with the word that is, where one is. It is one line, whatever the
-/// characters of the word are.
+/// The sentence on arguments that form no request: what is wrong with the argument at fault, if there is one. It is one line,
+/// whatever characters the argument has.
 pub fn wrong_sentence(alloc: Global, wrong: WrongWords<'_>) -> Result<String, NoMemory>
     ensures says { IfOk result (λ text. SaysWrong (plain_wrong wrong.entry) (string_bytes text)) }
     ensures line { IfOk result (λ text. IsTrue (is_one_line (string_bytes text))) }

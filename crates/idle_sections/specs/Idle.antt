@@ -13,7 +13,7 @@ use Rattle.suppressions.specs.Subjects.{export_subject, label_subject}
 abbrev pub holds_of_export : PlainSection → Option (List ℕ) → PlainExport → Bool
 holds_of_export section soname e = section_holds (export_subject soname e) section
 
--- it matches a name of a type, where a program reaches the type by value or through a pointer
+-- it matches a name of a type, for a program that reaches the type by value or through a pointer
 abbrev pub holds_of_label : PlainSection → Option (List ℕ) → PlainLabel → Bool
 holds_of_label section soname l = section_holds (label_subject soname Direct l) section || section_holds (label_subject soname Pointer l) section
 

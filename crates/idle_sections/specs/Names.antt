@@ -24,10 +24,10 @@ Seen = HashSet (ℕ × Bor (List ℕ)) (BuildHasherDefault FoldHasher)
 abbrev pub is_seen : Seen → PlainLabel → Bool
 is_seen seen l = contains_by (λ k. kind_number l.kind == k.0 && bytes_eq l.name k.1.now) seen
 
--- a test that passes a name of the set passes one of these names
+-- for each name in the set, a test that passes the name passes one of these names
 abbrev pub AreSeen : Seen → List PlainLabel → Type 0
 AreSeen seen names = (l : PlainLabel) → is_seen seen l ≡ true → (test : PlainLabel → Bool) → test l ≡ true → list_any test names ≡ true
 
--- a test passes one of these names exactly where it passes one of those
+-- a test passes one of the first names exactly if it passes one of the second ones
 abbrev pub AreAlike : List PlainLabel → List PlainLabel → Type 0
 AreAlike names labels = (test : PlainLabel → Bool) → list_any test names ≡ list_any test labels

@@ -17,16 +17,15 @@ use suppressions::compiled::CompiledSection;
 use suppressions::ready_section::ReadySection;
 use suppressions::subject::Subject;
 
-// A constant beside the numbers of sections, exports and names. Each of these allows 64 tests, so the constant allows some 268
-// million.
+// A constant added to the numbers of sections and tests. Each unit allows 64 tests, so the constant allows some 268 million.
 const MORE: usize = 1 << 22;
 
-// How many tests all sections may take.
+// The effort for the tests of all sections.
 fn effort_for(sections: &[Section], tests: usize) -> Effort {
     Effort::for_bytes(MORE.saturating_add(sections.len()).saturating_add(tests))
 }
 
-// The most tests of one section: one for each export, and two for each name.
+// The most tests that one section takes: one for each export, and two for each name.
 fn tests_of(old: &Library<OldIx>, names: &[Label]) -> usize {
     let exports = old.exports().len();
     exports.saturating_add(names.len().saturating_mul(2))
@@ -67,7 +66,7 @@ fn holds_of_names(ready: &mut ReadySection, soname: Option<&[u8]>, names: &[Labe
     false
 }
 
-// Whether a section matches nothing in a library. The types of the library have these names.
+// Whether a section matches nothing in a library whose types have these names.
 #[tactic(auto, unfolding(crate::specs::Idle::holds_in))]
 fn is_idle(
     alloc: Global,
@@ -87,8 +86,8 @@ fn is_idle(
     Ok(!holds_of_names(&mut ready, soname, names))
 }
 
-/// The sections of a rule file that match nothing in a library, in the order of the file. They match no export, and no name of a
-/// type, by value or through a pointer. It fails where memory runs out, and where the sections would take too many tests.
+/// The sections of a rule file that match nothing in a library, in the order of the file: no export, and no name of a type, by
+/// value or through a pointer. Returns `NoMemory` if memory runs out, or if the sections would take too many tests.
 #[tactic(auto, unfolding(crate::specs::Idle::idle_of))]
 pub fn idle_sections<'r>(
     alloc: Global,

@@ -1,4 +1,4 @@
-//! The idle sections of a rule file: they match nothing in the old library, and a packager may strike them out.
+//! The idle sections of a rule file: those that match nothing in the old library, so that a packager may delete them.
 #![tactic(auto)]
 
 mod idle;

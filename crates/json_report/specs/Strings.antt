@@ -6,7 +6,7 @@ use Rattle.std.specs.List.{concat}
 abbrev pub digit : ℕ → ℕ
 digit n = if nat_lt n 10 then 48 + n else 87 + n
 
--- A byte in a string: a quotation mark and a backslash stand behind a backslash, a control character is written as `\u00` and two
+-- A byte in a string: a quotation mark or a backslash comes after a backslash, a control character is written as `\u00` and two
 -- hexadecimal digits, and each other byte stands for itself.
 unfoldable pub escaped : ℕ → List ℕ
 escaped b =
@@ -17,6 +17,6 @@ escaped b =
 abbrev pub quote : List ℕ
 quote = 34 ∷ []
 
--- a string between quotation marks
+-- a string in quotation marks
 unfoldable pub string_text : List ℕ → List ℕ
 string_text bytes = concat (quote ∷ flat_map escaped bytes ∷ quote ∷ [])

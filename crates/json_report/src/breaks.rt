@@ -11,10 +11,10 @@ use abi_base::NoMemory;
 use report::Row;
 use std::alloc::Global;
 
-// How many bytes stand between two steps of a path.
+// The separator between two steps of a path.
 const BETWEEN: &[u8] = b" / ";
 
-// Appends the offset of an entry, or that there is none.
+// Appends the offset of an entry, or null if there is none.
 #[tactic(auto, unfolding(crate::specs::Breaks::entry_text))]
 fn push_entry(alloc: Global, text: &mut Vec<u8>, offset: u64) -> Result<(), NoMemory>
     ensures { OnOk result (text.new.items ≡ text.old.items ++ entry_text offset) }
@@ -33,8 +33,8 @@ fn goes_on(bytes: &[u8]) -> bool
     bytes.len() >= 3 && &bytes[..3] == BETWEEN
 }
 
-// Appends what a byte of a path adds to its steps, and answers how many bytes behind it are to be passed over. So many were to be
-// passed over at this one.
+// Appends the contribution of one byte of a path, where `passed` more bytes are to be skipped, this one first. Returns how many
+// bytes after it are to be skipped.
 #[tactic(auto, using(crate::proofs::StepLemmas::step_passed, crate::proofs::StepLemmas::step_ends, crate::proofs::StepLemmas::step_goes_on))]
 fn push_byte_of_step(
     text: &mut Vec<u8>,
@@ -81,7 +81,7 @@ fn push_path(text: &mut Vec<u8>, path: &[u8]) -> Result<(), NoMemory>
     push(text, b"\"]")
 }
 
-// Appends what is broken.
+// Appends the broken rule.
 #[tactic(auto, unfolding(crate::specs::Breaks::rule_text))]
 fn push_rule(text: &mut Vec<u8>, row: &Row) -> Result<(), NoMemory>
     ensures { OnOk result (text.new.items ≡ text.old.items ++ rule_text row.now) }
@@ -106,7 +106,7 @@ fn push_place(text: &mut Vec<u8>, row: &Row) -> Result<(), NoMemory>
     push_string(text, row.path.as_slice())
 }
 
-// Appends what was there and what is there now, as one text.
+// Appends the old and the new state, as one text.
 #[tactic(auto, unfolding(crate::specs::Breaks::detail_text))]
 fn push_detail(text: &mut Vec<u8>, row: &Row) -> Result<(), NoMemory>
     ensures { OnOk result (text.new.items ≡ text.old.items ++ detail_text row.now) }
@@ -115,7 +115,7 @@ fn push_detail(text: &mut Vec<u8>, row: &Row) -> Result<(), NoMemory>
     push_string(text, row.detail.as_slice())
 }
 
-// Appends a member that is an entry.
+// Appends a member that holds the offset of an entry.
 #[tactic(auto, unfolding(crate::specs::Breaks::entry_member))]
 fn push_entry_member(
     alloc: Global,

@@ -1,4 +1,4 @@
-// Objects with one more member.
+// JSON objects with one more member.
 ghost use Rattle.std.specs.Prelude.{◌≡◌, IfOk};
 ghost use Rattle.json_report.specs.Breaks as spec;
 
@@ -6,8 +6,8 @@ use crate::strings::push;
 use abi_base::NoMemory;
 use std::alloc::Global;
 
-/// An object with one member more, behind the others. `opened` is the text of an object that has members, without its last brace;
-/// `value` is the text of the member's value, which stands in the object byte by byte.
+/// An object with one more member at its end. `opened` is the text of an object that has members, without its closing brace;
+/// `value` is the text of the member's value, which is copied byte by byte.
 #[tactic(auto, unfolding(crate::specs::Breaks::with_member))]
 pub fn with_member(
     alloc: Global,

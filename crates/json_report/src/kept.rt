@@ -1,10 +1,10 @@
-// A sink that keeps what it takes.
+// A sink in memory.
 ghost use Rattle.std.specs.Prelude.{◌≡◌, [], Some};
 
 use abi_base::{Failed, Sink};
 use std::alloc::Global;
 
-/// A sink in memory, which has room as long as memory lasts.
+/// A sink that keeps all bytes in memory. It fails only if memory runs out.
 #[derive(Drop)]
 pub struct TextSink {
     bytes: Vec<u8>,
@@ -12,7 +12,7 @@ pub struct TextSink {
 }
 
 impl TextSink {
-    /// A sink that holds nothing.
+    /// An empty sink.
     pub fn new(alloc: Global) -> TextSink
         ensures { ⟦<TextSink as Sink>⟧.held result ≡ Some [] }
     {
@@ -22,7 +22,7 @@ impl TextSink {
         }
     }
 
-    /// The bytes that it holds: all that it took, in order.
+    /// All bytes that it took, in order.
     pub fn held(&self) -> &[u8]
         ensures { ⟦<TextSink as Sink>⟧.held self.now ≡ Some result.now }
     {

@@ -1,4 +1,5 @@
-//! The breaks of a report as JSON (RFC 8259, "The JavaScript Object Notation Data Interchange Format"), and documents that have them.
+//! The breaks of a report as JSON (RFC 8259, "The JavaScript Object Notation Data Interchange Format"), and documents that contain
+//! them.
 #![tactic(auto)]
 
 mod breaks;

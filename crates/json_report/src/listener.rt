@@ -7,7 +7,7 @@ use abi_base::{List, NoMemory};
 use report::{Listener, More, Row, Style};
 use std::alloc::Global;
 
-/// Closes with an array of JSON: an object for each row that it heard, in their order. Its style is `Own`.
+/// A listener that closes with a JSON array: an object for each row that it heard, in order. Its style is `Own`.
 #[derive(Drop)]
 pub struct JsonListener {
     alloc: Global,

@@ -4,7 +4,7 @@ ghost use Rattle.json_report.specs.Names as spec;
 
 use abi_types::Rule;
 
-/// What a break of a rule is, in plain words.
+/// The plain name of a rule's break.
 pub fn rule_name(rule: Rule) -> &'static str
     ensures { result.now ≡ spec.rule_name rule }
 {

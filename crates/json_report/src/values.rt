@@ -1,4 +1,4 @@
-// What breaks have as values.
+// The values of breaks.
 ghost use Rattle.std.specs.Prelude.{◌≡◌, ◌++◌, OnOk};
 ghost use Rattle.json_report.specs.Breaks.{number_text, part_text, unit_text, value_text, values_text, word_text};
 
@@ -7,7 +7,7 @@ use abi_base::NoMemory;
 use report::{Row, Value};
 use std::alloc::Global;
 
-// Appends the part that a rule speaks of, or that there is none.
+// Appends the part of which a rule speaks, or null if there is none.
 #[tactic(auto, unfolding(crate::specs::Breaks::part_text))]
 fn push_part(text: &mut Vec<u8>, part: &[u8]) -> Result<(), NoMemory>
     ensures { OnOk result (text.new.items ≡ text.old.items ++ part_text part.now) }
@@ -18,7 +18,7 @@ fn push_part(text: &mut Vec<u8>, part: &[u8]) -> Result<(), NoMemory>
     push_string(text, part)
 }
 
-// Appends the unit of a value behind it.
+// Appends the unit after a value.
 #[tactic(auto, unfolding(crate::specs::Breaks::unit_text))]
 fn push_unit(text: &mut Vec<u8>, unit: &str) -> Result<(), NoMemory>
     ensures { OnOk result (text.new.items ≡ text.old.items ++ unit_text unit.now) }
@@ -49,7 +49,7 @@ fn push_word(text: &mut Vec<u8>, word: &[u8]) -> Result<(), NoMemory>
     push_unit(text, "word")
 }
 
-// Appends a value with its unit, or that there is none.
+// Appends a value with its unit, or null if there is none.
 fn push_value(alloc: Global, text: &mut Vec<u8>, value: &Value) -> Result<(), NoMemory>
     ensures { OnOk result (text.new.items ≡ text.old.items ++ value_text value.now) }
 {
@@ -63,7 +63,7 @@ fn push_value(alloc: Global, text: &mut Vec<u8>, value: &Value) -> Result<(), No
     }
 }
 
-/// Appends the part that the rule speaks of, and what was there and what is there now as values.
+/// Appends the part of which the rule speaks, and the old and the new value.
 #[tactic(auto, unfolding(crate::specs::Breaks::values_text))]
 pub(crate) fn push_values(alloc: Global, text: &mut Vec<u8>, row: &Row) -> Result<(), NoMemory>
     ensures { OnOk result (text.new.items ≡ text.old.items ++ values_text row.now) }

@@ -1,4 +1,4 @@
--- The arrows between visits: a step leads from what one visits to what the other does.
+-- The arrows between visits: a step leads from the triple of one visit to that of the other.
 use Rattle.std.specs.Prelude.{ℕ, if◌then◌else◌, List, [], ◌∷◌, length, flat_map, Option, Some, None, slice_get}
 use Rattle.std.specs.List.{range_with_len}
 use Rattle.abi_types.specs.Graphs.{view_at}
@@ -8,21 +8,21 @@ use Rattle.pair_explorer.specs.Scopes.{Scope, rep_step}
 use Rattle.pair_explorer.specs.Visits.{seen}
 use Rattle.leading_exports.specs.Numbers.{number_in}
 
--- the arrow from a number to another one
+-- the arrow from one number to another, if there is one
 abbrev pub arrow_found : ℕ → Option ℕ → List (ℕ × ℕ)
 arrow_found n None = []
 arrow_found n (Some m) = (n, m) ∷ []
 
--- the arrow from a number to that of a triple
+-- the arrow from a number to the number of a triple
 abbrev pub arrow_to : List (Triple × ℕ) → ℕ → Option Triple → List (ℕ × ℕ)
 arrow_to entries n None = []
 arrow_to entries n (Some x) = arrow_found n (number_in entries x)
 
--- those along the first parts of the old type of a triple with a number
+-- the arrows along the first parts of the old type of the triple with number n
 unfoldable pub arrows_along : Scope → List (Triple × ℕ) → ℕ → Triple → ℕ → List (ℕ × ℕ)
 arrows_along s entries n x count = flat_map (λ i. arrow_to entries n (rep_step s x i)) (range_with_len 0 count)
 
--- those from the visit of a number; none where its old node is marked at its way
+-- the arrows from visit number n; none where its old node is marked at its way
 abbrev pub arrows_by : Scope → List (Triple × ℕ) → ℕ → Option Visit → List (ℕ × ℕ)
 arrows_by s entries n None = []
 arrows_by s entries n (Some v) = if is_marked s.task v.old v.way then [] else arrows_along s entries n (seen v) (length (view_at s.task.old v.old).parts)
@@ -30,7 +30,7 @@ arrows_by s entries n (Some v) = if is_marked s.task v.old v.way then [] else ar
 unfoldable pub arrows_from : Scope → List Visit → List (Triple × ℕ) → ℕ → List (ℕ × ℕ)
 arrows_from s visits entries n = arrows_by s entries n (slice_get visits n)
 
--- those from the first visits
+-- the arrows from the first visits
 unfoldable pub arrows_upto : Scope → List Visit → List (Triple × ℕ) → ℕ → List (ℕ × ℕ)
 arrows_upto s visits entries count = flat_map (arrows_from s visits entries) (range_with_len 0 count)
 

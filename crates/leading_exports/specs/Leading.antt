@@ -12,7 +12,7 @@ abbrev pub start_of : Path → ℕ
 start_of (From export) = export
 start_of (Then path part) = start_of path
 
--- A path from the export leads to the two types over representatives, by a way at which the old one is unmarked.
+-- A path over representatives leads from the export to the two types, by a way at which the old one is unmarked.
 pub record LeadsToPair (s : Scope) (a b export : ℕ) : Type 0 where
   pub path : Path
   pub way : Way
@@ -20,7 +20,7 @@ pub record LeadsToPair (s : Scope) (a b export : ℕ) : Type 0 where
   pub leads : LeadsByRep s path (record { old = a; new = b; way = way })
   pub unmarked : is_marked s.task a way ≡ false
 
--- These are all exports that lead to the two types, in ascending order.
+-- These are exactly the exports that lead to the two types, in ascending order.
 pub record AreLeading (s : Scope) (a b : ℕ) (exports : List ℕ) : Type 0 where
   pub ascend : (i j k l : ℕ) → i < j → slice_get exports i ≡ Some k → slice_get exports j ≡ Some l → k < l
   pub exact : (export : ℕ) → Contains exports export ↔ LeadsToPair s a b export
@@ -31,11 +31,11 @@ pub record AreLeading (s : Scope) (a b : ℕ) (exports : List ℕ) : Type 0 wher
 abbrev pub is_of_pair : Scope → ℕ → ℕ → Visit → Bool
 is_of_pair s a b v = v.old == a && v.new == b && not (is_marked s.task v.old v.way)
 
--- the number that is found is marked
+-- the number, if there is one, is marked
 abbrev pub is_marked_at : List Bool → Option ℕ → Bool
 is_marked_at marks None = false
 is_marked_at marks (Some n) = slice_index_or marks n false
 
--- the number of what a root leads to is marked
+-- the number of the triple to which a root leads is marked
 unfoldable pub is_lead : Scope → List (Triple × ℕ) → List Bool → PlainRoot → Bool
 is_lead s entries marks root = is_marked_at marks (number_in entries (rep s (root_triple root)))

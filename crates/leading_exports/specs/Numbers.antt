@@ -1,4 +1,4 @@
--- The numbers of visits, by what they visit.
+-- The number of a visit, by its triple.
 use Rattle.std.specs.Prelude.{◌≡◌, ◌<◌, ℕ, List, length, Option, Some, slice_get}
 use Rattle.std.specs.Map.{lookup}
 use Rattle.pair_rules.specs.Steps.{Triple}
@@ -6,7 +6,7 @@ use Rattle.pair_explorer.specs.declared.visits.Visit.{Visit}
 use Rattle.pair_explorer.specs.Keys.{at_triple}
 use Rattle.pair_explorer.specs.Visits.{seen}
 
--- the number of a triple among these
+-- the number of a triple among the entries
 abbrev pub number_in : List (Triple × ℕ) → Triple → Option ℕ
 number_in entries x = lookup (at_triple x) entries
 
@@ -21,7 +21,7 @@ pub record HasNumber (entries : List (Triple × ℕ)) (x : Triple) : Type 0 wher
   pub number : ℕ
   pub is : number_in entries x ≡ Some number
 
--- A number is that of a visit of its triple, and the triple of each of the first visits has one.
+-- Each number is that of a visit of its triple, and the triple of each of the first visits has a number.
 pub record AreNumbersUpto (visits : List Visit) (count : ℕ) (entries : List (Triple × ℕ)) : Type 0 where
   pub sound : (x : Triple) (n : ℕ) → number_in entries x ≡ Some n → IsNumberOf visits x n
   pub each : (n : ℕ) (v : Visit) → n < count → slice_get visits n ≡ Some v → HasNumber entries (seen v)

@@ -1,4 +1,4 @@
-// Which numbers lead to marked ones, by arrows from one number to another.
+// Which numbers lead to marked ones along arrows.
 ghost use Rattle.std.specs.Prelude.{◌≡◌, ◌<◌, ◌≤◌, ◌↔◌, ℕ, true, false, not, length, count_by, slice_index_or, slice_set, IsTrue, OnOk};
 ghost use Rattle.leading_exports.specs.Arrows.{AreClosed, ComeFromInside, IsClosedAt, IsMarked, IsSpread, KeepsMarks, LeadsToMark};
 
@@ -7,7 +7,7 @@ use abi_base::{Effort, NoMemory};
 /// An arrow from one number to another.
 pub type Arrow = (usize, usize);
 
-// Whether a number is marked; none is past the end.
+// Whether a number is marked; a number past the end is not.
 fn is_marked(marks: &[bool], number: usize) -> bool
     ensures { result ≡ slice_index_or marks.now number false }
 {
@@ -17,7 +17,7 @@ fn is_marked(marks: &[bool], number: usize) -> bool
     }
 }
 
-// Marks where an arrow comes from, where it leads to a marked number. Tells whether that is new.
+// Marks the number where an arrow begins, if the arrow leads to a marked one. Returns whether the mark is new.
 fn follow(marks: &mut [bool], arrow: Arrow) -> bool
     requires { arrow.0 < length marks.old }
     ensures kept { result ≡ false → marks.new ≡ marks.old }
@@ -37,7 +37,7 @@ fn follow(marks: &mut [bool], arrow: Arrow) -> bool
     true
 }
 
-// Follows each arrow once, the last one first. Tells whether a mark is new.
+// Follows each arrow once, from the last to the first. Returns whether any mark is new.
 fn follow_all(arrows: &[Arrow], marks: &mut [bool]) -> bool
     requires { ComeFromInside arrows.now (length marks.old) }
     ensures spread { IsSpread arrows.now marks.old marks.new }
@@ -56,9 +56,9 @@ fn follow_all(arrows: &[Arrow], marks: &mut [bool]) -> bool
     is_new
 }
 
-/// Marks each number from which arrows lead to a marked one. One pass over the arrows, the last one first, mostly suffices where
-/// they lead from lower numbers to higher ones. Each pass takes the effort for as many bytes as there are arrows; it fails where less
-/// is left.
+/// Marks each number from which arrows lead to a marked one. Passes over the arrows go from the last to the first, so that one
+/// mostly suffices where arrows lead from lower numbers to higher ones. Each pass takes one byte's effort for each arrow; it fails
+/// where less is left.
 pub fn mark_leading(
     arrows: &[Arrow],
     marks: &mut [bool],

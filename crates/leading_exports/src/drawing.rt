@@ -19,7 +19,7 @@ use pair_rules::{Comparison, Steps, Triple, next_of};
 use std::alloc::Global;
 use std::sync::ledger::Ledger;
 
-// The representatives of what the old part `i` leads to from a visit, whose old node is unmarked at its way.
+// The representatives to which the old part `i` leads from a visit, whose old node is unmarked at its way.
 fn next_triple(
     ground: &GraphPair,
     visit: &Visit,
@@ -46,7 +46,7 @@ fn next_triple(
     })
 }
 
-// Adds the arrow from a number to that of a triple.
+// Adds the arrow from a number to the number of a triple.
 fn push_arrow(
     arrows: &mut List<Arrow>,
     numbers: &IndexMap<Triple, usize>,
@@ -64,7 +64,7 @@ fn push_arrow(
     }
 }
 
-// How many parts the old node of a visit has.
+// The number of parts of a visit's old node.
 fn parts_len(ground: &GraphPair, visit: &Visit) -> usize
     requires { visit.now.old < length ground.now.old.now }
     ensures { result ≡ length (view_at ground.now.old.now visit.now.old).parts }
@@ -72,7 +72,7 @@ fn parts_len(ground: &GraphPair, visit: &Visit) -> usize
     ground.old.view(visit.old).parts_len()
 }
 
-// Adds the arrows along the parts of the old type of the visit of a number, whose parts match as its comparison told.
+// Adds the arrows along the parts of a visit's old type; `matches` are the matching parts that its comparison found.
 fn push_along(
     arrows: &mut List<Arrow>,
     walk: &Walk,
@@ -95,7 +95,7 @@ fn push_along(
     Ok(())
 }
 
-// Adds the arrows from the visit of a number.
+// Adds the arrows from a visit.
 fn push_from<L: Ledger>(
     alloc: Global,
     arrows: &mut List<Arrow>,
@@ -119,7 +119,7 @@ fn push_from<L: Ledger>(
     push_along(arrows, walk, number, &visit, found.matches.as_slice())
 }
 
-/// The arrows from each visit to those of what its steps lead to. It compares the types of each visit once more.
+/// The arrows from each visit to the visits where its steps lead. It compares the types of each visit again.
 pub fn arrows_of<L: Ledger>(
     alloc: Global,
     walk: &Walk,

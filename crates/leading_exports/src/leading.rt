@@ -27,7 +27,7 @@ fn is_of_pair(ground: &GraphPair, old: OldIx, new: NewIx, visit: &Visit) -> bool
         && !is_marked(ground, visit.old, visit.way)
 }
 
-// A mark for each visit that is of two types.
+// A mark for each visit: whether it is of the two types, with an old node that is unmarked at its way.
 fn marks_of(alloc: Global, walk: &Walk, old: OldIx, new: NewIx) -> Result<Vec<bool>, NoMemory>
     ensures { IfOk result (λ marks. marks.items ≡ map (spec.is_of_pair (scope_of walk.now.ground.now) old new) walk.now.visits.now) }
 {
@@ -39,7 +39,7 @@ fn marks_of(alloc: Global, walk: &Walk, old: OldIx, new: NewIx) -> Result<Vec<bo
     Ok(marks)
 }
 
-// Whether what a root leads to is marked.
+// Whether the triple to which a root leads is marked.
 #[tactic(auto, unfolding(crate::specs::Leading::is_lead))]
 fn is_lead(walk: &Walk, marks: &[bool], root: &Root) -> bool
     requires nodes { HasNodes (scope_of walk.now.ground.now) }
@@ -61,7 +61,7 @@ fn is_lead(walk: &Walk, marks: &[bool], root: &Root) -> bool
     }
 }
 
-// The exports of the roots that lead to what is marked.
+// The exports of the roots that lead to a marked triple.
 fn leads_of(alloc: Global, walk: &Walk, marks: &[bool]) -> Result<List<u32>, NoMemory>
     requires { HasNodes (scope_of walk.now.ground.now) }
     ensures { IfOk result (λ exports. exports ≡ map (λ (root : PlainRoot). root.export) (filter (spec.is_lead (scope_of walk.now.ground.now) walk.now.numbers.now.entries marks.now) walk.now.ground.now.roots.now)) }
@@ -77,9 +77,8 @@ fn leads_of(alloc: Global, walk: &Walk, marks: &[bool]) -> Result<List<u32>, NoM
     Ok(exports)
 }
 
-/// The exports that lead to two types, in ascending order, by the arrows that `arrows_of` told. It takes the effort for as many
-/// bytes as there are visits and arrows, and that for the arrows again for each pass over them but the last; where less is left,
-/// memory counts as run out.
+/// The exports that lead to two types, in ascending order; `arrows` are those that `arrows_of` returned. It takes one byte's effort
+/// for each visit and each arrow, and for each arrow again in each pass except the last. Where less is left, it returns `NoMemory`.
 pub fn exports_to(
     alloc: Global,
     walk: &Walk,

@@ -1,4 +1,4 @@
-//! Which exports lead to two types: from each of them a path of steps goes to the types, over the nodes that stand for classes.
+//! Which exports lead to two types: those from which a path of steps goes to the types, over the nodes that stand for classes.
 #![tactic(auto)]
 
 mod arrows;

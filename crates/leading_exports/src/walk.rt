@@ -1,4 +1,4 @@
-// An exploration that was made, and what it went by.
+// A finished exploration and its input.
 ghost use Rattle.std.specs.Prelude.{◌≡◌};
 ghost use Rattle.pair_rules.specs.Steps as steps;
 ghost use Rattle.pair_explorer.specs.GraphPairs.{scope_of};
@@ -8,11 +8,14 @@ use indexmap::IndexMap;
 use pair_explorer::{GraphPair, Visits};
 use pair_rules::Triple;
 
-/// What was explored, the visits that were made, and the numbers of these, as `numbers_of` tells them.
+/// The input of an exploration, its visits, and their numbers as `numbers_of` returns them.
 #[derive(Clone, Copy)]
 pub struct Walk<'x, 'o, 'n, 'og, 'oc, 'ng, 'nc> {
+    /// The input of the exploration.
     pub ground: &'x GraphPair<'x, 'o, 'n, 'og, 'oc, 'ng, 'nc>,
+    /// Its visits.
     pub visits: &'x Visits,
+    /// The number of a visit, by its triple.
     pub numbers: &'x IndexMap<Triple, usize>,
 }
 

@@ -1,5 +1,5 @@
--- What `app` promises: when a new library may replace an old one for one application, by their bytes and those of a rule file, and
--- which text shows it.
+-- What `app` promises: when a new library may replace an old one for one application, given their bytes and those of a rule file,
+-- and the text that shows it.
 use Rattle.std.specs.Prelude.{◌≡◌, ◌↔◌, ℕ, Bool, List, [], ◌∷◌, ◌++◌, Option, Some, None, Contains, map, codes, if◌then◌else◌}
 use Rattle.std.specs.List.{concat}
 use Rattle.abi_types.specs.Exports.{PlainExport}
@@ -24,46 +24,46 @@ use Rattle.library_check.specs.declared.applying.NotJudged.TheVariants as not_ju
 use Rattle.library_check.specs.Checks.{AreReadable}
 use Rattle.library_check.specs.Judgements.{IsRefusal}
 
--- ---- libraries that were read
+-- ---- libraries after they are read
 
--- for each export of a library whether one of these imports binds to it
+-- for each export of a library, whether one of these imports binds to it
 abbrev pub used_by : List PlainImport → PlainLibrary → List Bool
 used_by imports old = used_exports imports old.soname old.exports
 
--- two libraries, of which neither what a rule file leaves out is compared nor an export to which no import binds
+-- two libraries, where neither what a rule file drops nor an export without an import that binds to it is compared
 abbrev pub sides_used : List PlainImport → PlainLibrary → PlainLibrary → PlainRules → Sides
 sides_used imports old new rules = sides old new (narrowed_marks (marks_of rules old) (used_by imports old))
 
--- the line of an export that is used
+-- the line of a used export
 abbrev pub use_line : PlainExport → List ℕ
 use_line e = concat (codes "use " ∷ label e ∷ newline ∷ [])
 
--- the lines of the exports that are not dropped, in their order
+-- the lines of the exports that are not dropped, in order
 abbrev pub use_lines : List PlainExport → List Bool → List ℕ
 use_lines (e ∷ exports) (dropped ∷ others) = (if dropped then [] else use_line e) ++ use_lines exports others
 use_lines exports dropped = []
 
--- the text of a yes: a line for each old export that is compared
+-- the text of a yes: a line for each compared old export
 abbrev pub uses_text : Sides → List ℕ
 uses_text s = concat (codes "yes app" ∷ newline ∷ use_lines s.old.exports s.marks.exports ∷ [])
 
--- what is said of two libraries where so much is compared: yes with the exports that are, or no with the report on them
+-- what is said about two libraries: yes with the compared exports, or no with the report on them
 abbrev pub IsSaidOfUsed : List Voice → Sides → AppJudged → Type 0
 IsSaidOfUsed voices s (Yes text) = IsCompatible s × (text.items ≡ uses_text s)
 IsSaidOfUsed voices s (No text) = (IsCompatible s → ⊥) × IsRefusal voices s text.items
 
 -- ---- files
 
--- the libraries that two files are, and what is compared of them for the application that a third one is
+-- the libraries in two files, and what is compared between them for the application in a third one
 abbrev pub sides_for : List ℕ → List ℕ → List ℕ → List ℕ → Sides
 sides_for app old new rules = sides_used (imports_of app) (library_of old) (library_of new) (rules_of rules)
 
--- The new library may replace the old one for the application, in all that the rule file does not leave out: it may where every old
--- export that the application does not use is taken as left out.
+-- The new library may replace the old one for the application, in all that the rule file does not suppress: it may if every old
+-- export that the application does not use is suppressed as well.
 abbrev pub IsCompatibleFor : List ℕ → List ℕ → List ℕ → List ℕ → Type 0
 IsCompatibleFor app old new rules = IsCompatible (sides_for app old new rules)
 
--- The same, seen from a program that was compiled against the old library and uses these exports alone.
+-- The same, for a program that was compiled against the old library and uses only these exports.
 abbrev pub AgreedFor : List ℕ → List ℕ → List ℕ → List ℕ → Type 0
 AgreedFor app old new rules = IsAgreed (sides_for app old new rules)
 
@@ -71,11 +71,11 @@ AgreedFor app old new rules = IsAgreed (sides_for app old new rules)
 abbrev pub uses_for : List ℕ → List ℕ → List ℕ → List ℕ → List ℕ
 uses_for app old new rules = uses_text (sides_for app old new rules)
 
--- the text of a no, where listeners of these voices hear the rows
+-- the text of a no, with listeners of these voices
 abbrev pub IsAppReportText : List Voice → List ℕ → List ℕ → List ℕ → List ℕ → List ℕ → Type 0
 IsAppReportText voices app old new rules text = IsRefusal voices (sides_for app old new rules) text
 
--- what `app` says of a readable application, two readable libraries and a readable rule file
+-- what `app` says about a readable application, two readable libraries and a readable rule file
 abbrev pub IsAppJudged : List Voice → List ℕ → List ℕ → List ℕ → List ℕ → AppJudged → Type 0
 IsAppJudged voices app old new rules judged = IsSaidOfUsed voices (sides_for app old new rules) judged
 
@@ -84,7 +84,7 @@ abbrev pub IsYes : AppJudged → Type 0
 IsYes (Yes text) = Unit {0}
 IsYes (No text) = ⊥
 
--- two answers are of one kind, with the same text
+-- two answers have the same verdict and the same text
 abbrev pub SameApp : AppJudged → AppJudged → Type 0
 SameApp (Yes text) (Yes other) = text.items ≡ other.items
 SameApp (No text) (No other) = text.items ≡ other.items
@@ -92,11 +92,11 @@ SameApp one other = ⊥
 
 -- ---- imports
 
--- what an import asks for: a name, and the version and the file that it needs it of, where it has a version
+-- what an import requires: a name, and if it has a version, that version and the file that must provide it
 abbrev pub name_and_need : PlainImport → List ℕ × Option PlainNeed
 name_and_need i = (i.name, i.need)
 
--- the imports of two applications ask for the same
+-- the imports of two applications require the same
 abbrev pub ImportTheSame : List ℕ → List ℕ → Type 0
 ImportTheSame app other = (wanted : List ℕ × Option PlainNeed) → Contains (map name_and_need (imports_of app)) wanted ↔ Contains (map name_and_need (imports_of other)) wanted
 
@@ -107,7 +107,7 @@ pub record AreReadableFor (app old new rules : List ℕ) : Type 0 where
   pub app_readable : app_fault app ≡ None
   pub inputs : AreReadable old new rules
 
--- why it says nothing: the first fault of the first input that has one, in the order app, old, new, rules
+-- why `app` gives no verdict: the first fault of the first input that has one, in the order app, old, new, rules
 abbrev pub IsNotJudged : List ℕ → List ℕ → List ℕ → List ℕ → NotJudged → Type 0
 IsNotJudged app old new rules not_judged.NoMemory = Unit {0}
 IsNotJudged app old new rules (not_judged.App fault) = app_fault app ≡ Some fault

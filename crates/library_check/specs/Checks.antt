@@ -1,4 +1,4 @@
--- What `check` promises: when a new library may replace an old one, by their bytes and those of a rule file, and which text
+-- What `check` promises: when a new library may replace an old one, given their bytes and those of a rule file, and the text that
 -- shows it.
 use Rattle.std.specs.Prelude.{◌≡◌, ℕ, List, Some, None}
 use Rattle.report.specs.Listening.{Voice}
@@ -13,18 +13,18 @@ use Rattle.library_check.specs.declared.checking.Unchecked.{Unchecked}
 use Rattle.library_check.specs.declared.checking.Unchecked.TheVariants as unchecked
 use Rattle.library_check.specs.Judgements.{ruled, IsCertificate, IsJudged, IsRefusal}
 
--- the libraries that two files are, and what the rule file leaves out of the old one
+-- the libraries in two files, and what the rule file suppresses in the old one
 abbrev pub sides_of : List ℕ → List ℕ → List ℕ → Sides
 sides_of old new rules = ruled (library_of old) (library_of new) (rules_of rules)
 
--- The new library may replace the old one in all that the rule file does not leave out: the sonames agree, each old export that is
--- compared binds and keeps the rules of exports, and some relation between types that holds the typed exports is closed under
--- the rules of types.
+-- The new library may replace the old one in all that the rule file does not suppress: the sonames agree, each compared old export
+-- binds and keeps the rules of exports, and some relation between types that holds the typed exports is closed under the rules of
+-- types.
 abbrev pub Compatible : List ℕ → List ℕ → List ℕ → Type 0
 Compatible old new rules = IsCompatible (sides_of old new rules)
 
--- The same, seen from a program that was compiled against the old library: the sonames agree, each old export that is compared
--- binds and keeps the rules of exports, and whatever the program may reach from the types of these exports it finds the same.
+-- The same, for a program that was compiled against the old library: the sonames agree, each compared old export binds and keeps
+-- the rules of exports, and whatever the program may reach from the types of these exports, it finds the same.
 abbrev pub Agreed : List ℕ → List ℕ → List ℕ → Type 0
 Agreed old new rules = IsAgreed (sides_of old new rules)
 
@@ -32,12 +32,12 @@ Agreed old new rules = IsAgreed (sides_of old new rules)
 abbrev pub IsCertificateText : List ℕ → List ℕ → List ℕ → List ℕ → Type 0
 IsCertificateText old new rules text = IsCertificate (sides_of old new rules) text
 
--- the text of a no, where listeners of these voices hear the rows
+-- the text of a no, with listeners of these voices
 abbrev pub IsReportText : List Voice → List ℕ → List ℕ → List ℕ → List ℕ → Type 0
 IsReportText voices old new rules text = IsRefusal voices (sides_of old new rules) text
 
--- what `check` says of two readable libraries and a readable rule file: yes with the certificate where the new library may
--- replace the old one, and no with the report where it may not
+-- what `check` says about two readable libraries and a readable rule file: yes with the certificate if the new library may replace
+-- the old one, else no with the report
 abbrev pub IsChecked : List Voice → List ℕ → List ℕ → List ℕ → Checked → Type 0
 IsChecked voices old new rules checked = IsJudged voices (library_of old) (library_of new) (rules_of rules) checked
 
@@ -47,8 +47,7 @@ pub record AreReadable (old new rules : List ℕ) : Type 0 where
   pub new_readable : library_fault new ≡ None
   pub rules_readable : rule_fault rules ≡ None
 
--- why it says nothing: the first fault of the old library, of the new one where the old one has none, or of the rule file where
--- neither library has one
+-- why `check` gives no verdict: the first fault of the old library, else of the new one, else of the rule file
 abbrev pub IsUnchecked : List ℕ → List ℕ → List ℕ → Unchecked → Type 0
 IsUnchecked old new rules unchecked.NoMemory = Unit {0}
 IsUnchecked old new rules (unchecked.Old fault) = library_fault old ≡ Some fault

@@ -1,5 +1,5 @@
--- What `compose` promises: which certificate the texts of two certificates for a chain of three libraries compose, by their bytes,
--- and what is refused or lost where they compose none.
+-- What `compose` promises, given the bytes of three libraries of a chain and of two certificates: the certificate that the two
+-- compose, or else which one is refused or what is lost.
 use Rattle.std.specs.Prelude.{◌≡◌, ◌≤◌, ℕ, List, [], length, Some, None}
 use Rattle.abi_base.specs.Limits.{input_limit}
 use Rattle.cert_check.specs.declared.refused.Refused.{Refused}
@@ -40,9 +40,9 @@ plain_files f = record {
   certificate2 = f.certificate2.now;
 }
 
--- ---- certificates for libraries that were read
+-- ---- certificates for libraries after they are read
 
--- an empty rule file leaves nothing out
+-- the first and the middle library; an empty rule file suppresses nothing
 abbrev pub first_sides : PlainChain → Sides
 first_sides ch = ruled ch.first ch.middle (rules_of [])
 
@@ -64,7 +64,7 @@ pub record AreAccepted (ch : PlainChain) : Type 0 where
   pub other : IsAccepted (second_case ch)
 
 -- Nothing is lost between the first library and the last. The text is that of the composed certificate, which is accepted for them,
--- and no longer than an input may be.
+-- and it is no longer than an input may be.
 pub record IsComposedFor (ch : PlainChain) (text : List ℕ) : Type 0 where
   pub accepted : AreAccepted ch
   pub nothing : NothingBetween ch
@@ -74,12 +74,13 @@ pub record IsComposedFor (ch : PlainChain) (text : List ℕ) : Type 0 where
   pub proves : IsAccepted (case_for (whole_sides ch) cert)
   pub short : length text ≤ input_limit
 
--- this is the first that is lost between the first library and the last
+-- this is the first loss between the first library and the last
 pub record LosesBetween (ch : PlainChain) (refusal : Refused) : Type 0 where
   pub accepted : AreAccepted ch
   pub lost : IsLost ch refusal.kind refusal.at
 
--- what is said of two certificates for a chain of libraries: the first one comes before the second, and that before what is lost
+-- what is said about two certificates for a chain of libraries: a refusal of the first one comes first, then a refusal of the
+-- second, then a loss
 abbrev pub IsJoined : PlainChain → Composed → Type 0
 IsJoined ch (Yes text) = IsCompatible (whole_sides ch) × IsComposedFor ch text.items
 IsJoined ch (First refusal) = IsFirstRefusal (first_case ch) refusal
@@ -88,11 +89,11 @@ IsJoined ch (Between refusal) = LosesBetween ch refusal
 
 -- ---- texts
 
--- the chain of the libraries that three files are, with two certificates
+-- the chain of the libraries in three files, with two certificates
 abbrev pub chain_with : PlainFiles → PlainCert → PlainCert → PlainChain
 chain_with p one other = joint (library_of p.first) (library_of p.middle) (library_of p.last) one other
 
--- the texts spell two certificates that are accepted, and the text is that of the certificate that these compose
+-- the texts spell two accepted certificates, and the text is that of the certificate that they compose
 pub record IsComposedText (p : PlainFiles) (text : List ℕ) : Type 0 where
   pub one : PlainCert
   pub other : PlainCert
@@ -100,7 +101,7 @@ pub record IsComposedText (p : PlainFiles) (text : List ℕ) : Type 0 where
   pub other_spelled : IsSpelled p.certificate2 other
   pub whole : IsComposedFor (chain_with p one other) text
 
--- the texts spell two certificates that are accepted, and this is the first that is lost between them
+-- the texts spell two accepted certificates, and this is the first loss between them
 pub record IsLostText (p : PlainFiles) (refusal : Refused) : Type 0 where
   pub one : PlainCert
   pub other : PlainCert
@@ -108,9 +109,9 @@ pub record IsLostText (p : PlainFiles) (refusal : Refused) : Type 0 where
   pub other_spelled : IsSpelled p.certificate2 other
   pub lost : LosesBetween (chain_with p one other) refusal
 
--- What `compose` says of readable inputs: yes with the text of the composed certificate, which proves that the last library may
--- replace the first; the first certificate is refused for the first library and the middle one; the second is refused for the
--- middle library and the last, where the first is accepted; or what is lost where both are accepted.
+-- What `compose` says about readable inputs: yes, with the text of the composed certificate, which proves that the last library may
+-- replace the first; or the refusal of the first certificate, for the first and the middle library; or, if the first is accepted,
+-- the refusal of the second, for the middle and the last library; or, if both are accepted, what is lost between them.
 abbrev pub IsComposition : PlainFiles → Composed → Type 0
 IsComposition p (Yes text) = Compatible p.first p.last [] × IsComposedText p text.items
 IsComposition p (First refusal) = IsRefusedText p.first p.middle [] p.certificate1 refusal
@@ -139,7 +140,7 @@ pub record AreComposable (p : PlainFiles) : Type 0 where
   pub certificate1 : certificate_fault p.certificate1 ≡ None
   pub certificate2 : certificate_fault p.certificate2 ≡ None
 
--- why it says nothing: the first fault of the first input that has one, in the order of the inputs
+-- why `compose` gives no verdict: the first fault of the first input that has one, in the order of the inputs
 abbrev pub IsUncomposed : PlainFiles → Uncomposed → Type 0
 IsUncomposed p uncomposed.NoMemory = Unit {0}
 IsUncomposed p (uncomposed.First fault) = library_fault p.first ≡ Some fault

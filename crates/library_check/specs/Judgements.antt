@@ -1,4 +1,4 @@
--- What `check` says of two libraries as they were read.
+-- What `check` says about two libraries after they are read.
 use Rattle.std.specs.Prelude.{◌≡◌, ℕ, List, [], ◌∷◌, codes}
 use Rattle.std.specs.List.{concat}
 use Rattle.abi_types.specs.Libraries.{PlainLibrary}
@@ -14,7 +14,7 @@ use Rattle.suppressions.specs.Marks.{marks_of}
 use Rattle.library_check.specs.declared.judging.Checked.{Checked}
 use Rattle.library_check.specs.declared.judging.Checked.TheVariants.{Yes, No}
 
--- two libraries, of which a rule file says what is not compared
+-- two libraries, where a rule file decides what is not compared
 abbrev pub ruled : PlainLibrary → PlainLibrary → PlainRules → Sides
 ruled old new rules = sides old new (marks_of rules old)
 
@@ -24,19 +24,19 @@ pub record IsCertificate (s : Sides) (text : List ℕ) : Type 0 where
   pub proved : IsProved s cert
   pub spelled : IsSpelled text cert
 
--- the line `no`, and then what listeners of these voices make of rows
+-- the line `no`, followed by the texts of listeners with these voices
 pub record IsReport (voices : List Voice) (rows : List Row) (text : List ℕ) : Type 0 where
   pub texts : List (List ℕ)
   pub heard : Reports voices rows texts
   pub is : text ≡ concat (codes "no" ∷ newline ∷ concat texts ∷ [])
 
--- The text of a no is the report of the rows of a right report, which has some.
+-- The text of a no is printed from a right report, which has at least one row.
 pub record IsRefusal (voices : List Voice) (s : Sides) (text : List ℕ) : Type 0 where
   pub rows : List Row
   pub refuted : IsRefuted s rows
   pub report : IsReport voices rows text
 
--- what `check` says of two libraries and a rule file, where listeners of these voices hear the rows
+-- what `check` says about two libraries and a rule file, with listeners of these voices
 abbrev pub IsJudged : List Voice → PlainLibrary → PlainLibrary → PlainRules → Checked → Type 0
 IsJudged voices old new rules (Yes text) = IsCompatible (ruled old new rules) × IsCertificate (ruled old new rules) text.items
 IsJudged voices old new rules (No text) = (IsCompatible (ruled old new rules) → ⊥) × IsRefusal voices (ruled old new rules) text.items

@@ -1,5 +1,5 @@
--- What `migrate` promises: when the text of a certificate of version 1 is migrated for two libraries and a rule file, by their
--- bytes, and which condition its migrated certificate does not meet where it is not.
+-- What `migrate` promises: when a certificate of version 1 is migrated, given the bytes of two libraries, a rule file and the
+-- certificate, and else the first condition that the migrated certificate does not meet.
 use Rattle.std.specs.Prelude.{◌≡◌, ℕ, List, Option, Some, None}
 use Rattle.abi_base.specs.declared.fault.Fault.{Fault}
 use Rattle.cert_check.specs.declared.refused.Refused.{Refused}
@@ -21,22 +21,23 @@ use Rattle.library_check.specs.Verifications.{IsFirstRefusal}
 
 -- ---- one certificate
 
--- What is said of a certificate of version 1: where its migrated certificate is accepted, which proves that the new library may
--- replace the old one, the text of that; and else the refusal of that.
+-- What is said about a certificate of version 1: the text of the migrated certificate if that is accepted, which proves that the
+-- new library may replace the old one; else the refusal of the migrated certificate.
 abbrev pub IsMigration : Sides → PlainCert1 → Migrated → Type 0
 IsMigration s c (Done text) = IsCompatible s × IsAccepted (migrated_case s c) × IsSpelled text.items (migrated c)
 IsMigration s c (Not refusal) = IsFirstRefusal (migrated_case s c) refusal
 
 -- ---- texts
 
--- the certificate text spells a certificate of version 1 whose migrated certificate is accepted, and the other text spells that
+-- the certificate text spells a certificate of version 1 whose migrated certificate is accepted, and the other text spells the
+-- migrated one
 pub record IsMigratedBy (s : Sides) (certificate text : List ℕ) : Type 0 where
   pub cert : PlainCert1
   pub spelled : IsSpelled1 certificate cert
   pub accepted : IsAccepted (migrated_case s cert)
   pub becomes : IsSpelled text (migrated cert)
 
--- the certificate text spells one whose migrated certificate is refused
+-- the certificate text spells a certificate whose migrated certificate is refused
 pub record IsUnmigratedBy (s : Sides) (certificate : List ℕ) (refusal : Refused) : Type 0 where
   pub cert : PlainCert1
   pub spelled : IsSpelled1 certificate cert
@@ -50,7 +51,7 @@ IsMigratedText old new rules certificate text = IsMigratedBy (sides_of old new r
 abbrev pub IsRefusedMigration : List ℕ → List ℕ → List ℕ → List ℕ → Refused → Type 0
 IsRefusedMigration old new rules certificate refusal = IsUnmigratedBy (sides_of old new rules) certificate refusal
 
--- what `migrate` says of readable inputs
+-- what `migrate` says about readable inputs
 abbrev pub IsMigrated : List ℕ → List ℕ → List ℕ → List ℕ → Migrated → Type 0
 IsMigrated old new rules certificate (Done text) = Compatible old new rules × IsMigratedText old new rules certificate text.items
 IsMigrated old new rules certificate (Not refusal) = IsRefusedMigration old new rules certificate refusal
@@ -72,7 +73,7 @@ pub record AreMigratable (old new rules certificate : List ℕ) : Type 0 where
   pub inputs : AreReadable old new rules
   pub certificate_readable : old_certificate_fault certificate ≡ None
 
--- why it says nothing: the first fault of the first input that has one, in the order old, new, rules, certificate
+-- why `migrate` gives no verdict: the first fault of the first input that has one, in the order old, new, rules, certificate
 abbrev pub IsUnmigrated : List ℕ → List ℕ → List ℕ → List ℕ → Unverified → Type 0
 IsUnmigrated old new rules certificate unverified.NoMemory = Unit {0}
 IsUnmigrated old new rules certificate (unverified.Old fault) = library_fault old ≡ Some fault

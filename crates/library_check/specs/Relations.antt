@@ -1,4 +1,4 @@
--- What a certificate tells beside its verdict: such a relation between types as a yes asks for.
+-- What a certificate shows besides its verdict: a relation between types that proves a yes.
 use Rattle.std.specs.Prelude.{ℕ, List}
 use Rattle.cert_check.specs.Compatible.{Sides, task_of}
 use Rattle.cert_check.specs.Relation.{relation_of}
@@ -12,15 +12,15 @@ use Rattle.library_check.specs.declared.verifying.Verified.TheVariants as verifi
 use Rattle.library_check.specs.Checks.{sides_of}
 use Rattle.library_check.specs.Verifications.{case_for}
 
--- The text spells a certificate whose pair lines are a relation that is closed under the rules of types, and that holds the
--- types of all exports that are compared.
+-- The text spells a certificate whose pair lines are a relation that is closed under the rules of types and holds the types of all
+-- compared exports.
 pub record SpellsRelation (s : Sides) (text : List ℕ) : Type 0 where
   pub cert : PlainCert
   pub spelled : IsSpelled text cert
   pub closed : IsClosed (task_of s) (relation_of (case_for s cert))
   pub roots : HoldsRoots (task_of s) (relation_of (case_for s cert))
 
--- the text tells such a relation for these libraries and this rule file
+-- the text shows such a relation for these libraries and this rule file
 abbrev pub IsRelationText : List ℕ → List ℕ → List ℕ → List ℕ → Type 0
 IsRelationText old new rules text = SpellsRelation (sides_of old new rules) text
 
@@ -29,7 +29,7 @@ abbrev pub PrintsSuchRelation : List ℕ → List ℕ → List ℕ → Checked �
 PrintsSuchRelation old new rules (Yes text) = IsRelationText old new rules text.items
 PrintsSuchRelation old new rules (No text) = Unit {0}
 
--- a certificate that is accepted tells such a relation
+-- an accepted certificate shows such a relation
 abbrev pub AcceptsSuchRelation : List ℕ → List ℕ → List ℕ → List ℕ → Verified → Type 0
 AcceptsSuchRelation old new rules certificate verified.Accepted = IsRelationText old new rules certificate
 AcceptsSuchRelation old new rules certificate (verified.Refused refusal) = Unit {0}

@@ -1,4 +1,4 @@
--- What people want to know beside the answer: how many exports were compared without types.
+-- Remarks beside the answer: how many exports were compared without types.
 use Rattle.std.specs.Prelude.{ℕ, Bool, List, nat_lt, ◌==◌, ◌&&◌, count_by}
 use Rattle.abi_base.specs.declared.remark.Remark.{Remark}
 use Rattle.abi_base.specs.declared.remark.SizedExports.{SizedExports}
@@ -10,18 +10,18 @@ use Rattle.library_read.specs.Libraries.{library_of}
 abbrev pub has_size : PlainExport → Bool
 has_size e = nat_lt 0 e.size
 
--- whether it has a size, but no type in the debug information
+-- whether an export has a size, but no type in the debug information
 abbrev pub has_size_alone : PlainExport → Bool
 has_size_alone e = nat_lt 0 e.size && (e.entry == 0)
 
--- how many exports have a size, and how many of those have no type
+-- the number of exports with a size, and the number of those without a type
 abbrev pub sized_exports : List PlainExport → SizedExports
 sized_exports exports = record { all = count_by has_size exports; untyped = count_by has_size_alone exports }
 
--- of two libraries
+-- the remark on two libraries
 abbrev pub remark_of : PlainLibrary → PlainLibrary → Remark
 remark_of old new = record { old = sized_exports old.exports; new = sized_exports new.exports }
 
--- of the libraries of two files
+-- the remark on the libraries in two files
 abbrev pub remark_on : List ℕ → List ℕ → Remark
 remark_on old new = remark_of (library_of old) (library_of new)

@@ -1,5 +1,5 @@
--- What `verify` promises: when the text of a certificate is accepted for two libraries and a rule file, by their bytes, and
--- which of its conditions fails first where it is not.
+-- What `verify` promises: when a certificate is accepted, given the bytes of two libraries, a rule file and the certificate, and
+-- else which condition fails first.
 use Rattle.std.specs.Prelude.{◌≡◌, ℕ, List, Option, Some, None}
 use Rattle.abi_base.specs.declared.fault.Fault.{Fault}
 use Rattle.cert_check.specs.declared.refused.Refused.{Refused}
@@ -19,18 +19,18 @@ use Rattle.library_check.specs.Checks.{AreReadable, Compatible, sides_of}
 
 -- ---- one certificate
 
--- a certificate for two libraries and what is not compared of them
+-- a certificate for two libraries and what is compared between them
 abbrev pub case_for : Sides → PlainCert → Case
 case_for s cert = record { sides = s; cert = cert }
 
--- the refusal is that of the first condition that the certificate does not meet
+-- the refusal is for the first condition that the certificate does not meet
 pub record IsFirstRefusal (c : Case) (refusal : Refused) : Type 0 where
   pub place : Place
   pub first : IsFirstFailing c (places c) place
   pub is : refusal ≡ refused c place
 
--- what is said of a certificate: accepted where it meets all conditions, which proves that the new library may replace the old
--- one, and else refused
+-- what is said about a certificate: accepted if it meets all conditions, which proves that the new library may replace the old one,
+-- else refused
 abbrev pub IsSettled : Case → Verified → Type 0
 IsSettled c verified.Accepted = IsCompatible c.sides × IsAccepted c
 IsSettled c (verified.Refused refusal) = IsFirstRefusal c refusal
@@ -53,11 +53,11 @@ pub record IsRejection (s : Sides) (text : List ℕ) (refusal : Refused) : Type 
 abbrev pub IsAcceptedText : List ℕ → List ℕ → List ℕ → List ℕ → Type 0
 IsAcceptedText old new rules certificate = IsAcceptance (sides_of old new rules) certificate
 
--- it spells one of which this condition is the first that it does not meet
+-- the certificate text spells a certificate that is refused for this condition, the first that it does not meet
 abbrev pub IsRefusedText : List ℕ → List ℕ → List ℕ → List ℕ → Refused → Type 0
 IsRefusedText old new rules certificate refusal = IsRejection (sides_of old new rules) certificate refusal
 
--- what `verify` says of readable inputs
+-- what `verify` says about readable inputs
 abbrev pub IsVerified : List ℕ → List ℕ → List ℕ → List ℕ → Verified → Type 0
 IsVerified old new rules certificate verified.Accepted = Compatible old new rules × IsAcceptedText old new rules certificate
 IsVerified old new rules certificate (verified.Refused refusal) = IsRefusedText old new rules certificate refusal
@@ -73,7 +73,7 @@ pub record AreVerifiable (old new rules certificate : List ℕ) : Type 0 where
   pub inputs : AreReadable old new rules
   pub certificate_readable : certificate_fault certificate ≡ None
 
--- why it says nothing: the first fault of the first input that has one, in the order old, new, rules, certificate
+-- why `verify` gives no verdict: the first fault of the first input that has one, in the order old, new, rules, certificate
 abbrev pub IsUnverified : List ℕ → List ℕ → List ℕ → List ℕ → Unverified → Type 0
 IsUnverified old new rules certificate unverified.NoMemory = Unit {0}
 IsUnverified old new rules certificate (unverified.Old fault) = library_fault old ≡ Some fault

@@ -1,4 +1,4 @@
-// Whether a new library may replace an old one for one application, by their bytes and those of a rule file.
+// Whether a new library may replace an old one for one application, given their bytes and those of a rule file.
 ghost use Rattle.std.specs.Prelude.{◌≡◌, ◌≤◌, ◌++◌, ℕ, List, [], None, length, map, All, OnOk, IfOk, IfErr, string_bytes, if◌then◌else◌};
 ghost use Rattle.abi_base.specs.Limits.{input_limit};
 ghost use Rattle.abi_types.specs.Plain.{plain_export, plain_exports};
@@ -25,49 +25,49 @@ use std::marker::Brand;
 use std::sync::ledger::Blank;
 use suppression_text::Rules;
 
-/// An application, an old library and a new one, and a rule file, by their bytes.
+/// The bytes of an application, an old and a new library, and a rule file.
 #[derive(Clone, Copy)]
 pub struct AppFiles<'x> {
     /// The application.
     pub app: &'x [u8],
     /// The library that it uses.
     pub old: &'x [u8],
-    /// The library that may replace that one.
+    /// The library that may replace the old one.
     pub new: &'x [u8],
     /// The rule file.
     pub rules: &'x [u8],
 }
 
-/// What `app` says of readable inputs, with the text that shows it.
+/// What `app` says about readable inputs, with the text that shows it.
 #[derive(Drop)]
 pub enum AppJudged {
     /// The new library may replace the old one for the application. The text names the exports that it uses.
     Yes(Vec<u8>),
-    /// It may not. The text is the report on the exports that it uses.
+    /// The new library may not replace the old one. The text is the report on the exports that the application uses.
     No(Vec<u8>),
 }
 
-/// Why `app` says nothing.
+/// Why `app` gives no verdict.
 #[derive(Clone, Copy, Debug)]
 pub enum NotJudged {
     /// The first fault of the application.
     App(Fault),
-    /// The first fault of the old library, where the application has none.
+    /// The first fault of the old library, if the application has none.
     Old(Fault),
-    /// The first fault of the new library, where the inputs before it have none.
+    /// The first fault of the new library, if the inputs before it have none.
     New(Fault),
-    /// The first fault of the rule file, where no other input has one.
+    /// The first fault of the rule file, if no other input has one.
     Rules(Fault),
     /// Memory ran out.
     NoMemory,
 }
 
-/// What `app` says, and what people want to know beside it.
+/// The result of `app`, with a remark.
 #[derive(Drop)]
 pub struct AppResult {
-    /// What it says.
+    /// The verdict, with its text.
     pub judged: AppJudged,
-    /// How many exports of each library have no type in its debug information.
+    /// The number of exports of each library without a type in its debug information.
     pub remark: Remark,
 }
 
@@ -85,7 +85,7 @@ fn read_imports(alloc: Global, bytes: &[u8]) -> Result<Vec<Import<'_>>, NotJudge
     }
 }
 
-// What `app` says where the application is readable and one of the inputs that it has in common with `check` is not read.
+// Why `app` gives no verdict, if the application is readable and an input that it shares with `check` is not.
 fn of_inputs(unread: Unchecked) -> NotJudged
     ensures { (app old new rules : List ℕ) → app_fault app ≡ None → IsUnchecked old new rules unread → IsNotJudged app old new rules result }
 {
@@ -97,7 +97,8 @@ fn of_inputs(unread: Unchecked) -> NotJudged
     }
 }
 
-// What is not compared of the old library: what a rule file leaves out, and each export to which no import binds.
+// The exports and types of the old library that are not compared: those that a rule file suppresses, and each export to which no
+// import binds.
 fn marks_for(
     alloc: Global,
     imports: &[Import],
@@ -113,7 +114,7 @@ fn marks_for(
     Ok(narrowed)
 }
 
-// Appends the line of an export that is used, and nothing for one that is dropped.
+// Appends the line of a used export, or nothing for a dropped one.
 fn push_use(
     alloc: Global,
     text: &mut String,
@@ -146,7 +147,7 @@ fn push_uses(
     Ok(())
 }
 
-// The text of a yes: a line for each old export that is compared.
+// The text of a yes: a line for each compared old export.
 fn uses(alloc: Global, old: &Library<OldIx>, marks: &Marks) -> Result<Vec<u8>, NoMemory>
     requires { AreMarksOf old.now marks.now }
     ensures { IfOk result (λ text. (new : _) → text.items ≡ uses_text (sides old.now new marks.now)) }
@@ -156,7 +157,7 @@ fn uses(alloc: Global, old: &Library<OldIx>, marks: &Marks) -> Result<Vec<u8>, N
     Ok(text.into_bytes())
 }
 
-// What `app` says of imports, two libraries and a rule file that were read.
+// What `app` says about imports, two libraries and a rule file after they are read.
 fn judge_used(
     alloc: Global,
     imports: &[Import],
@@ -175,9 +176,9 @@ fn judge_used(
     }
 }
 
-/// Whether a new library may replace an old one for one application, in all that a rule file does not leave out, by their bytes: yes
-/// with the exports that the application uses, or no with the texts that listeners make of every break of these. A fault is that of
-/// the first input that has one, in the order app, old, new, rules.
+/// Whether a new library may replace an old one for one application, in all that a rule file does not suppress, given their bytes:
+/// yes with the exports that the application uses, or no with the texts that listeners make of every break of these. A fault is
+/// that of the first input that has one, in the order app, old, new, rules.
 pub fn app(
     alloc: Global,
     files: &AppFiles,

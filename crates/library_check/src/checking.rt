@@ -1,4 +1,4 @@
-// Whether a new library may replace an old one, by their bytes and those of a rule file.
+// Whether a new library may replace an old one, given their bytes and those of a rule file.
 ghost use Rattle.std.specs.Prelude.{◌≡◌, ◌≤◌, ℕ, List, [], None, length, map, All, OnOk, IfOk, IfErr};
 ghost use Rattle.abi_base.specs.Limits.{input_limit};
 ghost use Rattle.library_read.specs.Faults.{library_fault};
@@ -20,20 +20,20 @@ use report::Listener;
 use std::alloc::Global;
 use suppression_text::{Rules, read_rules};
 
-/// Why `check` says nothing.
+/// Why `check` gives no verdict.
 #[derive(Clone, Copy, Debug)]
 pub enum Unchecked {
     /// The first fault of the old library.
     Old(Fault),
-    /// The first fault of the new library, where the old one has none.
+    /// The first fault of the new library, if the old one has none.
     New(Fault),
-    /// The first fault of the rule file, where neither library has one.
+    /// The first fault of the rule file, if neither library has one.
     Rules(Fault),
     /// Memory ran out.
     NoMemory,
 }
 
-/// Two libraries, whose types look at names in their bytes.
+/// Two libraries. Their types borrow names from the files' bytes.
 #[derive(Drop)]
 pub struct Pair<'a> {
     /// The old library.
@@ -42,25 +42,25 @@ pub struct Pair<'a> {
     pub new: Library<'a, NewIx>,
 }
 
-/// What both `check` and `verify` read.
+/// The inputs that `check` and `verify` share.
 #[derive(Drop)]
 pub(crate) struct Inputs<'a> {
     /// The two libraries.
     pub(crate) pair: Pair<'a>,
-    /// What the rule file says.
+    /// The rule file.
     pub(crate) rules: Rules,
 }
 
-/// What `check` says, and what people want to know beside it.
+/// The result of `check`, with a remark.
 #[derive(Drop)]
 pub struct CheckResult {
-    /// What it says.
+    /// The verdict, with its text.
     pub checked: Checked,
-    /// How many exports of each library have no type in its debug information.
+    /// The number of exports of each library without a type in its debug information.
     pub remark: Remark,
 }
 
-// The old library.
+// Reads the old library.
 fn read_old(alloc: Global, bytes: &[u8]) -> Result<Library<'_, OldIx>, Unchecked>
     requires { length bytes.now ≤ input_limit }
     ensures readable { OnOk result (library_fault bytes.now ≡ None) }
@@ -74,7 +74,7 @@ fn read_old(alloc: Global, bytes: &[u8]) -> Result<Library<'_, OldIx>, Unchecked
     }
 }
 
-// The new library, where the old one is readable.
+// Reads the new library, if the old one is readable.
 fn read_new(alloc: Global, bytes: &[u8]) -> Result<Library<'_, NewIx>, Unchecked>
     requires { length bytes.now ≤ input_limit }
     ensures readable { OnOk result (library_fault bytes.now ≡ None) }
@@ -88,7 +88,8 @@ fn read_new(alloc: Global, bytes: &[u8]) -> Result<Library<'_, NewIx>, Unchecked
     }
 }
 
-// The new library, where the old one was read: a copy of it where both files hold the same bytes, so that these are read once.
+// Reads the new library, after the old one. If both files have the same bytes, it copies the old library, so that the bytes are
+// read only once.
 fn read_beside<'a>(
     alloc: Global,
     library: &Library<'a, OldIx>,
@@ -111,8 +112,8 @@ fn read_beside<'a>(
     }
 }
 
-/// The old library and the new one, of these bytes. The fault of the old one goes before that of the new one, whatever a rule file
-/// says.
+/// Reads the old and the new library. A fault of the old one is reported before one of the new one; a rule file makes no
+/// difference.
 pub fn read_pair<'a>(alloc: Global, old: &'a [u8], new: &'a [u8]) -> Result<Pair<'a>, Unchecked>
     requires old_short { length old.now ≤ input_limit }
     requires new_short { length new.now ≤ input_limit }
@@ -136,7 +137,7 @@ pub fn read_pair<'a>(alloc: Global, old: &'a [u8], new: &'a [u8]) -> Result<Pair
     })
 }
 
-// The rule file, where both libraries are readable.
+// Reads the rule file, if both libraries are readable.
 fn read_rule_file(alloc: Global, bytes: &[u8]) -> Result<Rules, Unchecked>
     ensures readable { OnOk result (rule_fault bytes.now ≡ None) }
     ensures rules { IfOk result (λ rules. rules ≡ rules_of bytes.now) }
@@ -149,7 +150,7 @@ fn read_rule_file(alloc: Global, bytes: &[u8]) -> Result<Rules, Unchecked>
     }
 }
 
-/// What an empty rule file says. It fails only when memory runs out.
+/// The contents of an empty rule file. It fails only if memory runs out.
 pub(crate) fn no_rules(alloc: Global) -> Result<Rules, NoMemory>
     ensures { IfOk result (λ rules. rules ≡ rules_of []) }
 {
@@ -161,7 +162,7 @@ pub(crate) fn no_rules(alloc: Global) -> Result<Rules, NoMemory>
     }
 }
 
-// Both libraries and the rule file, in this order.
+// Reads both libraries and the rule file, in this order.
 pub(crate) fn read_inputs<'a>(
     alloc: Global,
     old: &'a [u8],
@@ -187,9 +188,9 @@ pub(crate) fn read_inputs<'a>(
     Ok(Inputs { pair, rules })
 }
 
-/// Whether a new library may replace an old one in all that a rule file does not leave out, by their bytes: yes with the certificate,
-/// or no with the texts that listeners make of every break. The fault of the old library goes before that of the new one, and
-/// that before the one of the rule file.
+/// Whether a new library may replace an old one in all that a rule file does not suppress, given their bytes: yes with the
+/// certificate, or no with the texts that listeners make of every break. A fault is that of the first input that has one, in the
+/// order old, new, rules.
 pub fn check(
     alloc: Global,
     old: &[u8],

@@ -1,4 +1,4 @@
-// The certificate that two certificates for a chain of three libraries compose, by their bytes.
+// The certificate that two certificates for a chain of three libraries compose, given their bytes.
 ghost use Rattle.std.specs.Prelude.{◌≡◌, ◌≤◌, [], None, length, OnOk, IfOk, IfErr};
 ghost use Rattle.abi_base.specs.Limits.{input_limit};
 ghost use Rattle.cert_check.specs.Accepted.{IsAccepted};
@@ -25,10 +25,10 @@ use library_read::copy::copied;
 use library_read::read_library;
 use std::alloc::Global;
 
-// The least bytes that a pair line has, as in `pair 1 1 direct` with its line feed.
+// The fewest bytes in a pair line, as in `pair 1 1 direct` with its line feed.
 const PAIR_ROOM: usize = 16;
 
-/// Three libraries and two certificates, by their bytes.
+/// The bytes of three libraries and two certificates.
 #[derive(Clone, Copy)]
 pub struct ChainFiles<'x> {
     /// The first library.
@@ -43,37 +43,37 @@ pub struct ChainFiles<'x> {
     pub certificate2: &'x [u8],
 }
 
-/// What `compose` says of readable inputs.
+/// What `compose` says about readable inputs.
 #[derive(Drop)]
 pub enum Composed {
     /// The last library may replace the first one. This is the text of the composed certificate.
     Yes(Vec<u8>),
-    /// The first certificate is refused for the first library and the middle one. This is the first condition that it does not meet.
+    /// The first certificate is refused for the first and the middle library. This is the first condition that it does not meet.
     First(Refused),
-    /// The second certificate is refused for the middle library and the last one, where the first is accepted.
+    /// The first certificate is accepted, and the second is refused for the middle and the last library.
     Second(Refused),
-    /// Both certificates are accepted, and this is lost where the middle library is left out.
+    /// Both certificates are accepted, and this is lost if the middle library is skipped.
     Between(Refused),
 }
 
-/// Why `compose` says nothing.
+/// Why `compose` gives no verdict.
 #[derive(Clone, Copy, Debug)]
 pub enum Uncomposed {
     /// The first fault of the first library.
     First(Fault),
-    /// The first fault of the middle library, where the first one has none.
+    /// The first fault of the middle library, if the first one has none.
     Middle(Fault),
-    /// The first fault of the last library, where the others have none.
+    /// The first fault of the last library, if the others have none.
     Last(Fault),
-    /// The first fault of the first certificate, where no library has one.
+    /// The first fault of the first certificate, if no library has one.
     Certificate1(Fault),
-    /// The first fault of the second certificate, where no other input has one.
+    /// The first fault of the second certificate, if no other input has one.
     Certificate2(Fault),
     /// Memory ran out, or the composed certificate is longer than an input may be.
     NoMemory,
 }
 
-/// Three libraries of a chain, whose types look at names in their bytes. The middle one is there for both sides.
+/// Three libraries of a chain. Their types borrow names from the files' bytes. The middle one is held twice, once for each side.
 #[derive(Drop)]
 struct Libraries<'a> {
     first: Library<'a, OldIx>,
@@ -89,7 +89,7 @@ struct Certificates {
     other: Cert,
 }
 
-// The first library.
+// Reads the first library.
 fn read_first<'a>(alloc: Global, files: &ChainFiles<'a>) -> Result<Library<'a, OldIx>, Uncomposed>
     requires { length files.now.first.now ≤ input_limit }
     ensures readable { OnOk result (library_fault files.now.first.now ≡ None) }
@@ -103,7 +103,7 @@ fn read_first<'a>(alloc: Global, files: &ChainFiles<'a>) -> Result<Library<'a, O
     }
 }
 
-// The middle library, where the first one is readable.
+// Reads the middle library, if the first one is readable.
 fn read_middle<'a>(alloc: Global, files: &ChainFiles<'a>) -> Result<Library<'a, NewIx>, Uncomposed>
     requires short { length files.now.middle.now ≤ input_limit }
     requires first { library_fault files.now.first.now ≡ None }
@@ -118,7 +118,7 @@ fn read_middle<'a>(alloc: Global, files: &ChainFiles<'a>) -> Result<Library<'a, 
     }
 }
 
-// The last library, where the others are readable.
+// Reads the last library, if the others are readable.
 fn read_last<'a>(alloc: Global, files: &ChainFiles<'a>) -> Result<Library<'a, NewIx>, Uncomposed>
     requires short { length files.now.last.now ≤ input_limit }
     requires first { library_fault files.now.first.now ≡ None }
@@ -134,7 +134,7 @@ fn read_last<'a>(alloc: Global, files: &ChainFiles<'a>) -> Result<Library<'a, Ne
     }
 }
 
-// The libraries, in their order. The middle one is read once, and copied for its other side.
+// Reads the libraries, in order. The middle one is read once, and copied for its other side.
 fn read_libraries<'a>(alloc: Global, files: &ChainFiles<'a>) -> Result<Libraries<'a>, Uncomposed>
     requires first_short { length files.now.first.now ≤ input_limit }
     requires middle_short { length files.now.middle.now ≤ input_limit }
@@ -170,7 +170,7 @@ fn read_libraries<'a>(alloc: Global, files: &ChainFiles<'a>) -> Result<Libraries
     })
 }
 
-// The first certificate, where the libraries are readable.
+// Reads the first certificate, if the libraries are readable.
 fn read_one(alloc: Global, files: &ChainFiles) -> Result<Cert, Uncomposed>
     requires { AreReadableLibraries (plain_files files.now) }
     ensures readable { OnOk result (certificate_fault files.now.certificate1.now ≡ None) }
@@ -184,7 +184,7 @@ fn read_one(alloc: Global, files: &ChainFiles) -> Result<Cert, Uncomposed>
     }
 }
 
-// The second certificate, where the libraries and the first certificate are readable.
+// Reads the second certificate, if the libraries and the first certificate are readable.
 fn read_other(alloc: Global, files: &ChainFiles) -> Result<Cert, Uncomposed>
     requires libraries { AreReadableLibraries (plain_files files.now) }
     requires one { certificate_fault files.now.certificate1.now ≡ None }
@@ -199,7 +199,7 @@ fn read_other(alloc: Global, files: &ChainFiles) -> Result<Cert, Uncomposed>
     }
 }
 
-// Both certificates, in their order, where the libraries are readable.
+// Reads both certificates, in order, if the libraries are readable.
 fn read_certificates(alloc: Global, files: &ChainFiles) -> Result<Certificates, Uncomposed>
     requires { AreReadableLibraries (plain_files files.now) }
     ensures readable { OnOk result (AreComposable (plain_files files.now)) }
@@ -218,7 +218,8 @@ fn read_certificates(alloc: Global, files: &ChainFiles) -> Result<Certificates, 
     Ok(Certificates { one, other })
 }
 
-// The text of a certificate, where it is no longer than an input may be. One with too many pair lines is not written.
+// The text of a certificate, or `NoMemory` if it is longer than an input may be. A certificate with too many pair lines is not even
+// written.
 fn written(alloc: Global, cert: &Cert) -> Result<Vec<u8>, NoMemory>
     ensures spelled { IfOk result (λ text. IsSpelled text.items cert.now) }
     ensures short { IfOk result (λ text. length text.items ≤ input_limit) }
@@ -233,7 +234,7 @@ fn written(alloc: Global, cert: &Cert) -> Result<Vec<u8>, NoMemory>
     Ok(text)
 }
 
-// What is said of a certificate for two libraries, with an empty rule file.
+// What is said about a certificate for two libraries, with an empty rule file.
 fn settle_unmarked(
     alloc: Global,
     old: &Library<OldIx>,
@@ -246,7 +247,7 @@ fn settle_unmarked(
     settle(alloc, old, new, &rules, cert)
 }
 
-// Certificates that are accepted make a chain of the libraries. It does nothing.
+// States that accepted certificates make a chain of the libraries. The function does nothing.
 fn make_a_chain(libraries: &Libraries, certificates: &Certificates)
     requires { AreAccepted (joint libraries.now.first libraries.now.middle_new libraries.now.last certificates.now.one certificates.now.other) }
     ensures { IsChain (joint libraries.now.first libraries.now.middle_new libraries.now.last certificates.now.one certificates.now.other) }
@@ -262,7 +263,7 @@ fn make_a_chain(libraries: &Libraries, certificates: &Certificates)
     certificates.other.known();
 }
 
-// What is said of two certificates that are accepted.
+// What is said about two accepted certificates.
 fn join_accepted(
     alloc: Global,
     libraries: &Libraries,
@@ -289,7 +290,7 @@ fn join_accepted(
     }
 }
 
-// What is said of two certificates of which the first is accepted.
+// What is said about two certificates, if the first is accepted.
 fn join_second(
     alloc: Global,
     libraries: &Libraries,
@@ -310,7 +311,7 @@ fn join_second(
     }
 }
 
-// What is said of two certificates for libraries that were read. The first one goes before the second.
+// What is said about two certificates for libraries after they are read. A refusal of the first one comes first.
 fn join(
     alloc: Global,
     libraries: &Libraries,
@@ -330,9 +331,10 @@ fn join(
     }
 }
 
-/// The text of the certificate that two certificates compose: from one that a middle library may replace a first one, and one that a
-/// last library may replace the middle one, that the last may replace the first. Else the first refusal: of the first certificate, of
-/// the second one, or of what is lost between them. No rule file leaves anything out. A fault is that of the first input that has one.
+/// Composes the certificate that the last library of a chain may replace the first, from one certificate that the middle library
+/// may replace the first, and one that the last may replace the middle one. Else it returns the first refusal: of the first
+/// certificate, of the second one, or for what is lost between them. There are no suppressions. A fault is that of the first input
+/// that has one.
 pub fn compose(alloc: Global, files: &ChainFiles) -> Result<Composed, Uncomposed>
     requires first_short { length files.now.first.now ≤ input_limit }
     requires middle_short { length files.now.middle.now ≤ input_limit }

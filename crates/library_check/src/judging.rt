@@ -1,4 +1,4 @@
-// What is said of two libraries as they were read.
+// What is said about two libraries after they are read.
 ghost use Rattle.std.specs.Prelude.{◌≡◌, ◌<◌, [], map, All, IfOk};
 ghost use Rattle.cert_check.specs.Compatible.{sides};
 ghost use Rattle.pair_compare.specs.Judged.{IsRight};
@@ -18,16 +18,16 @@ use std::sync::ledger::{Blank, Ledger};
 use suppression_text::Rules;
 use suppressions::marks;
 
-/// What `check` says of two readable libraries, with the text that shows it.
+/// What `check` says about two readable libraries, with the text that shows it.
 #[derive(Drop)]
 pub enum Checked {
     /// The new library may replace the old one. The text is the certificate.
     Yes(Vec<u8>),
-    /// It may not. The text is the report.
+    /// The new library may not replace the old one. The text is the report.
     No(Vec<u8>),
 }
 
-// What a rule file leaves out of the old library.
+// The exports and types of the old library that a rule file suppresses.
 pub(crate) fn marks_by(
     alloc: Global,
     rules: &Rules,
@@ -54,7 +54,7 @@ pub(crate) fn report(
     Ok(text)
 }
 
-/// What the comparison of two libraries tells, with a counter of its own.
+/// The result of comparing two libraries, with a step counter of its own.
 pub(crate) fn compared<L: Ledger>(
     alloc: Global,
     blank: Blank,
@@ -72,8 +72,8 @@ pub(crate) fn compared<L: Ledger>(
     compare(alloc, old, new, marks, &mut steps)
 }
 
-/// What `check` says of two libraries and a rule file that were read: yes with the certificate, or no with the texts that
-/// listeners make of every break. It fails only when memory runs out.
+/// What `check` says about two libraries and a rule file after they are read: yes with the certificate, or no with the texts that
+/// listeners make of every break. It fails only if memory runs out.
 pub fn judge(
     alloc: Global,
     old: &Library<OldIx>,

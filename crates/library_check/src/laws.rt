@@ -1,4 +1,5 @@
-//! What `check`, `app`, `verify`, `migrate` and `compose` come to. Each law is the contract of a function whose body only names the laws below it.
+//! What the answers of `check`, `app`, `verify`, `migrate` and `compose` imply. Each law is the contract of a function that only
+//! cites the laws below it.
 ghost use Rattle.std.specs.Prelude.{◌≡◌, ◌≢◌, ◌≤◌, ◌↔◌, ℕ, List, [], None, length, All};
 ghost use Rattle.abi_base.specs.Limits.{input_limit};
 ghost use Rattle.abi_types.specs.Libraries.{PlainLibrary};
@@ -52,7 +53,7 @@ use suppressions::laws::{
     a_rule_file_marks_equal_labels_alike, rules_without_accessed_through_see_no_way,
 };
 
-/// A readable file may replace itself, whatever a rule file leaves out.
+/// A readable file may replace itself, whatever a rule file suppresses.
 pub fn a_file_may_replace_itself()
     ensures { (bytes rules : List ℕ) → library_fault bytes ≡ None → Compatible bytes bytes rules }
 {
@@ -60,8 +61,8 @@ pub fn a_file_may_replace_itself()
     a_library_may_replace_itself();
 }
 
-/// The certificate of two readable libraries and a readable rule file has one text, and so has the report of listeners whose
-/// texts the rows decide.
+/// The certificate of two readable libraries and a readable rule file has only one text. So has the report, with listeners whose
+/// texts the rows determine.
 pub fn a_check_has_one_text()
     ensures certificate { (old new rules text other : List ℕ) → length old ≤ input_limit → length new ≤ input_limit → AreReadable old new rules
         → IsCertificateText old new rules text → IsCertificateText old new rules other → text ≡ other }
@@ -72,12 +73,12 @@ pub fn a_check_has_one_text()
     nodes_stand_for_what_exports_reach();
 }
 
-/// The rows decide the texts of listeners that are asked for in any style but their own.
+/// The rows determine the texts of the wanted listeners in every style except `Own`.
 pub fn the_rows_decide_the_texts_of_a_style()
     ensures { (wanted : AnyWanted) (voices : List Voice) → wanted ≢ Own → All TellsItsText (wanted_voices wanted voices) }
 {}
 
-/// Of one certificate for the same inputs `verify` says one thing: it accepts none that it refuses, and it refuses for one
+/// `verify` gives one answer on a certificate for the same inputs: it never both accepts and refuses it, and refuses it for one
 /// condition.
 pub fn a_verification_has_one_answer()
     ensures { (old new rules certificate : List ℕ) (one other : Verified) → IsVerified old new rules certificate one → IsVerified old new rules certificate other → one ≡ other }
@@ -86,8 +87,8 @@ pub fn a_verification_has_one_answer()
     one_place_fails_first();
 }
 
-/// What `check` prints on yes is a certificate without a fault that is accepted for the same inputs; and of such a text
-/// `verify` can say nothing else, unless memory runs out.
+/// What `check` prints on yes is a certificate without a fault that is accepted for the same inputs. `verify` can give no other
+/// answer on it, unless memory runs out.
 pub fn what_check_prints_is_accepted()
     ensures readable { (old new rules text : List ℕ) → IsCertificateText old new rules text → certificate_fault text ≡ None }
     ensures accepted { (old new rules text : List ℕ) → IsCertificateText old new rules text → IsAcceptedText old new rules text }
@@ -99,8 +100,8 @@ pub fn what_check_prints_is_accepted()
     a_verification_has_one_answer();
 }
 
-/// A certificate text that is accepted for readable libraries proves that the new one may replace the old one in all that the
-/// rule file does not leave out.
+/// A certificate text that is accepted for readable libraries proves that the new one may replace the old one in all that the rule
+/// file does not suppress.
 pub fn an_accepted_certificate_is_a_proof()
     ensures { (old new rules certificate : List ℕ) → length old ≤ input_limit → length new ≤ input_limit → library_fault old ≡ None → library_fault new ≡ None
         → IsAcceptedText old new rules certificate → Compatible old new rules }
@@ -111,8 +112,8 @@ pub fn an_accepted_certificate_is_a_proof()
     a_rule_file_marks_equal_labels_alike();
 }
 
-/// Such a text, which both a yes of `check` and an accepted certificate are, tells a relation that proves it: it is closed under
-/// the rules of types, and holds the types of all exports that are compared.
+/// Such a text, whether `check` printed it or `verify` accepted it, shows a relation that proves the yes: it is closed under the
+/// rules of types, and holds the types of all compared exports.
 pub fn an_accepted_certificate_tells_such_a_relation()
     ensures { (old new rules certificate : List ℕ) → length old ≤ input_limit → length new ≤ input_limit → library_fault old ≡ None → library_fault new ≡ None
         → IsAcceptedText old new rules certificate → IsRelationText old new rules certificate }
@@ -122,7 +123,7 @@ pub fn an_accepted_certificate_tells_such_a_relation()
     a_rule_file_marks_equal_labels_alike();
 }
 
-/// Where a rule file has no `accessed_through`, a certificate of version 1 that is accepted is accepted once it is migrated.
+/// If a rule file has no `accessed_through`, an accepted certificate of version 1 is also accepted after it is migrated.
 pub fn a_certificate_may_be_migrated_without_accessed_through()
     ensures { (old new rules : List ℕ) (certificate : PlainCert1) → HasNoWays (rules_of rules) → IsAccepted1 (sides_of old new rules) certificate
         → IsAccepted (migrated_case (sides_of old new rules) certificate) }
@@ -131,7 +132,7 @@ pub fn a_certificate_may_be_migrated_without_accessed_through()
     rules_without_accessed_through_see_no_way();
 }
 
-/// The text of such a certificate is not refused by `migrate`.
+/// `migrate` does not refuse the text of such a certificate.
 pub fn what_was_accepted_is_migrated()
     ensures { (old new rules certificate : List ℕ) (cert : PlainCert1) (refusal : Refused) → HasNoWays (rules_of rules) → IsSpelled1 certificate cert
         → IsAccepted1 (sides_of old new rules) cert → IsRefusedMigration old new rules certificate refusal → ⊥ }
@@ -148,8 +149,8 @@ pub fn what_is_migrated_is_accepted()
     what_is_spelled_has_no_fault();
 }
 
-/// Of one certificate of version 1 for the same inputs `migrate` says one thing: it prints one text, or refuses for one condition,
-/// and never both.
+/// `migrate` gives one answer on a certificate of version 1 for the same inputs: it prints one text, or refuses for one condition,
+/// never both.
 pub fn a_migration_has_one_answer()
     ensures answer { (old new rules certificate : List ℕ) (one other : Migrated) → IsMigrated old new rules certificate one → IsMigrated old new rules certificate other → SameMigrated one other }
     ensures text { (old new rules certificate text other : List ℕ) → IsMigratedText old new rules certificate text → IsMigratedText old new rules certificate other → text ≡ other }
@@ -160,8 +161,8 @@ pub fn a_migration_has_one_answer()
     one_place_fails_first();
 }
 
-/// Of two certificates for the same three libraries `compose` says one thing: it prints one text, or refuses the first certificate
-/// or the second for one condition, or tells one thing that is lost between them.
+/// `compose` gives one answer on two certificates for the same three libraries: it prints one text, or refuses the first or the
+/// second certificate for one condition, or names one loss between them.
 pub fn a_composition_has_one_answer()
     ensures answer { (p : PlainFiles) (one other : Composed) → IsComposition p one → IsComposition p other → SameComposed one other }
     ensures text { (p : PlainFiles) (text other : List ℕ) → IsComposedText p text → IsComposedText p other → text ≡ other }
@@ -172,8 +173,8 @@ pub fn a_composition_has_one_answer()
     one_thing_is_lost_first();
 }
 
-/// What `compose` prints is a certificate without a fault that is accepted for the first library and the last, with an empty rule
-/// file, and no longer than an input may be: so `verify` accepts it.
+/// What `compose` prints is a certificate without a fault that is accepted for the first and the last library, with an empty rule
+/// file, and is no longer than an input may be. So `verify` accepts it.
 pub fn what_is_composed_is_accepted()
     ensures readable { (p : PlainFiles) (text : List ℕ) → IsComposedText p text → certificate_fault text ≡ None }
     ensures accepted { (p : PlainFiles) (text : List ℕ) → IsComposedText p text → IsAcceptedText p.first p.last [] text }
@@ -182,10 +183,10 @@ pub fn what_is_composed_is_accepted()
     what_is_spelled_has_no_fault();
 }
 
-/// A new library may replace an old one exactly where a program compiled against the old one finds the same in the new one; and it may
-/// for one application exactly where the application finds the same. Then, where it may for all, each
-/// leaf of what an open access lands on stays where it is, if it lies under no place that is marked at its way and under none that is
-/// declared only in the new library.
+/// A new library may replace an old one exactly if a program compiled against the old one finds the same in the new one; and it may
+/// for one application exactly if the application finds the same. If it may for all programs, each leaf on which an open access
+/// lands stays at its offset, unless it lies under a place that is marked at its way, or under one that is declared only in the new
+/// library.
 pub fn compatible_is_that_accesses_agree()
     ensures exact { (old new rules : List ℕ) → length old ≤ input_limit → length new ≤ input_limit → library_fault old ≡ None → library_fault new ≡ None
         → Compatible old new rules ↔ Agreed old new rules }
@@ -199,7 +200,7 @@ pub fn compatible_is_that_accesses_agree()
     readable_files_are_libraries();
 }
 
-/// Of one application, two libraries and a rule file `app` says one thing, in one text, where the rows decide the texts of the
+/// `app` gives one answer, in one text, on an application, two libraries and a rule file, if the rows determine the texts of the
 /// listeners.
 pub fn an_application_has_one_answer()
     ensures report { (voices : List Voice) (app old new rules text other : List ℕ) → All TellsItsText voices → length old ≤ input_limit → length new ≤ input_limit → library_fault old ≡ None → library_fault new ≡ None
@@ -211,8 +212,8 @@ pub fn an_application_has_one_answer()
     nodes_stand_for_what_exports_reach();
 }
 
-/// Two applications whose imports ask for the same, by name, version and file, use the same exports of any library: what is compared
-/// for both is the same, and so are the answer and its text.
+/// Two applications whose imports require the same names, versions and files use the same exports of any library. So the same is
+/// compared for both, and they have the same answer and text.
 pub fn applications_that_import_the_same_are_judged_alike()
     ensures sides { (app other old new rules : List ℕ) → ImportTheSame app other → sides_for app old new rules ≡ sides_for other old new rules }
     ensures answer { (voices : List Voice) (app other old new rules : List ℕ) (said told : AppJudged) → All TellsItsText voices → length old ≤ input_limit → length new ≤ input_limit → library_fault old ≡ None → library_fault new ≡ None
@@ -222,7 +223,7 @@ pub fn applications_that_import_the_same_are_judged_alike()
     nodes_stand_for_what_exports_reach();
 }
 
-/// A new library that may replace an old one may for each application, since no more is compared: `app` says yes.
+/// A new library that may replace an old one may do so for each application, since no more is compared: `app` says yes.
 pub fn what_may_replace_may_for_each_application()
     ensures compatible { (app old new rules : List ℕ) → Compatible old new rules → IsCompatibleFor app old new rules }
     ensures yes { (voices : List Voice) (app old new rules : List ℕ) (said : AppJudged) → Compatible old new rules → IsAppJudged voices app old new rules said → IsYes said }
@@ -230,7 +231,7 @@ pub fn what_may_replace_may_for_each_application()
     roots_are_typed_pairs();
 }
 
-/// An empty rule file is readable, and leaves nothing out.
+/// An empty rule file is readable, and suppresses nothing.
 pub fn no_rules_are_readable()
     ensures readable { rule_fault [] ≡ None }
     ensures unmarked { (old : PlainLibrary) → marks_of (rules_of []) old ≡ no_marks old }

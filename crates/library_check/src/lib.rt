@@ -1,7 +1,7 @@
-//! What `abi check` says of the bytes of two libraries and of a rule file: whether the new library may replace the old one, with
-//! the text that shows it; and `abi app`, whether it may for one application. And what `abi verify` says of the text of a certificate
-//! for them, `abi migrate` of one of version 1, and `abi compose` of two certificates of a chain of three libraries. What they promise
-//! stands in `specs/Checks.antt`, `specs/Applications.antt`, `specs/Verifications.antt`, `specs/Relations.antt`,
+//! The commands on the bytes of libraries, rule files and certificates. `abi check` says whether a new library may replace an old
+//! one, and `abi app` whether it may for one application, each with the text that shows it. `abi verify` checks a certificate,
+//! `abi migrate` converts one of version 1, and `abi compose` joins two certificates of a chain of three libraries. Their promises
+//! are in `specs/Checks.antt`, `specs/Applications.antt`, `specs/Verifications.antt`, `specs/Relations.antt`,
 //! `specs/Migrations.antt` and `specs/Compositions.antt`.
 #![tactic(auto)]
 

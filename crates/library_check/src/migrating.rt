@@ -1,4 +1,4 @@
-// The certificate of version 2 that says what one of version 1 says, where it proves that a new library may replace an old one, by
+// Migrates a certificate of version 1 to version 2, if the migrated one proves that a new library may replace an old one, given
 // their bytes and those of a rule file.
 ghost use Rattle.std.specs.Prelude.{◌≡◌, ◌≤◌, ℕ, List, None, length, OnOk, IfOk, IfErr};
 ghost use Rattle.abi_base.specs.Limits.{input_limit};
@@ -16,16 +16,17 @@ use cert_text::{Cert1, read_cert_1, write_cert};
 use std::alloc::Global;
 use suppression_text::Rules;
 
-/// What `migrate` says of a readable certificate of version 1.
+/// What `migrate` says about a readable certificate of version 1.
 #[derive(Drop)]
 pub enum Migrated {
     /// The migrated certificate proves that the new library may replace the old one. This is its text.
     Done(Vec<u8>),
-    /// It does not, and this is the first condition that it does not meet. Lines are those of its text.
+    /// The migrated certificate does not prove it. This is the first condition that it does not meet; line numbers are those of the
+    /// migrated text.
     Refused(Refused),
 }
 
-// The certificate of version 1, where all other inputs are readable.
+// Reads the certificate of version 1, if all other inputs are readable.
 fn read_old_certificate(alloc: Global, bytes: &[u8]) -> Result<Cert1, Unverified>
     ensures readable { OnOk result (old_certificate_fault bytes.now ≡ None) }
     ensures spelled { IfOk result (λ cert. IsSpelled1 bytes.now cert) }
@@ -38,7 +39,7 @@ fn read_old_certificate(alloc: Global, bytes: &[u8]) -> Result<Cert1, Unverified
     }
 }
 
-// What is said of a certificate of version 1 for two libraries and a rule file that were read.
+// What is said about a certificate of version 1 for two libraries and a rule file after they are read.
 fn settle_migrated(
     alloc: Global,
     old: &Library<OldIx>,
@@ -55,9 +56,9 @@ fn settle_migrated(
     }
 }
 
-/// The text of the certificate of version 2 that says what a certificate of version 1 says, where it proves that a new library may
-/// replace an old one in all that a rule file does not leave out, by their bytes. A fault is that of the first input that has one, in the
-/// order old, new, rules, certificate.
+/// Migrates a certificate of version 1: returns the text of the certificate of version 2 with the same meaning, if that proves that
+/// a new library may replace an old one in all that a rule file does not suppress, given their bytes. A fault is that of the first
+/// input that has one, in the order old, new, rules, certificate.
 pub fn migrate(
     alloc: Global,
     old: &[u8],

@@ -1,4 +1,4 @@
-// What people want to know beside the answer: how many exports were compared without types.
+// Remarks beside the answer: how many exports were compared without types.
 ghost use Rattle.std.specs.Prelude.{◌≡◌, count_by};
 ghost use Rattle.abi_types.specs.Plain.{plain_exports};
 ghost use Rattle.library_check.specs.Remarks.{has_size, has_size_alone, remark_of, sized_exports};
@@ -6,7 +6,7 @@ ghost use Rattle.library_check.specs.Remarks.{has_size, has_size_alone, remark_o
 use abi_base::{Remark, SizedExports};
 use abi_types::{Export, Library, NewIx, OldIx};
 
-// How many exports have a size.
+// The number of exports with a size.
 #[tactic(auto, using(crate::proofs::RemarkLemmas::counted_plain))]
 fn count_sized(exports: &[Export]) -> usize
     ensures { result ≡ count_by has_size (plain_exports exports.now) }
@@ -14,7 +14,7 @@ fn count_sized(exports: &[Export]) -> usize
     exports.iter().filter(|export| export.size > 0).count()
 }
 
-// How many exports have a size, but no type.
+// The number of exports with a size, but without a type.
 #[tactic(auto, using(crate::proofs::RemarkLemmas::counted_plain))]
 fn count_untyped(exports: &[Export]) -> usize
     ensures { result ≡ count_by has_size_alone (plain_exports exports.now) }
@@ -25,7 +25,7 @@ fn count_untyped(exports: &[Export]) -> usize
         .count()
 }
 
-// The exports of a library that have a size, and those of them that have no type.
+// The number of exports of a library with a size, and the number of those without a type.
 fn sized(exports: &[Export]) -> SizedExports
     ensures { result ≡ sized_exports (plain_exports exports.now) }
 {
@@ -35,7 +35,7 @@ fn sized(exports: &[Export]) -> SizedExports
     }
 }
 
-/// What is to be known of two libraries beside an answer.
+/// The remark on two libraries.
 pub(crate) fn remark(old: &Library<OldIx>, new: &Library<NewIx>) -> Remark
     ensures { result ≡ remark_of old.now new.now }
 {

@@ -1,4 +1,4 @@
-// Whether the text of a certificate proves that a new library may replace an old one, by their bytes and those of a rule file.
+// Whether a certificate proves that a new library may replace an old one, given their bytes and those of a rule file.
 ghost use Rattle.std.specs.Prelude.{◌≡◌, ◌≤◌, ℕ, List, None, length, OnOk, IfOk, IfErr};
 ghost use Rattle.abi_base.specs.Limits.{input_limit};
 ghost use Rattle.cert_text.specs.Grammar.{IsSpelled};
@@ -19,31 +19,31 @@ use cert_text::{Cert, read_cert};
 use std::alloc::Global;
 use suppression_text::Rules;
 
-/// What `verify` says of a readable certificate.
+/// What `verify` says about a readable certificate.
 #[derive(Clone, Copy, Debug)]
 pub enum Verified {
-    /// It proves that the new library may replace the old one.
+    /// The certificate proves that the new library may replace the old one.
     Accepted,
-    /// It does not, and this is the first condition that it does not meet.
+    /// The certificate does not prove it. This is the first condition that it does not meet.
     Refused(Refused),
 }
 
-/// Why `verify` says nothing.
+/// Why `verify` gives no verdict.
 #[derive(Clone, Copy, Debug)]
 pub enum Unverified {
     /// The first fault of the old library.
     Old(Fault),
-    /// The first fault of the new library, where the old one has none.
+    /// The first fault of the new library, if the old one has none.
     New(Fault),
-    /// The first fault of the rule file, where neither library has one.
+    /// The first fault of the rule file, if neither library has one.
     Rules(Fault),
-    /// The first fault of the certificate, where no other input has one.
+    /// The first fault of the certificate, if no other input has one.
     Certificate(Fault),
     /// Memory ran out.
     NoMemory,
 }
 
-/// What `verify` and `migrate` say where one of the inputs that they have in common with `check` is not read.
+/// Why `verify` and `migrate` give no verdict, if an input that they share with `check` is not readable.
 pub(crate) fn of_inputs(unread: Unchecked) -> Unverified
     ensures unverified { (old new rules certificate : List ℕ) → IsUnchecked old new rules unread → IsUnverified old new rules certificate result }
     ensures unmigrated { (old new rules certificate : List ℕ) → IsUnchecked old new rules unread → IsUnmigrated old new rules certificate result }
@@ -56,7 +56,7 @@ pub(crate) fn of_inputs(unread: Unchecked) -> Unverified
     }
 }
 
-// The certificate, where all other inputs are readable.
+// Reads the certificate, if all other inputs are readable.
 fn read_certificate(alloc: Global, bytes: &[u8]) -> Result<Cert, Unverified>
     ensures readable { OnOk result (certificate_fault bytes.now ≡ None) }
     ensures spelled { IfOk result (λ cert. IsSpelled bytes.now cert) }
@@ -69,7 +69,7 @@ fn read_certificate(alloc: Global, bytes: &[u8]) -> Result<Cert, Unverified>
     }
 }
 
-/// What is said of a certificate for two libraries and a rule file that were read.
+/// What is said about a certificate for two libraries and a rule file after they are read.
 pub(crate) fn settle(
     alloc: Global,
     old: &Library<OldIx>,
@@ -90,8 +90,8 @@ pub(crate) fn settle(
     }
 }
 
-/// Whether the text of a certificate proves that a new library may replace an old one in all that a rule file does not leave
-/// out, by their bytes. A fault is that of the first input that has one, in the order old, new, rules, certificate.
+/// Whether a certificate proves that a new library may replace an old one in all that a rule file does not suppress, given their
+/// bytes. A fault is that of the first input that has one, in the order old, new, rules, certificate.
 pub fn verify(
     alloc: Global,
     old: &[u8],

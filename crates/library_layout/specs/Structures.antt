@@ -1,4 +1,4 @@
--- The layout of a structure of a graph, and the structures of a graph by their tags.
+-- The layout of a structure in a graph, and the structures of a graph by tag.
 use Rattle.std.specs.Prelude.{◌≡◌, ◌≢◌, ◌<◌, ◌&&◌, ℕ, Bool, true, List, length, All, Contains}
 use Rattle.std.specs.List.{AllPairs}
 use Rattle.std.specs.Str.{bytes_eq}
@@ -11,7 +11,7 @@ use Rattle.type_print.specs.Texts.{layout_text}
 use Rattle.library_layout.specs.declared.layouts.Layout.{Layout}
 use Rattle.library_layout.specs.declared.layouts.Layout.TheVariants.{Lines, NoTag}
 
--- the text is that of the layout of the defined structure with the tag that has the earliest entry
+-- the text is that of the layout of the structure with a definition, the tag and the earliest entry
 pub record IsLayoutIn (nodes : List PlainNode) (tag text : List ℕ) : Type 0 where
   pub number : ℕ
   pub tagged : IsFirstTagged nodes tag number
@@ -24,8 +24,8 @@ abbrev pub IsLaidIn : List PlainNode → List ℕ → Layout → Type 0
 IsLaidIn nodes tag (Lines text) = IsLayoutIn nodes tag text.items
 IsLaidIn nodes tag NoTag = IsUntagged nodes tag
 
--- The text is that of rows of the structure. Where none of them is an overlap or a member that ends outside, each bit below the size
--- lies in exactly one row, and no row reaches past the size; where members overlap or one ends outside, there is such a row.
+-- The text is that of the rows of the structure. If none of them is an overlap or a member that ends outside, each bit below the
+-- size is in exactly one row, and no row reaches past the size. If members overlap or one ends outside, there is a row for it.
 pub record IsCoverIn (nodes : List PlainNode) (tag text : List ℕ) : Type 0 where
   pub number : ℕ
   pub tagged : IsFirstTagged nodes tag number
@@ -36,28 +36,28 @@ pub record IsCoverIn (nodes : List PlainNode) (tag text : List ℕ) : Type 0 whe
 
 -- ---- tags
 
--- a structure that is defined has the tag
+-- a structure with a definition has the tag
 pub record IsTagIn (nodes : List PlainNode) (tag : List ℕ) : Type 0 where
   pub number : ℕ
   pub inside : number < length nodes
   pub tagged : has_layout (view_at nodes number) tag ≡ true
 
--- the type is a structure that is declared only, and has the tag
+-- the type is a structure with this tag and without a definition
 abbrev pub is_declaration : PlainView → List ℕ → Bool
 is_declaration v tag = is_structure v.kind && v.declared_only && bytes_eq v.tag tag
 
--- a structure that is declared only has the tag
+-- a structure without a definition has the tag
 pub record IsDeclaredIn (nodes : List PlainNode) (tag : List ℕ) : Type 0 where
   pub number : ℕ
   pub inside : number < length nodes
   pub declared : is_declaration (view_at nodes number) tag ≡ true
 
--- a structure that is defined has the tag, and it is none of these
+-- a structure with a definition has the tag, which is none of these
 pub record IsNewTagIn (nodes : List PlainNode) (tags : List (List ℕ)) (tag : List ℕ) : Type 0 where
   pub there : IsTagIn nodes tag
   pub new : ¬ Contains tags tag
 
--- structures that are defined have the tags, and no two of these are the same
+-- structures with definitions have the tags, and no two of these are the same
 pub record AreTagsIn (nodes : List PlainNode) (tags : List (List ℕ)) : Type 0 where
   pub there : All (IsTagIn nodes) tags
   pub apart : AllPairs (λ a b. a ≢ b) tags

@@ -1,4 +1,4 @@
-// The layout of a structure of a graph.
+// The layout of a structure in a graph.
 ghost use Rattle.std.specs.Prelude.{◌≡◌, ◌<◌, ◌↔◌, length, IfOk, IsTrue};
 ghost use Rattle.type_print.specs.Structures.{IsFirstTagged};
 ghost use Rattle.type_print.specs.Structures as structures_spec;
@@ -10,16 +10,16 @@ use abi_types::{Graph, Index, Kind, View};
 use std::alloc::Global;
 use type_print::{find_tag, layout, layout_lines};
 
-/// What `layout` says of a readable library.
+/// The answer of `layout` for a readable library.
 #[derive(Drop)]
 pub enum Layout {
     /// The lines of the layout of the structure with the tag.
     Lines(Vec<u8>),
-    /// The exports of the library reach no structure that is defined and has the tag.
+    /// The exports of the library reach no structure with a definition and this tag.
     NoTag,
 }
 
-// The lines of the layout of the structure of a node.
+// The lines of the layout of a node's structure.
 fn lines_at<Ix: Index>(
     alloc: Global,
     graph: &Graph<Ix>,
@@ -34,7 +34,7 @@ fn lines_at<Ix: Index>(
     Ok(text.into_bytes())
 }
 
-/// The layout of the structure of a graph that has the tag.
+/// The layout of the structure with the tag in a graph.
 pub(crate) fn laid_in<Ix: Index>(
     alloc: Global,
     graph: &Graph<Ix>,
@@ -61,14 +61,14 @@ pub(crate) fn is_structure(kind: Kind) -> bool
     }
 }
 
-// Whether the type is a structure that is declared only, and has the tag.
+// Whether the type is a structure with this tag and without a definition.
 fn is_declaration<Ix: Index>(view: &View<Ix>, tag: &[u8]) -> bool
     ensures { result ≡ structures.is_declaration view.now tag.now }
 {
     is_structure(view.kind) && view.declared_only && view.tag == tag
 }
 
-/// Whether a structure of a graph that is declared only has the tag.
+/// Whether a graph has a structure with this tag and without a definition.
 pub(crate) fn is_declared<Ix: Index>(graph: &Graph<Ix>, tag: &[u8]) -> bool
     ensures { IsTrue result ↔ IsDeclaredIn graph.now tag.now }
 {

@@ -1,6 +1,6 @@
-//! What `abi layout` says of the bytes of a library and of a tag: the lines of the layout of the structure with this tag. What it
-//! promises stands in `specs/Layouts.antt` and `specs/Covers.antt`. Where no structure has the tag, `near_tags` says which tags are
-//! near it.
+//! The answer of `abi layout` for the bytes of a library and a tag: the lines of the layout of the structure with this tag. Its
+//! promises are in `specs/Layouts.antt` and `specs/Covers.antt`. Where no structure has the tag, `near_tags` answers which tags are
+//! similar.
 #![tactic(auto)]
 
 pub mod laws;

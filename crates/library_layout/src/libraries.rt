@@ -1,4 +1,4 @@
-// The layout of a structure of a library, by the library's bytes.
+// The layout of a structure in a library, from the library's bytes.
 ghost use Rattle.std.specs.Prelude.{◌≡◌, ◌≤◌, ◌↔◌, length, None, OnOk, IfOk, IfErr, IsTrue, map};
 ghost use Rattle.abi_base.specs.Limits.{input_limit};
 ghost use Rattle.library_read.specs.Faults.{library_fault};
@@ -15,7 +15,7 @@ use abi_types::{Library, OldIx};
 use library_read::read_library;
 use std::alloc::Global;
 
-/// Why `layout` says nothing.
+/// Why there is no answer.
 #[derive(Clone, Copy, Debug)]
 pub enum NoLayout {
     /// The first fault of the library.
@@ -24,16 +24,16 @@ pub enum NoLayout {
     NoMemory,
 }
 
-/// What people want to know of a tag that no structure has which is defined.
+/// Help for a tag that no structure with a definition has.
 #[derive(Drop)]
 pub struct NearTags<'a> {
-    /// Whether a structure with the tag is declared.
+    /// Whether a structure with this tag is declared.
     pub is_declared: bool,
-    /// Tags of other structures, the nearest one first.
+    /// Tags of other structures, the most similar one first.
     pub tags: Vec<&'a [u8]>,
 }
 
-// The library that a file is.
+// Reads the library in a file.
 fn read(alloc: Global, bytes: &[u8]) -> Result<Library<'_, OldIx>, NoLayout>
     requires { length bytes.now ≤ input_limit }
     ensures readable { OnOk result (library_fault bytes.now ≡ None) }
@@ -47,10 +47,9 @@ fn read(alloc: Global, bytes: &[u8]) -> Result<Library<'_, OldIx>, NoLayout>
     }
 }
 
-/// The layout of the structure with a tag that the exports of a library reach: its members, and, where none overlap and none ends
-/// outside, the holes between them and the padding behind them; else the overlaps and the members that end outside. Where
-/// several structures have the tag, the layout is that of the one that the earliest entry defines. It fails where the library is
-/// unreadable or memory runs out.
+/// The layout of the structure with a tag that the exports of the library reach: its members and, if none overlap and none ends
+/// outside, the holes between them and the padding after them; otherwise the overlaps and the members that end outside. If several
+/// structures have the tag, the one with the earliest entry counts. Err means that the library is unreadable or memory ran out.
 pub fn layout_of(alloc: Global, library: &[u8], tag: &str) -> Result<Layout, NoLayout>
     requires short { length library.now ≤ input_limit }
     ensures readable { OnOk result (library_fault library.now ≡ None) }
@@ -69,9 +68,9 @@ pub fn layout_of(alloc: Global, library: &[u8], tag: &str) -> Result<Layout, NoL
     }
 }
 
-/// What is near a tag that `layout_of` finds no structure for: up to five tags of structures that the exports of the library reach
-/// and that are defined, the nearest one first, and whether a structure with the tag is declared. Tags are compared by their first
-/// 64 bytes; it fails as `layout_of` does.
+/// Tags similar to one for which `layout_of` finds no structure: up to five tags of structures with a definition that the exports
+/// of the library reach, the most similar one first, and whether a structure with the given tag is declared. Only the first 64
+/// bytes of tags are compared. Fails as `layout_of` does.
 pub fn near_tags<'a>(alloc: Global, library: &'a [u8], tag: &str) -> Result<NearTags<'a>, NoLayout>
     requires short { length library.now ≤ input_limit }
     ensures readable { OnOk result (library_fault library.now ≡ None) }

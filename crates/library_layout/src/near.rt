@@ -1,4 +1,4 @@
-// The tags of a graph that are near another one.
+// Tags in a graph that are similar to a given one.
 ghost use Rattle.std.specs.Prelude.{◌≡◌, ◌<◌, ◌≤◌, ◌⊎◌, true, false, length, map, IfOk, IfSome, IsTrue};
 ghost use Rattle.std.specs.List.{list_any};
 ghost use Rattle.std.specs.Str.{bytes_eq};
@@ -11,13 +11,13 @@ use abi_types::{Graph, Index, View};
 use std::alloc::Global;
 use strsim::generic_levenshtein;
 
-// How many tags are said at most.
+// The most tags to suggest.
 const MOST_TAGS: usize = 5;
 
-// How many bytes of a tag are compared, so that long tags take no longer.
+// How many bytes of each tag are compared. The limit keeps long tags from taking long.
 const COMPARED: usize = 64;
 
-// A tag, and how many edits lead from it to another one.
+// A tag, with its edit distance from another one.
 #[derive(Clone, Copy)]
 struct Near<'a> {
     tag: &'a [u8],
@@ -29,7 +29,7 @@ fn start_of(tag: &[u8]) -> &[u8] {
     tag.get(..COMPARED).unwrap_or(tag)
 }
 
-// How many edits of bytes lead from one tag to another, by their first bytes.
+// The edit distance between two tags, in bytes, over their first bytes.
 fn edits_between(alloc: Global, from: &[u8], to: &[u8]) -> Result<usize, NoMemory> {
     let edits = generic_levenshtein(alloc, start_of(from), start_of(to))?;
     Ok(edits)
@@ -42,14 +42,15 @@ fn is_among(tags: &[&[u8]], tag: &[u8]) -> bool
     tags.iter().any(|one| *one == tag)
 }
 
-// Whether the type is a structure that is defined and has a tag.
+// Whether the type is a structure with a definition and a tag.
 fn is_tagged<Ix: Index>(view: &View<Ix>) -> bool
     ensures { IsTrue result → has_layout view.now view.now.tag ≡ true }
 {
     is_structure(view.kind) && !view.declared_only && !view.tag.is_empty()
 }
 
-// The tag of a type, with the edits from it to another one, where a structure is defined with it and it is none of these.
+// The tag of a type with its edit distance from another one, if the type is a structure with a definition and its tag is none of
+// these.
 fn near_of<'a, Ix: Index>(
     alloc: Global,
     view: &View<'a, Ix>,
@@ -69,7 +70,7 @@ fn near_of<'a, Ix: Index>(
     }))
 }
 
-// The nearer one, or the first one where both are as near.
+// The nearer of two tags, or the first one where both are equally near.
 fn nearer<'a>(first: Option<Near<'a>>, second: Option<Near<'a>>) -> Option<Near<'a>>
     ensures { (result ≡ first.entry) ⊎ (result ≡ second.entry) }
 {
@@ -86,7 +87,7 @@ fn nearer<'a>(first: Option<Near<'a>>, second: Option<Near<'a>>) -> Option<Near<
     }
 }
 
-// Of the tags of a graph that are none of these, the one that is nearest to a tag.
+// The nearest tag in a graph that is none of these.
 fn nearest<'a, Ix: Index>(
     alloc: Global,
     graph: &Graph<'a, Ix>,
@@ -106,7 +107,7 @@ fn nearest<'a, Ix: Index>(
     }
 }
 
-/// The tags of a graph that are nearest to a tag, the nearest one first: those of structures that are defined, each once.
+/// The nearest tags in a graph, the nearest one first: those of structures with a definition, each once.
 pub(crate) fn near_in<'a, Ix: Index>(
     alloc: Global,
     graph: &Graph<'a, Ix>,

@@ -1,4 +1,4 @@
-//! What `abi entries` and `abi exports` print: a line for each debugging information entry, or for each export.
+//! The output of `abi entries` and `abi exports`: a line for each debugging information entry, or for each export.
 #![tactic(auto)]
 
 pub mod entries;

@@ -1,4 +1,4 @@
--- Two libraries and marks, and what exports bind to.
+-- Two libraries with marks, and what the exports bind to.
 use Rattle.std.specs.Prelude.{◌≡◌, ℕ, slice_get, slice_index_or, option_and_then, Option, None}
 use Rattle.abi_types.specs.Exports.{PlainExport}
 use Rattle.elf_bind.specs.Binding.{bind_each}
@@ -12,6 +12,6 @@ sides_of g = sides g.old.now g.new.now g.marks.now
 pub record IsBinding (g : BoundPair) : Type 0 where
   pub is : g.bound.now ≡ bind_each g.old.now.exports g.new.now.exports
 
--- the new export at the place that is said for the old one at a position
+-- the new export to which the old one at a position binds
 abbrev pub partner : BoundPair → ℕ → Option PlainExport
 partner g k = option_and_then (slice_get g.new.now.exports) (slice_index_or g.bound.now k None)

@@ -1,4 +1,4 @@
--- What is explored of two libraries.
+-- The input of an exploration of two libraries.
 use Rattle.std.specs.Prelude.{◌*◌, ℕ, length}
 use Rattle.type_classes.specs.Classes.{PlainClasses}
 use Rattle.pair_explorer.specs.Scopes.{Scope}

@@ -1,4 +1,4 @@
--- When what the comparison of two libraries tells is right.
+-- When the result of a comparison of two libraries is right.
 use Rattle.std.specs.Prelude.{◌≡◌, List, []}
 use Rattle.report.specs.declared.row.Row.{Row}
 use Rattle.cert_text.specs.Certs.{PlainCert}
@@ -9,13 +9,13 @@ use Rattle.pair_compare.specs.reports.Reports.{IsRightReport}
 use Rattle.pair_compare.specs.declared.comparing.Comparison.{Comparison}
 use Rattle.pair_compare.specs.declared.comparing.Comparison.TheVariants.{Compatible, Broken}
 
--- The new library may replace the old one. The certificate is the one of these two, and it is accepted.
+-- The new library may replace the old one. The certificate is the one of these two libraries, and it is accepted.
 pub record IsProved (s : Sides) (cert : PlainCert) : Type 0 where
   pub compatible : IsCompatible s
   pub certificate : IsCertificateOf s cert
   pub accepted : IsAccepted (record { sides = s; cert = cert })
 
--- It may not. The rows are the right report on these two, and there is one.
+-- The new library may not replace the old one. The rows are the right report on these two libraries, and there is at least one row.
 pub record IsRefuted (s : Sides) (rows : List Row) : Type 0 where
   pub incompatible : IsCompatible s → ⊥
   pub report : IsRightReport s rows

@@ -20,18 +20,18 @@ use std::alloc::Global;
 use std::sync::ledger::Ledger;
 use type_classes::{alike, alike_beside};
 
-/// What the comparison of two libraries tells.
+/// The result of comparing two libraries.
 #[derive(Drop)]
 pub enum Comparison {
-    /// The new library may replace the old one, and this certificate proves it.
+    /// The new library may replace the old one; this certificate proves it.
     Compatible(Cert),
-    /// It may not, and these are the rows of the report: all that is broken.
+    /// The new library may not replace the old one; these are the rows of the report, one for each break.
     Broken(List<Row>),
 }
 
-/// Whether the new library may replace the old one in all that is not marked: the certificate where it may, else
-/// the rows of the report. `unmarked` marks nothing. Each comparison of two types is a step, and there are no more of them than
-/// pairs of an old and a new type at two ways, also where memory runs out.
+/// Whether the new library may replace the old one in all that is unmarked: the certificate if it may, else the rows of the report.
+/// Pass `unmarked` to mark nothing. Each comparison of two types is a step; even where memory runs out, there are at most as many
+/// steps as pairs of an old and a new type at two ways.
 pub fn compare<L: Ledger>(
     alloc: Global,
     old: &Library<OldIx>,

@@ -8,7 +8,7 @@ use abi_types::{Library, Marks, OldIx};
 use sha2::{Digest, Sha256};
 use std::alloc::Global;
 
-// So many flags that are not set.
+// A list of so many cleared flags.
 fn no_flags(alloc: Global, count: usize) -> Result<List<bool>, NoMemory>
     ensures { IfOk result (λ flags. flags ≡ replicate count false) }
 {

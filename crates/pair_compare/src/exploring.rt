@@ -17,8 +17,7 @@ use std::alloc::Global;
 use std::sync::ledger::Ledger;
 use type_classes::Classes;
 
-/// All pairs of types to which the exports lead that are compared, and the rules that they break. It takes at most one step for
-/// each of them.
+/// All pairs of types to which the compared exports lead, and the rules that they break. It takes at most one step for each pair.
 pub fn explore_types<L: Ledger>(
     alloc: Global,
     pair: &BoundPair,

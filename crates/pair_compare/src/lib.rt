@@ -1,5 +1,4 @@
-//! Whether a new library may replace an old one: with a certificate where it may, and with the rows of a report
-//! where it may not.
+//! Whether a new library may replace an old one: the result is a certificate if it may, and the rows of a report if not.
 #![tactic(auto)]
 
 mod bound_pair;

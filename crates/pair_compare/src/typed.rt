@@ -11,7 +11,7 @@ use abi_types::Export;
 use pair_explorer::Root;
 use std::alloc::Global;
 
-// Whether a rule drops the old export at a position.
+// Whether a suppression drops the old export at a position.
 fn is_dropped(ground: &BoundPair, k: usize) -> bool
     ensures { result ≡ slice_index_or ground.now.marks.now.exports k false }
 {
@@ -66,7 +66,7 @@ fn is_typed(export: &Export) -> bool
     export.entry != 0
 }
 
-// The types of two exports, where both have one.
+// The types of two exports, if both have one.
 fn root_between(ground: &BoundPair, export: u32, old: &Export, new: &Export) -> Option<Root>
     ensures { result ≡ root_to (sides_of ground.now) export (plain_export old.now) (Some (plain_export new.now)) }
 {
@@ -85,7 +85,7 @@ fn root_between(ground: &BoundPair, export: u32, old: &Export, new: &Export) -> 
     }
 }
 
-// The types of the old export at a position and of the one that it binds to, where it is compared and both have one.
+// The types of the old export at a position and of the new one to which it binds, if it is compared and both have a type.
 #[tactic(auto, unfolding(cert_check::specs::Compatible::typed_root))]
 fn root_at(ground: &BoundPair, k: usize) -> Option<Root>
     requires inside { k < length ground.now.old.now.exports }
@@ -103,8 +103,7 @@ fn root_at(ground: &BoundPair, k: usize) -> Option<Root>
     }
 }
 
-/// The types of each old export that is compared and of the new one that it binds to, where both have one, in order of the old
-/// exports.
+/// The types of each compared old export and of the new one to which it binds, where both have a type, in order of the old exports.
 pub fn roots(alloc: Global, pair: &BoundPair) -> Result<Vec<Root>, NoMemory>
     requires { IsBinding pair.now }
     ensures { IfOk result (λ roots. roots.items ≡ typed_roots (sides_of pair.now)) }

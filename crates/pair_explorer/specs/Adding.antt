@@ -9,11 +9,11 @@ use Rattle.pair_explorer.specs.declared.visits.Visit.{Visit}
 use Rattle.pair_explorer.specs.Scopes.{Scope, rep, rep_step}
 use Rattle.pair_explorer.specs.Visits.{seen, has}
 
--- the visit of a triple with what led to it
+-- the visit of a triple, with what led to it
 abbrev pub visit_of : Triple → Parent → Visit
 visit_of x parent = record { old = x.old; new = x.new; way = x.way; parent = parent }
 
--- the visits with one more, where its triple is new
+-- the visits, with this one appended if its triple is new
 unfoldable pub added : List Visit → Visit → List Visit
 added visits v = if has visits (seen v) then visits else visits ++ v ∷ []
 
@@ -21,7 +21,7 @@ abbrev pub added_some : List Visit → Option Visit → List Visit
 added_some visits None = visits
 added_some visits (Some v) = added visits v
 
--- the visits with those that a function gives of the numbers below a bound, in their order
+-- the visits, with those that a function gives for the numbers below a bound appended in order
 unfoldable pub entered : (ℕ → Option Visit) → ℕ → List Visit → List Visit
 entered f zero visits = visits
 entered f (suc n) visits = added_some (entered f n visits) (f n)
@@ -30,7 +30,7 @@ abbrev pub visit_to : Parent → Option Triple → Option Visit
 visit_to parent None = None
 visit_to parent (Some x) = Some (visit_of x parent)
 
--- the visit to which part i of the old type leads from a triple with a number
+-- the visit to which part i of the old type leads, from the triple with number n
 unfoldable pub next_visit : Scope → ℕ → Triple → ℕ → Option Visit
 next_visit s n x i = visit_to (Step n i) (rep_step s x i)
 
@@ -42,7 +42,7 @@ visit_of_root s (Some root) = Some (visit_of (rep s (root_triple root)) (Root ro
 unfoldable pub root_visit : Scope → ℕ → Option Visit
 root_visit s k = visit_of_root s (slice_get s.task.roots k)
 
--- the visits with all to which a visit with a number leads
+-- the visits, with all those appended to which visit number n leads
 unfoldable pub expanded : Scope → List Visit → ℕ → Visit → List Visit
 expanded s visits n v =
     if is_marked s.task v.old v.way then visits else entered (next_visit s n (seen v)) (length (view_at s.task.old v.old).parts) visits

@@ -9,18 +9,18 @@ use Rattle.pair_explorer.specs.declared.visits.Visit.{Visit}
 use Rattle.pair_explorer.specs.Scopes.{Scope, IsScope, rep}
 use Rattle.pair_explorer.specs.Visits.{seen, has}
 
--- what a caller keeps, and what the types of classes keep
+-- what a caller guarantees, and what the types of classes guarantee
 pub record IsSound (s : Scope) : Type 0 where
   pub scope : IsScope s
   pub old : AreSound s.old
   pub new : AreSound s.new
 
--- a triple of nodes that a break tells of
+-- a triple of nodes that a break reports
 pub record IsToldBy (s : Scope) (visits : List Visit) (n : ℕ) (broken : Broken) (path : Path) : Type 0 where
   pub triple : Triple
   -- the path leads to it
   pub leads : PathLeadsTo s.task path triple
-  -- and none to a triple of the same classes and the same way comes before
+  -- and no path that comes before it leads to a triple of the same classes and the same way
   pub first : (other : Path) (x : Triple) → PathLeadsTo s.task other x → rep s x ≡ rep s triple → IsNotAfter path other
   pub unmarked : is_marked s.task triple.old triple.way ≡ false
   pub breaks : Contains (breaks_of s.task triple) broken
@@ -48,6 +48,6 @@ pub record IsReached (s : Scope) (z : Triple) : Type 0 where
   pub leads : PathLeadsTo s.task path triple
   pub is : rep s triple ≡ z
 
--- told at an earlier visit, or at the same one as an earlier break
+-- reported at an earlier visit, or at the same visit as an earlier break
 abbrev pub IsToldBefore : ℕ × Broken → ℕ × Broken → Type 0
 IsToldBefore p q = (p.0 < q.0) ⊎ ((p.0 ≡ q.0) × IsBrokenBefore p.1 q.1)

@@ -1,4 +1,4 @@
--- What the code goes by, as a scope.
+-- The input of an exploration, as a scope.
 use Rattle.pair_explorer.specs.declared.graph_pair.GraphPair.{GraphPair}
 use Rattle.pair_explorer.specs.Scopes.{Scope, scope}
 

@@ -1,11 +1,11 @@
--- Paths to visits, and a path as its export and the positions of its parts, the first one first.
+-- Paths to visits. A path is its export and the positions of its parts, in order.
 use Rattle.std.specs.Prelude.{ℕ, zero, suc, List, [], ◌∷◌, Option, Some, None, slice_get}
 use Rattle.pair_explorer.specs.declared.visits.Parent.{Parent}
 use Rattle.pair_explorer.specs.declared.visits.Parent.TheVariants.{Root, Step}
 use Rattle.pair_explorer.specs.declared.visits.Visit.{Visit}
 use Rattle.pair_rules.specs.Paths.{Path, From, Then}
 
--- the path, with more steps after it
+-- the path, with more steps appended
 abbrev pub followed : Path → List ℕ → Path
 followed path [] = path
 followed path (part ∷ later) = followed (Then path part) later
@@ -23,11 +23,11 @@ abbrev pub path_by : (ℕ → Path) → Option Visit → Path
 path_by before None = From 0
 path_by before (Some v) = path_on before v.parent
 
--- the path back along so many parents
+-- the path back along at most so many parents
 unfoldable pub path_within : ℕ → List Visit → ℕ → Path
 path_within zero visits n = From 0
 path_within (suc depth) visits n = path_by (path_within depth visits) (slice_get visits n)
 
--- the path to a visit, which has fewer parents than visits stand before it
+-- the path to a visit; it has at most as many steps as visits stand before it
 abbrev pub path_at : List Visit → ℕ → Path
 path_at visits n = path_within (suc n) visits n

@@ -23,14 +23,14 @@ same_triple x y = x.old == y.old && x.new == y.new && same_way x.way y.way
 unfoldable pub has : List Visit → Triple → Bool
 has visits x = list_any (λ v. same_triple x (seen v)) visits
 
--- a visit with a number is of the triple
+-- the visit with this number is of the triple
 pub record IsVisit (visits : List Visit) (x : Triple) : Type 0 where
   pub number : ℕ
   pub visit : Visit
   pub at : slice_get visits number ≡ Some visit
   pub is : seen visit ≡ x
 
--- the path to a visit that the parents spell
+-- the parents of the visit spell this path
 abbrev pub Along : List Visit → ℕ → Path → Type 0
 Along visits n (From export) = (v : Visit) × (slice_get visits n ≡ Some v) × (v.parent ≡ Root export)
 Along visits n (Then path part) = (m : ℕ) × (v : Visit) × (slice_get visits n ≡ Some v) × (v.parent ≡ Step m part) × Along visits m path

@@ -14,23 +14,23 @@ use pair_rules::{Broken, Comparison, Steps};
 use std::alloc::Global;
 use std::sync::ledger::Ledger;
 
-/// What an exploration gives.
+/// The result of an exploration.
 #[derive(Drop)]
 pub struct Explored {
-    /// The visits, each of another triple.
+    /// The visits, each of a different triple.
     pub visits: Visits,
-    /// The broken rules, each with the number of its visit.
+    /// The broken rules, each with the number of the visit where it is broken.
     pub breaks: List<(usize, Broken)>,
 }
 
-// How many visits may be made, for each type of both libraries and beside that. In libraries that were built from one source a type
-// meets itself in two ways at most. Two rings of types whose lengths have no common factor meet in all pairs, so that a small file
-// may ask for very many.
+// The limit on visits: so many for each type of both libraries, plus a constant. In libraries built from one source a type meets
+// itself in two ways at most. But two rings of types whose lengths have no common factor meet in all pairs, so a small file can ask
+// for very many visits.
 const VISITS_A_TYPE: usize = 16;
 
 const VISITS_AT_LEAST: usize = 65_536;
 
-// How many visits may be made between two graphs.
+// The limit on visits between two graphs.
 fn most_visits(ground: &GraphPair) -> usize {
     let types = ground.old.len().saturating_add(ground.new.len());
     types
@@ -38,13 +38,13 @@ fn most_visits(ground: &GraphPair) -> usize {
         .saturating_add(VISITS_AT_LEAST)
 }
 
-// How many parts of types may be compared, for each part of the types of both libraries and beside that. Types that were built from
-// one source are compared in two ways at most.
+// The limit on compared parts: so many for each part of the types of both libraries, plus a constant. Types built from one source
+// are compared in two ways at most.
 const PARTS_A_PART: usize = 16;
 
 const PARTS_AT_LEAST: usize = 65_536;
 
-// How many parts the types of a graph have, where each type counts its own.
+// The number of parts of all types of a graph.
 fn parts_of<Ix: Index>(graph: &Graph<Ix>) -> usize {
     let mut parts: usize = 0;
     for number in 0..graph.len() {
@@ -54,7 +54,7 @@ fn parts_of<Ix: Index>(graph: &Graph<Ix>) -> usize {
     parts
 }
 
-// How many parts may be compared between two graphs.
+// The limit on compared parts between two graphs.
 fn most_parts(ground: &GraphPair) -> usize {
     let parts = parts_of(ground.old).saturating_add(parts_of(ground.new));
     parts
@@ -67,7 +67,7 @@ fn parts_between(old: &View<OldIx>, new: &View<NewIx>) -> usize {
     old.parts_len().saturating_add(new.parts_len())
 }
 
-// Adds the breaks of the visit of a number.
+// Adds the breaks of a visit, each with the visit's number.
 fn add_breaks(
     list: &mut List<(usize, Broken)>,
     number: usize,
@@ -81,7 +81,7 @@ fn add_breaks(
     Ok(())
 }
 
-// Compares the types of the visit of a number, and adds what it leads to.
+// Compares the types of a visit, and adds the visits to which it leads.
 #[tactic(auto, unfolding(crate::specs::Adding::expanded, crate::specs::Explorations::visit_breaks))]
 fn expand<L: Ledger>(
     alloc: Global,
@@ -111,9 +111,10 @@ fn expand<L: Ledger>(
     add_partners(ground, &mut explored.visits, number, visit, matches)
 }
 
-/// All triples to which the roots lead, over the representatives of classes, with the first path to each, and the broken rules
-/// of those whose old node is unmarked at its way. The classes are those of the two graphs; `is_scope` says what else is asked
-/// of the roots and of the marks. It takes one step for each visit whose types are compared.
+/// Explores all triples to which the roots lead, over the representatives of classes. Returns them with the first path to each, and
+/// the broken rules of those whose old node is unmarked at its way. The classes are those of the two graphs; `is_scope` says what
+/// the roots and the marks must satisfy. It takes one step for each visit whose types are compared. Past the limit on visits or
+/// compared parts it returns `NoMemory`.
 pub fn explore<L: Ledger>(
     alloc: Global,
     ground: &GraphPair,

@@ -1,4 +1,4 @@
-// What an exploration goes by, and how one triple leads to others.
+// The input of an exploration, and how one triple leads to others.
 ghost use Rattle.std.specs.Prelude.{◌≡◌, ◌<◌, length, false, Some, OnOk};
 ghost use Rattle.abi_types.specs.Graphs.{view_at};
 ghost use Rattle.pair_rules.specs.Comparisons as comparisons;
@@ -17,15 +17,21 @@ use pair_rules::laws::steps_lead_to_nodes;
 use pair_rules::next_of;
 use type_classes::Classes;
 
-/// Two graphs, the roots and the marks that are explored from and past, and the classes of the nodes. The lifetimes are those
-/// that a caller's graphs and classes bring along.
+/// Two graphs, the roots where an exploration begins, the marks where it stops, and the classes of the nodes. The lifetimes are
+/// those of the caller's graphs and classes.
 #[derive(Clone, Copy)]
 pub struct GraphPair<'x, 'o, 'n, 'og, 'oc, 'ng, 'nc> {
+    /// The graph of the old library's types.
     pub old: &'x Graph<'o, OldIx>,
+    /// The graph of the new library's types.
     pub new: &'x Graph<'n, NewIx>,
+    /// The pairs of types where the exploration begins.
     pub roots: &'x [Root],
+    /// The marks of the old nodes.
     pub marks: &'x Marks,
+    /// The classes of the old nodes.
     pub old_classes: &'x Classes<'og, 'oc, OldIx>,
+    /// The classes of the new nodes.
     pub new_classes: &'x Classes<'ng, 'nc, NewIx>,
 }
 
@@ -73,7 +79,7 @@ pub fn add_roots(ground: &GraphPair, visits: &mut Visits) -> Result<(), NoMemory
     Ok(())
 }
 
-// The visit to which the old part `i` leads from the visit of a number, whose old node is unmarked at its way.
+// The visit to which the old part `i` leads from a visit, whose old node is unmarked at its way.
 fn next_visit(
     ground: &GraphPair,
     number: usize,
@@ -105,7 +111,7 @@ fn next_visit(
     })
 }
 
-// How many parts the old node of a visit has.
+// The number of parts of a visit's old node.
 fn parts_len(ground: &GraphPair, visit: &Visit) -> usize
     requires { visit.now.old < length ground.now.old.now }
     ensures { result ≡ length (view_at ground.now.old.now visit.now.old).parts }
@@ -113,7 +119,8 @@ fn parts_len(ground: &GraphPair, visit: &Visit) -> usize
     ground.old.view(visit.old).parts_len()
 }
 
-/// Adds all to which the visit of a number leads, whose parts match as its comparison told. Its old node is unmarked at its way.
+/// Adds all visits to which a visit leads; `matches` are the matching parts that its comparison found. Its old node is unmarked at
+/// its way.
 pub fn add_partners(
     ground: &GraphPair,
     visits: &mut Visits,

@@ -1,5 +1,5 @@
-//! What an exploration tells of two libraries, though it looks at one node of each class alone. Each law is the contract of a
-//! function that does nothing but bring in the laws below it.
+//! What an exploration proves about two libraries, although it looks at one node of each class only. Each law is the contract of a
+//! function that only cites the laws below it.
 ghost use Rattle.std.specs.Prelude.{◌≡◌, ◌<◌, ◌↔◌, ℕ, true, false, [], List, Some, Contains, slice_get};
 ghost use Rattle.pair_rules.specs.declared.rules.Broken.{Broken};
 ghost use Rattle.pair_rules.specs.Steps.{Triple, is_marked, breaks_of};
@@ -16,8 +16,8 @@ use pair_rules::laws::{
     breaks_stand_in_order, closed_relations_hold_what_is_reachable, rules_see_no_nodes,
 };
 
-/// The types are compatible exactly where an exploration finds no break: where it finds none, the triples of nodes whose
-/// representatives it visited are a closed relation that holds all roots, and where it finds one, no closed relation does.
+/// The types are compatible exactly where an exploration finds no break. Where it finds none, the triples of nodes whose
+/// representatives it visited are a closed relation that holds all roots; where it finds one, no closed relation holds them.
 pub fn no_break_is_compatible()
     ensures { (s : Scope) (visits : List Visit) (broken : List (ℕ × Broken)) → IsSound s → IsExploration s visits broken →
         (broken ≡ []) ↔ AreCompatible s.task }
@@ -34,8 +34,8 @@ pub fn what_is_visited_is_closed()
     rules_see_no_nodes();
 }
 
-/// The triples that an exploration visits are exactly the representatives of reachable triples. So what is reachable is covered;
-/// of what is covered, some triple of the same classes and the same way is reachable.
+/// The triples that an exploration visits are exactly the representatives of reachable triples. So each reachable triple is
+/// covered, and for each covered triple some triple of the same classes and the same way is reachable.
 pub fn what_is_visited_is_reachable()
     ensures exact { (s : Scope) (visits : List Visit) (broken : List (ℕ × Broken)) (z : Triple) → IsSound s → IsExploration s visits broken →
         (has visits z ≡ true) ↔ IsReached s z }
@@ -50,7 +50,7 @@ pub fn what_is_visited_has_a_visit()
     ensures { (visits : List Visit) (x : Triple) → (has visits x ≡ true) ↔ IsVisit visits x }
 {}
 
-/// A path over nodes is one over representatives, to those of the nodes to which it leads, and the other way round.
+/// A path over nodes is also one over representatives, to the representatives of the nodes where it leads; and the other way round.
 pub fn paths_by_representatives()
     ensures goes { (s : Scope) (path : Path) (x : Triple) → IsSound s → PathLeadsTo s.task path x → LeadsByRep s path (rep s x) }
     ensures comes { (s : Scope) (path : Path) (z : Triple) → IsSound s → LeadsByRep s path z →
@@ -59,8 +59,8 @@ pub fn paths_by_representatives()
     rules_see_no_nodes();
 }
 
-/// Triples of the same representatives are marked alike and break the same rules. Each break that an exploration gives, with
-/// the path to its visit, is one of nodes that the path leads to. And each reachable triple of nodes whose old node is unmarked
+/// Triples with the same representatives are marked alike and break the same rules. Each break that an exploration reports is, with
+/// the path to its visit, a break of nodes to which that path leads. And each reachable triple of nodes whose old node is unmarked
 /// at its way has all its breaks among them, at the visit of its representatives.
 pub fn breaks_by_representatives()
     ensures marks { (s : Scope) (x y : Triple) → IsSound s → rep s x ≡ rep s y → is_marked s.task x.old x.way ≡ is_marked s.task y.old y.way }
@@ -73,7 +73,7 @@ pub fn breaks_by_representatives()
     rules_see_no_nodes();
 }
 
-/// The breaks of an exploration stand in order of visits, and those of one visit as the rules list them.
+/// The breaks of an exploration stand in order of their visits, and those of one visit in the order of the rules.
 pub fn breaks_are_told_in_order()
     ensures { (s : Scope) (visits : List Visit) (broken : List (ℕ × Broken)) (m n : ℕ) (p q : ℕ × Broken) → IsExploration s visits broken →
         m < n → slice_get broken m ≡ Some p → slice_get broken n ≡ Some q → IsToldBefore p q }
@@ -81,13 +81,13 @@ pub fn breaks_are_told_in_order()
     breaks_stand_in_order();
 }
 
-/// The parents of a visit spell one path, and that path can be named.
+/// The parents of a visit spell exactly one path.
 pub fn parents_spell_paths()
     ensures along { (visits : List Visit) (n : ℕ) (v : Visit) → AreEarlier visits → slice_get visits n ≡ Some v → Along visits n (path_at visits n) }
     ensures one { (visits : List Visit) (n : ℕ) (p q : Path) → Along visits n p → Along visits n q → p ≡ q }
 {}
 
-/// Paths are in a strict order.
+/// Paths are strictly ordered.
 pub fn paths_are_ordered()
     ensures transitive { (p q r : Path) → IsBefore p q → IsBefore q r → IsBefore p r }
     ensures not_after { (p q r : Path) → IsNotAfter p q → IsNotAfter q r → IsNotAfter p r }

@@ -1,5 +1,5 @@
-//! All pairs of types to which the bound exports of two libraries lead, with the rules that they break and the first path to
-//! each. Of types that cannot be told apart one is looked at for all.
+//! All pairs of types to which the bound exports of two libraries lead, with the rules that they break and the first path to each
+//! pair. Of types that cannot be told apart, only one is visited.
 #![tactic(auto)]
 
 mod exploring;

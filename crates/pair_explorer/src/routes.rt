@@ -7,15 +7,16 @@ use crate::visits::{Parent, Visits};
 use abi_base::{List, NoMemory};
 use std::alloc::Global;
 
-/// A path: an export, and the positions of the parts that are followed from its type, the first one first.
+/// A path: an export, and the positions of the parts that are followed from its type, in order.
 #[derive(Drop)]
 pub struct Route {
     /// The position of the export among the old ones.
     pub export: u32,
+    /// The positions of the followed parts, in order.
     pub parts: List<usize>,
 }
 
-/// The path to the visit of a number: the one that the parents spell.
+/// The path to a visit, as its parents spell it.
 pub fn route_to(alloc: Global, visits: &Visits, number: usize) -> Result<Route, NoMemory>
     requires number { number < length visits.now }
     requires earlier { AreEarlier visits.now }

@@ -1,4 +1,4 @@
-// Whether what a caller hands over may be explored.
+// Whether a caller's input may be explored.
 ghost use Rattle.std.specs.Prelude.{◌≡◌, ◌<◌, ◌↔◌, length, IsTrue};
 ghost use Rattle.pair_explorer.specs.GraphPairs.{scope_of};
 ghost use Rattle.pair_explorer.specs.Scopes.{IsScope, AreInside, AreAscending, AreEvenMarks};
@@ -18,7 +18,7 @@ fn is_inside(old: &Graph<OldIx>, new: &Graph<NewIx>, root: &Root) -> bool
     root.new.number() < new.len()
 }
 
-// Whether all roots do.
+// Whether all roots name nodes of both graphs.
 fn are_inside(old: &Graph<OldIx>, new: &Graph<NewIx>, roots: &[Root]) -> bool
     ensures { IsTrue result ↔ AreInside old.now new.now roots.now }
 {
@@ -44,7 +44,7 @@ fn are_ascending(roots: &[Root]) -> bool
     true
 }
 
-// Whether each node has a mark, and nodes of one class have the same.
+// Whether each node has a mark, and nodes of one class have the same mark.
 fn are_even(flags: &[bool], classes: &Classes<OldIx>, nodes: usize) -> bool
     requires { nodes ≡ length classes.now.nodes }
     ensures { IsTrue result ↔ AreEvenMarks classes.now flags.now }
@@ -62,8 +62,8 @@ fn are_even(flags: &[bool], classes: &Classes<OldIx>, nodes: usize) -> bool
     true
 }
 
-/// Whether `explore` may be called: the roots are nodes, in strictly ascending order of their exports, and each old node has a
-/// mark at each way, which is the same within a class.
+/// Whether `explore` may be called: the roots name nodes of the graphs, in strictly ascending order of their exports, and each old
+/// node has a mark at each way, which is the same within a class.
 pub fn is_scope(ground: &GraphPair) -> bool
     requires old_nodes { ground.now.old_classes.now.nodes ≡ ground.now.old.now }
     requires new_nodes { ground.now.new_classes.now.nodes ≡ ground.now.new.now }

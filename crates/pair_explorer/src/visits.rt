@@ -1,4 +1,4 @@
-// Triples that were reached, found without a scan.
+// The triples reached so far, in a set, so that one is found without a scan.
 ghost use Rattle.std.specs.Prelude.{◌≡◌, ◌<◌, [], not, length, slice_get, Some, OnOk, OnErr, IfOk};
 ghost use Rattle.std.specs.List.{list_any};
 ghost use Rattle.indexmap.specs.IndexSet.{insert_key};
@@ -25,9 +25,13 @@ pub enum Parent {
 /// A triple that was reached, and what led to it first.
 #[derive(Clone, Copy, Debug, PartialEq, Eq)]
 pub struct Visit {
+    /// The old type.
     pub old: OldIx,
+    /// The new type.
     pub new: NewIx,
+    /// How the types are reached: by value, or through a pointer.
     pub way: Way,
+    /// What led to the triple.
     pub parent: Parent,
 }
 
@@ -44,15 +48,15 @@ impl Visit {
     }
 }
 
-/// The visits of an exploration, each of another triple, in the order in which they were made. Contracts see their list.
+/// The visits of an exploration, each of a different triple, in the order in which they were made. Contracts see them as a list.
 #[derive(Drop)]
 pub struct Visits {
     triples: IndexSet<Triple>,
-    // What led to each of them.
+    // What led to each triple.
     parents: Vec<Parent>,
-    // How many there may be.
+    // The limit on visits.
     most: usize,
-    // How many parts of their types may still be compared.
+    // How many parts of types may still be compared.
     parts: usize,
 }
 
@@ -69,12 +73,12 @@ impl Model for Visits {
     ghost invariant = { λ visits. length visits.triples.keys ≡ length visits.parents.items };
 }
 
-// Fails where there are as many visits as there may be.
+// Returns `NoMemory` once the limit on visits is reached.
 fn is_below(count: usize, most: usize) -> Result<(), NoMemory> {
     if count < most { Ok(()) } else { Err(NoMemory) }
 }
 
-// Puts a triple last where it is new, and tells whether it is.
+// Appends a triple if it is new, and returns whether it was.
 fn put(triples: &mut IndexSet<Triple>, triple: Triple) -> Result<bool, NoMemory>
     ensures keys { OnOk result (triples.new.keys ≡ insert_key at_triple triples.old.keys triple) }
     ensures is_new { IfOk result (λ is_new. is_new ≡ not (list_any (at_triple triple) triples.old.keys)) }
@@ -85,7 +89,7 @@ fn put(triples: &mut IndexSet<Triple>, triple: Triple) -> Result<bool, NoMemory>
 }
 
 impl Visits {
-    /// No visits, and room for so many, which may compare so many parts. They take no memory yet.
+    /// An empty list with the limits on visits and on compared parts. It takes no memory yet.
     pub(crate) fn new(alloc: Global, most: usize, parts: usize) -> Visits
         ensures { result ≡ [] }
     {
@@ -97,14 +101,14 @@ impl Visits {
         }
     }
 
-    /// How many there are.
+    /// The number of visits.
     pub fn len(&self) -> usize
         ensures { result ≡ length self.now }
     {
         self.parents.len()
     }
 
-    /// The visit of a number, `None` where there are not so many.
+    /// The visit with a number, or `None` where there are not so many.
     pub fn get(&self, number: usize) -> Option<Visit>
         ensures { result ≡ slice_get self.now number }
     {
@@ -118,7 +122,7 @@ impl Visits {
         })
     }
 
-    /// The visit of a number that is there.
+    /// The visit with a number that is in range.
     pub fn visit(&self, number: usize) -> Visit
         requires { number < length self.now }
         ensures { slice_get self.now number ≡ Some result }
@@ -126,12 +130,12 @@ impl Visits {
         self.get(number).unwrap()
     }
 
-    /// Adds a visit, where its triple is new. Where there are as many visits as there may be, memory counts as run out.
+    /// Adds a visit if its triple is new. Returns `NoMemory` once the limit on visits is reached.
     pub(crate) fn add(&mut self, visit: &Visit) -> Result<(), NoMemory>
         ensures { OnOk result (self.new ≡ added self.old visit.now) }
     {
         is_below(self.parents.len(), self.most)?;
-        // With room for what led to the triple, nothing can fail once the triple is in.
+        // This room is reserved first, so that nothing can fail once the triple is in the set.
         self.parents.reserve(1)?;
         if put(&mut self.triples, visit.triple())? {
             self.parents.push(visit.parent)?;
@@ -139,7 +143,7 @@ impl Visits {
         Ok(())
     }
 
-    /// Takes so many parts that were compared. Where fewer may be, memory counts as run out.
+    /// Counts so many parts as compared. Returns `NoMemory` where fewer may still be.
     pub(crate) fn take_parts(&mut self, parts: usize) -> Result<(), NoMemory>
         ensures { self.new ≡ self.old }
     {

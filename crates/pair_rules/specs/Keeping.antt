@@ -1,4 +1,4 @@
--- That two types keep rules, part by part.
+-- Whether two types keep the rules, part by part.
 use Rattle.std.specs.Prelude.{ℕ, Bool, not, List, [], ◌∷◌, length}
 use Rattle.std.specs.List.{list_all, range_with_len}
 use Rattle.abi_types.specs.declared.rule.Rule.{Rule}
@@ -6,15 +6,15 @@ use Rattle.abi_types.specs.declared.rule.Rule.TheVariants.{MemberPresence, Membe
 use Rattle.abi_types.specs.Types.{PlainView}
 use Rattle.pair_rules.specs.TypeRules.{rules_asked, breaks_whole, breaks_part}
 
--- the rules that speak of parts
+-- the rules on parts
 abbrev pub part_rules : List Rule
 part_rules = MemberPresence ∷ MemberOffset ∷ BitFieldWidth ∷ EnumeratorPresence ∷ EnumeratorValue ∷ PassingPlace ∷ []
 
--- whether two types break no rule that compares them as a whole
+-- whether two types break no rule on whole types
 unfoldable pub keeps_whole : PlainView → PlainView → Bool
 keeps_whole v w = list_all (λ rule. not (breaks_whole rule v w)) (rules_asked v w)
 
--- whether they break no rule that speaks of parts, at part i of the old type
+-- whether they break no rule on parts, at part i of the old type
 unfoldable pub keeps_part : PlainView → PlainView → ℕ → Bool
 keeps_part v w i = list_all (λ rule. not (breaks_part rule v w i)) part_rules
 

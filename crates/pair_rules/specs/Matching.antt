@@ -1,4 +1,4 @@
--- Which part of one type matches which part of another: the k-th of a sort and a name, the k-th of that sort and name.
+-- Matches between the parts of two types: the k-th one of a sort and name matches the k-th one of the same sort and name.
 use Rattle.std.specs.Prelude.{◌≡◌, ◌<◌, ℕ, true, Option, length, take, filter}
 use Rattle.abi_types.specs.Types.{PlainView}
 use Rattle.abi_types.specs.Graphs.{part_at}
@@ -12,7 +12,7 @@ number_of v i = like_before v.parts (part_at v i) i
 unfoldable pub match_of : PlainView → PlainView → ℕ → Option ℕ
 match_of v w i = place_of (like (part_at v i)) (number_of v i) w.parts
 
--- Part j of `w` is like part i of `v`, and as many parts of that sort and name stand before each.
+-- Part j of `w` is like part i of `v`, and each has equally many such parts before it.
 pub record IsMatch (v w : PlainView) (i j : ℕ) : Type 0 where
   pub inside : j < length w.parts
   pub alike : like (part_at v i) (part_at w j) ≡ true

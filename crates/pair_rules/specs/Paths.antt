@@ -1,9 +1,9 @@
--- Paths from the types of exports to the triples that they lead to.
+-- Paths from the types of exports to triples.
 use Rattle.std.specs.Prelude.{◌≡◌, ◌<◌, ◌⊎◌, ℕ, Some, slice_get}
 use Rattle.abi_types.specs.declared.kind.Way.TheVariants.{Direct}
 use Rattle.pair_rules.specs.Steps.{PlainRoot, Task, Triple, step}
 
--- the export to begin from, and then steps, the last one outermost, each by the position of an old part
+-- an export to begin with, then steps by positions of old parts, the last one outermost
 pub data Path : Type 0 where
   From : (export : ℕ) → Path
   Then : (path : Path) (part : ℕ) → Path
@@ -21,8 +21,8 @@ PathLeadsTo t (Then path part) y = (x : Triple) × PathLeadsTo t path x × (step
 abbrev pub IsReachable : Task → Triple → Type 0
 IsReachable t x = (path : Path) × PathLeadsTo t path x
 
--- The path is shorter; or it is as long, and it comes from an earlier export, or from the same one by earlier parts, the first
--- step counting most.
+-- The path is shorter; or it is as long, and begins at an earlier export, or at the same one and goes by earlier parts, where the
+-- first step counts most.
 abbrev pub IsBefore : Path → Path → Type 0
 IsBefore (From j) (From k) = j < k
 IsBefore (From j) (Then q k) = Unit {0}

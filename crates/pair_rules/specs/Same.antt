@@ -1,4 +1,4 @@
--- Whether kinds, groups and places are the same.
+-- Comparisons of kinds, groups and places.
 use Rattle.std.specs.Prelude.{ℕ, Bool, true, false, ◌==◌, ◌&&◌, List}
 use Rattle.std.specs.Cmp.Lexicographic.{pointwise}
 use Rattle.abi_types.specs.declared.kind.Kind.{Kind}
@@ -10,7 +10,7 @@ use Rattle.abi_types.specs.declared.place.Place.TheVariants as place
 use Rattle.abi_types.specs.declared.place.Slot.{Slot}
 use Rattle.abi_types.specs.declared.place.Slot.TheVariants as slot
 
--- each kind and each group has a number of its own
+-- each kind and each group has its own number
 abbrev pub kind_number : Kind → ℕ
 kind_number kind.Void = 0
 kind_number kind.Scalar = 1

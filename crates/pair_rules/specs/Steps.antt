@@ -1,4 +1,4 @@
--- What is compared, and how one pair of types leads to others.
+-- The input of a comparison, and the steps from one pair of types to others.
 use Rattle.std.specs.Prelude.{◌≡◌, ℕ, Bool, true, false, if◌then◌else◌, List, Option, Some, None, slice_index_or}
 use Rattle.abi_types.specs.declared.kind.Way.{Way}
 use Rattle.abi_types.specs.declared.kind.Way.TheVariants as way
@@ -9,13 +9,13 @@ use Rattle.pair_rules.specs.TypeRules.{breaks}
 use Rattle.pair_rules.specs.Partners.{partner_at, IsPartner}
 use Rattle.pair_rules.specs.Ways.{after}
 
--- the types of an old export and of the new one that it binds to, each by the number of its node
+-- the types of an old export and of the new one to which it binds, as node numbers
 pub record PlainRoot : Type 0 where
   pub export : ℕ
   pub old : ℕ
   pub new : ℕ
 
--- two graphs, whether each node of the old one is marked at each way, and the pairs to begin from
+-- two graphs, the marks of the old nodes for each way, and the pairs to begin with
 pub record Task : Type 0 where
   pub old : List PlainNode
   pub new : List PlainNode
@@ -23,7 +23,7 @@ pub record Task : Type 0 where
   pub pointer : List Bool
   pub roots : List PlainRoot
 
--- an old node and a new node in its place, and the way by which they are reached
+-- an old node, the new node in its place, and the way in which they are reached
 pub record Triple : Type 0 where
   pub old : ℕ
   pub new : ℕ
@@ -33,12 +33,12 @@ abbrev pub is_pointer : Way → Bool
 is_pointer way.Direct = false
 is_pointer way.Pointer = true
 
--- the marks at a way
+-- the marks for a way
 abbrev pub marks_at : Task → Way → List Bool
 marks_at t way.Direct = t.direct
 marks_at t way.Pointer = t.pointer
 
--- whether an old node is marked at a way; none is past the end
+-- whether an old node is marked for a way; no number past the end is
 abbrev pub is_marked : Task → ℕ → Way → Bool
 is_marked t a at = slice_index_or (marks_at t at) a false
 
@@ -46,7 +46,7 @@ is_marked t a at = slice_index_or (marks_at t at) a false
 abbrev pub breaks_of : Task → Triple → List Broken
 breaks_of t x = breaks (view_at t.old x.old) (view_at t.new x.new)
 
--- the nodes that two parts name, where both name one
+-- the nodes that two parts name, if both name one
 abbrev pub triple_of : Way → Option ℕ → Option ℕ → Option Triple
 triple_of at (Some a) (Some b) = Some (record { old = a; new = b; way = at })
 triple_of at a b = None
@@ -56,16 +56,16 @@ abbrev pub led_by : PlainView → PlainView → Way → Option (ℕ × ℕ) → 
 led_by v w at None = None
 led_by v w at (Some p) = triple_of (after at (part_at v p.0)) (to_of (part_at v p.0)) (to_of (part_at w p.1))
 
--- the triple to which part i of `v` and its partner lead, where `v` is reached by a way
+-- the triple to which part i of `v` and its partner lead, if `v` is reached in a given way
 unfoldable pub next_of : PlainView → PlainView → Way → ℕ → Option Triple
 next_of v w at i = led_by v w at (partner_at v w i)
 
--- The triple to which part i of the old type leads: that of the nodes which the part and its partner name. From an old node
--- that is marked at its way no step leads on.
+-- The triple to which part i of the old type leads: that of the nodes which the part and its partner name. No step leads on from an
+-- old node that is marked for its way.
 unfoldable pub step : Task → Triple → ℕ → Option Triple
 step t x i = if is_marked t x.old x.way then None else next_of (view_at t.old x.old) (view_at t.new x.new) x.way i
 
--- Part i of the old type leads from the first triple to the second: the old node is unmarked at its way, part i is there and has
+-- Part i of the old type leads from the first triple to the second: the old node is not marked for its way, part i exists and has
 -- a partner, and the two parts name the nodes of the second triple.
 pub record IsStep (t : Task) (x : Triple) (i : ℕ) (y : Triple) : Type 0 where
   pub unmarked : is_marked t x.old x.way ≡ false

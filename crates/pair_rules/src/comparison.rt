@@ -1,4 +1,4 @@
-// Two types that are compared: what they break, and where they lead.
+// The comparison of two types: the rules that they break, and the types to compare next.
 ghost use Rattle.std.specs.Prelude.{◌≡◌, ◌<◌, ◌+◌, length, IfOk, IfSome};
 ghost use Rattle.pair_rules.specs.Comparisons.{compared_match};
 ghost use Rattle.pair_rules.specs.Comparisons as comparisons;
@@ -14,16 +14,16 @@ use abi_types::{NewIx, OldIx, View, Way};
 use std::alloc::Global;
 use std::sync::ledger::Ledger;
 
-/// What the comparison of two types tells, as plain data: to ask anew is to compare anew.
+/// The result of comparing two types, as plain data: each request compares them anew.
 #[derive(Drop)]
 pub struct Comparison {
-    /// All rules that they break, in order of rule and then of the old parts.
+    /// All broken rules, ordered by rule and then by old part.
     pub breaks: List<Broken>,
-    /// The position of the match of each old part; empty where the parts are not compared.
+    /// For each old part the position of its match; empty where parts are not compared.
     pub matches: List<Option<usize>>,
 }
 
-// The match of each old part, where parts are compared.
+// The match of each old part, if parts are compared.
 fn matches_of(
     alloc: Global,
     old: &View<OldIx>,
@@ -41,7 +41,7 @@ fn matches_of(
     Ok(list)
 }
 
-// The match of an old part, where parts are compared.
+// The match of an old part, if parts are compared.
 fn match_in(
     old: &View<OldIx>,
     new: &View<NewIx>,
@@ -59,7 +59,7 @@ fn match_in(
     }
 }
 
-// The triple of the nodes that two parts name, where both name one.
+// The triple of the nodes that two parts name, if both name one.
 fn triple_of(old: Option<OldIx>, new: Option<NewIx>, way: Way) -> Option<Triple>
     ensures { result ≡ steps_spec.triple_of way old new }
 {
@@ -69,8 +69,8 @@ fn triple_of(old: Option<OldIx>, new: Option<NewIx>, way: Way) -> Option<Triple>
     }
 }
 
-/// The types to which the old part `i` and its partner lead, where the two types are reached by `way`; `None` where the part
-/// names no node or has no partner. `matches` is what the comparison of the two types told.
+/// The types to which the old part `i` and its partner lead, given the `way` in which the two types are reached. `None` where the
+/// part names no node or has no partner. `matches` is that of the two types' comparison.
 pub fn next_of(
     old: &View<OldIx>,
     new: &View<NewIx>,
@@ -90,7 +90,7 @@ pub fn next_of(
 }
 
 impl Comparison {
-    /// The comparison of two types. Each call counts as one step, also where there is no memory for it.
+    /// Compares two types. Each call counts as one step, even where memory runs out.
     pub fn of<L: Ledger>(
         alloc: Global,
         old: &View<OldIx>,
@@ -108,8 +108,7 @@ impl Comparison {
     }
 }
 
-/// All rules that two types break, in order of rule and then of the old parts. Each call counts as one step, also where there is
-/// no memory for the answer.
+/// All rules that two types break, ordered by rule and then by old part. Each call counts as one step, even where memory runs out.
 pub fn breaks<L: Ledger>(
     alloc: Global,
     old: &View<OldIx>,

@@ -1,4 +1,4 @@
-// The rules of two exports that are bound to each other.
+// The rules on an old export and the new one to which it binds.
 ghost use Rattle.std.specs.Prelude.{◌≡◌};
 ghost use Rattle.abi_types.specs.Plain.{plain_export};
 ghost use Rattle.pair_rules.specs.ExportRules.{breaks_kind, breaks_size, breaks_type};
@@ -6,14 +6,14 @@ ghost use Rattle.pair_rules.specs.ExportRules as spec;
 
 use abi_types::{Export, SymbolKind};
 
-// Whether a symbol is a function, also one that a resolver picks.
+// Whether a symbol is a function, with or without a resolver.
 fn is_function(kind: SymbolKind) -> bool
     ensures { result ≡ spec.is_function kind }
 {
     matches!(kind, SymbolKind::Func | SymbolKind::Ifunc)
 }
 
-// Whether a symbol is a data object, also a common block.
+// Whether a symbol is a data object or a common block.
 fn is_object(kind: SymbolKind) -> bool
     ensures { result ≡ spec.is_object kind }
 {
@@ -31,8 +31,8 @@ fn kinds_agree(old: SymbolKind, new: SymbolKind) -> bool
     }
 }
 
-/// Whether two exports that are bound to each other break X4, that their kinds agree; X5, that the sizes of objects agree;
-/// and X6, that an export with a type has one still.
+/// Whether an old export and the new one to which it binds break X4, X5 and X6. X4: their kinds agree. X5: the sizes of objects are
+/// equal. X6: an export that had a type still has one.
 pub fn export_breaks(old: &Export, new: &Export) -> [bool; 3]
     ensures { result ≡ spec.export_breaks (plain_export old.now) (plain_export new.now) }
 {

@@ -1,6 +1,6 @@
-//! The rules that a new library may break: those of two exports that are bound to each other, and those of two types. It also
-//! says which parts of two types are compared further, and which relations between the types of two libraries are closed under
-//! the rules.
+//! The rules that a new library may break: those on an old export and the new one to which it binds, and those on two types. The
+//! crate also defines which parts of two types are compared further, and which relations between the types of two libraries are
+//! closed under the rules.
 #![tactic(auto)]
 
 mod comparison;

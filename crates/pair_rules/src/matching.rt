@@ -1,4 +1,4 @@
-// Which part of a new type matches which part of an old one, and which pairs of parts lead further.
+// Matches between the parts of an old and a new type, and the pairs of parts that lead further.
 ghost use Rattle.std.specs.Prelude.{◌≡◌, ◌<◌, length, slice_get, IfSome};
 ghost use Rattle.abi_types.specs.Parts.{plain_part};
 ghost use Rattle.pair_rules.specs.Matching as matching;
@@ -10,7 +10,7 @@ ghost use Rattle.pair_rules.specs.Ways as ways;
 
 use abi_types::{Index, Kind, NewIx, OldIx, Part, View, Way};
 
-/// How many parts before part `i` are like it: of its sort, and of its name where that sort has names.
+/// How many parts before part `i` are like it: with its sort and, where that sort has names, its name.
 pub fn number_of<Ix: Index>(view: &View<Ix>, i: usize) -> usize
     requires { i < length view.now.parts }
     ensures number { result ≡ matching.number_of view.now i }
@@ -19,7 +19,7 @@ pub fn number_of<Ix: Index>(view: &View<Ix>, i: usize) -> usize
     view.parts.like_before(i)
 }
 
-/// The position of the new part that matches the old part `i`: the k-th of a sort and name matches the k-th of them.
+/// The position of the new part that matches the old part `i`: the k-th one of a sort and name matches the k-th one.
 #[tactic(auto, unfolding(crate::specs::Matching::match_of))]
 pub fn match_of(old: &View<OldIx>, new: &View<NewIx>, i: usize) -> Option<usize>
     requires { i < length old.now.parts }
@@ -29,22 +29,22 @@ pub fn match_of(old: &View<OldIx>, new: &View<NewIx>, i: usize) -> Option<usize>
     new.parts.nth_like(old.part(i), number_of(old, i))
 }
 
-// Whether two kinds are one.
+// Whether two kinds are the same.
 pub(crate) fn same_kind(old: Kind, new: Kind) -> bool
     ensures { result ≡ same.same_kind old new }
 {
     old == new
 }
 
-// Whether both types are defined and of one kind.
+// Whether both types have definitions and the same kind.
 pub(crate) fn are_compared(old: &View<OldIx>, new: &View<NewIx>) -> bool
     ensures { result ≡ type_rules.are_compared old.now new.now }
 {
     same_kind(old.kind, new.kind) && !(old.declared_only || new.declared_only)
 }
 
-/// The positions of the old part `i` and of its partner: the new part that matches it. Where the old part names no node, or
-/// the kinds differ, or one type is only declared, there is none.
+/// The positions of the old part `i` and of its partner, the new part that matches it. None where the old part names no node, the
+/// kinds differ, or one type has no definition.
 #[tactic(auto, unfolding(crate::specs::Partners::partner_at))]
 pub fn partner_at(old: &View<OldIx>, new: &View<NewIx>, i: usize) -> Option<(usize, usize)>
     requires { i < length old.now.parts }
@@ -63,8 +63,8 @@ pub fn partner_at(old: &View<OldIx>, new: &View<NewIx>, i: usize) -> Option<(usi
     }
 }
 
-/// The positions of the partner with the number `k`, counted from 0 in order of the old position. Who wants all partners
-/// asks `partner_at` at each old position.
+/// The positions of the partners with number `k`, counted from 0 in the order of old parts. To get all partners, call
+/// `partner_at` for each old part.
 pub fn partner(old: &View<OldIx>, new: &View<NewIx>, k: usize) -> Option<(usize, usize)>
     ensures places { result ≡ slice_get (partners old.now new.now) k }
     ensures inside { IfSome result (λ p. (p.0 < length old.now.parts) × (p.1 < length new.now.parts)) }
@@ -81,8 +81,8 @@ pub fn partner(old: &View<OldIx>, new: &View<NewIx>, k: usize) -> Option<(usize,
     None
 }
 
-/// The way by which the type that a part names is reached, where the type of the part is reached by `way`: a target through
-/// its pointer, a result and a parameter by value from their call, and all else as what it lies in.
+/// The way in which the type that a part names is reached, given the `way` of the part's type: a target through its pointer, a
+/// result and a parameter by value from their call, and anything else in the way of what contains it.
 pub fn after<Ix: Index>(way: Way, part: &Part<Ix>) -> Way
     ensures { result ≡ ways.after way (plain_part Ix.number_of part.now) }
 {

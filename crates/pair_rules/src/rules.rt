@@ -1,4 +1,4 @@
-// The rules of two types.
+// The rules on two types.
 ghost use Rattle.std.specs.Prelude.{◌≡◌, ◌<◌, ◌+◌, ◌++◌, ◌↔◌, ℕ, true, [], List, Option, length, take, map, filter, slice_index_or, count_by, not, IsTrue, OnOk, IfOk};
 ghost use Rattle.std.specs.List.{range_with_len};
 ghost use Rattle.abi_types.specs.Forms as forms;
@@ -15,20 +15,22 @@ use abi_base::{List, NoMemory};
 use abi_types::{Group, Index, Kind, NewIx, OldIx, Part, Place, Rule, View};
 use std::alloc::Global;
 
-/// A broken rule, with the position of the old part that it speaks of, else 0.
+/// A broken rule, with the position of the old part at which it is broken, or 0 for a rule on whole types.
 #[derive(Clone, Copy, Debug, PartialEq, Eq)]
 pub struct Broken {
+    /// The broken rule.
     pub rule: Rule,
+    /// The position of the old part, or 0 for a rule on whole types.
     pub part: usize,
 }
 
 // The rule on two kinds.
 static KIND_RULES: [Rule; 1] = [Rule::KindOfType];
 
-// The rule that holds where one type is only declared.
+// The rule on two types one of which has no definition.
 static TAG_RULES: [Rule; 1] = [Rule::DeclarationTag];
 
-// The rules that compare two definitions of one kind.
+// The rules on two definitions of the same kind.
 static DEFINITION_RULES: [Rule; 12] = [
     Rule::TypeSize,
     Rule::ScalarGroup,
@@ -44,7 +46,7 @@ static DEFINITION_RULES: [Rule; 12] = [
     Rule::PassingPlace,
 ];
 
-// Those of them that speak of parts.
+// Those of them that apply to parts.
 static PART_RULES: [Rule; 6] = [
     Rule::MemberPresence,
     Rule::MemberOffset,
@@ -54,7 +56,7 @@ static PART_RULES: [Rule; 6] = [
     Rule::PassingPlace,
 ];
 
-// The rules that compare two types, in order.
+// The rules to check on two types, in order.
 fn rules_asked(old: &View<OldIx>, new: &View<NewIx>) -> &'static [Rule]
     ensures { result.now ≡ type_rules.rules_asked old.now new.now }
 {
@@ -111,7 +113,7 @@ fn same_place(old: Place, new: Place) -> bool
     old == new
 }
 
-/// How many parameters a type has.
+/// The number of parameters of a type.
 pub fn params_of<Ix: Index>(view: &View<Ix>) -> usize
     ensures { result ≡ type_rules.params_of view.now }
 {
@@ -124,7 +126,7 @@ pub fn params_of<Ix: Index>(view: &View<Ix>) -> usize
     count
 }
 
-// Whether two types break a rule that speaks of them as a whole.
+// Whether two types break a rule on whole types.
 #[tactic(auto, unfolding(crate::specs::TypeRules::breaks_whole))]
 fn breaks_whole(rule: Rule, old: &View<OldIx>, new: &View<NewIx>) -> bool
     ensures { result ≡ type_rules.breaks_whole rule old.now new.now }
@@ -142,13 +144,13 @@ fn breaks_whole(rule: Rule, old: &View<OldIx>, new: &View<NewIx>) -> bool
     }
 }
 
-// How many bits a byte has.
+// The number of bits in a byte.
 const BYTE_BITS: u64 = 8;
 
-// How many bytes the value of an enumerator has.
+// The size of an enumerator's value in bytes.
 const VALUE_BYTES: u64 = 8;
 
-// A value in as many bytes.
+// A value, truncated to this many bytes.
 #[tactic(auto, unfolding(crate::specs::TypeRules::in_bytes))]
 fn in_bytes(size: u64, value: u64) -> u64
     ensures { result ≡ type_rules.in_bytes size value }
@@ -160,7 +162,7 @@ fn in_bytes(size: u64, value: u64) -> u64
     }
 }
 
-/// The bit at which the member at a position stands, counted from the first bit of its type; 0 of what is no member.
+/// The offset in bits of the member at a position, or 0 where the part is not a member.
 pub fn bit_at<Ix: Index>(view: &View<Ix>, j: usize) -> u64
     requires { j < length view.now.parts }
     ensures { result ≡ type_rules.bit_at view.now j }
@@ -171,7 +173,7 @@ pub fn bit_at<Ix: Index>(view: &View<Ix>, j: usize) -> u64
     }
 }
 
-/// The width in bits of the member at a position where it is a bit field, else 0.
+/// The width in bits of the member at a position if it is a bit field, else 0.
 pub fn width_at<Ix: Index>(view: &View<Ix>, j: usize) -> u64
     requires { j < length view.now.parts }
     ensures { result ≡ type_rules.width_at view.now j }
@@ -182,7 +184,7 @@ pub fn width_at<Ix: Index>(view: &View<Ix>, j: usize) -> u64
     }
 }
 
-/// The value of the enumerator at a position, in the bytes of its enumeration; 0 of what is no enumerator.
+/// The value of the enumerator at a position, in the bytes of its enumeration, or 0 where the part is not an enumerator.
 pub fn value_at<Ix: Index>(view: &View<Ix>, j: usize) -> u64
     requires { j < length view.now.parts }
     ensures { result ≡ type_rules.value_at view.now j }
@@ -200,7 +202,7 @@ fn outcome_moved(old: &View<OldIx>, new: &View<NewIx>) -> bool
     !same_place(old.call.outcome(), new.call.outcome())
 }
 
-// Whether the place of the old parameter at position `i` differs from that of its match, where both are there.
+// Whether the places of the old parameter at position `i` and of its match differ, if both exist.
 fn param_moved(old: &View<OldIx>, new: &View<NewIx>, i: usize, found: Option<usize>) -> bool
     requires inside { i < length old.now.parts }
     requires found { found ≡ matching_spec.match_of old.now new.now i }
@@ -216,7 +218,7 @@ fn param_moved(old: &View<OldIx>, new: &View<NewIx>, i: usize, found: Option<usi
     }
 }
 
-// Whether two types break a rule that speaks of parts, at part `i` of the old one, whose match is at hand.
+// Whether two types break a rule on parts, at part `i` of the old one with this match.
 #[tactic(auto, using(crate::proofs::Matches::inside), unfolding(crate::specs::TypeRules::breaks_part))]
 fn breaks_part(
     rule: Rule,
@@ -250,7 +252,7 @@ fn breaks_part(
     }
 }
 
-// Appends where two types break a rule that speaks of parts, in order of the old parts.
+// Appends the parts at which two types break a rule on parts, in order of the old parts.
 fn push_parts(
     list: &mut List<Broken>,
     rule: Rule,
@@ -269,7 +271,7 @@ fn push_parts(
     Ok(())
 }
 
-// Appends where two types break a rule.
+// Appends each break of a rule by two types.
 #[tactic(auto, unfolding(crate::specs::TypeRules::broken))]
 fn push_broken(
     list: &mut List<Broken>,
@@ -291,7 +293,7 @@ fn push_broken(
     Ok(())
 }
 
-// All rules that two types break, in order of rule and then of the old parts, whose matches are at hand.
+// All rules that two types break, ordered by rule and then by old part, given the matches.
 #[tactic(auto, unfolding(crate::specs::TypeRules::breaks))]
 pub(crate) fn breaks_by(
     alloc: Global,
@@ -309,7 +311,7 @@ pub(crate) fn breaks_by(
     Ok(list)
 }
 
-// Whether two types break no rule that compares them as a whole.
+// Whether two types break no rule on whole types.
 #[tactic(auto, unfolding(crate::specs::Keeping::keeps_whole))]
 fn keeps_whole(old: &View<OldIx>, new: &View<NewIx>) -> bool
     ensures { result ≡ keeping.keeps_whole old.now new.now }
@@ -319,7 +321,7 @@ fn keeps_whole(old: &View<OldIx>, new: &View<NewIx>) -> bool
         .all(|rule| !breaks_whole(*rule, old, new))
 }
 
-// Whether two types break no rule that speaks of parts, at part `i` of the old one.
+// Whether two types break no rule on parts, at part `i` of the old one.
 #[tactic(auto, unfolding(crate::specs::Keeping::keeps_part))]
 fn keeps_part(old: &View<OldIx>, new: &View<NewIx>, i: usize) -> bool
     requires { i < length old.now.parts }
@@ -344,7 +346,7 @@ fn keeps_parts(old: &View<OldIx>, new: &View<NewIx>) -> bool
     true
 }
 
-/// Whether two types break no rule. It takes no memory.
+/// Whether two types break no rule. Allocates nothing.
 pub fn holds(old: &View<OldIx>, new: &View<NewIx>) -> bool
     ensures { IsTrue result ↔ (type_rules.breaks old.now new.now ≡ []) }
 {

@@ -1,10 +1,10 @@
-// A counter of steps, which takes no bytes.
+// A counter of steps of size 0.
 ghost use Rattle.std.specs.Prelude.{◌≡◌, ◌+◌, ◌<◌, ℕ};
 
 use std::marker::Model;
 use std::sync::ledger::{Blank, Book, Ledger, Share};
 
-/// How many steps were taken, a number without an end. Contracts alone see it: it takes no bytes, and counting costs nothing.
+/// The number of steps taken, without an upper bound. Only contracts see it: it has no bytes, and counting costs nothing.
 #[derive(Drop)]
 pub struct Steps<L: Ledger> {
     book: Book<L>,
@@ -20,7 +20,7 @@ impl<L: Ledger> Model for Steps<L> {
 }
 
 impl<L: Ledger> Steps<L> {
-    /// A counter that stands at 0, over a ledger of its own.
+    /// A counter at 0, over a new ledger.
     pub fn new(blank: Blank) -> Steps<L>
         requires name { blank.name ≡ L.name }
         requires parts { blank.parts ≡ L.parts }
@@ -31,7 +31,7 @@ impl<L: Ledger> Steps<L> {
         Steps { book, share }
     }
 
-    /// One more step.
+    /// Counts one more step.
     pub fn tick(&mut self)
         ensures { self.new ≡ self.old + 1 }
     {

@@ -1,4 +1,4 @@
-// An old type and the new type in its place.
+// Pairs of types with their way.
 ghost use Rattle.std.specs.Prelude.{◌++◌};
 ghost use Rattle.std.proofs.Common.{rules};
 ghost use Rattle.std.specs.Hash as fed;
@@ -9,11 +9,14 @@ use abi_types::{Index, NewIx, OldIx, Way};
 use std::hash::{Hash, Hasher};
 use std::marker::Model;
 
-/// An old type, a new type in its place, and the way by which they are reached.
+/// An old type, the new type in its place, and the way in which they are reached.
 #[derive(Clone, Copy, Debug, PartialEq, Eq)]
 pub struct Triple {
+    /// The old type.
     pub old: OldIx,
+    /// The new type in its place.
     pub new: NewIx,
+    /// The way in which they are reached.
     pub way: Way,
 }
 

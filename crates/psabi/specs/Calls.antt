@@ -1,4 +1,4 @@
--- Where calls put their results and arguments (psABI, section 3.2.3 "Parameter Passing").
+-- Call shapes: where calls pass their results and arguments (psABI, section 3.2.3 "Parameter Passing").
 use Rattle.std.specs.Prelude.{ℕ, if◌then◌else◌, List, length, map}
 use Rattle.std.specs.List.{range_with_len}
 use Rattle.abi_types.specs.declared.place.CallShape.{CallShape}
@@ -15,7 +15,7 @@ call_of_view nodes v = record {
   params = places nodes (registers_of_result (outcome_of nodes v)) (params_of v.parts);
 }
 
--- the call of a node, which has no places where it is no function
+-- the call of a node, without places where it is not a function
 unfoldable pub call_of : List PlainNode → ℕ → CallShape
 call_of nodes i = if is_function (view_at nodes i).kind then call_of_view nodes (view_at nodes i) else no_call
 

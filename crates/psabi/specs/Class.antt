@@ -53,11 +53,11 @@ same_class c d = false
 
 -- ---- eightbytes
 
--- the class of an eightbyte, NO_CLASS past the last
+-- the class of an eightbyte, NO_CLASS past the last one
 abbrev pub class_at : List Class → ℕ → Class
 class_at cs k = slice_index_or cs k NoClass
 
--- two classes of one eightbyte as one: the rules (a) to (f) in their order
+-- the class of an eightbyte with parts of two classes: rules (a) to (f), in order
 abbrev pub merge : Class → Class → Class
 merge c d =
     if same_class c d then c else

@@ -14,14 +14,14 @@ use Rattle.psabi.specs.Psabi.{eightbyte_limit, object_limit}
 use Rattle.psabi.specs.Rows.{one, all_memory_class, row}
 use Rattle.psabi.specs.Touching.{is_aligned}
 
--- the class of an eightbyte of an aggregate before the cleanup: the classes of all leaves that touch it, merged in their order
+-- the class of an eightbyte of an aggregate before the cleanup: the classes of all leaves in it, merged in order
 unfoldable pub merged_at : List PlainNode → ℕ → ℕ → Class
 merged_at nodes i k = fold (merge_leaf k) NoClass (leaves_of nodes i 0 0)
 
 unfoldable pub merged : List PlainNode → ℕ → List Class
 merged nodes i = map (merged_at nodes i) (range_with_len 0 eightbyte_limit)
 
--- the three cases in which an aggregate is in memory whatever the classes of its leaves are: it is larger than eight
+-- the three cases in which an aggregate is in memory whatever the classes of its leaves: it is larger than eight
 -- eightbytes, a member ends past its aggregate, or a leaf is not aligned
 unfoldable pub in_memory : List PlainNode → ℕ → Bool
 in_memory nodes i = nat_lt object_limit (view_at nodes i).size || ends_past nodes i || not (list_all is_aligned (leaves_of nodes i 0 0))

@@ -1,5 +1,5 @@
--- The cleanup after an object's leaves are merged (psABI, section 3.2.3 "Parameter Passing", "post merger cleanup"). It is done
--- once, on the whole aggregate.
+-- The post-merger cleanup of an object's classes (psABI, section 3.2.3 "Parameter Passing", "post merger cleanup"). It applies
+-- once, to the whole aggregate.
 use Rattle.std.specs.Prelude.{ℕ, ◌+◌, ◌-◌, ◌/◌, ◌==◌, ◌&&◌, ◌||◌, not, nat_lt, Bool, if◌then◌else◌, List, map}
 use Rattle.std.specs.List.{list_any, list_all, range_with_len}
 use Rattle.psabi.specs.declared.class.Class.{Class}
@@ -8,7 +8,7 @@ use Rattle.psabi.specs.Class.{is_memory_class, is_sse, is_sse_up, is_x87, is_x87
 use Rattle.psabi.specs.Psabi.{eightbyte_size, eightbyte_limit, pair_limit}
 use Rattle.psabi.specs.Rows.{all_memory_class}
 
--- the class of the eightbyte before one
+-- the class of the preceding eightbyte
 abbrev pub before : List Class → ℕ → Class
 before cs k = if k == 0 then NoClass else class_at cs (k - 1)
 
@@ -22,19 +22,19 @@ has_lone_x87_up cs = list_any (is_lone_x87_up cs) (range_with_len 0 eightbyte_li
 abbrev pub is_upper_at : List Class → ℕ → Bool
 is_upper_at cs k = is_sse_up (class_at cs k)
 
--- the first so many eightbytes are those of one vector: SSE, and SSEUP after it
+-- the first n eightbytes form one vector: SSE, followed by SSEUP
 unfoldable pub is_vector : List Class → ℕ → Bool
 is_vector cs count = is_sse (class_at cs 0) && list_all (is_upper_at cs) (range_with_len 1 (count - 1))
 
--- how many eightbytes an object of a size has
+-- the number of eightbytes of an object with this size
 abbrev pub eightbytes_of : ℕ → ℕ
 eightbytes_of size = (size + (eightbyte_size - 1)) / eightbyte_size
 
--- the rules (a) to (c): an eightbyte in memory, a lone X87UP, or more than two eightbytes that are no vector
+-- rules (a) to (c): an eightbyte in memory, a lone X87UP, or more than two eightbytes that do not form a vector
 unfoldable pub becomes_memory_class : List Class → ℕ → Bool
 becomes_memory_class cs size = list_any is_memory_class cs || has_lone_x87_up cs || (nat_lt pair_limit size && not (is_vector cs (eightbytes_of size)))
 
--- the rule (d): an SSEUP that follows neither SSE nor SSEUP becomes SSE
+-- rule (d): an SSEUP that follows neither SSE nor SSEUP becomes SSE
 abbrev pub grounded : List Class → ℕ → Class
 grounded cs k = if is_sse_up (class_at cs k) && not (is_sse (before cs k) || is_sse_up (before cs k)) then Sse else class_at cs k
 

@@ -1,4 +1,4 @@
--- What the code finds inside an aggregate, as plain data.
+-- An object inside an aggregate, as plain data.
 use Rattle.std.specs.Prelude.{ℕ}
 use Rattle.abi_types.specs.Inside.{Inside}
 use Rattle.psabi.specs.declared.inside.InnerObject.{InnerObject}

@@ -1,4 +1,4 @@
--- What classes and places keep.
+-- Properties of classes and places.
 use Rattle.std.specs.Prelude.{◌≡◌, ◌↔◌, ◌<◌, ◌≤◌, ℕ, ◌+◌, true, List, length, take, Some, count_by, slice_get}
 use Rattle.abi_types.specs.declared.kind.Kind.TheVariants as kind
 use Rattle.abi_types.specs.declared.place.Slot.{Slot}
@@ -21,17 +21,17 @@ use Rattle.psabi.specs.Rows.{all_memory_class}
 
 -- ---- one object
 
--- an object above 64 bytes is in memory
+-- an object larger than 64 bytes is in memory
 abbrev pub LargeObjectsAreInMemory : Type 0
 LargeObjectsAreInMemory = (nodes : List PlainNode) (i : ℕ) → IsGraph nodes → object_limit < (view_at nodes i).size → classes_of nodes i ≡ all_memory_class
 
--- an argument that goes to the stack leaves the registers as they were
+-- an argument on the stack takes no registers
 abbrev pub StackTakesNoRegister : Type 0
 StackTakesNoRegister = (t : ArgumentRegisters) (size align : ℕ) (cs : List Class) → goes_to_stack t cs ≡ true → ((taken_with t size align cs).general ≡ t.general) × ((taken_with t size align cs).vector ≡ t.vector)
 
 -- ---- the arguments of one call
 
--- a place holds a general register, or the low part of a vector register
+-- a place holds a general register, or the lowest eightbyte of a vector register
 abbrev pub HoldsGeneral : Place → ℕ → Type 0
 HoldsGeneral (place.Registers slots) n = (k : ℕ) × (slice_get slots k ≡ Some (slot.General n))
 HoldsGeneral other n = ⊥
@@ -44,19 +44,19 @@ HoldsVector other n = ⊥
 abbrev pub IsPlaceOf : CallShape → ℕ → Place → Type 0
 IsPlaceOf call a p = slice_get call.params a ≡ Some p
 
--- no register is held by two arguments
+-- no two arguments share a register
 abbrev pub ArgumentsShareNoRegister : Type 0
 ArgumentsShareNoRegister = (nodes : List PlainNode) (i a b : ℕ) (p q : Place) → a < b → IsPlaceOf (call_of nodes i) a p → IsPlaceOf (call_of nodes i) b q → (n : ℕ) → (HoldsGeneral p n → HoldsGeneral q n → ⊥) × (HoldsVector p n → HoldsVector q n → ⊥)
 
--- arguments hold the registers for arguments alone
+-- arguments are only in argument registers
 abbrev pub ArgumentsHoldTheirRegisters : Type 0
 ArgumentsHoldTheirRegisters = (nodes : List PlainNode) (i a : ℕ) (p : Place) → IsPlaceOf (call_of nodes i) a p → (n : ℕ) → (HoldsGeneral p n → n < general_registers) × (HoldsVector p n → n < vector_registers)
 
--- where the result is hidden, its address is in rdi, which no argument holds
+-- where the result is hidden, its address is in rdi, which holds no argument
 abbrev pub HiddenResultsKeepRdi : Type 0
 HiddenResultsKeepRdi = (nodes : List PlainNode) (i a : ℕ) (p : Place) → (call_of nodes i).outcome ≡ place.Hidden → IsPlaceOf (call_of nodes i) a p → HoldsGeneral p rdi → ⊥
 
--- a place on the stack begins where an earlier one ends, or later
+-- an argument on the stack begins at or after the end of each earlier one
 abbrev pub StackPlacesAscend : Type 0
 StackPlacesAscend = (nodes : List PlainNode) (i a b from size from' size' : ℕ) → a < b → IsPlaceOf (call_of nodes i) a (place.Stack from size) → IsPlaceOf (call_of nodes i) b (place.Stack from' size') → from + size ≤ from'
 
@@ -64,15 +64,15 @@ StackPlacesAscend = (nodes : List PlainNode) (i a b from size from' size' : ℕ)
 abbrev pub EachParameterHasAPlace : Type 0
 EachParameterHasAPlace = (nodes : List PlainNode) (i : ℕ) → (view_at nodes i).kind ≡ kind.Function → length (call_of nodes i).params ≡ count_by is_param (view_at nodes i).parts
 
--- the places of a function's call are the one list in which each argument has the place that the counts over those before it say
+-- the places of a function's call are the only list in which each argument has the place that counts over those before it give
 abbrev pub PlacesAreCounted : Type 0
 PlacesAreCounted = (nodes : List PlainNode) (f : ℕ) (places : List Place) → (view_at nodes f).kind ≡ kind.Function → (AreCounted (call_of nodes f).outcome (arguments_of nodes f) places ↔ (places ≡ (call_of nodes f).params))
 
--- an argument in registers is in as many of each kind as are counted for it
+-- an argument in registers has as many of each kind as its classes need
 abbrev pub RegistersAreCounted : Type 0
 RegistersAreCounted = (nodes : List PlainNode) (f k : ℕ) (a : Argument) (slots : List Slot) → (view_at nodes f).kind ≡ kind.Function → slice_get (arguments_of nodes f) k ≡ Some a → IsPlaceOf (call_of nodes f) k (place.Registers slots) → HoldsItsCount a slots
 
--- what an offset is rounded up to is the first multiple of the step
+-- the rounded offset is the first multiple of the step
 abbrev pub RoundedIsFirst : Type 0
 RoundedIsFirst = (from align : ℕ) → IsFirstFrom from (step_of align) (rounded from (step_of align))
 
@@ -82,12 +82,11 @@ StackPlacesAddUp = (nodes : List PlainNode) (f k offset size : ℕ) → (view_at
 
 -- ---- graphs with their calls
 
--- calls decide nothing about calls
+-- the call shape of a node does not depend on the call shapes in the graph
 abbrev pub CallsStayInShapedGraphs : Type 0
 CallsStayInShapedGraphs = (nodes : List PlainNode) (calls : List CallShape) → IsGraph nodes → (i : ℕ) → call_of (shaped nodes calls) i ≡ call_of nodes i
 
--- A graph that is given the calls of its nodes has at each node the call of that node, and a place for each parameter of a
--- function.
+-- In a graph that is given its nodes' call shapes, each node has its own call shape, and each parameter of a function has a place.
 abbrev pub GivenCallsAreRight : Type 0
 GivenCallsAreRight = (nodes : List PlainNode) → IsGraph nodes → (i : ℕ) → (view_at (shaped nodes (calls_of nodes)) i).call ≡ call_of (shaped nodes (calls_of nodes)) i
 

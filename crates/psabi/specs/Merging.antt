@@ -1,4 +1,4 @@
--- The leaves of an object, merged into the classes of its eightbytes in their order.
+-- The leaves of an object, merged in order into the classes of its eightbytes.
 use Rattle.std.specs.Prelude.{◌≡◌, ◌<◌, ℕ, ◌&&◌, true, if◌then◌else◌, List, length}
 use Rattle.std.specs.List.{fold, list_all}
 use Rattle.abi_types.specs.declared.leaf.Leaf.{Leaf}

@@ -1,4 +1,4 @@
--- The numbers of the System V psABI for x86-64 that definitions speak of, as the standard gives them.
+-- The constants of the System V psABI for x86-64 that definitions use.
 use Rattle.std.specs.Prelude.{ℕ}
 
 -- ---- the sizes of types in bytes (section 3.1.2 "Data Representation", figure "Scalar Types")
@@ -42,7 +42,7 @@ decimal64_size = 8
 abbrev pub decimal128_size : ℕ
 decimal128_size = 16
 
--- a complex number is two numbers of its base type
+-- a complex number consists of two numbers of its base type
 
 abbrev pub complex_float16_size : ℕ
 complex_float16_size = 4
@@ -72,18 +72,18 @@ m512_size = 64
 
 -- ---- classification (section 3.2.3 "Parameter Passing")
 
--- how many bits a byte has, and an eightbyte
+-- the number of bits in a byte, and in an eightbyte
 abbrev pub byte_bits : ℕ
 byte_bits = 8
 
 abbrev pub eightbyte_bits : ℕ
 eightbyte_bits = 64
 
--- how many bytes an eightbyte has
+-- the number of bytes in an eightbyte
 abbrev pub eightbyte_size : ℕ
 eightbyte_size = 8
 
--- the most eightbytes that an object in registers can have, and the most bytes
+-- the most eightbytes of an object in registers, and its greatest size in bytes
 abbrev pub eightbyte_limit : ℕ
 eightbyte_limit = 8
 
@@ -94,21 +94,21 @@ object_limit = 64
 abbrev pub object_bits : ℕ
 object_bits = 512
 
--- the most bytes that an aggregate in registers can have if it is no vector: two eightbytes
+-- the greatest size in bytes of an aggregate in registers that is not a vector: two eightbytes
 abbrev pub pair_limit : ℕ
 pair_limit = 16
 
 -- ---- passing (section 3.2.3 "Parameter Passing")
 
--- how many general registers take arguments: rdi, rsi, rdx, rcx, r8 and r9
+-- the number of general registers for arguments: rdi, rsi, rdx, rcx, r8 and r9
 abbrev pub general_registers : ℕ
 general_registers = 6
 
--- how many vector registers take arguments: xmm0 to xmm7
+-- the number of vector registers for arguments: xmm0 to xmm7
 abbrev pub vector_registers : ℕ
 vector_registers = 8
 
--- general registers by their numbers in the order rdi, rsi, rdx, rcx, r8, r9, rax
+-- the numbers of general registers, in the order rdi, rsi, rdx, rcx, r8, r9, rax
 abbrev pub rdi : ℕ
 rdi = 0
 
@@ -118,14 +118,14 @@ rdx = 2
 abbrev pub rax : ℕ
 rax = 6
 
--- the top of the floating-point stack
+-- the top register of the x87 stack
 abbrev pub st0 : ℕ
 st0 = 0
 
--- how many eightbytes a register of that stack holds
+-- the number of eightbytes in an x87 register
 abbrev pub x87_eightbytes : ℕ
 x87_eightbytes = 2
 
--- the alignment of the area of arguments on the stack (section 3.2.2 "The Stack Frame")
+-- the alignment of the stack argument area (section 3.2.2 "The Stack Frame")
 abbrev pub stack_alignment : ℕ
 stack_alignment = 16

@@ -1,5 +1,5 @@
--- Where results are (psABI, section 3.2.3 "Parameter Passing", "Returning of Values"). That a result without bytes or classes
--- has no place is this project's own.
+-- The places of results (psABI, section 3.2.3 "Parameter Passing", "Returning of Values"). That a result without bytes or classes
+-- has no place is a choice of this project.
 use Rattle.std.specs.Prelude.{ℕ, ◌-◌, ◌/◌, ◌==◌, if◌then◌else◌, List, map, take}
 use Rattle.std.specs.List.{list_any, range_with_len}
 use Rattle.abi_types.specs.declared.place.Slot.{Slot}
@@ -21,7 +21,7 @@ use Rattle.psabi.specs.Registers.{general_count, vector_count, has_no_place}
 abbrev pub result_register : ℕ → ℕ
 result_register general = if general == 0 then rax else rdx
 
--- the slot of eightbyte k, after so many earlier ones in general and in vector registers
+-- the slot of eightbyte k, after this many earlier ones in general and in vector registers
 abbrev pub result_slot_of : Class → ℕ → ℕ → ℕ → Slot
 result_slot_of Integer general vector k = slot.General (result_register general)
 result_slot_of Sse general vector k = slot.Vector vector
@@ -37,7 +37,7 @@ result_slot cs k = result_slot_of (class_at cs k) (general_count (take k cs)) (v
 unfoldable pub result_slots : List Class → List Slot
 result_slots cs = map (result_slot cs) (range_with_len 0 eightbyte_limit)
 
--- the place of a result of this size and these classes
+-- the place of a result with this size and these classes
 unfoldable pub result_place : ℕ → List Class → Place
 result_place size cs =
     if has_no_place size cs then place.Nothing else
@@ -46,7 +46,7 @@ result_place size cs =
 abbrev pub result_of_node : List PlainNode → ℕ → Place
 result_of_node nodes i = result_place (view_at nodes i).size (classes_of nodes i)
 
--- the place of the result of a function, whose first part names it
+-- the place of the result of a function, whose first part names its type
 abbrev pub outcome_of : List PlainNode → PlainView → Place
 outcome_of nodes v = named_or place.Nothing (result_of_node nodes) (to_of (part_at v 0))
 

@@ -1,6 +1,6 @@
--- The classes of objects that are leaves, a row for each sort of them (psABI, section 3.2.3 "Parameter Passing",
--- "Classification"). The rows of `_Float16`, of decimal numbers and of complex numbers of 4 and of 32 bytes are this
--- project's own. A size that no row names gives MEMORY.
+-- The classes of leaf objects, one row for each sort (psABI, section 3.2.3 "Parameter Passing", "Classification"). The psABI does
+-- not give the rows of `_Float16`, of decimal numbers, and of complex numbers of 4 and of 32 bytes: these are choices of this
+-- project. A size without a row gives MEMORY.
 use Rattle.std.specs.Prelude.{ℕ, ◌==◌, ◌||◌, nat_le, if◌then◌else◌, List, [], ◌∷◌}
 use Rattle.abi_types.specs.declared.kind.Kind.{Kind}
 use Rattle.abi_types.specs.declared.kind.Kind.TheVariants as kind
@@ -26,7 +26,7 @@ eight a b = a ∷ b ∷ b ∷ b ∷ b ∷ b ∷ b ∷ b ∷ []
 abbrev pub all_memory_class : List Class
 all_memory_class = eight Memory Memory
 
--- truth values, integers, enumerations and pointers
+-- Booleans, integers, enumerations and pointers
 abbrev pub integer_row : ℕ → List Class
 integer_row size = if size == 0 then one NoClass else if nat_le size long_size then one Integer else if size == int128_size then two Integer Integer else all_memory_class
 
@@ -54,7 +54,7 @@ scalar_row group.Quad size = quad_row size
 scalar_row group.Complex size = complex_row size
 scalar_row group.Decimal size = decimal_row size
 
--- the classes of the eightbytes of an object that is a leaf
+-- the classes of the eightbytes of a leaf object
 unfoldable pub row : Kind → Group → ℕ → List Class
 row kind.Scalar group size = scalar_row group size
 row kind.Enumeration group size = integer_row size

@@ -13,7 +13,7 @@ use crate::sizes::{
 };
 use abi_types::{Graph, Group, Index, Kind};
 
-// The alignment of an object whose size no type of the psABI has.
+// The alignment of an object whose size is not that of any psABI type.
 fn other_align(size: u64) -> u64
     ensures { result ≡ spec.other_align size }
 {
@@ -47,7 +47,7 @@ fn vector_align(size: u64) -> u64
     }
 }
 
-/// The natural alignment, in bytes, of an object that is no aggregate.
+/// The natural alignment in bytes of an object that is not an aggregate.
 pub fn natural_align(kind: Kind, group: Group, size: u64) -> u64
     ensures { result ≡ spec.natural_align kind group size }
 {
@@ -62,7 +62,7 @@ pub fn natural_align(kind: Kind, group: Group, size: u64) -> u64
     }
 }
 
-/// How many bytes the node's object has.
+/// The size of the node's object in bytes.
 pub fn size<Ix: Index>(graph: &Graph<Ix>, ix: Ix) -> u64
     requires { Ix.number_of ix < length graph.now }
     ensures { result ≡ (view_at graph.now (Ix.number_of ix)).size }
@@ -71,7 +71,7 @@ pub fn size<Ix: Index>(graph: &Graph<Ix>, ix: Ix) -> u64
     view.size
 }
 
-/// The same as `align`, but each node is computed once: it looks up what `found` already has, and adds what it computes.
+/// The same as `align`, but computes each node only once: takes results from `found`, and adds new ones to it.
 pub fn align_with<Ix: Index>(graph: &Graph<Ix>, ix: Ix, found: &mut [Found]) -> u64
     requires inside { Ix.number_of ix < length graph.now }
     requires right { IsRight graph.now found.now }
@@ -96,8 +96,8 @@ pub fn align_with<Ix: Index>(graph: &Graph<Ix>, ix: Ix, found: &mut [Found]) -> 
     keep_align(graph, ix, greatest.max(view.align), found)
 }
 
-/// The alignment of the node's object in bytes: its natural one, or for an aggregate the greatest of what stands inside it. An
-/// explicit alignment raises it. It takes no memory, and calls itself at most 513 deep, since no rank is above 512.
+/// The alignment of the node's object in bytes: its natural one, or for an aggregate the greatest of the objects inside it. An
+/// explicit alignment raises it. Allocates nothing. Its recursion is at most 513 deep, since no rank exceeds 512.
 pub fn align<Ix: Index>(graph: &Graph<Ix>, ix: Ix) -> u64
     requires { Ix.number_of ix < length graph.now }
     ensures { result ≡ align_of graph.now (Ix.number_of ix) }

@@ -1,4 +1,4 @@
-// Where the arguments of one function are.
+// The places of a function's arguments.
 ghost use Rattle.std.specs.Prelude.{◌≡◌, ◌<◌, ◌≤◌, ◌+◌, length};
 ghost use Rattle.abi_types.specs.Graphs.{view_at};
 ghost use Rattle.abi_types.specs.Limits.{align_room, room_limit};
@@ -12,7 +12,7 @@ use crate::classification::classes_with;
 use crate::found::Found;
 use abi_types::{Graph, Index, Place};
 
-/// The place of an argument that is the node's object. It counts as taken for later arguments.
+/// The place of an argument of the node's type. Its registers or stack space count as taken for later arguments.
 pub fn place_argument<Ix: Index>(
     graph: &Graph<Ix>,
     to: Ix,

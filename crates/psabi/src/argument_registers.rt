@@ -11,23 +11,23 @@ use crate::registers::{general_count, has_no_place, vector_count};
 use crate::sizes::{EIGHTBYTE, EIGHTBYTES};
 use abi_types::{Place, Slot};
 
-// How many general registers take arguments: rdi, rsi, rdx, rcx, r8 and r9.
+// The number of general registers for arguments: rdi, rsi, rdx, rcx, r8 and r9.
 const GENERAL_REGISTERS: u64 = 6;
 
-// How many vector registers take arguments: xmm0 to xmm7.
+// The number of vector registers for arguments: xmm0 to xmm7.
 const VECTOR_REGISTERS: u64 = 8;
 
-// The alignment of the area of arguments on the stack.
+// The alignment of the stack argument area.
 const STACK_ALIGNMENT: u64 = 16;
 
-/// What earlier arguments have taken.
+/// The registers and the stack space that earlier arguments take.
 #[derive(Clone, Copy)]
 pub struct ArgumentRegisters {
-    /// How many of the general registers for arguments.
+    /// How many of the general argument registers are taken.
     pub general: u64,
-    /// How many of the vector registers for arguments.
+    /// How many of the vector argument registers are taken.
     pub vector: u64,
-    /// Where the places on the stack end.
+    /// The end of the taken part of the stack argument area.
     pub stack: u64,
 }
 
@@ -42,7 +42,7 @@ fn has_memory_class(classes: &[Class]) -> bool
     })
 }
 
-// Whether an argument goes to the stack.
+// Whether an argument is passed on the stack.
 #[tactic(auto, unfolding(crate::specs::Arguments::goes_to_stack))]
 fn goes_to_stack(taken: ArgumentRegisters, classes: &[Class; 8]) -> bool
     requires general { taken.general ≤ general_registers }
@@ -60,7 +60,7 @@ fn goes_to_stack(taken: ArgumentRegisters, classes: &[Class; 8]) -> bool
     vector > VECTOR_REGISTERS
 }
 
-// The offset of the next place on the stack.
+// The offset of the next argument on the stack.
 #[tactic(auto, unfolding(crate::specs::Arguments::stack_offset))]
 fn stack_offset(end: u64, align: u64) -> u64
     requires end { end ≤ room_limit }
@@ -75,7 +75,7 @@ fn stack_offset(end: u64, align: u64) -> u64
     (end + (step - 1)) / step * step
 }
 
-// How many bytes an argument takes on the stack.
+// The stack space of an argument, in bytes.
 #[tactic(auto, unfolding(crate::specs::Arguments::stack_size))]
 fn stack_size(size: u64) -> u64
     requires { size ≤ size_limit }
@@ -114,8 +114,8 @@ fn argument_slots(taken: ArgumentRegisters, classes: &[Class; 8]) -> [Slot; 8]
 }
 
 impl ArgumentRegisters {
-    /// The place of an argument with this size and alignment in bytes and these classes. It counts as taken for later
-    /// arguments.
+    /// The place of an argument with this size and alignment in bytes and these classes. Its registers or stack space count as
+    /// taken for later arguments.
     pub fn place(&mut self, bytes: u64, align: u64, classes: &[Class; 8]) -> Place
         requires general { self.now.general ≤ general_registers }
         requires vector { self.now.vector ≤ vector_registers }

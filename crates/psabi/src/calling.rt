@@ -1,4 +1,4 @@
-// Where calls put their results and arguments.
+// Call shapes: where a call passes its result and its arguments.
 ghost use Rattle.std.specs.Prelude.{◌≡◌, ◌<◌, length, IfOk};
 ghost use Rattle.psabi.specs.Calls.{call_of, calls_of};
 ghost use Rattle.psabi.specs.Found.{IsRight};
@@ -12,7 +12,7 @@ use abi_base::{List, NoMemory};
 use abi_types::{Call, CallShape, Graph, Index};
 use std::alloc::Global;
 
-// Where a call of the node's function puts its result and its arguments, by what is known of types so far.
+// The call shape of the node's function, using the results in `found`.
 fn shape_with<Ix: Index>(
     alloc: Global,
     graph: &Graph<Ix>,
@@ -43,8 +43,8 @@ fn shape_with<Ix: Index>(
     Call::of(alloc, CallShape { outcome, params })
 }
 
-/// Where a call of the node's function puts its result and its arguments: nowhere if the node is no function. It fails only if
-/// memory runs out, and where the walks to leaves take more steps than 64 for each node and 65,536 beside.
+/// Where a call of the node's function passes its result and its arguments; no places if the node is not a function. Fails only
+/// where memory runs out, or where the walks to leaves would take more steps than 64 for each node plus 65,536.
 pub fn call_shape<Ix: Index>(alloc: Global, graph: &Graph<Ix>, ix: Ix) -> Result<Call, NoMemory>
     requires { Ix.number_of ix < length graph.now }
     ensures { IfOk result (λ shape. shape ≡ call_of graph.now (Ix.number_of ix)) }
@@ -54,9 +54,8 @@ pub fn call_shape<Ix: Index>(alloc: Global, graph: &Graph<Ix>, ix: Ix) -> Result
     shape_with(alloc, graph, ix, found.as_mut_slice(), &mut walks)
 }
 
-/// The call shapes of all nodes, each at the number of its node. It computes the alignment and the classes of each type once for
-/// all calls. It fails only if memory runs out, and where the walks to leaves take more steps than 64 for each node and 65,536
-/// beside.
+/// The call shapes of all nodes, each at its node's number. Computes the alignment and the classes of each type once for all calls.
+/// Fails only where memory runs out, or where the walks to leaves would take more steps than 64 for each node plus 65,536.
 pub fn call_shapes<Ix: Index>(alloc: Global, graph: &Graph<Ix>) -> Result<List<Call>, NoMemory>
     ensures shapes { IfOk result (λ shapes. shapes ≡ calls_of graph.now) }
     ensures many { IfOk result (λ shapes. length shapes ≡ length graph.now) }

@@ -4,28 +4,28 @@ ghost use Rattle.std.specs.List.{list_any};
 ghost use Rattle.psabi.specs.Class.{is_memory_class};
 ghost use Rattle.psabi.specs.Class as spec;
 
-/// The class of an eightbyte of an object: how it travels as a part of an argument or of a result.
+/// The class of an eightbyte of an object, which decides how it is passed as a part of an argument or of a result.
 #[derive(Clone, Copy, Debug, PartialEq, Eq)]
 pub enum Class {
-    /// Padding or past the end of the object: NO_CLASS.
+    /// Padding, or past the end of the object: NO_CLASS.
     NoClass,
     /// In a general register: INTEGER.
     Integer,
-    /// In the low part of a vector register: SSE.
+    /// The lowest eightbyte of a vector register: SSE.
     Sse,
-    /// In the next higher part of the vector register before it: SSEUP.
+    /// The next higher eightbyte of the preceding vector register: SSEUP.
     SseUp,
     /// The mantissa of an x87 number: X87.
     X87,
-    /// The exponent of the x87 number before it: X87UP.
+    /// The exponent of the preceding x87 number: X87UP.
     X87Up,
     /// A part of a complex x87 number: COMPLEX_X87.
     ComplexX87,
-    /// In memory, as the whole object: MEMORY.
+    /// In memory, as is the whole object: MEMORY.
     Memory,
 }
 
-/// The class of an eightbyte that has parts of two classes.
+/// The class of an eightbyte that contains parts of two classes.
 pub fn merge(one: Class, other: Class) -> Class
     ensures { result ≡ spec.merge one other }
 {
@@ -50,7 +50,7 @@ pub fn merge(one: Class, other: Class) -> Class
     }
 }
 
-/// Whether an eightbyte is in memory.
+/// Whether an eightbyte has class MEMORY.
 pub fn has_memory(classes: &[Class; 8]) -> bool
     ensures { result ≡ list_any is_memory_class classes.now }
 {

@@ -40,7 +40,7 @@ fn classes_of_aggregate<Ix: Index>(graph: &Graph<Ix>, ix: Ix, found: &mut [Found
     cleaned_up(&eightbytes.classes, view.size)
 }
 
-/// The same as `classes`, but each node is classified once: it looks up what `found` already has, and adds what it computes.
+/// The same as `classes`, but classifies each node only once: takes results from `found`, and adds new ones to it.
 pub fn classes_with<Ix: Index>(graph: &Graph<Ix>, ix: Ix, found: &mut [Found]) -> [Class; 8]
     requires inside { Ix.number_of ix < length graph.now }
     requires right { IsRight graph.now found.now }
@@ -62,8 +62,8 @@ pub fn classes_with<Ix: Index>(graph: &Graph<Ix>, ix: Ix, found: &mut [Found]) -
     keep_classes(graph, ix, classes, found)
 }
 
-/// The classes of the eightbytes of the node's object, the first one first: `Memory` in all eight if the object is in memory,
-/// else `NoClass` past its end. It takes no memory.
+/// The classes of the eightbytes of the node's object, in order: `Memory` in all eight if the object is in memory, else `NoClass`
+/// past its end. Allocates nothing.
 pub fn classes<Ix: Index>(graph: &Graph<Ix>, ix: Ix) -> [Class; 8]
     requires { Ix.number_of ix < length graph.now }
     ensures { result ≡ classes_of graph.now (Ix.number_of ix) }

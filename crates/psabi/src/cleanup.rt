@@ -1,4 +1,4 @@
-// The cleanup after an object's leaves are merged (psABI, section 3.2.3 "Parameter Passing", "post merger cleanup").
+// The post-merger cleanup of an object's classes (psABI, section 3.2.3 "Parameter Passing", "post merger cleanup").
 ghost use Rattle.std.specs.Prelude.{◌≡◌, ◌<◌, ◌≤◌, ◌-◌};
 ghost use Rattle.std.specs.List.{list_all, range_with_len};
 ghost use Rattle.psabi.specs.Cleanup.{has_lone_x87_up as one_is_lone, is_vector as they_are_a_vector};
@@ -9,7 +9,7 @@ use crate::class::{Class, has_memory};
 use crate::rows::all_memory_class;
 use crate::sizes::{EIGHTBYTE, EIGHTBYTES, PAIR_LIMIT};
 
-// Whether the eightbyte is an X87UP without an X87 before it.
+// Whether the eightbyte is X87UP without X87 before it.
 fn is_lone_x87_up(classes: &[Class; 8], k: usize) -> bool
     requires { k < eightbyte_limit }
     ensures { result ≡ spec.is_lone_x87_up classes.now k }
@@ -50,7 +50,7 @@ fn is_upper(classes: &[Class; 8], k: usize) -> bool
     }
 }
 
-// Whether the first `count` eightbytes, without the very first, are SSEUP.
+// Whether the first `count` eightbytes, except the very first, are SSEUP.
 fn rest_are_upper(classes: &[Class; 8], count: usize) -> bool
     requires some { 1 ≤ count }
     requires few { count ≤ eightbyte_limit }
@@ -64,7 +64,7 @@ fn rest_are_upper(classes: &[Class; 8], count: usize) -> bool
     true
 }
 
-// Whether the first `count` eightbytes are those of one vector.
+// Whether the first `count` eightbytes form one vector.
 #[tactic(auto, unfolding(crate::specs::Cleanup::is_vector))]
 fn is_vector(classes: &[Class; 8], count: usize) -> bool
     requires some { 1 ≤ count }
@@ -77,7 +77,7 @@ fn is_vector(classes: &[Class; 8], count: usize) -> bool
     }
 }
 
-// How many eightbytes an object of this size has.
+// The number of eightbytes of an object with this size.
 fn eightbytes_of(size: u64) -> usize
     requires { size ≤ object_limit }
     ensures { result ≡ spec.eightbytes_of size }
@@ -102,7 +102,7 @@ fn becomes_memory_class(classes: &[Class; 8], size: u64) -> bool
     !is_vector(classes, eightbytes_of(size))
 }
 
-// The class of an eightbyte, where an SSEUP that follows neither SSE nor SSEUP becomes SSE.
+// The class of an eightbyte. An SSEUP that follows neither SSE nor SSEUP becomes SSE.
 fn grounded(classes: &[Class; 8], k: usize) -> Class
     requires { k < eightbyte_limit }
     ensures { result ≡ spec.grounded classes.now k }

@@ -1,4 +1,4 @@
-// One descent to the leaves of an object, which merges their classes.
+// The descent to the leaves of an object, which merges their classes.
 ghost use Rattle.std.specs.Prelude.{◌≡◌, ◌<◌, ◌≤◌, ◌+◌, length, false};
 ghost use Rattle.abi_types.specs.Leaves.{leaves_of};
 ghost use Rattle.psabi.specs.Psabi.{object_bits};
@@ -11,9 +11,9 @@ use crate::kinds::{is_aggregate, is_leaf};
 use abi_types::laws::{leaves_are_those_inside, parts_name_what_is_inside};
 use abi_types::{Graph, Index, Leaf};
 
-/// Merges the leaves of the node's object, which stands at `bit` and is a bit field of `width` bits, or none where that is 0.
-/// All of the object lies inside 64 bytes, and an array of size 0 has no leaves, so it visits at most 64 elements of an array.
-/// It calls itself at most 513 deep, since no rank is above 512.
+/// Merges the leaves of the node's object, at the offset `bit`; `width` is its width in bits where it is a bit field, else 0. The
+/// whole object lies inside 64 bytes, and an array of size 0 has no leaves, so at most 64 elements of an array are visited. The
+/// recursion is at most 513 deep, since no rank exceeds 512.
 pub fn add_leaves<Ix: Index>(
     graph: &Graph<Ix>,
     ix: Ix,

@@ -1,4 +1,4 @@
-// The classes of an object's eightbytes while its leaves are merged into them, one after another.
+// The classes of an object's eightbytes while its leaves are merged, one after another.
 ghost use Rattle.std.specs.Prelude.{◌≡◌, ◌<◌, ◌≤◌, ◌+◌, ◌∷◌, []};
 ghost use Rattle.abi_types.specs.Limits.{size_limit};
 ghost use Rattle.psabi.specs.Psabi.{eightbyte_limit, object_bits};
@@ -32,7 +32,7 @@ fn with_leaf(class: Class, leaf: &Leaf, k: usize) -> Class
 }
 
 impl Eightbytes {
-    /// No leaves.
+    /// The state before any leaf.
     pub fn new() -> Eightbytes
         ensures { result ≡ nothing_merged }
     {
@@ -42,7 +42,7 @@ impl Eightbytes {
         }
     }
 
-    /// One more leaf.
+    /// Merges one more leaf.
     pub fn add(&mut self, leaf: Leaf)
         requires size { leaf.size ≤ size_limit }
         requires room { leaf.bit + spec.bits_of leaf ≤ object_bits }

@@ -1,4 +1,4 @@
-// What is known of types so far, so that a type which many others hold is computed once.
+// Results for types, stored so that a type in many others is computed only once.
 ghost use Rattle.std.specs.Prelude.{◌≡◌, ◌<◌, ℕ, length, slice_index_or, IfOk, IfSome};
 ghost use Rattle.psabi.specs.Alignment.{align_of};
 ghost use Rattle.psabi.specs.Classes.{classes_of};
@@ -11,18 +11,18 @@ use abi_base::NoMemory;
 use abi_types::{Graph, Index};
 use std::alloc::Global;
 
-/// What is known of a node's object so far.
+/// The results for a node's object so far.
 #[derive(Clone, Copy)]
 pub struct Found {
     /// Its alignment in bytes.
     pub align: Option<u64>,
-    /// Whether a member of it, or of an aggregate inside it, ends past the aggregate whose member it is.
+    /// Whether a member of it, or of an aggregate inside it, ends past the aggregate that contains it.
     pub ends_past: Option<bool>,
     /// The classes of its eightbytes.
     pub classes: Option<[Class; 8]>,
 }
 
-// Nothing is known yet.
+// No results yet.
 fn nothing_found() -> Found
     ensures { result ≡ spec.nothing_found }
 {
@@ -33,7 +33,7 @@ fn nothing_found() -> Found
     }
 }
 
-/// A table for so many nodes, each at its number, in which nothing is known yet.
+/// A table for this many nodes by number, without results.
 pub fn room_for(alloc: Global, len: usize) -> Result<Vec<Found>, NoMemory>
     ensures { IfOk result (λ found. (i : ℕ) → slice_index_or found.items i spec.nothing_found ≡ spec.nothing_found) }
 {
@@ -44,7 +44,7 @@ pub fn room_for(alloc: Global, len: usize) -> Result<Vec<Found>, NoMemory>
     Ok(found)
 }
 
-/// What is known of a node: nothing, if the table has no entry for it.
+/// The results for a node: none if the table has no entry for it.
 pub fn found_at<Ix: Index>(ix: Ix, found: &[Found]) -> Found
     ensures { result ≡ slice_index_or found.now (Ix.number_of ix) spec.nothing_found }
 {
@@ -55,7 +55,7 @@ pub fn found_at<Ix: Index>(ix: Ix, found: &[Found]) -> Found
     nothing_found()
 }
 
-/// Keeps the node's alignment, if the table has an entry for it, and returns it.
+/// Stores the node's alignment, if the table has an entry for the node, and returns it.
 pub fn keep_align<Ix: Index>(graph: &Graph<Ix>, ix: Ix, align: u64, found: &mut [Found]) -> u64
     requires right { IsRight graph.now found.now }
     requires align { align ≡ align_of graph.now (Ix.number_of ix) }
@@ -69,7 +69,7 @@ pub fn keep_align<Ix: Index>(graph: &Graph<Ix>, ix: Ix, align: u64, found: &mut 
     align
 }
 
-/// Keeps whether a member ends past, if the table has an entry for the node, and returns it.
+/// Stores whether a member ends past its aggregate, if the table has an entry for the node, and returns it.
 pub fn keep_past<Ix: Index>(graph: &Graph<Ix>, ix: Ix, past: bool, found: &mut [Found]) -> bool
     requires right { IsRight graph.now found.now }
     requires past { past ≡ ends_past graph.now (Ix.number_of ix) }
@@ -83,7 +83,7 @@ pub fn keep_past<Ix: Index>(graph: &Graph<Ix>, ix: Ix, past: bool, found: &mut [
     past
 }
 
-/// Keeps the classes of the node's object, if the table has an entry for it, and returns them.
+/// Stores the classes of the node's object, if the table has an entry for the node, and returns them.
 pub fn keep_classes<Ix: Index>(
     graph: &Graph<Ix>,
     ix: Ix,

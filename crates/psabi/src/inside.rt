@@ -1,4 +1,4 @@
-// What stands inside aggregates: the members of structures and unions, and the elements of arrays.
+// The objects inside aggregates: the members of structures and unions, and the elements of arrays.
 ghost use Rattle.std.specs.Prelude.{◌≡◌, ◌<◌, length};
 ghost use Rattle.std.specs.Option.{option_map};
 ghost use Rattle.abi_types.specs.Graphs.{view_at};
@@ -9,10 +9,10 @@ ghost use Rattle.psabi.specs.InnerObject.{plain_inner};
 use crate::sizes::BYTE_BITS;
 use abi_types::{Graph, Index, Kind, Part, View};
 
-/// What stands inside an aggregate.
+/// An object inside an aggregate.
 #[derive(Clone, Copy)]
 pub struct InnerObject<Ix> {
-    /// The bit of the aggregate at which it begins.
+    /// Its offset in the aggregate, in bits.
     pub bit: u64,
     /// Its width in bits if it is a bit field, else 0.
     pub width: u64,
@@ -20,7 +20,7 @@ pub struct InnerObject<Ix> {
     pub to: Ix,
 }
 
-/// How many objects stand inside an aggregate.
+/// The number of objects inside an aggregate.
 pub fn count_inside<Ix: Index>(view: &View<Ix>) -> u64
     ensures { result ≡ spec.count_inside view.now }
 {
@@ -30,7 +30,7 @@ pub fn count_inside<Ix: Index>(view: &View<Ix>) -> u64
     }
 }
 
-/// Number `n`, counted from 0, of what stands inside an aggregate.
+/// Object `n` inside an aggregate, counted from 0.
 pub fn inside_of<Ix: Index>(graph: &Graph<Ix>, ix: Ix, n: u64) -> Option<InnerObject<Ix>>
     requires inside { Ix.number_of ix < length graph.now }
     requires below { n < spec.count_inside (view_at graph.now (Ix.number_of ix)) }

@@ -4,14 +4,14 @@ ghost use Rattle.abi_types.specs.Forms as spec;
 
 use abi_types::Kind;
 
-/// Whether objects of the kind are made of other objects.
+/// Whether objects of the kind consist of other objects.
 pub fn is_aggregate(kind: Kind) -> bool
     ensures { result ≡ spec.is_aggregate kind }
 {
     matches!(kind, Kind::Structure | Kind::Union | Kind::Array)
 }
 
-/// Whether an object of the kind is a leaf of what it stands in.
+/// Whether objects of the kind are leaves.
 pub fn is_leaf(kind: Kind) -> bool
     ensures { result ≡ spec.is_leaf kind }
 {
@@ -21,7 +21,7 @@ pub fn is_leaf(kind: Kind) -> bool
     )
 }
 
-/// Whether an object of the kind is a function.
+/// Whether the kind is that of functions.
 pub fn is_function(kind: Kind) -> bool
     ensures { result ≡ spec.is_function kind }
 {

@@ -1,4 +1,4 @@
-//! Where a call puts its result and its arguments, and what decides it: sizes, alignments and classes of objects, by the
+//! Where a call passes its result and its arguments, from the sizes, alignments and classes of objects, by the
 //! System V psABI for x86-64, sections 3.1.2 "Data Representation" and 3.2.3 "Parameter Passing".
 #![tactic(auto)]
 

@@ -1,4 +1,4 @@
-// Where results are (psABI, section 3.2.3 "Parameter Passing", "Returning of Values").
+// The places of results (psABI, section 3.2.3 "Parameter Passing", "Returning of Values").
 ghost use Rattle.std.specs.Prelude.{◌≡◌, ◌<◌, length};
 ghost use Rattle.abi_types.specs.Graphs.{view_at};
 ghost use Rattle.psabi.specs.Found.{IsRight};
@@ -19,10 +19,10 @@ const RDX: u8 = 2;
 
 const RAX: u8 = 6;
 
-// The number of the register at the top of the floating-point stack.
+// The number of the top register of the x87 stack.
 const ST0: u8 = 0;
 
-// How many eightbytes a register of that stack holds.
+// The number of eightbytes in an x87 register.
 const X87_EIGHTBYTES: usize = 2;
 
 // The general register for the next eightbyte of a result, after `general` eightbytes in general registers.
@@ -59,7 +59,7 @@ fn result_slots(classes: &[Class; 8]) -> [Slot; 8]
     slots
 }
 
-// The place of a result of this size and these classes.
+// The place of a result with this size and these classes.
 #[tactic(auto, unfolding(crate::specs::Results::result_place))]
 fn result_place(size: u64, classes: &[Class; 8]) -> Place
     ensures { result ≡ spec.result_place size classes.now }
@@ -97,7 +97,7 @@ pub fn outcome<Ix: Index>(graph: &Graph<Ix>, ix: Ix, found: &mut [Found]) -> Pla
     }
 }
 
-/// The argument registers that a result takes: the address of a hidden result takes the first general register.
+/// The argument registers that a result takes: the address of a hidden result takes the first general one.
 pub fn registers_of_result(outcome: &Place) -> ArgumentRegisters
     ensures { result ≡ what_the_result_takes outcome.now }
 {

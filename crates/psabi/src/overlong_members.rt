@@ -1,4 +1,4 @@
-// Objects whose members end past them.
+// Members that end past their aggregates.
 ghost use Rattle.std.specs.Prelude.{◌≡◌, ◌<◌, length};
 ghost use Rattle.std.specs.Option.{option_map};
 ghost use Rattle.abi_types.specs.Graphs.{view_at, part_at};
@@ -11,8 +11,7 @@ use crate::kinds::is_aggregate;
 use crate::sizes::BYTE_BITS;
 use abi_types::{Graph, Index, Part, View};
 
-/// How many bits an object takes of the aggregate that it is a member of, where `width` is its width if it is a bit field, else
-/// 0.
+/// The extent in bits of an object in the aggregate that contains it; `width` is its width if it is a bit field, else 0.
 pub fn extent<Ix: Index>(graph: &Graph<Ix>, width: u64, to: Ix) -> u64
     requires inside { Ix.number_of to < length graph.now }
     ensures { result ≡ spec.extent graph.now width (Ix.number_of to) }
@@ -43,7 +42,7 @@ fn own_past<Ix: Index>(graph: &Graph<Ix>, ix: Ix, k: usize) -> bool
     }
 }
 
-// The type to check next for a part: that of a member, or of the elements of an array that has some.
+// The type to check next for a part: that of a member, or of the elements of a nonempty array.
 fn led_to<Ix: Index>(view: &View<Ix>, part: &Part<Ix>) -> Option<Ix>
     ensures { option_map Ix.number_of result ≡ spec.led_to view.now (plain_part Ix.number_of part.now) }
 {
@@ -54,9 +53,9 @@ fn led_to<Ix: Index>(view: &View<Ix>, part: &Part<Ix>) -> Option<Ix>
     }
 }
 
-/// Whether a member of the node's object, or of an aggregate inside it, ends past the aggregate whose member it is. It visits
-/// types and not array elements, each type once: it looks up what `found` already has, and adds what it computes. It calls
-/// itself at most 513 deep, since no rank is above 512.
+/// Whether a member of the node's object, or of an aggregate inside it, ends past the aggregate that contains it. Visits types, not
+/// array elements, and each type once: takes results from `found`, and adds new ones to it. The recursion is at most 513 deep,
+/// since no rank exceeds 512.
 pub fn ends_past<Ix: Index>(graph: &Graph<Ix>, ix: Ix, found: &mut [Found]) -> bool
     requires inside { Ix.number_of ix < length graph.now }
     requires right { IsRight graph.now found.now }

@@ -1,4 +1,4 @@
-// How many registers an object takes, by the classes of its eightbytes.
+// The numbers of registers that an object takes, by the classes of its eightbytes.
 ghost use Rattle.std.specs.Prelude.{◌≡◌, ◌≤◌, length};
 ghost use Rattle.std.specs.List.{list_all};
 ghost use Rattle.psabi.specs.Class.{is_no_class};
@@ -6,7 +6,7 @@ ghost use Rattle.psabi.specs.Registers as spec;
 
 use crate::class::Class;
 
-/// How many general registers an object takes whose eightbytes have these classes.
+/// The number of general registers of an object whose eightbytes have these classes.
 #[tactic(auto, unfolding(crate::specs::Registers::general_count))]
 pub fn general_count(classes: &[Class]) -> u64
     ensures number { result ≡ spec.general_count classes.now }
@@ -18,7 +18,7 @@ pub fn general_count(classes: &[Class]) -> u64
         .count() as u64
 }
 
-/// How many vector registers an object takes whose eightbytes have these classes.
+/// The number of vector registers of an object whose eightbytes have these classes.
 #[tactic(auto, unfolding(crate::specs::Registers::vector_count))]
 pub fn vector_count(classes: &[Class]) -> u64
     ensures number { result ≡ spec.vector_count classes.now }
@@ -36,7 +36,7 @@ fn have_no_class(classes: &[Class]) -> bool
     classes.iter().all(|class| matches!(*class, Class::NoClass))
 }
 
-/// Whether nothing of an object of this size and these classes is in a register or on the stack.
+/// Whether an object of this size and these classes is neither in registers nor on the stack.
 #[tactic(auto, unfolding(crate::specs::Registers::has_no_place))]
 pub fn has_no_place(size: u64, classes: &[Class; 8]) -> bool
     ensures { result ≡ spec.has_no_place size classes.now }

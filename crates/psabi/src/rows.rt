@@ -1,6 +1,6 @@
-// The classes of objects that are leaves, a row for each sort of them (psABI, section 3.2.3 "Parameter Passing",
-// "Classification"). The rows of `_Float16`, of decimal numbers and of complex numbers of 4 and of 32 bytes are this
-// project's own.
+// The classes of leaf objects, one row for each sort (psABI, section 3.2.3 "Parameter Passing", "Classification"). The psABI does
+// not give the rows of `_Float16`, of decimal numbers, and of complex numbers of 4 and of 32 bytes: these are choices of this
+// project.
 ghost use Rattle.std.specs.Prelude.{◌≡◌};
 ghost use Rattle.psabi.specs.Rows.{all_memory_class};
 ghost use Rattle.psabi.specs.Rows as spec;
@@ -14,7 +14,7 @@ use abi_types::{Group, Kind};
 
 const NONE: Class = Class::NoClass;
 
-/// One eightbyte of this class.
+/// One eightbyte, with this class.
 pub fn one(first: Class) -> [Class; 8]
     ensures { result ≡ spec.one first }
 {
@@ -112,7 +112,7 @@ fn vector_row(size: u64) -> [Class; 8]
     }
 }
 
-/// The classes of the eightbytes of an object that is a leaf.
+/// The classes of the eightbytes of a leaf object.
 #[tactic(auto, unfolding(crate::specs::Rows::row))]
 pub fn row(kind: Kind, group: Group, size: u64) -> [Class; 8]
     ensures { result ≡ spec.row kind group size }

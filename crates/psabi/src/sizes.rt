@@ -24,7 +24,7 @@ pub const FLOAT: u64 = 4;
 /// `double`.
 pub const DOUBLE: u64 = 8;
 
-/// `long double`, of which 10 bytes are the number.
+/// `long double`, whose value takes 10 of these bytes.
 pub const LONG_DOUBLE: u64 = 16;
 
 /// `__float128`.
@@ -51,32 +51,32 @@ pub const COMPLEX_DOUBLE: u64 = 2 * DOUBLE;
 /// A complex number of two `long double`.
 pub const COMPLEX_LONG_DOUBLE: u64 = 2 * LONG_DOUBLE;
 
-/// The vector `__m64`.
+/// The vector type `__m64`.
 pub const M64: u64 = 8;
 
-/// The vector `__m128`.
+/// The vector type `__m128`.
 pub const M128: u64 = 16;
 
-/// The vector `__m256`.
+/// The vector type `__m256`.
 pub const M256: u64 = 32;
 
-/// The vector `__m512`.
+/// The vector type `__m512`.
 pub const M512: u64 = 64;
 
-/// How many bits a byte has.
+/// The number of bits in a byte.
 pub const BYTE_BITS: u64 = 8;
 
-/// How many bytes an eightbyte has.
+/// The number of bytes in an eightbyte.
 pub const EIGHTBYTE: u64 = 8;
 
-/// How many bits an eightbyte has.
+/// The number of bits in an eightbyte.
 pub const EIGHTBYTE_BITS: u64 = 64;
 
-/// The most eightbytes that an object in registers can have.
+/// The most eightbytes of an object in registers.
 pub const EIGHTBYTES: usize = 8;
 
-/// The most bytes that an object in registers can have.
+/// The greatest size of an object in registers, in bytes.
 pub const OBJECT_LIMIT: u64 = 64;
 
-/// The most bytes that an aggregate in registers can have if it is no vector: two eightbytes.
+/// The greatest size in bytes of an aggregate in registers that is not a vector: two eightbytes.
 pub const PAIR_LIMIT: u64 = 16;

@@ -1,4 +1,4 @@
-// Leaves in the eightbytes of the object that they stand in (psABI, section 3.2.3 "Parameter Passing", "Classification").
+// The leaves in each eightbyte of an object (psABI, section 3.2.3 "Parameter Passing", "Classification").
 ghost use Rattle.std.specs.Prelude.{◌≡◌, ◌<◌, ◌≤◌, ◌+◌};
 ghost use Rattle.abi_types.specs.Limits.{size_limit};
 ghost use Rattle.psabi.specs.Psabi.{eightbyte_limit, object_bits};
@@ -10,7 +10,7 @@ use crate::rows::row;
 use crate::sizes::{BYTE_BITS, EIGHTBYTE, EIGHTBYTE_BITS};
 use abi_types::Leaf;
 
-/// How many bits a leaf has.
+/// The size of a leaf in bits.
 pub fn bits_of(leaf: &Leaf) -> u64
     requires { leaf.now.size ≤ size_limit }
     ensures { result ≡ spec.bits_of leaf.now }
@@ -55,7 +55,7 @@ pub fn class_in(leaf: &Leaf, k: usize) -> Class
     row[own as usize]
 }
 
-/// Whether the leaf is a bit field or stands at a multiple of its natural alignment.
+/// Whether the leaf is a bit field, or its offset is a multiple of its natural alignment.
 #[tactic(auto, unfolding(crate::specs::Touching::is_aligned))]
 pub fn is_aligned(leaf: &Leaf) -> bool
     requires { leaf.now.size ≤ size_limit }

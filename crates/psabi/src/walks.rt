@@ -1,5 +1,5 @@
-// How many steps the walks to the leaves of objects take. Types may hold one another many times over, so that few of them have
-// far more leaves than the file has bytes: steps are counted before they are taken.
+// A budget for the walks to the leaves of objects. Types can contain one another many times over, so a few of them can have far
+// more leaves than the file has bytes. Steps are therefore counted before they are taken.
 ghost use Rattle.std.specs.Prelude.{◌≡◌, ◌<◌, ◌≤◌, ◌+◌, ◌-◌, ◌*◌, ◌^◌, ℕ, min, length, IfOk};
 ghost use Rattle.psabi.specs.Found.{IsRight};
 
@@ -12,17 +12,17 @@ use abi_types::{Graph, Index, Kind, View};
 use std::alloc::Global;
 use std::marker::Model;
 
-/// How many steps the walks of a library may take for each of its nodes. An object in registers has at most 64 bytes, so that few
+/// How many steps the walks of a library may take for each of its nodes. An object in registers has at most 64 bytes, so few
 /// types have more leaves, and few types are passed by value at all.
 const STEPS_A_NODE: u64 = 64;
 
-/// How many more they may take, however few nodes it has.
+/// How many more steps they may take, however few nodes there are.
 const STEPS_AT_LEAST: u64 = 65_536;
 
-/// The steps that walks need, and the steps that are left. Contracts see the number of the latter.
+/// The steps that walks need, and the steps that remain. Contracts see the number of the latter.
 #[derive(Drop)]
 pub struct Walks {
-    // How many steps the walk over each node's object takes, 0 where they are not counted yet.
+    // For each node the number of steps of the walk over its object, or 0 where it is not known yet.
     steps: Vec<u64>,
     left: u64,
 }
@@ -35,7 +35,7 @@ impl Model for Walks {
     ghost view = { λ walks. walks.left };
 }
 
-// How many steps the walk over the node's object takes, 0 if they are not counted yet.
+// The number of steps of the walk over the node's object, or 0 if it is not known yet.
 fn steps_at<Ix: Index>(ix: Ix, steps: &[u64]) -> u64 {
     let number = ix.number();
     if number < steps.len() {
@@ -44,7 +44,7 @@ fn steps_at<Ix: Index>(ix: Ix, steps: &[u64]) -> u64 {
     0
 }
 
-// Keeps how many steps the walk over the node's object takes, and returns it.
+// Stores the number of steps of the walk over the node's object, and returns it.
 fn keep_steps<Ix: Index>(ix: Ix, count: u64, steps: &mut [u64]) -> u64
     ensures { result ≡ count }
 {
@@ -55,7 +55,7 @@ fn keep_steps<Ix: Index>(ix: Ix, count: u64, steps: &mut [u64]) -> u64
     count
 }
 
-// How often the walk over an aggregate goes over each of its parts.
+// How often the walk over an aggregate visits each of its parts.
 fn times_each<Ix: Index>(view: &View<Ix>) -> u64 {
     match view.kind {
         Kind::Array => view.count,
@@ -63,8 +63,8 @@ fn times_each<Ix: Index>(view: &View<Ix>) -> u64 {
     }
 }
 
-// How many steps the walk over the node's object takes: one, and those of all that stands inside it. It counts each type once,
-// and calls itself at most 513 deep, since no rank is above 512.
+// The number of steps of the walk over the node's object: one, and those of the objects inside it. Computes each type once. The
+// recursion is at most 513 deep, since no rank exceeds 512.
 fn steps_of<Ix: Index>(graph: &Graph<Ix>, ix: Ix, steps: &mut [u64]) -> u64
     requires { Ix.number_of ix < length graph.now }
 {
@@ -89,7 +89,7 @@ fn steps_of<Ix: Index>(graph: &Graph<Ix>, ix: Ix, steps: &mut [u64]) -> u64
 }
 
 impl Walks {
-    /// The walks over the objects of a graph, none of which is taken yet: 64 steps for each node, and 65,536 more.
+    /// The walks over the objects of a graph, before the first one.
     pub fn over<Ix: Index>(alloc: Global, graph: &Graph<Ix>) -> Result<Walks, NoMemory>
         ensures { IfOk result (λ walks. walks ≡ min (64 * length graph.now + 65536) (2 ^ 64 - 1)) }
     {
@@ -101,8 +101,8 @@ impl Walks {
         })
     }
 
-    // Takes the steps of the walk over the node's object, if its classes need one and are not known. It fails where fewer steps
-    // are left.
+    // Spends the steps of the walk over the node's object, if its classes need one and are not known. Fails where fewer steps
+    // remain.
     fn take<Ix: Index>(
         &mut self,
         graph: &Graph<Ix>,
@@ -132,7 +132,7 @@ impl Walks {
         Ok(())
     }
 
-    /// Takes the steps of the walks over what a call of the node's function passes. It fails where fewer steps are left.
+    /// Spends the steps of the walks over all objects that a call of the node's function passes. Fails where fewer steps remain.
     pub fn take_all<Ix: Index>(
         &mut self,
         graph: &Graph<Ix>,

@@ -7,40 +7,40 @@ use Rattle.report.specs.declared.style.More.{More}
 use Rattle.report.specs.declared.style.More.TheVariants.{Go, Enough}
 use Rattle.report.specs.Render.{render}
 
--- The voice of a listener: its style, and the text that it makes of the rows that it heard, where that is known.
--- It does not change while the listener hears rows.
+-- The voice of a listener: its style, and the text that it makes of the rows that it heard, if that is known. It does not change
+-- while the listener hears rows.
 pub record Voice : Type 0 where
   pub style : Style
   pub makes : List Row → Option (List ℕ)
 
--- the voice of a listener of which the style says all
+-- the voice of a listener whose text is determined by its style
 abbrev pub styled : Style → Voice
 styled style = record { style = style; makes = λ rows. None }
 
--- the text in a style, which is the listener's own matter where the style is `Own`
+-- the text is in this style; for the style `Own`, any text is
 abbrev pub InStyle : Style → List Row → List ℕ → Type 0
 InStyle Own rows text = Unit {0}
 InStyle style rows text = text ≡ render style rows
 
--- the text of a listener that heard these rows: in its style, and the one that it makes, where that is known
+-- the text of a listener that heard these rows: it is in the listener's style, and the one that its voice gives, if that is known
 pub record IsText (voice : Voice) (rows : List Row) (text : List ℕ) : Type 0 where
   pub styled : InStyle voice.style rows text
   pub made : IfSome (voice.makes rows) (λ t. text ≡ t)
 
--- Whether a listener of the style has enough once it has heard so many rows: exactly where it asks for the first n alone, and
--- has heard as many.
+-- Whether a listener of the style has heard enough after this many rows: exactly if it wants only the first n rows and has heard
+-- that many.
 abbrev pub IsEnough : Style → ℕ → More → Type 0
 IsEnough (First n) heard Enough = n ≤ heard
 IsEnough (First n) heard Go = heard < n
 IsEnough style heard Enough = ⊥
 IsEnough style heard Go = Unit {0}
 
--- the rows that a listener of the style hears: up to the first at which it has enough
+-- the rows that a listener of the style hears: up to the first after which it has heard enough
 abbrev pub heard_of : Style → List Row → List Row
 heard_of (First n) rows = take (max n 1) rows
 heard_of style rows = rows
 
--- the texts of listeners of these voices, each told the rows until it has enough
+-- the texts of listeners with these voices, each of which hears the rows until it has heard enough
 abbrev pub Reports : List Voice → List Row → List (List ℕ) → Type 0
 Reports [] rows [] = Unit {0}
 Reports [] rows (text ∷ texts) = ⊥

@@ -6,7 +6,7 @@ use Rattle.abi_types.specs.declared.place.Place.TheVariants as place
 use Rattle.abi_types.specs.declared.place.Slot.{Slot}
 use Rattle.abi_types.specs.declared.place.Slot.TheVariants as slot
 
--- the general register of a number that a slot names
+-- the general register with the number in a slot
 abbrev pub general_word : ℕ → List ℕ
 general_word number =
     if number == 0 then codes "rdi" else (if number == 1 then codes "rsi" else (if number == 2 then codes "rdx" else (if number == 3 then codes "rcx"
@@ -17,7 +17,7 @@ abbrev pub is_used : Slot → Bool
 is_used slot.Unused = false
 is_used other = true
 
--- two eightbytes are in one register, of which a vector register may hold several, and an x87 register two
+-- two eightbytes are in one register: a vector register may hold several, and an x87 register two
 abbrev pub same_register : Slot → Slot → Bool
 same_register (slot.General m) (slot.General n) = m == n
 same_register (slot.Vector m) (slot.Vector n) = m == n
@@ -27,12 +27,12 @@ same_register (slot.Upper m) (slot.Upper n) = m == n
 same_register (slot.X87 m) (slot.X87 n) = m == n
 same_register a b = false
 
--- a vector register, and how many eightbytes it holds where there are several
+-- a vector register, with the number of eightbytes that it holds if there are several
 abbrev pub vector_text : ℕ → ℕ → List ℕ
 vector_text number eightbytes =
     if nat_le eightbytes 1 then concat (codes "xmm" ∷ decimal number ∷ []) else concat (codes "xmm" ∷ decimal number ∷ codes "*" ∷ decimal eightbytes ∷ [])
 
--- the register of one of these slots
+-- the register of a slot, given all slots of the place
 abbrev pub register_text : List Slot → Slot → List ℕ
 register_text slots slot.Unused = []
 register_text slots (slot.General number) = general_word number
@@ -47,11 +47,11 @@ slot_at slots k = slice_index_or slots k slot.Unused
 abbrev pub begins_register : List Slot → ℕ → Bool
 begins_register slots k = is_used (slot_at slots k) && not (list_any (same_register (slot_at slots k)) (take k slots))
 
--- a sign between two registers
+-- the separator between two registers
 abbrev pub plus_behind : List Slot → List ℕ
 plus_behind before = if list_any is_used before then codes "+" else []
 
--- what slot k adds to the text: its register, where it is the first slot of that register
+-- what slot k adds to the text: its register, if it is the first slot in that register
 unfoldable pub slot_text : List Slot → ℕ → List ℕ
 slot_text slots k = if begins_register slots k then plus_behind (take k slots) ++ register_text slots (slot_at slots k) else []
 
@@ -59,7 +59,7 @@ slot_text slots k = if begins_register slots k then plus_behind (take k slots) +
 unfoldable pub registers_text : List Slot → List ℕ
 registers_text slots = flat_map (slot_text slots) (range_with_len 0 (length slots))
 
--- nowhere, in memory that the caller hands over, on the stack, or in registers
+-- nowhere, in memory whose address the caller passes, on the stack, or in registers
 abbrev pub place_text : Place → List ℕ
 place_text place.Nothing = codes "none"
 place_text place.Hidden = codes "memory"

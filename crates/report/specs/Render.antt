@@ -12,13 +12,13 @@ use Rattle.report.specs.declared.style.Style.TheVariants.{Text, Table, Counts, F
 abbrev pub newline : List ℕ
 newline = 10 ∷ []
 
--- ---- columns, which cut no text
+-- ---- columns, which never cut a text
 
--- the text at the left of so many places
+-- the text, padded with spaces on the right to this width
 abbrev pub at_left : ℕ → List ℕ → List ℕ
 at_left places text = text ++ replicate (places - length text) 32
 
--- the text at the right of so many places
+-- the text, padded with spaces on the left to this width
 abbrev pub at_right : ℕ → List ℕ → List ℕ
 at_right places text = replicate (places - length text) 32 ++ text
 
@@ -27,7 +27,7 @@ at_right places text = replicate (places - length text) 32 ++ text
 abbrev pub path_behind : List ℕ → List ℕ
 path_behind path = if length path == 0 then [] else codes " " ++ path
 
--- what a line ends with
+-- the end of a line
 abbrev pub line_end : Row → List ℕ
 line_end row = concat (codes ": " ∷ row.detail ∷ newline ∷ [])
 
@@ -54,19 +54,19 @@ same_rule = ghosts.eq
 unfoldable pub all_rules : List Rule
 all_rules = LibrarySoname ∷ ExportPresence ∷ ExportVersion ∷ ExportKind ∷ ExportSize ∷ ExportType ∷ KindOfType ∷ TypeSize ∷ ScalarGroup ∷ TypeAlignment ∷ DeclarationTag ∷ MemberPresence ∷ MemberOffset ∷ BitFieldWidth ∷ EnumeratorPresence ∷ EnumeratorValue ∷ ElementCount ∷ ParameterCount ∷ VariadicArguments ∷ PassingPlace ∷ []
 
--- how many rows there are of a rule
+-- the number of rows of a rule
 abbrev pub rows_of_rule : List Row → Rule → ℕ
 rows_of_rule rows rule = count_by (λ (row : Row). same_rule row.rule rule) rows
 
--- a word and a number in two columns
+-- a word and a number, in two columns
 abbrev pub number_line : List ℕ → ℕ → List ℕ
 number_line word number = concat (at_left 4 word ∷ at_right 8 (decimal number) ∷ newline ∷ [])
 
--- the line of a rule that has rows
+-- the line of a rule, if it has rows
 abbrev pub count_line : List Row → Rule → List ℕ
 count_line rows rule = if rows_of_rule rows rule == 0 then [] else number_line (rule_word rule) (rows_of_rule rows rule)
 
--- how many rows there are of each rule that has some, and how many in all
+-- the number of rows of each rule that has some, and of all rules together
 unfoldable pub counts_text : List Row → List ℕ
 counts_text rows = flat_map (count_line rows) all_rules ++ number_line (codes "all") (length rows)
 
@@ -78,7 +78,7 @@ lines_text rows = flat_map row_line rows
 abbrev pub table_text : List Row → List ℕ
 table_text rows = flat_map table_line rows
 
--- the text of the rows in a style; none is fixed for `Own`
+-- the text of the rows in a style; the style `Own` determines none
 abbrev pub render : Style → List Row → List ℕ
 render Text rows = lines_text rows
 render Table rows = table_text rows

@@ -1,4 +1,4 @@
--- The printed form of a path: its steps, each by the part of the old type that it goes by.
+-- The printed form of a path: its steps, each by the part of the old type that it follows.
 use Rattle.std.specs.Prelude.{ℕ, ◌+◌, ◌==◌, if◌then◌else◌, List, [], ◌∷◌, ◌++◌, map, flat_map, codes, decimal}
 use Rattle.std.specs.List.{concat}
 use Rattle.abi_types.specs.Types.{PlainPart, Member, Enumerator, Target, Element, Outcome, Param, PlainView}
@@ -7,15 +7,15 @@ use Rattle.abi_types.specs.Shown.{shown}
 use Rattle.abi_types.specs.Sorts.{name_of}
 use Rattle.pair_rules.specs.Matching.{number_of}
 
--- from the second part of a name on, which one it is
+-- `#` and the number of a part among those of its name, from the second one on
 abbrev pub numbered : ℕ → List ℕ
 numbered before = if before == 0 then [] else concat (codes "#" ∷ decimal (before + 1) ∷ [])
 
--- the name of part i, and which one of that name it is
+-- the name of part i, and its number among the parts of that name
 unfoldable pub part_name : PlainView → ℕ → List ℕ
 part_name v i = shown (name_of (part_at v i)) ++ numbered (number_of v i)
 
--- the step by a part: `number` parts of its sort and name stand before it
+-- the step by a part, where `number` parts of its sort and name precede it
 abbrev pub step_by : PlainPart → List ℕ → ℕ → List ℕ
 step_by (Member name bit width to) named number = codes "member " ++ named
 step_by (Enumerator name value) named number = []
@@ -28,7 +28,7 @@ step_by (Param to) named number = concat (codes "param " ∷ decimal (number + 1
 unfoldable pub step_text : PlainView → ℕ → List ℕ
 step_text v i = step_by (part_at v i) (part_name v i) (number_of v i)
 
--- texts with others between them
+-- texts with a separator between them
 abbrev pub joined : List ℕ → List (List ℕ) → List ℕ
 joined between [] = []
 joined between (text ∷ texts) = text ++ flat_map (λ (t : List ℕ). between ++ t) texts

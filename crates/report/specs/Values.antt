@@ -1,4 +1,4 @@
--- The values of rows: the part that a rule speaks of, what was there, and what is there now.
+-- The values of a row: the part of which the rule speaks, the old value, and the new value.
 use Rattle.std.specs.Prelude.{ℕ, List, [], ◌∷◌, Option, Some, None, unwrap_or}
 use Rattle.abi_types.specs.declared.place.Place.{Place}
 use Rattle.abi_types.specs.declared.rule.Rule.{Rule}
@@ -17,7 +17,7 @@ use Rattle.report.specs.Places.{place_text}
 use Rattle.report.specs.Steps.{part_name, step_text}
 use Rattle.report.specs.Words.{kind_of_type, group_word, yes_or_no}
 
--- a tag, which may be missing
+-- a tag, or no value if it is missing
 abbrev pub tag_value : List ℕ → Value
 tag_value [] = Nothing
 tag_value (b ∷ tag) = Word (shown (b ∷ tag))
@@ -28,21 +28,21 @@ soname_value (Some name) = Word (shown name)
 
 -- ---- exports
 
--- what the export has to which an old one binds; nothing where a rule says that something is gone
+-- the value of the export to which an old one binds; none if the rule says that something is gone
 abbrev pub export_is : Rule → PlainExport → Value
 export_is ExportKind e = Word (kind_word e.kind)
 export_is ExportSize e = Bytes e.size
 export_is other e = Nothing
 
--- what the old export has, or the label of one that is gone
+-- the value of the old export, or the label of one that is gone
 abbrev pub export_was : Rule → PlainExport → Value
 export_was ExportPresence e = Word (label e)
 export_was ExportVersion e = Word (label e)
 export_was other e = export_is other e
 
--- ---- types. `v` is the old type, `w` the new one, and i the position of the old part that the rule speaks of
+-- ---- types. `v` is the old type, `w` the new one, and i the position of the old part of which the rule speaks
 
--- the printed name of a member or an enumerator, a parameter by its number, or the result; nothing where the rule speaks of no part
+-- the printed name of a member or an enumerator, a parameter by its number, or the result; empty if the rule speaks of no part
 unfoldable pub part_of : Rule → PlainView → ℕ → List ℕ
 part_of MemberPresence v i = part_name v i
 part_of MemberOffset v i = part_name v i
@@ -52,7 +52,7 @@ part_of EnumeratorValue v i = part_name v i
 part_of PassingPlace v i = step_text v i
 part_of other v i = []
 
--- what a type has of which a rule speaks as a whole
+-- the value of a whole type, for a rule that speaks of no part
 unfoldable pub whole_value : Rule → PlainView → Value
 whole_value KindOfType v = Word (kind_of_type v.kind)
 whole_value TypeSize v = Bytes v.size
@@ -64,12 +64,12 @@ whole_value ParameterCount v = Count (params_of v)
 whole_value VariadicArguments v = Word (yes_or_no v.variadic)
 whole_value other v = Nothing
 
--- where a type passes the parameter of this number, if the part is a parameter, or else the result
+-- the place where a type passes the parameter with this number, or the result
 abbrev pub place_of : PlainPart → ℕ → PlainView → Place
 place_of (Param to) number v = param_place v number
 place_of other number v = v.call.outcome
 
--- what the old type has
+-- the value in the old type
 unfoldable pub type_was : Rule → PlainView → ℕ → Value
 type_was MemberPresence v i = Word (part_name v i)
 type_was MemberOffset v i = Bits (bit_at v i)
@@ -79,7 +79,7 @@ type_was EnumeratorValue v i = Number (value_at v i)
 type_was PassingPlace v i = Word (place_text (place_of (part_at v i) (number_of v i) v))
 type_was other v i = whole_value other v
 
--- what the new type has, at the match of the old part
+-- the value in the new type, at the match of the old part
 unfoldable pub type_is : Rule → PlainView → PlainView → ℕ → Value
 type_is MemberPresence v w i = Nothing
 type_is MemberOffset v w i = Bits (unwrap_or (matched bit_at v w i) 0)

@@ -1,4 +1,4 @@
--- The words for kinds of types and groups of scalars, and the form of a change.
+-- The words for kinds of types and groups of scalars, and the phrase for a change.
 use Rattle.std.specs.Prelude.{ℕ, Bool, true, false, List, [], ◌∷◌, codes}
 use Rattle.std.specs.List.{concat}
 use Rattle.abi_types.specs.declared.kind.Kind.{Kind}
@@ -30,6 +30,6 @@ abbrev pub yes_or_no : Bool → List ℕ
 yes_or_no true = codes "yes"
 yes_or_no false = codes "no"
 
--- what changed, what it was, and what it is now
+-- what changed, its old value, and its new value
 abbrev pub changed : List ℕ → List ℕ → List ℕ → List ℕ
 changed what old new = concat (what ∷ codes " " ∷ old ∷ codes ", now " ∷ new ∷ [])

@@ -1,4 +1,4 @@
-// What a row says of a break.
+// The detail of a row.
 ghost use Rattle.std.specs.Prelude.{◌≡◌, ◌<◌, ◌∷◌, [], ◌+◌, length, IfOk, codes, decimal, string_bytes, unwrap_or};
 ghost use Rattle.std.specs.List.{concat};
 ghost use Rattle.std.specs.Option.{option_copied};
@@ -21,14 +21,14 @@ use pair_rules::{Broken, bit_at, match_of, number_of, params_of, value_at, width
 use std::alloc::{AllocError, Global};
 use std::fmt::Write;
 
-// What changed, what it was, and what it is now.
+// What changed, its old value, and its new value.
 fn changed(alloc: Global, what: &str, old: &str, new: &str) -> Result<String, AllocError>
     ensures { IfOk result (λ text. string_bytes text ≡ words.changed what.now old.now new.now) }
 {
     format!(in alloc; "{what} {old}, now {new}")
 }
 
-// The same of two numbers.
+// The same for two numbers.
 fn changed_number(alloc: Global, what: &str, old: u64, new: u64) -> Result<String, AllocError>
     ensures { IfOk result (λ text. string_bytes text ≡ words.changed what.now (decimal old) (decimal new)) }
 {
@@ -49,7 +49,7 @@ fn soname_text(alloc: Global, soname: Option<&[u8]>) -> Result<String, AllocErro
     Ok(text)
 }
 
-/// What a row says of two sonames.
+/// The detail of the row about two sonames.
 pub fn soname_detail(
     alloc: Global,
     old: Option<&[u8]>,
@@ -62,7 +62,7 @@ pub fn soname_detail(
     changed(alloc, "SONAME", &old, &new)
 }
 
-/// What a row says of an old export that breaks a rule of exports. Of one that is gone the new one says nothing.
+/// The detail of the row about an old export that breaks a rule of exports. If the export is gone, the new one is not looked at.
 pub fn export_detail(
     alloc: Global,
     rule: Rule,
@@ -95,7 +95,7 @@ fn tag_text(alloc: Global, tag: &[u8]) -> Result<String, AllocError>
     Ok(text)
 }
 
-// Two tags.
+// The detail for two different tags.
 fn changed_tag(alloc: Global, old: &[u8], new: &[u8]) -> Result<String, AllocError>
     ensures { IfOk result (λ text. string_bytes text ≡ words.changed (codes "tag") (shown_or_none old.now) (shown_or_none new.now)) }
 {
@@ -118,7 +118,7 @@ pub(crate) fn part_name<Ix: Index>(
     Ok(text)
 }
 
-// A part that is gone.
+// The detail for a part that is gone.
 fn part_gone(alloc: Global, sort: &str, old: &View<OldIx>, i: usize) -> Result<String, AllocError>
     requires { i < length old.now.parts }
     ensures { IfOk result (λ text. string_bytes text ≡ concat (sort.now ∷ codes " " ∷ steps.part_name old.now i ∷ codes " gone" ∷ [])) }
@@ -127,7 +127,7 @@ fn part_gone(alloc: Global, sort: &str, old: &View<OldIx>, i: usize) -> Result<S
     format!(in alloc; "{sort} {name} gone")
 }
 
-// What the new type says of the match of old part `i`, or 0 where it has none.
+// The first bit of the match of old part `i`, or 0 if it has none.
 pub(crate) fn bit_of_match(old: &View<OldIx>, new: &View<NewIx>, i: usize) -> u64
     requires { i < length old.now.parts }
     ensures { result ≡ unwrap_or (matched type_rules.bit_at old.now new.now i) 0 }
@@ -158,7 +158,7 @@ pub(crate) fn value_of_match(old: &View<OldIx>, new: &View<NewIx>, i: usize) -> 
     }
 }
 
-// A part by its sort and name, what is said of it, what that was, and what it is now.
+// A part by its sort and name, the property that changed, its old value, and its new value.
 fn number_changed(
     alloc: Global,
     sort: &str,
@@ -172,7 +172,7 @@ fn number_changed(
     format!(in alloc; "{sort}{name}{said}{old}, now {new}")
 }
 
-// A member that stands at another bit.
+// The detail for a member at a different bit.
 fn bit_changed(
     alloc: Global,
     old: &View<OldIx>,
@@ -193,7 +193,7 @@ fn bit_changed(
     )
 }
 
-// A member that has another width.
+// The detail for a member with a different width.
 fn width_changed(
     alloc: Global,
     old: &View<OldIx>,
@@ -214,7 +214,7 @@ fn width_changed(
     )
 }
 
-// An enumerator that has another value.
+// The detail for an enumerator with a different value.
 fn value_changed(
     alloc: Global,
     old: &View<OldIx>,
@@ -235,7 +235,7 @@ fn value_changed(
     )
 }
 
-// The place of the parameter of a number.
+// The place of the parameter with this number.
 pub(crate) fn param_place<Ix: Index>(view: &View<Ix>, number: usize) -> Place
     ensures { result ≡ spec.param_place view.now number }
 {
@@ -254,7 +254,7 @@ pub(crate) fn place_text(alloc: Global, place: &Place) -> Result<String, AllocEr
     Ok(text)
 }
 
-// Two places of the result.
+// The detail for two places of the result.
 fn outcome_changed(
     alloc: Global,
     old: &View<OldIx>,
@@ -267,14 +267,14 @@ fn outcome_changed(
     changed(alloc, "result in", &old, &new)
 }
 
-// A parameter by its number, where it was, and where it is now.
+// A parameter by its number, its old place, and its new place.
 fn moved(alloc: Global, number: u128, old: &str, new: &str) -> Result<String, AllocError>
     ensures { IfOk result (λ text. string_bytes text ≡ concat (codes "param " ∷ decimal number ∷ codes " in " ∷ old.now ∷ codes ", now " ∷ new.now ∷ [])) }
 {
     format!(in alloc; "param {number} in {old}, now {new}")
 }
 
-// Two places of the parameter that stands behind so many.
+// The detail for two places of the parameter that has this many before it.
 fn param_changed(
     alloc: Global,
     before: usize,
@@ -288,7 +288,7 @@ fn param_changed(
     moved(alloc, before as u128 + 1, &old, &new)
 }
 
-// The place of the result or of a parameter, which changed.
+// The detail for a result or a parameter in a different place.
 fn place_changed(
     alloc: Global,
     old: &View<OldIx>,
@@ -312,7 +312,7 @@ fn place_changed(
     }
 }
 
-/// What a row says of a rule that two types break, at the old part that it speaks of.
+/// The detail of the row about a rule that two types break, at the old part of which it speaks.
 #[tactic(auto, unfolding(crate::specs::Details::type_detail))]
 pub fn type_detail(
     alloc: Global,

@@ -1,6 +1,5 @@
-//! Reports of breaks: rows, the texts of their parts, and listeners that make a text of rows in a style. A row is made of a
-//! break and the two exports or types that it stands between; listeners hear rows one after another, and close with a
-//! text.
+//! Reports of breaks: rows, the texts of their parts, and listeners that make a text of rows in a style. A row is made from a break
+//! and the two exports or types that it is about. Listeners hear the rows one by one, and close with a text.
 #![tactic(auto)]
 
 mod detail;

@@ -8,32 +8,32 @@ use crate::row::Row;
 use crate::style::{More, Style};
 use abi_base::NoMemory;
 
-/// What hears the rows of a report, one after another, and closes with a text.
+/// A listener hears the rows of a report, one by one, and closes with a text.
 pub trait Listener: Drop {
     /// The rows that it has heard.
     ghost heard: { Self → List Row };
 
-    /// The style of its text, and which text it makes of rows, where that is known.
+    /// The style of its text, and the text that it makes of rows, if that is known.
     ghost voice: { Self → Voice };
 
     /// The style of its text.
     fn style(&self) -> Style
         ensures { result ≡ (voice self.now).style };
 
-    /// Hears a row, and answers `Enough` exactly where its style is `First` and it has heard as many rows. After `NoMemory` it
-    /// has heard what it had heard before.
+    /// Hears a row. Returns `Enough` exactly if its style is `First` and it has heard that many rows. After `NoMemory` it has heard
+    /// only the rows before this one.
     fn tell(&mut self, row: &Row) -> Result<More, NoMemory>
         ensures heard { OnOk result (heard self.new ≡ heard self.old ++ row.now ∷ []) }
         ensures voice { voice self.new ≡ voice self.old }
         ensures enough { IfOk result (IsEnough (voice self.old).style (length (heard self.new))) }
         ensures err { OnErr result (heard self.new ≡ heard self.old) };
 
-    /// The text of what it has heard: in its style, and the one that its voice gives.
+    /// The text of the rows that it has heard: in its style, and the one that its voice gives.
     fn close(&self) -> Result<Vec<u8>, NoMemory>
         ensures { IfOk result (λ text. IsText (voice self.now) (heard self.now) text.items) };
 }
 
-/// Puts a listener that has heard nothing behind others of the kind.
+/// Appends a listener that has heard nothing to a list of boxed listeners.
 pub fn add_listener(
     listeners: &mut Vec<Box<dyn Listener>>,
     listener: Box<dyn Listener>,
@@ -47,9 +47,9 @@ pub fn add_listener(
     Ok(())
 }
 
-/// Tells each listener in turn the rows from the first on, until it has enough or there are no more, closes it, appends its
-/// text, and drops it before the next one begins. After `NoMemory` all are dropped, and the whole texts of the first ones stand
-/// behind the old bytes.
+/// For each listener in turn: tells it the rows from the first on, until it has heard enough or there are no more, closes it,
+/// appends its text to `out`, and drops it. After `NoMemory` all listeners are dropped, and only the whole texts of the first ones
+/// are appended.
 pub fn tell_all(
     listeners: Vec<Box<dyn Listener>>,
     rows: &[Row],
@@ -58,7 +58,7 @@ pub fn tell_all(
     requires { All (λ listener. heard listener ≡ []) listeners.items }
     // The texts stand in the order of the listeners.
     ensures ok { OnOk result ((texts : List (List ℕ)) × Reports (map voice listeners.items) rows.now texts × (out.new.items ≡ out.old.items ++ concat texts)) }
-    // Where memory runs out, the whole texts of the first listeners.
+    // If memory runs out, only the whole texts of the first listeners are appended.
     ensures err { OnErr result ((n : ℕ) × (texts : List (List ℕ)) × Reports (take n (map voice listeners.items)) rows.now texts × (out.new.items ≡ out.old.items ++ concat texts)) }
 {
     let mut waiting = listeners;
@@ -69,7 +69,7 @@ pub fn tell_all(
     Ok(())
 }
 
-// Tells one listener the rows until it has enough, and closes it.
+// Tells one listener the rows until it has heard enough, and closes it.
 fn tell_one(listener: Box<dyn Listener>, rows: &[Row]) -> Result<Vec<u8>, NoMemory>
     requires { heard listener ≡ [] }
     ensures { IfOk result (λ text. IsText (voice listener) (heard_of (voice listener).style rows.now) text.items) }
@@ -84,7 +84,7 @@ fn tell_one(listener: Box<dyn Listener>, rows: &[Row]) -> Result<Vec<u8>, NoMemo
     close(&listener)
 }
 
-// The method's call, with its clauses at a box.
+// Calls the method, with its clauses stated for a box.
 fn tell(listener: &mut Box<dyn Listener>, row: &Row) -> Result<More, NoMemory>
     ensures heard { OnOk result (heard listener.new ≡ heard listener.old ++ row.now ∷ []) }
     ensures voice { voice listener.new ≡ voice listener.old }
@@ -93,7 +93,7 @@ fn tell(listener: &mut Box<dyn Listener>, row: &Row) -> Result<More, NoMemory>
     listener.tell(row)
 }
 
-// The method's call, with its clause at a box.
+// Calls the method, with its clause stated for a box.
 fn close(listener: &Box<dyn Listener>) -> Result<Vec<u8>, NoMemory>
     ensures { IfOk result (λ text. IsText (voice listener.now) (heard listener.now) text.items) }
 {

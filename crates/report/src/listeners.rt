@@ -1,4 +1,4 @@
-// The listeners of the program, one for each style but `Own`.
+// The listeners of the program, one for each style except `Own`.
 ghost use Rattle.std.specs.Prelude.{◌≡◌, [], ◌∷◌, ◌++◌, take, OnOk, OnErr};
 ghost use Rattle.report.specs.Listening.{styled};
 ghost use Rattle.report.specs.declared.style.Style.TheVariants.{Text, Table, Counts, First};
@@ -10,7 +10,7 @@ use crate::style::{More, Style};
 use abi_base::{List, NoMemory};
 use std::alloc::Global;
 
-// Keeps a copy of a row behind those before it.
+// Appends a copy of a row.
 fn keep(alloc: Global, rows: &mut List<Row>, row: &Row) -> Result<(), NoMemory>
     ensures kept { OnOk result (rows.new ≡ rows.old ++ row.now ∷ []) }
     ensures none { OnErr result (rows.new ≡ rows.old) }
@@ -97,7 +97,7 @@ impl Listener for TableListener {
     }
 }
 
-/// Prints how many rows there are of each rule.
+/// Prints the number of rows of each rule.
 #[derive(Drop)]
 pub struct CountsListener {
     alloc: Global,
@@ -136,7 +136,7 @@ impl Listener for CountsListener {
     }
 }
 
-/// Prints a line for each of the first rows, of so many at most.
+/// Prints a line for each of the first rows, up to a limit.
 #[derive(Drop)]
 pub struct FirstListener {
     alloc: Global,
@@ -145,7 +145,7 @@ pub struct FirstListener {
 }
 
 impl FirstListener {
-    /// A listener that has heard nothing, and prints `limit` rows at most.
+    /// A listener that has heard nothing, and prints at most `limit` rows.
     pub fn new(alloc: Global, limit: u32) -> FirstListener
         ensures heard { ⟦<FirstListener as Listener>⟧.heard result ≡ [] }
         ensures voice { ⟦<FirstListener as Listener>⟧.voice result ≡ styled (First limit) }
@@ -158,7 +158,7 @@ impl FirstListener {
     }
 }
 
-// The first rows, of so many at most.
+// The first rows, up to a limit.
 fn first_rows(rows: &[Row], limit: u32) -> &[Row]
     ensures { result.now ≡ take limit rows.now }
 {

@@ -8,7 +8,7 @@ use abi_types::{Place, Slot};
 use std::alloc::{AllocError, Global};
 use std::fmt::Write;
 
-// The general register of each number that a slot may name.
+// The name of the general register with a number.
 fn general_word(number: u8) -> &'static str
     ensures { result.now ≡ spec.general_word number }
 {
@@ -49,7 +49,7 @@ fn same_register(a: Slot, b: Slot) -> bool
     }
 }
 
-// How many of the slots are in the register of a slot.
+// The number of slots in the register of a slot.
 fn eightbytes_in(slots: &[Slot], slot: Slot) -> usize
     ensures { result ≡ count_by (spec.same_register slot) slots.now }
 {
@@ -59,21 +59,21 @@ fn eightbytes_in(slots: &[Slot], slot: Slot) -> usize
         .count()
 }
 
-// Whether some of the slots is in the register of a slot.
+// Whether some slot is in the register of a slot.
 fn is_in_some(slots: &[Slot], slot: Slot) -> bool
     ensures { result ≡ list_any (spec.same_register slot) slots.now }
 {
     slots.iter().any(|other| same_register(slot, *other))
 }
 
-// Whether some of the slots is in a register.
+// Whether some slot is in a register.
 fn are_some_used(slots: &[Slot]) -> bool
     ensures { result ≡ list_any spec.is_used slots.now }
 {
     slots.iter().any(|slot| is_used(*slot))
 }
 
-// Appends a vector register, and how many eightbytes it holds where there are several.
+// Appends a vector register, with the number of eightbytes that it holds if there are several.
 fn push_vector(text: &mut String, number: u8, eightbytes: usize) -> Result<(), AllocError>
     ensures { OnOk result (string_bytes text.new ≡ string_bytes text.old ++ vector_text number eightbytes) }
 {
@@ -97,7 +97,7 @@ fn push_register(text: &mut String, slots: &[Slot], slot: Slot) -> Result<(), Al
     }
 }
 
-// Whether slot `k` is the first one of its register.
+// Whether slot `k` is the first one in its register.
 fn begins_register(slots: &[Slot], k: usize) -> bool
     requires { k < length slots.now }
     ensures { result ≡ spec.begins_register slots.now k }
@@ -105,7 +105,7 @@ fn begins_register(slots: &[Slot], k: usize) -> bool
     is_used(slots[k]) && !is_in_some(&slots[..k], slots[k])
 }
 
-// Appends a sign where some register stands before.
+// Appends a separator if some register precedes.
 fn push_plus(text: &mut String, before: &[Slot]) -> Result<(), AllocError>
     ensures { OnOk result (string_bytes text.new ≡ string_bytes text.old ++ plus_behind before.now) }
 {
@@ -116,7 +116,7 @@ fn push_plus(text: &mut String, before: &[Slot]) -> Result<(), AllocError>
     }
 }
 
-// Appends what slot `k` adds to the text.
+// Appends the text of slot `k`.
 #[tactic(auto, unfolding(crate::specs::Places::slot_text))]
 fn push_slot(text: &mut String, slots: &[Slot], k: usize) -> Result<(), AllocError>
     requires { k < length slots.now }
@@ -140,9 +140,8 @@ fn push_registers(text: &mut String, slots: &[Slot]) -> Result<(), AllocError>
     Ok(())
 }
 
-/// Appends the printed form of a place: `none`, `memory` where the caller hands over its address, `stack+OFFSET:SIZE`, or
-/// the registers of its eightbytes joined by `+`, each once. A vector register that holds several eightbytes tells how many
-/// behind a `*`.
+/// Appends the printed form of a place: `none`; `memory` if the caller passes its address; `stack+OFFSET:SIZE`; or the registers of
+/// its eightbytes, each once, joined by `+`. If a vector register holds several eightbytes, `*` and their number follow it.
 pub fn push_place(text: &mut String, place: &Place) -> Result<(), AllocError>
     ensures { OnOk result (string_bytes text.new ≡ string_bytes text.old ++ place_text place.now) }
 {

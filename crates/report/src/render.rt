@@ -9,13 +9,13 @@ use abi_base::NoMemory;
 use abi_types::Rule;
 use std::alloc::Global;
 
-// The places that a rule takes in a line of columns.
+// The width of the column of rules.
 const RULE_PLACES: usize = 4;
 
-// The places that a label takes in a line of columns.
+// The width of the column of labels.
 const LABEL_PLACES: usize = 32;
 
-// The places that a count takes in a line of columns.
+// The width of the column of counts.
 const COUNT_PLACES: usize = 8;
 
 // Appends bytes.
@@ -36,7 +36,7 @@ fn push_spaces(text: &mut Vec<u8>, count: usize) -> Result<(), NoMemory>
     Ok(())
 }
 
-// Appends a word at the left of so many places, and longer ones whole.
+// Appends a word padded on the right to this width. A longer word is not cut.
 fn push_at_left(text: &mut Vec<u8>, places: usize, word: &[u8]) -> Result<(), NoMemory>
     ensures { OnOk result (text.new.items ≡ text.old.items ++ at_left places word.now) }
 {
@@ -44,7 +44,7 @@ fn push_at_left(text: &mut Vec<u8>, places: usize, word: &[u8]) -> Result<(), No
     push_spaces(text, places.saturating_sub(word.len()))
 }
 
-// Appends a word at the right of so many places, and longer ones whole.
+// Appends a word padded on the left to this width. A longer word is not cut.
 fn push_at_right(text: &mut Vec<u8>, places: usize, word: &[u8]) -> Result<(), NoMemory>
     ensures { OnOk result (text.new.items ≡ text.old.items ++ at_right places word.now) }
 {
@@ -52,7 +52,7 @@ fn push_at_right(text: &mut Vec<u8>, places: usize, word: &[u8]) -> Result<(), N
     push(text, word)
 }
 
-// Appends the path of a row behind a space, where it has one.
+// Appends a space and the path of a row, if it has one.
 fn push_path(text: &mut Vec<u8>, path: &[u8]) -> Result<(), NoMemory>
     ensures { OnOk result (text.new.items ≡ text.old.items ++ path_behind path.now) }
 {
@@ -63,7 +63,7 @@ fn push_path(text: &mut Vec<u8>, path: &[u8]) -> Result<(), NoMemory>
     push(text, path)
 }
 
-// Appends what a line ends with: the detail of its row.
+// Appends the end of a line: the detail of its row.
 fn push_end(text: &mut Vec<u8>, row: &Row) -> Result<(), NoMemory>
     ensures { OnOk result (text.new.items ≡ text.old.items ++ line_end row.now) }
 {
@@ -167,7 +167,7 @@ fn rules() -> &'static [Rule]
     &ALL_RULES
 }
 
-// How many rows there are of a rule.
+// The number of rows of a rule.
 fn rows_of_rule(rows: &[Row], rule: Rule) -> usize
     ensures { result ≡ spec.rows_of_rule rows.now rule }
 {
@@ -189,7 +189,7 @@ fn push_number_line(
     push(text, b"\n")
 }
 
-// Appends the line of a rule, where it has rows.
+// Appends the line of a rule, if it has rows.
 fn push_count(alloc: Global, text: &mut Vec<u8>, rows: &[Row], rule: Rule) -> Result<(), NoMemory>
     ensures { OnOk result (text.new.items ≡ text.old.items ++ count_line rows.now rule) }
 {
@@ -211,7 +211,7 @@ fn push_counts(alloc: Global, text: &mut Vec<u8>, rows: &[Row]) -> Result<(), No
     Ok(())
 }
 
-/// How many rows there are of each rule that has some, in the order of the rules, and how many in all.
+/// The number of rows of each rule that has some, in the order of the rules, and of all rules together.
 #[tactic(auto, unfolding(crate::specs::Render::counts_text))]
 pub fn counts_text(alloc: Global, rows: &[Row]) -> Result<Vec<u8>, NoMemory>
     ensures { IfOk result (λ text. text.items ≡ spec.counts_text rows.now) }

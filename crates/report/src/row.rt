@@ -16,32 +16,32 @@ use abi_types::{Export, NewIx, OldIx, Rule, View, push_label};
 use pair_rules::Broken;
 use std::alloc::Global;
 
-/// What is broken, and where. The texts are in their printed form.
+/// A broken rule, and where it is broken. The texts are in their printed form.
 #[derive(Drop)]
 pub struct Row {
     /// The rule that is broken.
     pub rule: Rule,
-    /// The label of the old export, or `-` where the libraries as a whole break the rule.
+    /// The label of the old export, or `-` if the libraries as a whole break the rule.
     pub export: List<u8>,
-    /// The steps from the type of that export to the types that break the rule; nothing where the export itself does.
+    /// The steps from the type of that export to the types that break the rule; empty if the export itself breaks it.
     pub path: List<u8>,
-    /// What was there, and what is there now.
+    /// The old and the new state, as one text.
     pub detail: List<u8>,
-    /// The old member or enumerator that the rule speaks of, by its name, `param` and a number, or `result`; nothing where the rule
-    /// speaks of no part.
+    /// The old part of which the rule speaks: the name of a member or an enumerator, `param` and a number, or `result`; empty if
+    /// the rule speaks of no part.
     pub part: List<u8>,
-    /// What was there.
+    /// The old value.
     pub was: Value,
-    /// What is there now.
+    /// The new value.
     pub is: Value,
-    /// The offset of the old type's debugging information entry, or 0.
+    /// The offset of the old type's debugging information entry, or 0 if the row is about no types.
     pub old_entry: u64,
-    /// The offset of the new type's debugging information entry, or 0.
+    /// The offset of the new type's debugging information entry, or 0 if the row is about no types.
     pub new_entry: u64,
 }
 
 impl Row {
-    /// An equal row. It fails where memory runs out, and nowhere else.
+    /// An equal row. It fails only if memory runs out.
     pub fn copy(&self, alloc: Global) -> Result<Row, NoMemory>
         ensures { IfOk result (λ row. row ≡ self.now) }
     {
@@ -75,7 +75,7 @@ fn label_of(alloc: Global, export: &Export) -> Result<String, NoMemory>
     Ok(text)
 }
 
-/// The row of sonames that differ, X1: of no export, no path and no types.
+/// The row about sonames that differ, X1. It names no export, no path and no types.
 pub fn soname_row(alloc: Global, old: Option<&[u8]>, new: Option<&[u8]>) -> Result<Row, NoMemory>
     ensures { IfOk result (λ (row : AnyRow). row ≡ record {
       rule = Rule.LibrarySoname;
@@ -102,8 +102,8 @@ pub fn soname_row(alloc: Global, old: Option<&[u8]>, new: Option<&[u8]>) -> Resu
     })
 }
 
-/// The row of an old export that breaks one of the rules X2 to X6, beside the new export that it binds to (of one that is gone
-/// the new one says nothing): no path and no types.
+/// The row about an old export that breaks one of the rules X2 to X6, beside the new export to which it binds. If the old one is
+/// gone, the new one is not looked at. The row has no path and no types.
 pub fn export_row(alloc: Global, rule: Rule, old: &Export, new: &Export) -> Result<Row, NoMemory>
     ensures { IfOk result (λ (row : AnyRow). row ≡ record {
       rule = rule;
@@ -139,7 +139,7 @@ pub struct Trail {
     pub path: String,
 }
 
-/// The row of a rule that two types break, with what leads to them, and the types' entries.
+/// The row about a rule that two types break, with the path that leads to them and the entries of the types.
 pub fn type_row(
     alloc: Global,
     broken: &Broken,

@@ -10,7 +10,7 @@ use pair_rules::number_of;
 use std::alloc::{AllocError, Global};
 use std::fmt::Write;
 
-// The name of a part, or nothing.
+// The name of a part, or no bytes.
 fn name_of<'a, Ix: Index>(part: &Part<'a, Ix>) -> &'a [u8]
     ensures { result.now ≡ spec.name_of (plain_part Ix.number_of part.now) }
 {
@@ -21,7 +21,7 @@ fn name_of<'a, Ix: Index>(part: &Part<'a, Ix>) -> &'a [u8]
     }
 }
 
-// Appends which part of its name it is, from the second on.
+// Appends the number of a part among those of its name, from the second one on.
 fn push_number(text: &mut String, before: usize) -> Result<(), AllocError>
     ensures { OnOk result (string_bytes text.new ≡ string_bytes text.old ++ numbered before) }
 {
@@ -32,7 +32,7 @@ fn push_number(text: &mut String, before: usize) -> Result<(), AllocError>
     write!(text, "#{number}")
 }
 
-/// Appends the printed name of part `i`, and from the second part of a name on `#` and which one it is.
+/// Appends the printed name of part `i`. From the second part of a name on, `#` and its number among them follow.
 #[tactic(auto, unfolding(crate::specs::Steps::part_name))]
 pub(crate) fn push_part_name<Ix: Index>(
     alloc: Global,
@@ -47,7 +47,7 @@ pub(crate) fn push_part_name<Ix: Index>(
     push_number(text, number_of(view, i))
 }
 
-// Appends the step by a parameter that stands behind so many.
+// Appends the step by a parameter that has this many before it.
 fn push_param(text: &mut String, before: usize) -> Result<(), AllocError>
     ensures { OnOk result (string_bytes text.new ≡ string_bytes text.old ++ concat (codes "param " ∷ decimal (before + 1) ∷ [])) }
 {
@@ -55,8 +55,8 @@ fn push_param(text: &mut String, before: usize) -> Result<(), AllocError>
     write!(text, "param {number}")
 }
 
-/// Appends the step by part `i` of a type: `result`, `param I` counted from 1, `target`, `element`, or `member NAME` with `#K`
-/// from the second member of a name on.
+/// Appends the step by part `i` of a type: `result`, `param I` counted from 1, `target`, `element`, or `member NAME`. From the
+/// second member of a name on, `#K` follows.
 #[tactic(auto, unfolding(crate::specs::Steps::step_text))]
 pub fn push_step<Ix: Index>(
     alloc: Global,

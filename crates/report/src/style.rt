@@ -1,24 +1,24 @@
 // How a report is printed.
 
-/// How rows are printed.
+/// The style in which rows are printed.
 #[derive(Clone, Copy, Debug, PartialEq, Eq)]
 pub enum Style {
     /// A line for each row.
     Text,
     /// A line for each row, in columns.
     Table,
-    /// How many rows there are of each rule.
+    /// The number of rows of each rule.
     Counts,
-    /// A line for each of the first rows, of so many at most.
+    /// A line for each of the first rows, up to a limit.
     First(u32),
-    /// What the listener likes.
+    /// A style that the listener itself defines.
     Own,
 }
 
-/// Whether a listener hears more rows.
+/// Whether a listener wants more rows.
 #[derive(Clone, Copy, Debug, PartialEq, Eq)]
 pub enum More {
-    /// It hears the next row.
+    /// It wants the next row.
     Go,
     /// It has heard enough.
     Enough,

@@ -4,16 +4,16 @@ ghost use Rattle.std.specs.Prelude.{◌≡◌, IfOk};
 use abi_base::{List, NoMemory};
 use std::alloc::Global;
 
-/// A value that a rule compares: what was there, or what is there now.
+/// A value that a rule compares: the old one or the new one.
 #[derive(Drop)]
 pub enum Value {
-    /// There is none.
+    /// No value.
     Nothing,
     /// A size or an alignment in bytes.
     Bytes(u64),
     /// An offset or a width in bits.
     Bits(u64),
-    /// How many elements or parameters there are.
+    /// The number of elements or parameters.
     Count(u64),
     /// The value of an enumerator.
     Number(u64),
@@ -22,7 +22,7 @@ pub enum Value {
 }
 
 impl Value {
-    /// An equal value. It fails where memory runs out, and nowhere else.
+    /// An equal value. It fails only if memory runs out.
     pub fn copy(&self, alloc: Global) -> Result<Value, NoMemory>
         ensures { IfOk result (λ value. value ≡ self.now) }
     {

@@ -30,14 +30,14 @@ fn bytes_of(text: String) -> List<u8>
     List::of(text.into_bytes())
 }
 
-// A word that is fixed.
+// A word as a value.
 fn word(alloc: Global, text: &str) -> Result<Value, NoMemory>
     ensures { IfOk result (λ value. value ≡ Value.Word text.now) }
 {
     Ok(Value::Word(List::copy_of(alloc, text.as_bytes())?))
 }
 
-// A name in its printed form.
+// A name in its printed form, as a value.
 fn shown_word(alloc: Global, name: &[u8]) -> Result<Value, NoMemory>
     ensures { IfOk result (λ value. value ≡ Value.Word (shown name.now)) }
 {
@@ -46,7 +46,7 @@ fn shown_word(alloc: Global, name: &[u8]) -> Result<Value, NoMemory>
     Ok(Value::Word(bytes_of(text)))
 }
 
-// A tag, which may be missing.
+// A tag as a value, or no value if it is missing.
 fn tag_value(alloc: Global, tag: &[u8]) -> Result<Value, NoMemory>
     ensures { IfOk result (λ value. value ≡ spec.tag_value tag.now) }
 {
@@ -56,7 +56,7 @@ fn tag_value(alloc: Global, tag: &[u8]) -> Result<Value, NoMemory>
     }
 }
 
-/// A soname, which may be missing.
+/// A soname as a value, or no value if it is missing.
 pub fn soname_value(alloc: Global, soname: Option<&[u8]>) -> Result<Value, NoMemory>
     ensures { IfOk result (λ value. value ≡ spec.soname_value (option_copied soname.entry)) }
 {
@@ -68,7 +68,7 @@ pub fn soname_value(alloc: Global, soname: Option<&[u8]>) -> Result<Value, NoMem
 
 // ---- exports
 
-// The label of an export.
+// The label of an export, as a value.
 fn label_word(alloc: Global, export: &Export) -> Result<Value, NoMemory>
     ensures { IfOk result (λ value. value ≡ Value.Word (label (plain_export export.now))) }
 {
@@ -77,7 +77,7 @@ fn label_word(alloc: Global, export: &Export) -> Result<Value, NoMemory>
     Ok(Value::Word(bytes_of(text)))
 }
 
-/// What an export has to which an old one binds; nothing where the rule says that something is gone.
+/// The value of the export to which an old one binds; none if the rule says that something is gone.
 pub fn export_is(alloc: Global, rule: Rule, new: &Export) -> Result<Value, NoMemory>
     ensures { IfOk result (λ value. value ≡ spec.export_is rule (plain_export new.now)) }
 {
@@ -88,7 +88,7 @@ pub fn export_is(alloc: Global, rule: Rule, new: &Export) -> Result<Value, NoMem
     }
 }
 
-/// What an old export has, or the label of one that is gone.
+/// The value of the old export, or the label of one that is gone.
 pub fn export_was(alloc: Global, rule: Rule, old: &Export) -> Result<Value, NoMemory>
     ensures { IfOk result (λ value. value ≡ spec.export_was rule (plain_export old.now)) }
 {
@@ -101,7 +101,7 @@ pub fn export_was(alloc: Global, rule: Rule, old: &Export) -> Result<Value, NoMe
 
 // ---- types
 
-// The printed name of a part.
+// The printed name of a part, as a value.
 fn name_word<Ix: Index>(alloc: Global, view: &View<Ix>, i: usize) -> Result<Value, NoMemory>
     requires { i < length view.now.parts }
     ensures { IfOk result (λ value. value ≡ Value.Word (steps.part_name view.now i)) }
@@ -110,7 +110,7 @@ fn name_word<Ix: Index>(alloc: Global, view: &View<Ix>, i: usize) -> Result<Valu
     Ok(Value::Word(bytes_of(text)))
 }
 
-// What a type has of which a rule speaks as a whole.
+// The value of a whole type, for a rule that speaks of no part.
 #[tactic(auto, unfolding(crate::specs::Values::whole_value))]
 fn whole_value<Ix: Index>(alloc: Global, rule: Rule, view: &View<Ix>) -> Result<Value, NoMemory>
     ensures { IfOk result (λ value. value ≡ spec.whole_value rule view.now) }
@@ -128,7 +128,7 @@ fn whole_value<Ix: Index>(alloc: Global, rule: Rule, view: &View<Ix>) -> Result<
     }
 }
 
-// Where the old type passes the parameter, or else the result, that part `i` is.
+// The place where the old type passes part `i`: a parameter, or the result.
 fn old_place(old: &View<OldIx>, i: usize) -> Place
     requires { i < length old.now.parts }
     ensures { result ≡ spec.place_of (part_at old.now i) (matching.number_of old.now i) old.now }
@@ -139,7 +139,7 @@ fn old_place(old: &View<OldIx>, i: usize) -> Place
     }
 }
 
-// Where the new type passes it.
+// The place where the new type passes the same parameter, or the result.
 fn new_place(old: &View<OldIx>, new: &View<NewIx>, i: usize) -> Place
     requires { i < length old.now.parts }
     ensures { result ≡ spec.place_of (part_at old.now i) (matching.number_of old.now i) new.now }
@@ -150,7 +150,7 @@ fn new_place(old: &View<OldIx>, new: &View<NewIx>, i: usize) -> Place
     }
 }
 
-// A place.
+// A place as a value.
 fn place_word(alloc: Global, place: &Place) -> Result<Value, NoMemory>
     ensures { IfOk result (λ value. value ≡ Value.Word (places.place_text place.now)) }
 {
@@ -177,8 +177,8 @@ fn name_of(alloc: Global, old: &View<OldIx>, i: usize) -> Result<List<u8>, NoMem
     Ok(bytes_of(text))
 }
 
-/// The old part that a rule speaks of: a member or an enumerator by its printed name, a parameter by its number, or the result;
-/// nothing where the rule speaks of no part.
+/// The old part of which a rule speaks: the printed name of a member or an enumerator, a parameter by its number, or the result;
+/// empty if the rule speaks of no part.
 #[tactic(auto, unfolding(crate::specs::Values::part_of))]
 pub fn part_of(alloc: Global, broken: &Broken, old: &View<OldIx>) -> Result<List<u8>, NoMemory>
     requires { IsInside old.now broken.now }
@@ -196,7 +196,7 @@ pub fn part_of(alloc: Global, broken: &Broken, old: &View<OldIx>) -> Result<List
     }
 }
 
-/// What the old type has.
+/// The value in the old type.
 #[tactic(auto, unfolding(crate::specs::Values::type_was))]
 pub fn type_was(alloc: Global, broken: &Broken, old: &View<OldIx>) -> Result<Value, NoMemory>
     requires { IsInside old.now broken.now }
@@ -214,7 +214,7 @@ pub fn type_was(alloc: Global, broken: &Broken, old: &View<OldIx>) -> Result<Val
     }
 }
 
-/// What the new type has, at the match of the old part.
+/// The value in the new type, at the match of the old part.
 #[tactic(auto, unfolding(crate::specs::Values::type_is))]
 pub fn type_is(
     alloc: Global,

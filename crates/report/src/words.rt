@@ -5,7 +5,7 @@ ghost use Rattle.report.specs.Words as spec;
 
 use abi_types::{Group, Kind};
 
-/// The word for a kind of types.
+/// The word for a kind of type.
 pub fn kind_word(kind: Kind) -> &'static str
     ensures { result.now ≡ kind_of_type kind }
 {

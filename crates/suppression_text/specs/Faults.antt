@@ -1,4 +1,4 @@
--- The first fault of a rule file. `at` is the number of a line, from 1 on.
+-- The first fault of a rule file. `at` is the number of a line, counted from 1.
 use Rattle.std.specs.Prelude.{◌+◌, ◌-◌, ◌==◌, ◌&&◌, ◌||◌, not, nat_lt, ℕ, Bool, if◌then◌else◌, List, [], ◌∷◌, ◌++◌, length, take, map, Option, Some, None, is_none, slice_get, slice_index_or, count_by}
 use Rattle.std.specs.List.{list_all, list_any, range_with_len}
 use Rattle.std.specs.Str.{is_utf8}
@@ -16,19 +16,19 @@ use Rattle.suppression_text.specs.Rules.{PlainProperty, PlainSection, sections_o
 abbrev pub fault_at : FaultKind → ℕ → Fault
 fault_at kind at = record { kind = kind; at = at }
 
--- ---- a text that is no UTF-8
+-- ---- a text that is not UTF-8
 
--- the number of the line in which the byte at a place stands
+-- the number of the line that contains the byte at a position
 abbrev pub line_at : List ℕ → ℕ → ℕ
 line_at bytes at = count_by is_feed (take at bytes) + 1
 
--- the text is no UTF-8 (50): the line of the first byte at fault
+-- the text is not UTF-8 (50), at the line of the first invalid byte
 abbrev pub text_fault : List ℕ → Option Fault
 text_fault bytes = fault_if (not (is_utf8 bytes)) kind.BadText (line_at bytes (utf8_valid_len bytes))
 
 -- ---- faults of lines
 
--- how many bytes a pattern may have
+-- the most bytes that a pattern may have
 abbrev pub pattern_limit : ℕ
 pattern_limit = 256
 
@@ -39,8 +39,8 @@ has_brace value = list_any (λ b. b == 123) value
 abbrev pub has : Key → PlainSection → Bool
 has key section = list_any (λ (p : PlainProperty). same_key key p.key) section.properties
 
--- A property of a section: the section may not have it, or not with this value (53); the section had it before (57); it is a
--- pattern that is too long (56) or has a brace (58).
+-- A property is faulty in a section that may not have it, or not with this value (53), or that already has it (57). A pattern is
+-- faulty if it is too long (56) or has a brace (58).
 abbrev pub checked_faults : ℕ → PlainSection → Key → List ℕ → List (Option Fault)
 checked_faults n section key value =
     fault_if (not (has_key section.kind key && takes_value key value)) kind.Property n
@@ -52,21 +52,21 @@ checked_faults n section key value =
 unfoldable pub checked_fault : ℕ → PlainSection → Key → List ℕ → Option Fault
 checked_fault n section key value = first (checked_faults n section key value)
 
--- and last, it is to be a pattern and is none (55)
+-- and last, the value must be a pattern and is not one (55)
 unfoldable pub key_fault : ℕ → PlainSection → Key → List ℕ → Option Fault
 key_fault n section key value = first (checked_fault n section key value ∷ fault_if (is_no_pattern key value) kind.BadPattern n ∷ [])
 
--- no section has a property of an unknown name (53)
+-- no section may have a property with an unknown name (53)
 abbrev pub named_fault : ℕ → PlainSection → Option Key → List ℕ → Option Fault
 named_fault n section None value = Some (fault_at kind.Property n)
 named_fault n section (Some key) value = key_fault n section key value
 
--- a property stands before any section (51), or is one of a section
+-- a property stands before any section (51), or is checked in its section
 abbrev pub placed_fault : ℕ → Option PlainSection → List ℕ → List ℕ → Option Fault
 placed_fault n None name value = Some (fault_at kind.RuleLine n)
 placed_fault n (Some section) name value = named_fault n section (key_named name) value
 
--- a property has no name or no value (51), or is wrong in its section
+-- a property has no name or no value (51), or is faulty in its section
 unfoldable pub property_fault : ℕ → Option PlainSection → List ℕ → List ℕ → Option Fault
 property_fault n section name value =
     if length name == 0 || length value == 0 then Some (fault_at kind.RuleLine n) else placed_fault n section name value
@@ -75,22 +75,22 @@ property_fault n section name value =
 abbrev pub head_fault : ℕ → List ℕ → Option Fault
 head_fault n name = fault_if (is_none (section_named name)) kind.Section n
 
--- the fault of a line in a section, or before any; a line that is nothing else is one (51)
+-- the fault of a line, in a section or before any; a line of no other form is a fault (51)
 abbrev pub form_fault : ℕ → Option PlainSection → Form → Option Fault
 form_fault n section Comment = None
 form_fault n section (Head name) = head_fault n name
 form_fault n section (Property name value) = property_fault n section name value
 form_fault n section Other = Some (fault_at kind.RuleLine n)
 
--- the last of sections
+-- the last section of a list
 abbrev pub last_of : List PlainSection → Option PlainSection
 last_of sections = slice_get sections (length sections - 1)
 
--- the section in which the line at a place stands: the last one that begins above it
+-- the section that contains the line at a position: the last one that begins above it
 abbrev pub section_above : List Form → ℕ → Option PlainSection
 section_above forms k = last_of (sections_of (take k forms))
 
--- the fault of the line at a place, counted from 0
+-- the fault of the line at a position, counted from 0
 abbrev pub line_fault : List Form → ℕ → Option Fault
 line_fault forms k = form_fault (k + 1) (section_above forms k) (slice_index_or forms k Comment)
 
@@ -99,17 +99,17 @@ line_faults forms = map (line_fault forms) (range_with_len 0 (length forms))
 
 -- ---- faults of sections
 
--- a section has no property but a label
+-- a section has no property except labels
 abbrev pub is_empty_rule : PlainSection → Bool
 is_empty_rule section = list_all (λ (p : PlainProperty). is_label p.key) section.properties
 
--- such a section (54): the line of its head
+-- such a section is a fault (54), at the line of its head
 abbrev pub section_fault : PlainSection → Option Fault
 section_fault section = fault_if (is_empty_rule section) kind.EmptyRule section.line
 
 -- ---- the first fault
 
--- Of the text first, then of its lines by their numbers, then of its sections in order.
+-- The fault of the text comes first, then those of its lines by number, then those of its sections in order.
 abbrev pub all_faults : List ℕ → List Form → List (Option Fault)
 all_faults bytes forms = text_fault bytes ∷ line_faults forms ++ map section_fault (sections_of forms)
 

@@ -1,4 +1,4 @@
--- The first fault of a rule file, by the places where faults are.
+-- The first fault of a rule file, described by where faults are.
 use Rattle.std.specs.Prelude.{◌≡◌, ◌<◌, ◌+◌, ◌⊎◌, ℕ, true, false, List, length, Some, None, slice_get}
 use Rattle.std.specs.Str.{is_utf8}
 use Rattle.abi_base.specs.declared.fault.Fault.{Fault}
@@ -6,11 +6,11 @@ use Rattle.suppression_text.specs.Lines.{Form, forms_of}
 use Rattle.suppression_text.specs.Rules.{PlainSection, sections_of}
 use Rattle.suppression_text.specs.Faults.{text_fault, line_fault, section_fault, is_empty_rule}
 
--- no line before the place has a fault
+-- no line before the position has a fault
 abbrev pub IsClear : List Form → ℕ → Type 0
 IsClear forms place = (j : ℕ) → j < place → line_fault forms j ≡ None
 
--- it is that of the line at a place, and no line before it has one
+-- the fault is that of the line at a position, and no line before it has one
 pub record IsOfLine (forms : List Form) (f : Fault) : Type 0 where
   pub place : ℕ
   pub inside : place < length forms
@@ -18,7 +18,7 @@ pub record IsOfLine (forms : List Form) (f : Fault) : Type 0 where
   pub number : f.at ≡ place + 1
   pub before : IsClear forms place
 
--- no line has a fault, it is that of a section, and no section before it has one
+-- no line has a fault; the fault is that of a section, and no section before it has one
 pub record IsOfSection (forms : List Form) (f : Fault) : Type 0 where
   pub lines : IsClear forms (length forms)
   pub place : ℕ

@@ -1,4 +1,4 @@
--- The sections of a rule file and their properties, by the names of libabigail's suppression files.
+-- The sections of a rule file and their properties, with the names that libabigail's suppression files use.
 use Rattle.std.specs.Prelude.{◌==◌, ◌||◌, ℕ, Bool, true, false, List, [], ◌∷◌, Option, find, codes}
 use Rattle.std.specs.Str.{bytes_eq}
 use Rattle.suppression_text.specs.declared.key.SectionKind.{SectionKind}
@@ -16,7 +16,7 @@ section_word Types = codes "suppress_type"
 abbrev pub section_kinds : List SectionKind
 section_kinds = Functions ∷ Variables ∷ Types ∷ []
 
--- the kind of the sections of a name
+-- the kind of section that has this name
 unfoldable pub section_named : List ℕ → Option SectionKind
 section_named name = find (λ kind. bytes_eq name (section_word kind)) section_kinds
 
@@ -36,7 +36,7 @@ key_word AccessedThrough = codes "accessed_through"
 abbrev pub keys : List Key
 keys = Label ∷ Name ∷ NameRegexp ∷ NameNotRegexp ∷ SymbolName ∷ SymbolNameRegexp ∷ SymbolVersion ∷ SymbolVersionRegexp ∷ SonameRegexp ∷ TypeKind ∷ AccessedThrough ∷ []
 
--- the property of a name
+-- the property that has this name
 unfoldable pub key_named : List ℕ → Option Key
 key_named name = find (λ key. bytes_eq name (key_word key)) keys
 
@@ -51,15 +51,15 @@ has_pattern SymbolVersionRegexp = true
 has_pattern SonameRegexp = true
 has_pattern key = false
 
--- the word is that of a kind of types
+-- the word names a kind of type
 unfoldable pub is_type_word : List ℕ → Bool
 is_type_word word = bytes_eq word (codes "struct") || (bytes_eq word (codes "union") || (bytes_eq word (codes "enum") || (bytes_eq word (codes "typedef") || bytes_eq word (codes "builtin"))))
 
--- the word is that of a way
+-- the word names a way
 unfoldable pub is_way_word : List ℕ → Bool
 is_way_word word = bytes_eq word (codes "direct") || bytes_eq word (codes "pointer")
 
--- The property may have the value. Of most properties any text is one; whether a text is a pattern is another question.
+-- The property may have the value. Most properties take any text; whether a text is a pattern is checked elsewhere.
 abbrev pub takes_value : Key → List ℕ → Bool
 takes_value TypeKind value = is_type_word value
 takes_value AccessedThrough value = is_way_word value
@@ -67,13 +67,13 @@ takes_value key value = true
 
 -- ---- which sections have which properties
 
--- those of sections on functions and on variables
+-- the properties that sections on functions and on variables may have
 abbrev pub is_of_exports : Key → Bool
 is_of_exports TypeKind = false
 is_of_exports AccessedThrough = false
 is_of_exports key = true
 
--- those of sections on types
+-- the properties that sections on types may have
 abbrev pub is_of_types : Key → Bool
 is_of_types SymbolName = false
 is_of_types SymbolNameRegexp = false
@@ -92,7 +92,7 @@ abbrev pub is_label : Key → Bool
 is_label Label = true
 is_label key = false
 
--- the place of a property in the list of all
+-- the position of a property in the list of all properties
 abbrev pub key_place : Key → ℕ
 key_place Label = 0
 key_place Name = 1

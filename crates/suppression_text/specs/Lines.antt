@@ -1,4 +1,4 @@
--- The lines of a rule file, and what each one is.
+-- The lines of a rule file, and the form of each.
 use Rattle.std.specs.Prelude.{◌+◌, ◌-◌, ◌==◌, ◌&&◌, ◌||◌, nat_lt, slice_index, ℕ, Bool, if◌then◌else◌, List, [], ◌∷◌, length, take, drop, map, position, Option, Some, None}
 use Rattle.std.specs.Str.Lines.{lines}
 
@@ -8,12 +8,12 @@ use Rattle.std.specs.Str.Lines.{lines}
 abbrev pub is_blank : ℕ → Bool
 is_blank b = b == 32 || b == 9
 
--- a text without the blanks at its front
+-- a text without leading blanks
 unfoldable pub without_front : List ℕ → List ℕ
 without_front [] = []
 without_front (b ∷ text) = if is_blank b then without_front text else b ∷ text
 
--- a text without the blanks at its end
+-- a text without trailing blanks
 unfoldable pub without_end : List ℕ → List ℕ
 without_end [] = []
 without_end (b ∷ text) = if is_blank b && length (without_end text) == 0 then [] else b ∷ without_end text
@@ -23,7 +23,7 @@ trimmed text = without_end (without_front text)
 
 -- ---- forms
 
--- what a line is: a comment or nothing, the head of a section, a property with its value, or none of these
+-- the form of a line: a comment or empty, the head of a section, a property with its value, or none of these
 pub data Form : Type 0 where
   Comment : Form
   Head : (name : List ℕ) → Form
@@ -40,11 +40,11 @@ is_equals b = b == 61
 abbrev pub is_comment : List ℕ → Bool
 is_comment line = length line == 0 || (slice_index line 0 == 35 || slice_index line 0 == 59)
 
--- the line begins with `[` and ends with another byte, which is `]`
+-- the line begins with `[`, and its last byte is another one, `]`
 abbrev pub is_head : List ℕ → Bool
 is_head line = nat_lt 1 (length line) && (slice_index line 0 == 91 && slice_index line (length line - 1) == 93)
 
--- what stands between the first byte and the last one
+-- the bytes between the first and the last
 abbrev pub inside : List ℕ → List ℕ
 inside line = take (length line - 2) (drop 1 line)
 
@@ -59,10 +59,10 @@ property_form line = split_form line (position is_equals line)
 abbrev pub form_within : List ℕ → Form
 form_within line = if is_comment line then Comment else if is_head line then Head (trimmed (inside line)) else property_form line
 
--- what a line is; blanks at both its ends do not count
+-- the form of a line, ignoring blanks at both ends
 unfoldable pub form_of : List ℕ → Form
 form_of line = form_within (trimmed line)
 
--- what the lines of a text are, which are those of `str::lines`
+-- the forms of the lines of a text, as `str::lines` splits it
 unfoldable pub forms_of : List ℕ → List Form
 forms_of text = map form_of (lines text)

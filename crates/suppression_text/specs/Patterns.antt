@@ -1,4 +1,4 @@
--- What a pattern means: what the grammar of `regex` reads in its text, searched for anywhere in bytes.
+-- The meaning of a pattern: its text is read by the grammar of `regex`, and searched for anywhere in bytes.
 use Rattle.std.specs.Prelude.{◌≡◌, ◌<◌, ◌&&◌, not, ℕ, Bool, false, nat_le, if◌then◌else◌, List, Option, None, is_some, chars, slice_index}
 use Rattle.std.specs.Option.{option_map_or}
 use Rattle.std.specs.Str.{is_utf8}
@@ -12,19 +12,19 @@ use Rattle.regex.specs.Patterns.{Re, Config, default_config, find}
 abbrev pub bytes_config : Config
 bytes_config = record default_config { utf8 = false }
 
--- What the grammar reads in a text, with how deep it nests, and the names of its groups. Bytes that are no UTF-8 are no text.
+-- The result of parsing a text, with its nesting depth and the names of its groups. Bytes that are not UTF-8 are not a text.
 unfoldable pub read_in : List ℕ → Option (Nested Re × Names)
 read_in text = if is_utf8 text then read bytes_config (chars text) else None
 
--- how deep `regex` lets a pattern nest
+-- the nesting limit of `regex`
 abbrev pub nest_limit : ℕ
 nest_limit = bytes_config.nest_limit
 
--- the text is a pattern: the grammar has it, and it nests no deeper than the limit
+-- the text is a pattern: the grammar accepts it, and its nesting depth is within the limit
 unfoldable pub is_pattern : List ℕ → Bool
 is_pattern text = option_map_or (λ p. nat_le p.0.depth nest_limit) (read_in text) false
 
--- the value of the property is to be a pattern, and is none
+-- the value of the property must be a pattern, and is not one
 abbrev pub is_no_pattern : Key → List ℕ → Bool
 is_no_pattern key text = has_pattern key && not (is_pattern text)
 
@@ -32,10 +32,10 @@ is_no_pattern key text = has_pattern key && not (is_pattern text)
 abbrev pub has_match : List ℕ → Re → Bool
 has_match bytes pattern = is_some (find pattern bytes 0)
 
--- the pattern that a text writes is found in the bytes
+-- the pattern with this text has a match in the bytes
 unfoldable pub is_found : List ℕ → List ℕ → Bool
 is_found text bytes = option_map_or (λ p. has_match bytes p.0.value) (read_in text) false
 
--- searching for the second is searching for the pattern that the text writes
+-- a search for the second is a search for the pattern with this text
 abbrev pub IsSearch : List ℕ → Re → Type 0
 IsSearch text pattern = (bytes : List ℕ) → ((k : ℕ) → slice_index bytes k < 256) → is_found text bytes ≡ has_match bytes pattern

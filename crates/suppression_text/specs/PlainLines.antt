@@ -1,4 +1,4 @@
--- A line of the code, without where its names lie in memory.
+-- A line of the code, without the addresses of its names.
 use Rattle.suppression_text.specs.declared.line.Line.{Line}
 use Rattle.suppression_text.specs.declared.line.Line.TheVariants as code
 use Rattle.suppression_text.specs.Lines.{Form, Comment, Head, Property, Other}

@@ -1,4 +1,4 @@
--- How bytes are asked for the value of a property, in the code.
+-- How the code tests bytes for the value of a property.
 use Rattle.std.specs.Prelude.{ℕ, Bool, true, false, List}
 use Rattle.suppression_text.specs.declared.property.Probe.{Probe}
 use Rattle.suppression_text.specs.declared.property.Probe.TheVariants.{Equal, PatternMatch}

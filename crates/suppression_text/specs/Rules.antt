@@ -1,4 +1,4 @@
--- What a rule file says, as plain data: its sections, in order.
+-- The contents of a rule file, as plain data: its sections, in order.
 use Rattle.std.specs.Prelude.{◌+◌, ℕ, List, [], ◌∷◌, ◌++◌, Option, Some, None, find}
 use Rattle.std.specs.Option.{option_map}
 use Rattle.sha2.specs.Sha256.{sha256}
@@ -15,7 +15,7 @@ pub record PlainProperty : Type 0 where
 abbrev pub plain_property : Key → List ℕ → PlainProperty
 plain_property key value = record { key = key; value = value }
 
--- a section: the number of its first line, what it speaks of, and its properties in order
+-- a section: the number of its first line, its kind, and its properties in order
 pub record PlainSection : Type 0 where
   pub line : ℕ
   pub kind : SectionKind
@@ -42,7 +42,7 @@ plain_rules digest sections = record { digest = digest; sections = sections }
 
 -- ---- the sections of lines
 
--- the property, where its name is known
+-- the property, if its name is known
 abbrev pub keyed : Option Key → List ℕ → List PlainProperty
 keyed None value = []
 keyed (Some key) value = plain_property key value ∷ []
@@ -55,12 +55,12 @@ properties_in (Property name value ∷ forms) = keyed (key_named name) value ++ 
 properties_in (Comment ∷ forms) = properties_in forms
 properties_in (Other ∷ forms) = properties_in forms
 
--- the section of a head, where its name is known
+-- the section of a head, if its name is known
 abbrev pub headed : ℕ → Option SectionKind → List PlainProperty → List PlainSection
 headed line None properties = []
 headed line (Some kind) properties = headed_section line kind properties ∷ []
 
--- the sections of lines, of which the first has a number
+-- the sections of lines, where the first line has number n
 unfoldable pub sections_from : ℕ → List Form → List PlainSection
 sections_from n [] = []
 sections_from n (Head name ∷ forms) = headed n (section_named name) (properties_in forms) ++ sections_from (n + 1) forms
@@ -68,10 +68,10 @@ sections_from n (Property name value ∷ forms) = sections_from (n + 1) forms
 sections_from n (Comment ∷ forms) = sections_from (n + 1) forms
 sections_from n (Other ∷ forms) = sections_from (n + 1) forms
 
--- A section goes from its head to the next one. Lines are numbered from 1.
+-- A section extends from its head to the next one. Lines are numbered from 1.
 abbrev pub sections_of : List Form → List PlainSection
 sections_of forms = sections_from 1 forms
 
--- what a text says that has no fault
+-- the contents of a text without a fault
 abbrev pub rules_of : List ℕ → PlainRules
 rules_of bytes = plain_rules (sha256 bytes) (sections_of (forms_of bytes))

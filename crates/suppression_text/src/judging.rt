@@ -1,4 +1,4 @@
-// What is wrong with the lines of a rule file, each in the section that it stands in.
+// The faults of the lines of a rule file, each in its section.
 ghost use Rattle.std.specs.Prelude.{◌≡◌, ◌<◌, ◌≤◌, ◌+◌, ◌++◌, [], length, count_by, IfOk, OnOk};
 ghost use Rattle.abi_base.specs.declared.fault.FaultKind.TheVariants as kind;
 ghost use Rattle.abi_base.specs.Outcome.{Judges};
@@ -17,7 +17,7 @@ use crate::section::Section;
 use abi_base::{Fault, FaultKind, Refusal};
 use std::alloc::Global;
 
-// How many bytes a pattern may have.
+// The most bytes that a pattern may have.
 const PATTERN_LIMIT: usize = 256;
 
 fn fault(kind: FaultKind, at: u64) -> Fault
@@ -26,7 +26,7 @@ fn fault(kind: FaultKind, at: u64) -> Fault
     Fault { kind, at }
 }
 
-// How many line feeds a text has.
+// The number of line feeds in a text.
 fn feeds_in(text: &[u8]) -> usize
     ensures count { result ≡ count_by is_feed text.now }
     ensures few { result < length text.now + 1 }
@@ -40,7 +40,7 @@ fn feeds_in(text: &[u8]) -> usize
     count
 }
 
-// The fault of a text that is no UTF-8 from a place on.
+// The fault of a text that stops being UTF-8 at a position.
 fn fault_from(bytes: &[u8], at: usize) -> Fault
     requires { at ≤ length bytes.now }
     ensures { result ≡ fault_at kind.BadText (line_at bytes.now at) }
@@ -48,7 +48,7 @@ fn fault_from(bytes: &[u8], at: usize) -> Fault
     fault(FaultKind::BadText, feeds_in(&bytes[..at]) as u64 + 1)
 }
 
-/// What is wrong with a text as a whole: it is no UTF-8.
+/// The fault of a text as a whole: it is not UTF-8.
 pub fn text_fault(bytes: &[u8]) -> Option<Fault>
     ensures { result ≡ faults.text_fault bytes.now }
 {
@@ -64,7 +64,7 @@ fn has_brace(value: &[u8]) -> bool
     value.iter().any(|byte| *byte == b'{')
 }
 
-// What is wrong with a property of a section, apart from a faulty pattern.
+// The fault of a property in a section, without that of an invalid pattern.
 #[tactic(auto, unfolding(crate::specs::Faults::checked_fault))]
 fn fault_before_pattern(number: u64, section: &Section, key: Key, value: &[u8]) -> Option<Fault>
     ensures { result ≡ checked_fault number section.now key value.now }
@@ -87,7 +87,7 @@ fn fault_before_pattern(number: u64, section: &Section, key: Key, value: &[u8]) 
     None
 }
 
-// A property of a section, which stands at a line of this number.
+// Reads the property on the line with this number, for a section.
 #[tactic(auto, unfolding(crate::specs::Faults::key_fault))]
 fn read_property(
     alloc: Global,
@@ -108,7 +108,7 @@ fn read_property(
     }
 }
 
-// Reads a line that is a property, into the last of the sections.
+// Reads a line that is a property into the last section.
 #[tactic(auto, unfolding(crate::specs::Faults::property_fault))]
 fn put_property(
     alloc: Global,
@@ -151,7 +151,7 @@ fn put_head(
     }
 }
 
-/// Reads a line behind others, of which the sections are those of the lines before it.
+/// Reads one more line; the sections are those of the lines before it. Returns the fault of the line if it has one.
 pub fn read_line(
     alloc: Global,
     sections: &mut Vec<Section>,

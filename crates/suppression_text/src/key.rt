@@ -4,7 +4,7 @@ ghost use Rattle.std.specs.Str.{bytes_eq};
 ghost use Rattle.suppression_text.specs.Keys.{has_key, takes_value};
 ghost use Rattle.suppression_text.specs.Keys as spec;
 
-/// What a section of a rule file speaks of.
+/// The kind of a section: what it suppresses.
 #[derive(Clone, Copy, Debug, PartialEq, Eq)]
 pub enum SectionKind {
     /// Functions: `[suppress_function]`.
@@ -18,27 +18,27 @@ pub enum SectionKind {
 /// A property of a section, by its name.
 #[derive(Clone, Copy, Debug, PartialEq, Eq)]
 pub enum Key {
-    /// What the section is called, which selects nothing: `label`.
+    /// `label`: a title of the section, which selects nothing.
     Label,
-    /// The declared name of an export, or the name of a type: `name`.
+    /// `name`: the declared name of an export, or the name of a type.
     Name,
-    /// A pattern that is found in that name: `name_regexp`.
+    /// `name_regexp`: a pattern that must match in that name.
     NameRegexp,
-    /// A pattern that is not found in that name: `name_not_regexp`.
+    /// `name_not_regexp`: a pattern that must not match in that name.
     NameNotRegexp,
-    /// The name of a symbol: `symbol_name`.
+    /// `symbol_name`: the name of a symbol.
     SymbolName,
-    /// A pattern that is found in the name of a symbol: `symbol_name_regexp`.
+    /// `symbol_name_regexp`: a pattern that must match in the name of a symbol.
     SymbolNameRegexp,
-    /// The name of a symbol's version: `symbol_version`.
+    /// `symbol_version`: the name of a symbol's version.
     SymbolVersion,
-    /// A pattern that is found in the name of a symbol's version: `symbol_version_regexp`.
+    /// `symbol_version_regexp`: a pattern that must match in the name of a symbol's version.
     SymbolVersionRegexp,
-    /// A pattern that is found in the old library's soname: `soname_regexp`.
+    /// `soname_regexp`: a pattern that must match in the old library's soname.
     SonameRegexp,
-    /// The kind of a type: `type_kind`.
+    /// `type_kind`: the kind of a type.
     TypeKind,
-    /// The way by which a type is reached: `accessed_through`.
+    /// `accessed_through`: how a program reaches a type, directly or through a pointer.
     AccessedThrough,
 }
 
@@ -49,7 +49,7 @@ fn is_same(one: &[u8], other: &[u8]) -> bool
     one == other
 }
 
-/// The kind of the sections of a name.
+/// The kind of section that has a name, or `None` for an unknown name.
 #[tactic(auto, unfolding(crate::specs::Keys::section_named))]
 pub fn section_named(name: &[u8]) -> Option<SectionKind>
     ensures { result ≡ spec.section_named name.now }
@@ -66,7 +66,7 @@ pub fn section_named(name: &[u8]) -> Option<SectionKind>
     None
 }
 
-/// The property of a name.
+/// The property that has a name, or `None` for an unknown name.
 #[tactic(auto, unfolding(crate::specs::Keys::key_named))]
 pub fn key_named(name: &[u8]) -> Option<Key>
     ensures { result ≡ spec.key_named name.now }
@@ -138,7 +138,7 @@ pub fn may_have(kind: SectionKind, key: Key) -> bool
     }
 }
 
-// Whether a kind of types has this word.
+// Whether a word names a kind of type.
 #[tactic(auto, unfolding(crate::specs::Keys::is_type_word))]
 fn is_type_word(word: &[u8]) -> bool
     ensures { result ≡ spec.is_type_word word.now }
@@ -150,7 +150,7 @@ fn is_type_word(word: &[u8]) -> bool
         || is_same(word, b"builtin")
 }
 
-// Whether a way has this word.
+// Whether a word names a way.
 #[tactic(auto, unfolding(crate::specs::Keys::is_way_word))]
 fn is_way_word(word: &[u8]) -> bool
     ensures { result ≡ spec.is_way_word word.now }
@@ -158,7 +158,7 @@ fn is_way_word(word: &[u8]) -> bool
     is_same(word, b"direct") || is_same(word, b"pointer")
 }
 
-/// Whether a property may have a value, where it is not the text or the pattern that decides.
+/// Whether a property may have a value. For a property that takes any text or a pattern, every value passes here.
 pub fn may_be(key: Key, value: &[u8]) -> bool
     ensures { result ≡ takes_value key value.now }
 {

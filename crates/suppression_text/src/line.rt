@@ -1,14 +1,14 @@
-// The lines of a rule file, and what each one is.
+// The lines of a rule file, and the form of each.
 ghost use Rattle.std.specs.Prelude.{◌≡◌, ◌<◌, ◌≤◌, ◌-◌, ◌∷◌, [], length, take, drop, position, Some, None, MatchOption};
 ghost use Rattle.std.specs.Str.Lines.{lines, strip_carriage_return};
 ghost use Rattle.suppression_text.specs.Lines.{is_feed, is_equals, property_form, form_of};
 ghost use Rattle.suppression_text.specs.Lines as spec;
 ghost use Rattle.suppression_text.specs.PlainLines.{plain_line};
 
-/// What a line is.
+/// The form of a line.
 #[derive(Clone, Copy, Debug)]
 pub enum Line<'a> {
-    /// No bytes but blanks, or a comment.
+    /// An empty line, a line of blanks, or a comment.
     Comment,
     /// The first line of a section, with its name.
     Head { name: &'a [u8] },
@@ -18,14 +18,16 @@ pub enum Line<'a> {
     Other,
 }
 
-/// The first line of a text, and what stands behind it.
+/// The first line of a text, and the rest.
 #[derive(Clone, Copy)]
 pub struct FirstLine<'a> {
+    /// The line, without its line feed.
     pub line: &'a [u8],
+    /// The text after the line feed.
     pub rest: &'a [u8],
 }
 
-// The bytes before a place, and from a place on.
+// The bytes before a position.
 fn before(text: &[u8], at: usize) -> &[u8]
     requires { at ≤ length text.now }
     ensures { result.now ≡ take at text.now }
@@ -33,6 +35,7 @@ fn before(text: &[u8], at: usize) -> &[u8]
     &text[..at]
 }
 
+// The bytes from a position on.
 fn from(text: &[u8], at: usize) -> &[u8]
     requires { at ≤ length text.now }
     ensures { result.now ≡ drop at text.now }
@@ -40,21 +43,21 @@ fn from(text: &[u8], at: usize) -> &[u8]
     &text[at..]
 }
 
-// The place of the first line feed.
+// The position of the first line feed.
 fn feed_in(text: &[u8]) -> Option<usize>
     ensures { result ≡ position is_feed text.now }
 {
     text.iter().position(|byte| *byte == b'\n')
 }
 
-// The place of the first `=`.
+// The position of the first `=`.
 fn equals_in(text: &[u8]) -> Option<usize>
     ensures { result ≡ position is_equals text.now }
 {
     text.iter().position(|byte| *byte == b'=')
 }
 
-// A line without the carriage return that stands before its line feed.
+// A line without the carriage return in front of its line feed.
 fn without_return(line: &[u8]) -> &[u8]
     ensures { result.now ≡ strip_carriage_return line.now }
 {
@@ -66,8 +69,8 @@ fn without_return(line: &[u8]) -> &[u8]
     }
 }
 
-/// The first line of a text, `None` where it has no line. Lines end with a line feed, before which one carriage return is no part
-/// of the line; the last line may lack its line feed.
+/// The first line of a text, or `None` for a text without lines. A line ends with a line feed; one carriage return in front of it
+/// is not part of the line. The last line may lack its line feed.
 pub fn first_line(text: &[u8]) -> Option<FirstLine>
     ensures lines { MatchOption result (lines text.now ≡ []) (λ first. lines text.now ≡ first.line.now ∷ lines first.rest.now) }
     ensures shorter { MatchOption result (text.now ≡ []) (λ first. length first.rest.now < length text.now) }
@@ -97,7 +100,7 @@ fn is_blank(byte: u8) -> bool
     byte == b' ' || byte == b'\t'
 }
 
-// A text without the blanks at its front.
+// A text without leading blanks.
 fn without_front(text: &[u8]) -> &[u8]
     ensures { result.now ≡ spec.without_front text.now }
 {
@@ -112,7 +115,7 @@ fn without_front(text: &[u8]) -> &[u8]
     from(text, at)
 }
 
-// A text without the blanks at its end.
+// A text without trailing blanks.
 fn without_end(text: &[u8]) -> &[u8]
     ensures { result.now ≡ spec.without_end text.now }
 {
@@ -127,28 +130,28 @@ fn without_end(text: &[u8]) -> &[u8]
     before(text, end)
 }
 
-/// A text without the blanks at both its ends: spaces and tabs.
+/// A text without leading and trailing blanks, which are spaces and tabs.
 pub fn trimmed(text: &[u8]) -> &[u8]
     ensures { result.now ≡ spec.trimmed text.now }
 {
     without_end(without_front(text))
 }
 
-// Whether a line says nothing.
+// Whether a line is empty or a comment.
 fn is_comment(line: &[u8]) -> bool
     ensures { result ≡ spec.is_comment line.now }
 {
     line.is_empty() || line[0] == b'#' || line[0] == b';'
 }
 
-// Whether a line begins a section.
+// Whether a line is the head of a section.
 fn is_head(line: &[u8]) -> bool
     ensures { result ≡ spec.is_head line.now }
 {
     line.len() > 1 && line[0] == b'[' && line[line.len() - 1] == b']'
 }
 
-// What stands between the first byte and the last one.
+// The bytes between the first and the last.
 fn inside(line: &[u8]) -> &[u8]
     requires { 1 < length line.now }
     ensures { result.now ≡ spec.inside line.now }
@@ -156,7 +159,7 @@ fn inside(line: &[u8]) -> &[u8]
     before(from(line, 1), line.len() - 2)
 }
 
-// What a line is that is no comment and no head.
+// The form of a line that is neither a comment nor a head.
 fn property_of(line: &[u8]) -> Line
     ensures { plain_line result ≡ property_form line.now }
 {
@@ -169,7 +172,7 @@ fn property_of(line: &[u8]) -> Line
     }
 }
 
-/// What a line is, of which the blanks at both ends do not count.
+/// The form of a line, ignoring blanks at both ends.
 #[tactic(auto, unfolding(crate::specs::Lines::form_of))]
 pub fn line_of(line: &[u8]) -> Line
     ensures { plain_line result ≡ form_of line.now }

@@ -9,7 +9,7 @@ use regex_syntax::{Config, ErrorKind};
 use std::alloc::Global;
 use std::marker::Model;
 
-/// A compiled pattern. Contracts see it as its text.
+/// A regular expression that is compiled. Contracts see it as its text.
 #[derive(Drop)]
 pub struct Pattern {
     regex: Regex,
@@ -28,7 +28,7 @@ impl Model for Pattern {
     ghost invariant = { λ p. IsSearch (regex_source p.regex) (regex_pattern p.regex) };
 }
 
-// The text of bytes, where they are UTF-8.
+// The bytes as a text, if they are UTF-8.
 fn text_in(bytes: &[u8]) -> Option<&str>
     ensures text { IfSome result (λ text. (text.now ≡ bytes.now) × (is_utf8 bytes.now ≡ true)) }
     ensures none { IfNone result (is_utf8 bytes.now ≡ false) }
@@ -48,7 +48,8 @@ fn bytes_config() -> Config
     config
 }
 
-/// Whether the grammar of `regex` has a text, nested no deeper than `regex` takes. The text is not compiled.
+/// Whether a text is a pattern: the grammar of `regex` accepts it, and its nesting depth is within the limit of `regex`. The text
+/// is not compiled.
 pub fn is_pattern(alloc: Global, text: &[u8]) -> Result<bool, NoMemory>
     ensures { IfOk result (λ is. is ≡ spec.is_pattern text.now) }
 {
@@ -68,8 +69,8 @@ pub fn is_pattern(alloc: Global, text: &[u8]) -> Result<bool, NoMemory>
 }
 
 impl Pattern {
-    /// Compiles the pattern that a text writes. It fails where memory runs out, where the compiled pattern would pass the limit of
-    /// `regex`, and where the text is no pattern.
+    /// Compiles a pattern. Returns `NoMemory` if memory runs out, if the compiled pattern would exceed the limit of `regex`, or if
+    /// the text is not a pattern.
     pub fn compile(alloc: Global, text: &[u8]) -> Result<Pattern, NoMemory>
         ensures { IfOk result (λ pattern. pattern ≡ text.now) }
     {
@@ -82,14 +83,14 @@ impl Pattern {
         }
     }
 
-    /// Its text.
+    /// The text of the pattern.
     pub fn text(&self) -> &[u8]
         ensures { result.now ≡ self.now }
     {
         self.regex.as_str().as_bytes()
     }
 
-    /// What searches for it.
+    /// A searcher for the pattern.
     pub fn finder(&self, alloc: Global) -> Result<Finder<'_>, NoMemory>
         ensures { IfOk result (λ finder. finder ≡ self.now) }
     {
@@ -99,7 +100,7 @@ impl Pattern {
     }
 }
 
-/// What searches for a pattern. Contracts see it as the pattern's text.
+/// A searcher for a pattern. Contracts see it as the pattern's text.
 #[derive(Drop)]
 pub struct Finder<'p> {
     text: &'p [u8],
@@ -120,7 +121,7 @@ impl<'p> Model for Finder<'p> {
 }
 
 impl<'p> Finder<'p> {
-    /// Whether the pattern is found anywhere in bytes.
+    /// Whether the pattern matches anywhere in bytes.
     pub fn finds(&mut self, bytes: &[u8]) -> bool
         ensures found { result ≡ spec.is_found self.old bytes.now }
         ensures same { self.new ≡ self.old }

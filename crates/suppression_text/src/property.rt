@@ -1,4 +1,4 @@
-// The properties of sections, and what asks bytes for their values.
+// The properties of sections, and the tests of bytes for their values.
 ghost use Rattle.std.specs.Prelude.{◌≡◌, true, false, IfOk, IfSome, IfNone};
 ghost use Rattle.suppression_text.specs.Passing as spec;
 ghost use Rattle.suppression_text.specs.Rules.{plain_property};
@@ -28,7 +28,7 @@ impl Model for Property {
 impl Property {
     ghost use Rattle.suppression_text.specs.Keys as keys;
 
-    /// The property with a value, `None` where the value is to be a pattern and is none.
+    /// The property with this value, or `None` if the value must be a pattern and is not one.
     pub fn read(alloc: Global, key: Key, text: &[u8]) -> Result<Option<Property>, NoMemory>
         ensures value { IfOk result (λ read. IfSome read (λ property. property ≡ plain_property key text.now)) }
         ensures some { IfOk result (λ read. IfSome read (λ _. is_no_pattern key text.now ≡ false)) }
@@ -41,7 +41,7 @@ impl Property {
         Ok(Some(Property { key, value }))
     }
 
-    /// Which property it is.
+    /// The key of the property.
     pub fn key(&self) -> Key
         ensures { result ≡ self.now.key }
     {
@@ -55,15 +55,15 @@ impl Property {
         has_pattern(self.key)
     }
 
-    /// The bytes of its value, which are the text of a pattern where it has one.
+    /// The bytes of its value. For a pattern, they are its text.
     pub fn value(&self) -> &[u8]
         ensures { result.now ≡ self.now.value }
     {
         self.value.as_slice()
     }
 
-    /// The property with its pattern compiled. It fails where memory runs out, or where the compiled pattern would pass the limit
-    /// of `regex`.
+    /// The property with its pattern compiled. Returns `NoMemory` if memory runs out, or if the compiled pattern would exceed the
+    /// limit of `regex`.
     pub fn compiled(&self, alloc: Global) -> Result<CompiledProperty<'_>, NoMemory>
         ensures { IfOk result (λ compiled. compiled ≡ self.now) }
     {
@@ -78,12 +78,12 @@ impl Property {
     }
 }
 
-/// What bytes are compared with.
+/// What a property compares bytes with.
 #[derive(Drop)]
 pub enum Value<'r> {
-    /// Bytes that others equal or not.
+    /// Bytes to which others may be equal.
     Text(&'r [u8]),
-    /// A pattern that is found in others or not.
+    /// A pattern that may match in other bytes.
     Pattern(Pattern),
 }
 
@@ -110,7 +110,7 @@ impl<'r> Model for CompiledProperty<'r> {
 }
 
 impl<'r> CompiledProperty<'r> {
-    /// What asks bytes for its value.
+    /// A test of bytes for the value of the property.
     pub fn test(&self, alloc: Global) -> Result<Test<'_>, NoMemory>
         ensures { IfOk result (λ test. test ≡ self.now) }
     {
@@ -128,16 +128,16 @@ impl<'r> CompiledProperty<'r> {
     }
 }
 
-/// How bytes are asked for a value.
+/// How bytes are tested for a value.
 #[derive(Drop)]
 pub enum Probe<'p> {
-    /// Whether they equal it.
+    /// The bytes must be equal to it.
     Equal(&'p [u8]),
-    /// Whether it is found in them.
+    /// The pattern must match in the bytes.
     PatternMatch(Finder<'p>),
 }
 
-/// What asks bytes for the value of a property. Contracts see it as the property.
+/// A test of bytes for the value of a property. Contracts see it as the property.
 #[derive(Drop)]
 pub struct Test<'p> {
     key: Key,
@@ -159,7 +159,7 @@ impl<'p> Model for Test<'p> {
     ghost invariant = { λ t. is_pattern_probe t.probe ≡ keys.has_pattern t.key };
 }
 
-// Whether a pattern is not to be found.
+// Whether the pattern must not match.
 fn is_negated(key: Key) -> bool
     ensures { result ≡ spec.is_negated key }
 {
@@ -170,14 +170,14 @@ fn is_negated(key: Key) -> bool
 }
 
 impl<'p> Test<'p> {
-    /// Which property it is.
+    /// The key of the property.
     pub fn key(&self) -> Key
         ensures { result ≡ self.now.key }
     {
         self.key
     }
 
-    /// Whether the bytes have what the property asks for.
+    /// Whether the bytes pass the property.
     #[tactic(auto, unfolding(crate::specs::Passing::passes))]
     pub fn passes(&mut self, bytes: &[u8]) -> bool
         ensures passes { result ≡ spec.passes self.old.key self.old.value bytes.now }

@@ -1,4 +1,4 @@
-// What a rule file says.
+// Reading a rule file.
 ghost use Rattle.std.specs.Prelude.{◌≡◌, IfOk};
 ghost use Rattle.sha2.specs.Sha256.{sha256};
 ghost use Rattle.abi_base.specs.Outcome.{Judges, first};
@@ -20,7 +20,7 @@ fn digest_of(bytes: &[u8]) -> [u8; 32]
     Sha256::digest(bytes)
 }
 
-// The sections of a text, or the fault of the first line that has one.
+// The sections of a text, or the first fault of a line.
 fn read_sections(alloc: Global, bytes: &[u8]) -> Result<Vec<Section>, Refusal>
     ensures sections { IfOk result (λ sections. sections.items ≡ sections_of (forms_of bytes.now)) }
     ensures fault { Judges result (first (line_faults (forms_of bytes.now))) }
@@ -36,7 +36,7 @@ fn read_sections(alloc: Global, bytes: &[u8]) -> Result<Vec<Section>, Refusal>
     Ok(sections)
 }
 
-/// What a rule file says. A fault is its first one, and its place the number of a line, from 1 on.
+/// Reads a rule file. A refusal names the first fault, and its place is the number of a line, counted from 1.
 #[tactic(auto, unfolding(crate::specs::Faults::rule_fault))]
 pub fn read_rules(alloc: Global, bytes: &[u8]) -> Result<Rules, Refusal>
     ensures rules { IfOk result (λ rules. rules ≡ rules_of bytes.now) }

@@ -1,11 +1,11 @@
-// A rule file that was read.
+// A rule file after it is read.
 ghost use Rattle.std.specs.Prelude.{◌≡◌};
 ghost use Rattle.suppression_text.specs.Rules.{plain_rules};
 
 use crate::section::Section;
 use std::marker::Model;
 
-/// What a rule file says. Contracts see it as `PlainRules`.
+/// The contents of a rule file. Contracts see it as `PlainRules`.
 #[derive(Drop)]
 pub struct Rules {
     digest: [u8; 32],

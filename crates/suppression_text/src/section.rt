@@ -14,10 +14,10 @@ use abi_base::{Fault, FaultKind, NoMemory};
 use std::alloc::Global;
 use std::marker::Model;
 
-/// A section: what it speaks of, and its properties in order. Contracts see it as a `PlainSection`.
+/// A section: its kind, and its properties in order. Contracts see it as a `PlainSection`.
 #[derive(Drop)]
 pub struct Section {
-    // The number of its first line.
+    // The number of the section's first line.
     line: u64,
     kind: SectionKind,
     properties: Vec<Property>,
@@ -31,14 +31,14 @@ impl Model for Section {
     ghost view = { λ s. record { line = s.line; kind = s.kind; properties = s.properties.items } };
 }
 
-// Whether two properties have one name.
+// Whether two keys are equal.
 fn is_same(one: Key, other: Key) -> bool
     ensures { result ≡ same_key one other }
 {
     one as u8 == other as u8
 }
 
-// Whether a property selects nothing.
+// Whether a key is that of a label, which selects nothing.
 fn is_label(key: Key) -> bool
     ensures { result ≡ keys.is_label key }
 {
@@ -51,7 +51,7 @@ fn is_label(key: Key) -> bool
 impl Section {
     ghost use Rattle.suppression_text.specs.Rules.{headed_section, with_property};
 
-    /// A section without properties, which begins at a line.
+    /// A section of a kind that begins at a line. It has no properties yet.
     pub fn new(alloc: Global, line: u64, kind: SectionKind) -> Section
         ensures { result ≡ headed_section line kind [] }
     {
@@ -62,7 +62,7 @@ impl Section {
         }
     }
 
-    /// What it speaks of.
+    /// The kind of the section.
     pub fn kind(&self) -> SectionKind
         ensures { result ≡ self.now.kind }
     {
@@ -76,7 +76,7 @@ impl Section {
         self.properties.as_slice()
     }
 
-    /// Whether it has a property.
+    /// Whether it has a property with this key.
     pub fn has(&self, key: Key) -> bool
         ensures { result ≡ faults.has key self.now }
     {
@@ -99,7 +99,7 @@ impl Section {
         }
     }
 
-    /// Puts a property last. After `NoMemory` the section is as before.
+    /// Appends a property. On `NoMemory` the section is unchanged.
     pub fn push(&mut self, property: Property) -> Result<(), NoMemory>
         ensures ok { OnOk result (self.new ≡ with_property self.old property) }
         ensures err { OnErr result (self.new ≡ self.old) }
@@ -108,7 +108,7 @@ impl Section {
         Ok(())
     }
 
-    // Whether it has no property that selects.
+    // Whether all its properties are labels.
     fn is_empty(&self) -> bool
         ensures { result ≡ is_empty_rule self.now }
     {
@@ -117,7 +117,7 @@ impl Section {
             .all(|property| is_label(property.key()))
     }
 
-    // What is wrong with it as a whole.
+    // The fault of the section as a whole: it selects nothing.
     fn fault(&self) -> Option<Fault>
         ensures { result ≡ section_fault self.now }
     {
@@ -132,7 +132,7 @@ impl Section {
     }
 }
 
-/// What is wrong with the first section that is wrong as a whole.
+/// The fault of the first section that has one as a whole.
 pub fn fault_of_sections(sections: &[Section]) -> Option<Fault>
     ensures { result ≡ first (map section_fault sections.now) }
 {

@@ -1,4 +1,4 @@
--- What a list of sections suppresses in a library. The sections may be some of a rule file's.
+-- What a list of sections suppresses in a library. The list may be a part of a rule file.
 use Rattle.std.specs.Prelude.{◌≡◌, ◌||◌, Bool, List, [], ◌∷◌, length, map}
 use Rattle.abi_types.specs.declared.kind.Way.{Way}
 use Rattle.abi_types.specs.declared.kind.Way.TheVariants.{Direct, Pointer}
@@ -8,7 +8,7 @@ use Rattle.suppression_text.specs.Rules.{PlainSection}
 use Rattle.suppressions.specs.declared.marking.Flags.{Flags}
 use Rattle.suppressions.specs.Meaning.{drops, marks_names}
 
--- for each node, whether the sections mark it where a program reaches it in this way
+-- for each node, whether the sections mark it, if a program reaches it in this way
 abbrev pub node_flags : List PlainSection → PlainLibrary → Way → List Bool
 node_flags sections old way = map (λ (n : PlainNode). marks_names sections old.soname way n.labels) old.graph
 
@@ -18,19 +18,19 @@ pub record AreFlags (sections : List PlainSection) (old : PlainLibrary) (flags :
   pub direct : flags.direct ≡ node_flags sections old Direct
   pub pointer : flags.pointer ≡ node_flags sections old Pointer
 
--- for each place, whether the flag there is set in one of the two lists
+-- for each position, whether the flag there is set in one of the two lists
 unfoldable pub either : List Bool → List Bool → List Bool
 either [] others = []
 either (one ∷ ones) [] = []
 either (one ∷ ones) (other ∷ others) = (one || other) ∷ either ones others
 
--- both have equally many flags
+-- the lists of both have the same lengths
 pub record AreOfOneSize (one other : Flags) : Type 0 where
   pub exports : length one.exports ≡ length other.exports
   pub direct : length one.direct ≡ length other.direct
   pub pointer : length one.pointer ≡ length other.pointer
 
--- each flag is set where it is set in one of two
+-- each flag is set exactly if it is set in one of the two
 pub record AreEither (one other flags : Flags) : Type 0 where
   pub exports : flags.exports ≡ either one.exports other.exports
   pub direct : flags.direct ≡ either one.direct other.direct

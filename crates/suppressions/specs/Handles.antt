@@ -40,11 +40,11 @@ handle_at handles k = slice_index_or handles k any_handle
 abbrev pub place_cmp : List PlainHandle → ℕ → ℕ → Ordering
 place_cmp handles a b = handle_cmp (handle_at handles a) (handle_at handles b)
 
--- the places are all positions, in the order of the handles there
+-- the list has all positions, in the order of the handles there
 pub record IsHandleOrder (places : List ℕ) (handles : List PlainHandle) : Type 0 where
   pub all : IsPermutation (range_with_len 0 (length handles)) places
   pub rises : IsSorted (place_cmp handles) places
 
--- the places are the positions of this handle
+-- the list has exactly the positions of this handle
 abbrev pub AreAt : List PlainHandle → PlainHandle → List ℕ → Type 0
 AreAt handles handle places = (k : ℕ) → Contains places k ↔ ((k < length handles) × (handle_at handles k ≡ handle))

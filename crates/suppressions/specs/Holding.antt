@@ -19,7 +19,7 @@ one_section_holds sections s numbers = list_any (λ (k : ℕ). section_holds s (
 abbrev pub Holds : List PlainSection → PlainSubject → ℕ → Type 0
 Holds sections s k = (k < length sections) × (section_holds s (section_at sections k) ≡ true)
 
--- The answer is yes only where a section matches the subject, and no only where no section of this handle does.
+-- The answer is yes only if a section matches the subject, and no only if no section with this handle does.
 pub record IsOneOfHandle (sections : List PlainSection) (s : PlainSubject) (handle : PlainHandle) (answer : Bool) : Type 0 where
   pub some : answer ≡ true → (k : ℕ) × Holds sections s k
   pub none : answer ≡ false → (k : ℕ) → handle_of (section_at sections k) ≡ handle → (Holds sections s k → ⊥)

@@ -1,4 +1,4 @@
--- A map that keeps how the names of types are marked.
+-- A map that caches how the names of types are marked.
 use Rattle.std.specs.Prelude.{◌≡◌, ◌==◌, ◌&&◌, ℕ, List, Option, Some}
 use Rattle.std.specs.Borrow.{Bor}
 use Rattle.std.specs.Str.{bytes_eq}
@@ -31,10 +31,10 @@ known_of known l = get_by (λ k. kind_number l.kind == k.0 && bytes_eq l.name k.
 abbrev pub name_ways : List PlainSection → Option (List ℕ) → PlainLabel → MarkedByWay
 name_ways sections soname l = record { direct = marks_name sections soname Direct l; pointer = marks_name sections soname Pointer l }
 
--- how they mark a type that has these names
+-- how sections mark a type that has these names
 abbrev pub names_ways : List PlainSection → Option (List ℕ) → List PlainLabel → MarkedByWay
 names_ways sections soname labels = record { direct = marks_names sections soname Direct labels; pointer = marks_names sections soname Pointer labels }
 
--- each answer in the map is how the sections mark the name
+-- each entry of the map says how the sections mark the name
 abbrev pub IsKnown : List PlainSection → Option (List ℕ) → Known → Type 0
 IsKnown sections soname known = (l : PlainLabel) (ways : MarkedByWay) → known_of known l ≡ Some ways → ways ≡ name_ways sections soname l

@@ -9,7 +9,7 @@ use Rattle.abi_types.specs.Libraries.{PlainLibrary}
 use Rattle.suppression_text.specs.Rules.{PlainRules, rules_of}
 use Rattle.suppressions.specs.Meaning.{is_dropped, is_marked}
 
--- for each node, whether it is marked where a program reaches it in this way
+-- for each node, whether it is marked, if a program reaches it in this way
 abbrev pub way_flags : PlainRules → PlainLibrary → Way → List Bool
 way_flags rules old way = map (λ (n : PlainNode). is_marked rules old.soname n.labels way) old.graph
 

@@ -12,11 +12,11 @@ use Rattle.suppression_text.specs.Passing.{passes}
 use Rattle.suppression_text.specs.Rules.{PlainProperty, PlainSection, PlainRules}
 use Rattle.suppressions.specs.Subjects.{PlainSubject, asked, export_subject, label_subject}
 
--- the subject has the bytes, and they pass the property
+-- the subject has bytes to test, and they pass the property
 abbrev pub passing : PlainProperty → Option (List ℕ) → Bool
 passing p bytes = option_map_or (passes p.key p.value) bytes false
 
--- A label always holds. Another property holds where the subject has the bytes that it tests, and they pass.
+-- A label always holds. Any other property holds if the subject has the bytes that it tests, and they pass.
 unfoldable pub property_holds : PlainSubject → PlainProperty → Bool
 property_holds s p = is_label p.key || passing p (asked s p.key)
 
@@ -40,11 +40,11 @@ some_section_holds sections s = list_any (section_holds s) sections
 abbrev pub drops : List PlainSection → Option (List ℕ) → PlainExport → Bool
 drops sections soname e = some_section_holds sections (export_subject soname e)
 
--- they mark a name of a type, where a program reaches the type in this way
+-- the sections mark a name of a type, if a program reaches the type in this way
 abbrev pub marks_name : List PlainSection → Option (List ℕ) → Way → PlainLabel → Bool
 marks_name sections soname way l = some_section_holds sections (label_subject soname way l)
 
--- they mark one of the names of a type
+-- the sections mark one of the names of a type
 abbrev pub marks_names : List PlainSection → Option (List ℕ) → Way → List PlainLabel → Bool
 marks_names sections soname way labels = list_any (marks_name sections soname way) labels
 
@@ -54,6 +54,6 @@ marks_names sections soname way labels = list_any (marks_name sections soname wa
 unfoldable pub is_dropped : PlainRules → Option (List ℕ) → PlainExport → Bool
 is_dropped rules soname e = drops rules.sections soname e
 
--- the rule file marks a type that has these names, where a program reaches it in this way
+-- the rule file marks a type that has these names, if a program reaches it in this way
 unfoldable pub is_marked : PlainRules → Option (List ℕ) → List PlainLabel → Way → Bool
 is_marked rules soname labels way = marks_names rules.sections soname way labels

@@ -1,4 +1,4 @@
--- Subjects: an export, or a name of a type with how a program reaches the type. Sections are matched with them.
+-- Subjects: what sections are matched with. A subject is an export, or a name of a type with how a program reaches the type.
 use Rattle.std.specs.Prelude.{ℕ, List, [], Option, Some, None, codes}
 use Rattle.abi_types.specs.declared.export.SymbolKind.{SymbolKind}
 use Rattle.abi_types.specs.declared.export.SymbolKind.TheVariants.{NoType, Object, Func, Common, Tls, Ifunc}
@@ -13,7 +13,7 @@ use Rattle.suppression_text.specs.declared.key.SectionKind.TheVariants.{Function
 use Rattle.suppression_text.specs.declared.key.Key.{Key}
 use Rattle.suppression_text.specs.declared.key.Key.TheVariants.{Label, Name, NameRegexp, NameNotRegexp, SymbolName, SymbolNameRegexp, SymbolVersion, SymbolVersionRegexp, SonameRegexp, TypeKind, AccessedThrough}
 
--- the kind of the sections that can match it, and the bytes that properties test, where it has them
+-- the kind of sections that can match it, and the bytes that properties test, if it has them
 pub record PlainSubject : Type 0 where
   pub kind : SectionKind
   pub name : List ℕ
@@ -60,7 +60,7 @@ export_subject soname e = record {
   way = None;
 }
 
--- what all exports of a kind have in common
+-- what all exports of a kind share
 abbrev pub kind_subject : Option (List ℕ) → SectionKind → PlainSubject
 kind_subject soname kind = record { kind = kind; name = []; symbol = None; version = None; soname = soname; type_kind = None; way = None }
 
@@ -77,7 +77,7 @@ abbrev pub accessed_through_word : Way → List ℕ
 accessed_through_word Direct = codes "direct"
 accessed_through_word Pointer = codes "pointer"
 
--- a name of a type of a library that has this soname, where a program reaches the type in this way
+-- a name of a type of a library that has this soname; a program reaches the type in this way
 abbrev pub label_subject : Option (List ℕ) → Way → PlainLabel → PlainSubject
 label_subject soname way l = record {
   kind = Types;

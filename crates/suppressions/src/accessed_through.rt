@@ -1,4 +1,4 @@
-// Which names of types sections mark. Each name is judged once.
+// Which names of types the sections mark. Each name is judged once.
 ghost use Rattle.std.specs.Prelude.{◌≡◌, IfOk, OnOk, map};
 ghost use Rattle.std.specs.Option.{option_copied};
 ghost use Rattle.abi_types.specs.Plain.{plain_label};
@@ -15,9 +15,9 @@ use std::collections::HashMap;
 /// Whether a type is marked, by how a program reaches it.
 #[derive(Clone, Copy, Debug)]
 pub struct MarkedByWay {
-    /// Where it is reached by value.
+    /// Marked if it is reached by value.
     pub direct: bool,
-    /// Where it is reached through a pointer.
+    /// Marked if it is reached through a pointer.
     pub pointer: bool,
 }
 
@@ -33,7 +33,7 @@ fn kind_number(kind: LabelKind) -> u8
     }
 }
 
-// Asks the sections about a name.
+// Judges a name: how the sections mark it.
 fn judge_name(sections: &mut ReadyRules, soname: Option<&[u8]>, label: &Label) -> MarkedByWay
     ensures ways { result ≡ name_ways sections.old (option_copied soname.entry) (plain_label label.now) }
     ensures same { sections.new ≡ sections.old }
@@ -50,7 +50,7 @@ fn known_name(known: &HashMap<(u8, &[u8]), MarkedByWay>, label: &Label) -> Optio
     known.get(&(kind_number(label.kind), label.name)).copied()
 }
 
-// The name to judge. Where no section asks about names, it is empty, and one answer serves all names of a kind.
+// The name to judge. If no section tests names, it is empty, and one answer serves all names of a kind.
 fn judged_label<'x>(sections: &ReadyRules, label: &Label<'x>) -> Label<'x>
     ensures { plain_label result ≡ spec.judged_label sections.now (plain_label label.now) }
 {
@@ -64,7 +64,7 @@ fn judged_label<'x>(sections: &ReadyRules, label: &Label<'x>) -> Label<'x>
     }
 }
 
-// The answer for a name, which is judged the first time only.
+// The answer for a name, which is judged only the first time.
 fn name_once<'x>(
     sections: &mut ReadyRules,
     known: &mut HashMap<(u8, &'x [u8]), MarkedByWay>,

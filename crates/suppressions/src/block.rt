@@ -5,22 +5,22 @@ use crate::compiled::is_chosen;
 use abi_base::NoMemory;
 use suppression_text::{Property, Section};
 
-// The weight of a pattern beside its bytes. The smallest compiled pattern takes some ten kilobytes.
+// The weight of a pattern in addition to its bytes. The smallest compiled pattern takes some ten kilobytes.
 const PATTERN_WEIGHT: usize = 64;
 
-// The weight of a class such as `\w` beside its two bytes. A Unicode class compiles to some twenty kilobytes.
+// The weight of a class such as `\w` in addition to its two bytes. A Unicode class compiles to some twenty kilobytes.
 const CLASS_WEIGHT: usize = 64;
 
-// The most that a block of several sections weighs: some sixty short patterns.
+// The maximum weight of a block of several sections: some sixty short patterns.
 const BLOCK_WEIGHT: usize = 4096;
 
-// The most that the patterns of a rule file may weigh. Three hundred patterns of twenty bytes weigh a tenth of it.
+// The maximum weight of all patterns of a rule file. Three hundred patterns of twenty bytes weigh a tenth of it.
 const MOST_WEIGHT: usize = 1 << 18;
 
-// The most bytes of a soname, which is that of a path on Linux. The name of a file has 255 bytes at most.
+// The maximum length of a soname in bytes, which is that of a path on Linux. A file name has at most 255 bytes.
 const LONGEST_SONAME: usize = 4096;
 
-// How many classes the bytes have: each backslash before a letter begins one.
+// The number of classes in a pattern: each backslash before a letter counts as one.
 fn classes_in(text: &[u8]) -> usize {
     let mut count = 0usize;
     let mut escaped = false;
@@ -54,8 +54,8 @@ fn section_weight(section: &Section) -> usize {
     weight
 }
 
-/// The end of the block that begins at a place. A block has at least one section, and ends before the section that would make it
-/// too heavy. Only the chosen sections weigh: with `asking` those that ask about names, and without it the others.
+/// The end of the block that begins at a position. A block has at least one section, and ends before the section that would make it
+/// too heavy. Only the chosen sections count: with `asking` those that test names, else the others.
 pub fn block_end(sections: &[Section], start: usize, asking: bool) -> usize
     requires { start ≤ length sections.now }
     ensures inside { result ≤ length sections.now }
@@ -77,7 +77,7 @@ pub fn block_end(sections: &[Section], start: usize, asking: bool) -> usize
     end
 }
 
-/// Fails where a soname is too long, and where the patterns of sections weigh too much.
+/// Returns `NoMemory` if the soname is too long, or if the patterns of the sections weigh too much.
 pub fn check_limits(sections: &[Section], soname: Option<&[u8]>) -> Result<(), NoMemory> {
     if let Some(name) = soname {
         if name.len() > LONGEST_SONAME {

@@ -8,7 +8,7 @@ use std::alloc::Global;
 use std::marker::Model;
 use suppression_text::{Key, Section};
 
-// Whether a property asks about a name.
+// Whether a property tests a name.
 fn asks_name(key: Key) -> bool
     ensures { result ≡ spec.asks_name key }
 {
@@ -18,7 +18,7 @@ fn asks_name(key: Key) -> bool
     }
 }
 
-/// Whether a section asks about a name. A section that does not gives one answer for all names of a soname, a kind and a way.
+/// Whether a section tests a name. A section that does not gives one answer for all names of a soname, a kind and a way.
 #[tactic(auto, unfolding(crate::specs::Names::asks_names))]
 pub fn asks_names(section: &Section) -> bool
     ensures { result ≡ spec.asks_names section.now }
@@ -29,7 +29,7 @@ pub fn asks_names(section: &Section) -> bool
         .any(|property| asks_name(property.key()))
 }
 
-/// Whether a section is chosen: with `asking` the sections are that ask about names, and without it the others.
+/// Whether a section is chosen: with `asking` the sections that test names are chosen, else the others.
 pub fn is_chosen(section: &Section, asking: bool) -> bool
     ensures { result ≡ spec.is_chosen asking section.now }
 {
@@ -100,7 +100,7 @@ impl<'r> CompiledSection<'r> {
     }
 }
 
-/// Compiles the chosen sections: with `asking` those that ask about names, and without it the others.
+/// Compiles the chosen sections: with `asking` those that test names, else the others.
 #[tactic(auto, unfolding(crate::specs::Names::chosen))]
 pub fn compiled<'r>(
     alloc: Global,

@@ -7,7 +7,7 @@ ghost use Rattle.suppressions.specs.PlainHandles.{plain_handle, class_of};
 use std::cmp::Ordering;
 use suppression_text::{Key, Section};
 
-/// The exact name that a section asks for. A section with `name` or `symbol_name` can match only that name.
+/// The exact name that a section requires. A section with `name` or `symbol_name` can match only that name.
 #[derive(Clone, Copy)]
 pub enum Handle<'x> {
     /// Neither property: the section can match any name.
@@ -43,7 +43,7 @@ impl<'x> Handle<'x> {
         }
     }
 
-    // The name. It is empty where there is none.
+    // The name, or no bytes for `Any`.
     fn name(self) -> &'x [u8]
         ensures { result.now ≡ (plain_handle self.entry).1 }
     {

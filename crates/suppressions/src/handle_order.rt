@@ -1,4 +1,4 @@
-// The order of sections by their handles. In it a binary search finds the sections of a handle.
+// The order of sections by their handles, in which a binary search finds the sections of a handle.
 ghost use Rattle.std.specs.Prelude.{◌≡◌, ◌≤◌, ◌-◌, false, true, length, take, drop, map, IfOk};
 ghost use Rattle.std.specs.List.{range_with_len};
 ghost use Rattle.std.specs.List.Sorted.{IsPartitionPoint};
@@ -45,7 +45,7 @@ fn stands_upto(handles: &[Handle], k: usize, handle: Handle) -> bool
     handle_at(handles, k).order(handle).is_le()
 }
 
-// The handles of sections.
+// The handles of the sections.
 fn handles_in<'r>(
     alloc: Global,
     sections: &[CompiledSection<'r>],
@@ -79,7 +79,7 @@ fn places_of(alloc: Global, handles: &[Handle]) -> Result<Vec<usize>, NoMemory>
     Ok(places)
 }
 
-// How many positions have a handle that is less than this one.
+// The number of positions whose handle is less than this one.
 fn count_before(handles: &[Handle], places: &[usize], handle: Handle) -> usize
     requires { IsHandleOrder places.now (plain_handles handles.now) }
     ensures inside { result ≤ length places.now }
@@ -88,7 +88,7 @@ fn count_before(handles: &[Handle], places: &[usize], handle: Handle) -> usize
     places.partition_point(|k| stands_before(handles, *k, handle))
 }
 
-// How many positions have a handle that is at most this one.
+// The number of positions whose handle is at most this one.
 fn count_upto(handles: &[Handle], places: &[usize], handle: Handle) -> usize
     requires { IsHandleOrder places.now (plain_handles handles.now) }
     ensures inside { result ≤ length places.now }
@@ -106,7 +106,7 @@ fn between(places: &[usize], start: usize, end: usize) -> &[usize]
     &places[start..end]
 }
 
-// The positions of a handle. Two binary searches find them.
+// The positions of a handle, by two binary searches.
 fn places_in<'a>(handles: &[Handle], places: &'a [usize], handle: Handle) -> &'a [usize]
     requires { IsHandleOrder places.now (plain_handles handles.now) }
     ensures { AreAt (plain_handles handles.now) (plain_handle handle.entry) result.now }

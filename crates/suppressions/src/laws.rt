@@ -13,8 +13,8 @@ pub fn a_rule_file_marks_equal_labels_alike()
     ensures { (text : List ℕ) (library : PlainLibrary) → AreEvenMarks library (marks_of_text text library) }
 {}
 
-/// A rule file without `accessed_through` marks a type by value exactly where it marks it through a pointer, in the old library
-/// and in the new one.
+/// A rule file without `accessed_through` marks a type by value exactly if it marks it through a pointer, in the old library and in
+/// the new one.
 pub fn rules_without_accessed_through_see_no_way()
     ensures types { (rules : PlainRules) (soname : Option (List ℕ)) (labels : List PlainLabel) → HasNoWays rules
         → is_marked rules soname labels Direct ≡ is_marked rules soname labels Pointer }

@@ -1,5 +1,5 @@
-//! What a packager's rule file suppresses in the old library: the exports that are not compared, and the types that are not
-//! compared where a program reaches them by value, or through a pointer.
+//! What a packager's rule file suppresses in the old library: exports that are not compared, and types that are not compared if a
+//! program reaches them by value, or through a pointer.
 #![tactic(auto)]
 
 mod accessed_through;

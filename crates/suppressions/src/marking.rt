@@ -28,7 +28,7 @@ fn one_of(one: bool, other: bool) -> bool
     one || other
 }
 
-// Whether the chosen sections drop an export: those that ask about names, or the others.
+// Whether the chosen sections drop an export: with `asking` those that test names, else the others.
 fn chosen_drop(
     alloc: Global,
     sections: &[Section],
@@ -89,7 +89,7 @@ fn compiled_mark(
     Ok(marks_labels(&mut ready, soname, labels, way))
 }
 
-/// Whether a rule file marks a type that has these names where a program reaches it in this way. The library has this soname.
+/// Whether a rule file marks a type that has these names, if a program reaches it in this way. The library has this soname.
 #[tactic(auto, unfolding(crate::specs::Meaning::is_marked))]
 pub fn drops_labels(
     alloc: Global,
@@ -107,7 +107,7 @@ pub fn drops_labels(
     Ok(one_of(by_name, by_kind))
 }
 
-// Whether sections drop an export, if they ask about no name. They drop all functions or none, and all variables or none.
+// Whether sections that test no name drop an export. They drop all functions or none, and all variables or none.
 fn kind_flag(
     sections: &mut ReadyRules,
     soname: Option<&[u8]>,
@@ -128,7 +128,7 @@ fn kind_flag(
     }
 }
 
-// For each export, whether sections drop it that ask about no name. All exports of a kind have one answer.
+// For each export, whether the sections that test no name drop it. All exports of a kind have one answer.
 fn kind_flags(
     alloc: Global,
     sections: &mut ReadyRules,
@@ -168,7 +168,7 @@ fn export_flags(
     Ok(flags)
 }
 
-/// For each node of a graph, whether it is marked where it is reached by value, and where it is reached through a pointer.
+/// For each node of a graph, whether it is marked if it is reached by value, and if it is reached through a pointer.
 #[derive(Drop)]
 struct NodeFlags {
     direct: List<bool>,
@@ -196,8 +196,8 @@ fn node_flags(
     Ok(NodeFlags { direct, pointer })
 }
 
-/// For each export of a library, whether sections drop it. For each node, whether they mark it where it is reached by value, and
-/// where it is reached through a pointer.
+/// For each export of a library, whether sections drop it. For each node, whether they mark it if it is reached by value, and if it
+/// is reached through a pointer.
 #[derive(Drop)]
 pub struct Flags {
     exports: List<bool>,
@@ -205,7 +205,7 @@ pub struct Flags {
     pointer: List<bool>,
 }
 
-// The flags of the chosen sections: those that ask about names, or the others.
+// The flags of the chosen sections: with `asking` those that test names, else the others.
 fn chosen_flags(
     alloc: Global,
     sections: &[Section],
@@ -226,7 +226,7 @@ fn chosen_flags(
     })
 }
 
-// For each place, whether the flag there is set in one of two lists.
+// For each position, whether the flag there is set in one of two lists.
 fn either(alloc: Global, one: &[bool], other: &[bool]) -> Result<List<bool>, NoMemory>
     requires { length one.now ≡ length other.now }
     ensures { IfOk result (λ flags. flags ≡ either_of one.now other.now) }
@@ -250,8 +250,8 @@ fn either_flags(alloc: Global, one: &Flags, other: &Flags) -> Result<Flags, NoMe
     })
 }
 
-// The flags of the chosen sections: those that ask about names, or the others. It takes the sections block by block, so that the
-// compiled patterns of one block at a time are in memory.
+// The flags of the chosen sections: with `asking` those that test names, else the others. It takes the sections block by block, so
+// that only one block's compiled patterns are in memory at a time.
 fn flags_of(
     alloc: Global,
     sections: &[Section],
@@ -271,9 +271,9 @@ fn flags_of(
     Ok(flags)
 }
 
-/// What a rule file suppresses in a library: the exports that it drops, and the nodes that it marks where they are reached by
-/// value, and through a pointer. Nodes with equal labels have equal marks. It fails where memory runs out, and where the soname
-/// or the patterns pass a limit of `docs/LIMITS.md`.
+/// What a rule file suppresses in a library: the exports that it drops, and the nodes that it marks, by value and through a
+/// pointer. Nodes with equal labels have equal marks. Returns `NoMemory` if memory runs out, or if the soname or the patterns
+/// exceed a limit of `docs/LIMITS.md`.
 #[tactic(auto, unfolding(crate::specs::Marks::marks_of, crate::specs::Meaning::is_dropped, crate::specs::Meaning::is_marked))]
 pub fn marks(alloc: Global, rules: &Rules, old: &Library<OldIx>) -> Result<Marks, NoMemory>
     ensures marks { IfOk result (λ marks. marks ≡ marks_of rules.now old.now) }

@@ -136,7 +136,7 @@ fn ready_sections<'c>(
     Ok(ready)
 }
 
-// Whether some section asks about a name.
+// Whether some section tests a name.
 fn some_ask(compiled: &[CompiledSection]) -> bool
     ensures { result ≡ spec.some_ask compiled.now }
 {
@@ -157,8 +157,8 @@ fn one_holds(sections: &mut [ReadySection], numbers: &[usize], subject: &Subject
     false
 }
 
-/// Sections that are ready to be matched, with an index by the exact names that they ask for. A search for a name looks only at
-/// the sections that ask for exactly this name, and at those that ask for no exact name. Contracts see the list of the sections.
+/// Sections that are ready to be matched, indexed by the exact names that they require. A search for a name looks only at the
+/// sections that require exactly this name, and at those that require no exact name. Contracts see the list of the sections.
 #[derive(Drop)]
 pub struct ReadyRules<'c> {
     sections: Vec<ReadySection<'c>>,
@@ -194,7 +194,7 @@ impl<'c> ReadyRules<'c> {
         })
     }
 
-    /// Whether some section asks about a name.
+    /// Whether some section tests a name.
     pub fn asks_names(&self) -> bool
         ensures { result ≡ spec.some_ask self.now }
     {

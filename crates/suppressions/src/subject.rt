@@ -76,7 +76,7 @@ impl<'x> Subject<'x> {
         }
     }
 
-    /// What all exports have in common that sections of a kind can match: the soname of the library, and no name.
+    /// What all exports that sections of a kind can match have in common: the soname of the library, and no name.
     pub fn of_kind(soname: Option<&'x [u8]>, kind: SectionKind) -> Subject<'x>
         ensures { plain_subject result ≡ kind_subject (option_copied soname.entry) kind }
     {
@@ -91,7 +91,7 @@ impl<'x> Subject<'x> {
         }
     }
 
-    /// A name of a type of a library with a soname, where a program reaches the type in this way.
+    /// A name of a type of a library with a soname; a program reaches the type in this way.
     pub fn of_label(soname: Option<&'x [u8]>, way: Way, label: &Label<'x>) -> Subject<'x>
         ensures { plain_subject result ≡ label_subject (option_copied soname.entry) way (plain_label label.now) }
     {

@@ -1,11 +1,11 @@
-// Accesses, as their definitions say it: moves, the spots to which they lead in each library, which are open, and which land.
+// Accesses, as they are defined: moves, the spots to which they lead in each library, which accesses are open, and which land.
 use crate::agreement::{Reading, agree};
 use crate::shapes::{Piece, Shape, Sort};
 use abi_base::NoMemory;
 use abi_types::Way;
 use std::alloc::Global;
 
-/// A step of an access, by what a program names. Parameters and members of one name are counted from 0.
+/// A step of an access, by what a program names. Among those of one name, parameters and members are counted from 0.
 #[derive(Clone, Copy)]
 pub(crate) enum Move {
     ToResult,
@@ -15,7 +15,8 @@ pub(crate) enum Move {
     ToMember(u8, usize),
 }
 
-// All moves that lead anywhere from the types of these tests: they have two parameters at most, and members of the names 1 and 2.
+// All moves that lead anywhere from the types of these tests, which have at most two parameters, and members with the names 1 and
+// 2.
 const MOVES: [Move; 9] = [
     Move::ToResult,
     Move::ToParam(0),
@@ -28,7 +29,7 @@ const MOVES: [Move; 9] = [
     Move::ToMember(2, 1),
 ];
 
-/// Where an access stands in one library.
+/// Where an access ends in one library.
 #[derive(Clone, Copy, Debug, PartialEq, Eq)]
 pub(crate) struct Spot {
     pub(crate) node: usize,
@@ -37,7 +38,7 @@ pub(crate) struct Spot {
     pub(crate) way: Way,
 }
 
-/// The types of two libraries, whether each old one is marked at each way, and the types of exports, by their numbers in both.
+/// The types of two libraries, the marks of each old type at each way, and the types of exports, by their numbers in both.
 #[derive(Clone, Copy)]
 pub(crate) struct Task<'t> {
     pub(crate) old: &'t [Shape],
@@ -47,7 +48,7 @@ pub(crate) struct Task<'t> {
     pub(crate) roots: &'t [(usize, usize)],
 }
 
-/// An open access: its spot in each library, and whether the two have stayed beside each other.
+/// An open access: its spot in each library, and whether the two spots still correspond.
 #[derive(Clone, Copy)]
 pub(crate) struct Access {
     pub(crate) old: Spot,
@@ -148,7 +149,7 @@ pub(crate) fn walk(types: &[Shape], node: usize, moves: &[Move]) -> Option<Spot>
     Some(spot)
 }
 
-// The access without a step, from the types of an export.
+// The access without steps, from the types of an export.
 fn access_from(old: usize, new: usize) -> Access {
     Access {
         old: start(old),
@@ -164,7 +165,7 @@ fn are_beside(old: Spot, new: Spot, reading: Reading) -> bool {
     old.width == new.width || reading == Reading::WithoutWidths
 }
 
-// The access that goes one step further, where it leads somewhere in the old library.
+// The access that goes one step further, if the step leads anywhere in the old library.
 fn extended(task: &Task, access: &Access, step: Move, reading: Reading) -> Option<Access> {
     let old = moved(task.old, access.old, step, reading)?;
     let new = match access.new {
@@ -196,7 +197,7 @@ fn is_declared(types: &[Shape], spot: Spot) -> bool {
     }
 }
 
-// Whether an access may go on from the last place of this one.
+// Whether an access may continue from the end of this one.
 fn goes_on(task: &Task, access: &Access, reading: Reading) -> bool {
     if is_marked(task, access.old) && reading != Reading::PastMarkedTypes {
         return false;
@@ -231,7 +232,7 @@ fn lands(task: &Task, access: &Access, reading: Reading) -> bool {
     agree_at(task, access.old, new, reading)
 }
 
-// Adds the open accesses that go one step further than this one.
+// Adds the open accesses that extend this one by one step.
 fn extend(
     list: &mut Vec<Access>,
     task: &Task,
@@ -249,7 +250,7 @@ fn extend(
     Ok(())
 }
 
-/// The open accesses that go one step further than these.
+/// The open accesses that extend these by one step.
 pub(crate) fn longer(
     alloc: Global,
     task: &Task,
@@ -273,7 +274,7 @@ pub(crate) fn each_lands(task: &Task, accesses: &[Access], reading: Reading) -> 
     true
 }
 
-/// The accesses without a step.
+/// The accesses without steps.
 pub(crate) fn first_accesses(alloc: Global, task: &Task) -> Result<Vec<Access>, NoMemory> {
     let mut list = Vec::new(alloc);
     for root in task.roots {
@@ -282,7 +283,7 @@ pub(crate) fn first_accesses(alloc: Global, task: &Task) -> Result<Vec<Access>, 
     Ok(list)
 }
 
-/// Whether all open accesses of at most so many steps land in agreement.
+/// Whether all open accesses with at most so many steps land in agreement.
 pub(crate) fn all_land(
     alloc: Global,
     task: &Task,

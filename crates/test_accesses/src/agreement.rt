@@ -1,8 +1,8 @@
-// When two types agree, as the definitions of accesses say it, and how these definitions may be misread.
+// When two types agree, as the definitions of accesses state it, and misreadings of these definitions.
 use crate::shapes::{Piece, Shape, Sort};
 use abi_types::Kind;
 
-/// How accesses are read: as they are defined, or with one change to the definitions.
+/// How accesses are read: as they are defined, or with one change in the definitions.
 #[derive(Clone, Copy, Debug, PartialEq, Eq)]
 pub(crate) enum Reading {
     AsDefined,
@@ -50,7 +50,7 @@ fn params_of(shape: &Shape) -> u32 {
     count
 }
 
-// The place of the result at position 0, and those of parameters behind it. No place is 255.
+// The place of the result at position 0, or of a parameter at a later position; 255 if there is none.
 fn place_at(shape: &Shape, position: usize) -> u8 {
     match shape.pieces.get(position) {
         Some(Some(piece)) => match piece.sort {
@@ -65,7 +65,7 @@ fn params_stay(old: &Shape, new: &Shape) -> bool {
     place_at(old, 1) == place_at(new, 1) && place_at(old, 2) == place_at(new, 2)
 }
 
-// A value in so many bytes.
+// A value truncated to so many bytes.
 fn in_bytes(size: u64, value: u64) -> u64 {
     match size {
         0 => 0,
@@ -80,7 +80,7 @@ fn is_enumerator(piece: &Piece, name: u8) -> bool {
     piece.sort == Sort::Enumerator && piece.name == name
 }
 
-// How many enumerators of the name stand before the position.
+// The number of enumerators with the name before the position.
 fn enumerators_before(shape: &Shape, name: u8, position: usize) -> usize {
     let mut count = 0usize;
     for item in shape.pieces.iter().take(position) {
@@ -93,7 +93,7 @@ fn enumerators_before(shape: &Shape, name: u8, position: usize) -> usize {
     count
 }
 
-// The enumerator of the name with so many of that name before it.
+// The enumerator with the name that has so many of that name before it.
 fn enumerator_of(shape: &Shape, name: u8, number: usize) -> Option<Piece> {
     let mut count = 0usize;
     for item in &shape.pieces {
@@ -122,7 +122,7 @@ fn has_value(old: &Shape, new: &Shape, position: usize, piece: &Piece, reading: 
     }
 }
 
-// Whether each enumerator of the old type has a match of equal value.
+// Whether each enumerator of the old type has a match with an equal value.
 fn have_values(old: &Shape, new: &Shape, reading: Reading) -> bool {
     for position in 0..3 {
         if let Some(Some(piece)) = old.pieces.get(position) {
@@ -134,7 +134,7 @@ fn have_values(old: &Shape, new: &Shape, reading: Reading) -> bool {
     true
 }
 
-// Whether two definitions agree in what they say of a function.
+// Whether two definitions agree on calls of a function.
 fn agree_in_calls(old: &Shape, new: &Shape, reading: Reading) -> bool {
     if params_of(old) != params_of(new) && reading != Reading::WithoutParamCounts {
         return false;
@@ -148,7 +148,7 @@ fn agree_in_calls(old: &Shape, new: &Shape, reading: Reading) -> bool {
     params_stay(old, new) || reading == Reading::WithoutParamPlaces
 }
 
-// Whether two definitions agree in their numbers.
+// Whether two definitions agree in their sizes and other numbers.
 fn agree_in_numbers(old: &Shape, new: &Shape, reading: Reading) -> bool {
     if old.size != new.size && reading != Reading::WithoutSizes {
         return false;
@@ -178,7 +178,8 @@ fn agree_as_defined(old: &Shape, new: &Shape, reading: Reading) -> bool {
     reading == Reading::WithoutEnumerators || have_values(old, new, reading)
 }
 
-/// Whether two types agree: their kinds are equal; where one is declared only, their tags are; else they agree as definitions.
+/// Whether two types agree: their kinds are equal, and if one is only declared, their tags are equal; else they agree as
+/// definitions.
 pub(crate) fn agree(old: &Shape, new: &Shape, reading: Reading) -> bool {
     if old.kind != new.kind && reading != Reading::WithoutKinds {
         return false;

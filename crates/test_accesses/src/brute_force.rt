@@ -1,4 +1,4 @@
-// An exploration of the rules and a walk over all accesses give one answer, and the walk by wrong definitions does not.
+// An exploration of the rules and a walk over all accesses give the same answer; a walk by wrong definitions does not.
 use crate::accesses::{Task, all_land};
 use crate::agreement::Reading;
 use crate::changes::{any_marks, any_types, changed_types};
@@ -12,7 +12,7 @@ use std::alloc::Global;
 use std::process::Abort;
 use std::test::Fail;
 
-// How many steps an access has at most.
+// The most steps in an access.
 const STEPS: u32 = 8;
 
 // Whether all accesses land, by this reading.
@@ -20,7 +20,7 @@ fn landing(alloc: Global, task: &Task, reading: Reading) -> Result<bool, NoMemor
     all_land(alloc, task, STEPS, reading)
 }
 
-// Whether all accesses land, which is that the exploration finds no break.
+// Whether all accesses land. The exploration must find no break exactly then.
 fn agreed(rt: &impl Abort, alloc: Global, task: &Task, graphs: &Graphs) -> Result<bool, NoMemory> {
     let landing = landing(alloc, task, Reading::AsDefined)?;
     let found = explored(rt, alloc, task, graphs)?;
@@ -29,7 +29,7 @@ fn agreed(rt: &impl Abort, alloc: Global, task: &Task, graphs: &Graphs) -> Resul
     Ok(landing)
 }
 
-// How many pairs there were in which all accesses land, and how many others.
+// The number of pairs in which all accesses land, and of the other pairs.
 #[derive(Clone, Copy)]
 struct Counts {
     landing: u32,
@@ -63,17 +63,17 @@ fn sides<'a, Ix: Index>(rt: &impl Abort, alloc: Global) -> Result<Vec<Side<'a, I
     Ok(sides)
 }
 
-// How old types are marked by value and behind a pointer: none, or the second one.
+// How old types are marked, by value and through a pointer: none is, or the second one is.
 const NONE: [bool; 3] = [false; 3];
 
 const SECOND: [bool; 3] = [false, true, false];
 
-// So many of the marks.
+// As many of the marks as there are types.
 fn marks_of(marks: &[bool; 3], types: usize) -> &[bool] {
     marks.get(..types).unwrap_or(&[])
 }
 
-// The last types of both graphs are those of an export.
+// Compares the readings on two small graphs. The last types of both are those of an export.
 fn check_small(
     rt: &impl Abort,
     alloc: Global,
@@ -130,7 +130,7 @@ fn small_types_are_compatible_where_all_accesses_land(rt: HostRuntime) -> Result
     Ok(())
 }
 
-// Each differs from the definitions in one thing, and says something else of some types.
+// Each differs from the definitions in one point, and gives another answer for some types.
 const WRONG: [Reading; 20] = [
     Reading::WithoutBits,
     Reading::WithoutWidths,
@@ -154,8 +154,8 @@ const WRONG: [Reading; 20] = [
     Reading::DirectBehindPointers,
 ];
 
-// The first of these say the same, since types that are declared only have no parts, and the places of parameters are as many as
-// the parameters.
+// The first of these give the same answer, because types that are only declared have no parts, and there are as many places of
+// parameters as parameters.
 const SAME: [Reading; 2] = [Reading::PastOldDeclarations, Reading::WithoutParamCounts];
 
 fn check_same(
@@ -187,7 +187,7 @@ fn agreeing(
     Ok(list)
 }
 
-// The same, of types of which graphs are still to be made.
+// The same for types whose graphs are made here.
 fn agreed_types(rt: &impl Abort, alloc: Global, task: &Task) -> Result<bool, NoMemory> {
     let old = graph_of::<OldIx>(rt, alloc, task.old)?;
     let new = graph_of::<NewIx>(rt, alloc, task.new)?;
@@ -198,7 +198,8 @@ fn agreed_types(rt: &impl Abort, alloc: Global, task: &Task) -> Result<bool, NoM
     agreed(rt, alloc, task, &graphs)
 }
 
-// The last two types of both graphs are those of exports. What is left of the readings is what gives the same answer here too.
+// Compares the readings on two random graphs. The last two types of both are those of exports. `left` keeps the readings that gave
+// the same answer so far.
 fn check_random(
     rt: &impl Abort,
     alloc: Global,

@@ -1,4 +1,4 @@
-// Random types, and types that differ from another one in one thing.
+// Random types, and types that differ from another one in one point.
 use crate::random::Random;
 use crate::shapes::{
     NO_PIECES, Piece, Pieces, Shape, Sort, array, declared, enumerator, member, outcome, param,
@@ -8,7 +8,7 @@ use abi_base::NoMemory;
 use abi_types::{Group, Kind};
 use std::alloc::Global;
 
-/// How many types a random graph has, void among them.
+/// The number of types in a random graph, including void.
 pub(crate) const TYPES: u32 = 5;
 
 // One of the types with lower numbers.
@@ -129,7 +129,7 @@ fn any_scalar(random: &mut Random) -> Shape {
     scalar(size, any_group(random))
 }
 
-// A type that may have this number.
+// A random type that may have this number.
 fn any_shape(random: &mut Random, number: u32) -> Shape {
     match random.below(11) {
         0 | 1 => any_scalar(random),
@@ -153,7 +153,7 @@ fn has_own_size(shape: &Shape) -> bool {
     is_tagged(shape.kind) || shape.kind == Kind::Scalar
 }
 
-// A structure in place of a union, and the other way round.
+// A union for a structure, and the other way round.
 fn other_kind(kind: Kind) -> Kind {
     match kind {
         Kind::Structure => Kind::Union,
@@ -170,7 +170,7 @@ fn as_declared(shape: &Shape) -> Shape {
     changed
 }
 
-// A change of what a type of a kind alone says of itself.
+// Changes a property that only types of this kind have.
 fn change_own(random: &mut Random, shape: &mut Shape) {
     match shape.kind {
         Kind::Scalar => shape.group = any_group(random),
@@ -184,7 +184,7 @@ fn change_own(random: &mut Random, shape: &mut Shape) {
     }
 }
 
-// A change of what a type says of itself as a whole.
+// A type with one property of the whole type changed.
 fn with_whole_changed(random: &mut Random, shape: &Shape) -> Shape {
     let mut changed = *shape;
     match random.below(5) {
@@ -225,7 +225,7 @@ fn changed_enumerator(random: &mut Random, piece: &Piece) -> Piece {
     changed
 }
 
-// The part with another type, one that its sort allows.
+// The part with another type that its sort allows.
 fn with_another_type(random: &mut Random, piece: &Piece, number: u32) -> Piece {
     let mut changed = *piece;
     changed.to = match piece.sort {
@@ -269,7 +269,7 @@ fn with_piece_changed(random: &mut Random, pieces: Pieces, number: u32) -> Piece
     }
 }
 
-// The parts without one that may be missing, or in another order where they have names.
+// The parts without one that is optional, or, if they have names, in another order.
 fn with_pieces_moved(random: &mut Random, shape: &Shape) -> Pieces {
     let [first, second, third] = shape.pieces;
     if shape.kind == Kind::Function {
@@ -285,7 +285,7 @@ fn with_pieces_moved(random: &mut Random, shape: &Shape) -> Pieces {
     }
 }
 
-// A type that differs from another one of this number in one thing at most, or altogether.
+// A type that differs from another one with this number in at most one point, or entirely.
 fn changed(random: &mut Random, shape: &Shape, number: u32) -> Shape {
     match random.below(8) {
         0 | 1 | 2 => with_whole_changed(random, shape),
@@ -303,7 +303,7 @@ fn changed(random: &mut Random, shape: &Shape, number: u32) -> Shape {
     }
 }
 
-/// Void, and random types behind it.
+/// Void, followed by random types.
 pub(crate) fn any_types(alloc: Global, random: &mut Random) -> Result<Vec<Shape>, NoMemory> {
     let mut types = Vec::new(alloc);
     types.push(void())?;
@@ -315,7 +315,7 @@ pub(crate) fn any_types(alloc: Global, random: &mut Random) -> Result<Vec<Shape>
     Ok(types)
 }
 
-/// The same types, each of which was changed in one of three cases.
+/// The same types, each changed in one of three cases.
 pub(crate) fn changed_types(
     alloc: Global,
     random: &mut Random,
@@ -337,7 +337,7 @@ pub(crate) fn changed_types(
     Ok(types)
 }
 
-/// A mark for each type of a random graph, set in one of so many cases.
+/// A random mark for each type of a graph, set in one of so many cases.
 pub(crate) fn any_marks(
     alloc: Global,
     random: &mut Random,

@@ -1,4 +1,4 @@
-// The same types as graphs, and what an exploration of the rules finds in them.
+// The same types as graphs, and the breaks that an exploration finds in them.
 ghost use Rattle.std.specs.Prelude.{◌≡◌, ◌<◌};
 
 use crate::accesses::Task;
@@ -125,7 +125,7 @@ pub(crate) struct Graphs<'g, 'o, 'n> {
     pub(crate) new: &'g Graph<'n, NewIx>,
 }
 
-/// The graph of the types, the rank of each of which is its number.
+/// The graph of the types. The rank of each type is its number.
 pub(crate) fn graph_of<'a, Ix: Index>(
     rt: &impl Abort,
     alloc: Global,
@@ -195,7 +195,7 @@ fn explored_by<L: Ledger>(
     explore(alloc, &ground, &mut steps)
 }
 
-/// What an exploration finds. The graphs are those of the types.
+/// The breaks that an exploration finds. The graphs are those of the types.
 pub(crate) fn explored(
     rt: &impl Abort,
     alloc: Global,
@@ -205,7 +205,7 @@ pub(crate) fn explored(
     explored_by::<Brand>(rt, alloc, Blank::new(1), task, graphs)
 }
 
-/// What an exploration finds in the types, of which graphs are made.
+/// The breaks that an exploration finds in the types, whose graphs are made here.
 pub(crate) fn explored_types(
     rt: &impl Abort,
     alloc: Global,

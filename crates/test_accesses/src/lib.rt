@@ -1,5 +1,5 @@
-//! Accesses over small types: worked ones, and all of a small set and many random ones, for which an exploration of the rules and a
-//! walk over all accesses up to a length give one answer. All of it is tests.
+//! Tests of accesses over small types: worked examples, all graphs from a small set of types, and many random ones. An exploration
+//! of the rules and a walk over all accesses up to a length must give the same answer.
 #![tactic(auto)]
 
 #[cfg(test)]

@@ -1,7 +1,7 @@
-// Types in plain numbers, which are easily made, changed and compared.
+// Types as plain numbers, which are easy to make, change and compare.
 use abi_types::{Group, Kind};
 
-/// Of which sort a part is.
+/// The sort of a part.
 #[derive(Clone, Copy, Debug, PartialEq, Eq)]
 pub(crate) enum Sort {
     Member,
@@ -16,26 +16,26 @@ pub(crate) enum Sort {
 #[derive(Clone, Copy)]
 pub(crate) struct Piece {
     pub(crate) sort: Sort,
-    /// 0 where it has no name.
+    /// 0 if it has no name.
     pub(crate) name: u8,
     pub(crate) bit: u64,
     pub(crate) width: u64,
     pub(crate) value: u64,
-    /// The register of a result or of a parameter: 0 for none, 1 to 99 for the general ones, 100 and more for the vector ones.
+    /// The register of a result or of a parameter: 0 for none, 1 to 99 for general registers, 100 and above for vector registers.
     pub(crate) place: u8,
     /// The number of the type that it names.
     pub(crate) to: usize,
 }
 
-/// The parts of a type, each of which may be missing. Those of a function are its result and then its parameters.
+/// The parts of a type, some of which may be missing. Those of a function are its result, followed by its parameters.
 pub(crate) type Pieces = [Option<Piece>; 3];
 
-/// What a type looks like. Fields that its kind does not use hold 0.
+/// A type. Fields that its kind does not use hold 0.
 #[derive(Clone, Copy)]
 pub(crate) struct Shape {
     pub(crate) kind: Kind,
     pub(crate) declared_only: bool,
-    /// 0 where it has no tag.
+    /// 0 if it has no tag.
     pub(crate) tag: u8,
     pub(crate) size: u64,
     pub(crate) group: Group,
@@ -86,7 +86,7 @@ pub(crate) fn param(place: u8, to: usize) -> Option<Piece> {
     Some(piece)
 }
 
-/// A type of a kind with a size and parts, and nothing in its other fields.
+/// A type of a kind with a size and parts. All other fields hold 0.
 pub(crate) fn shape_of(kind: Kind, size: u64, pieces: Pieces) -> Shape {
     Shape {
         kind,
@@ -119,7 +119,7 @@ pub(crate) fn pointer(to: usize) -> Shape {
     )
 }
 
-/// An array of so many elements, whose size is still to be found.
+/// An array of so many elements. `whole` sets its size.
 pub(crate) fn array(count: u64, to: usize) -> Shape {
     let mut array = shape_of(
         Kind::Array,
@@ -130,7 +130,7 @@ pub(crate) fn array(count: u64, to: usize) -> Shape {
     array
 }
 
-/// A structure that is declared only.
+/// A structure that is only declared.
 pub(crate) fn declared(tag: u8) -> Shape {
     let mut declared = shape_of(Kind::Structure, 0, NO_PIECES);
     declared.declared_only = true;
@@ -138,7 +138,7 @@ pub(crate) fn declared(tag: u8) -> Shape {
     declared
 }
 
-// The size of the elements of an array that stands behind these types.
+// The size of the elements of an array that follows these types.
 fn element_size(types: &[Shape], array: &Shape) -> u64 {
     let [first, _, _] = array.pieces;
     match first {
@@ -150,7 +150,7 @@ fn element_size(types: &[Shape], array: &Shape) -> u64 {
     }
 }
 
-/// The type as it stands behind these types: an array has the size of its elements together.
+/// The type as it is after these types: an array gets the size of all its elements.
 pub(crate) fn whole(types: &[Shape], shape: &Shape) -> Shape {
     let mut whole = *shape;
     if whole.kind == Kind::Array {

@@ -1,4 +1,4 @@
-// All graphs of at most three types, void among them, from a small set of types.
+// All graphs of at most three types, including void, from a small set of types.
 use crate::shapes::{
     Pieces, Shape, array, declared, member, outcome, param, pointer, scalar, shape_of, void, whole,
 };
@@ -18,7 +18,7 @@ fn push_pairs(list: &mut Vec<Shape>, first: usize, number: usize) -> Result<(), 
     Ok(())
 }
 
-// All types of the set that hold one of a lower number by value: structures with one or two members, arrays and functions.
+// All types of the set that hold a type with a lower number by value: structures with one or two members, arrays and functions.
 fn push_holders(list: &mut Vec<Shape>, number: usize) -> Result<(), NoMemory> {
     for to in 0..number {
         list.push(structure(8, [member(1, 0, to), None, None]))?;

@@ -1,4 +1,4 @@
-// Worked accesses.
+// Worked examples of accesses.
 use crate::accesses::{Move, Spot, Task, all_land, each_lands, first_accesses, longer, walk};
 use crate::agreement::Reading;
 use crate::explored::explored_types;
@@ -10,12 +10,12 @@ use std::fmt::Write;
 use std::process::Abort;
 use std::test::Fail;
 
-// Registers, as pieces have them: rdi, and xmm0.
+// Registers as the pieces number them: rdi and xmm0.
 const RDI: u8 = 1;
 
 const XMM0: u8 = 100;
 
-// As many marks as there are types, and none set.
+// Cleared marks, as many as there are types.
 const NO_MARKS: [bool; 7] = [false; 7];
 
 // A pair of libraries from the export of one function.
@@ -60,8 +60,8 @@ fn function(place: u8, param_type: usize) -> Shape {
     shape_of(Kind::Function, 0, pieces)
 }
 
-// `union u { double d; }`, with the member `long l` too where it is wanted, and both functions. `g` takes the union in xmm0, and in
-// rdi where that has an integer (psABI, 3.2.3).
+// `union u { double d; }`, optionally with the member `long l`, and both functions. `g` takes the union in xmm0, or in rdi if the
+// union has an integer (psABI, 3.2.3).
 fn with_union(has_long: bool) -> [Shape; 7] {
     let long = if has_long { member(2, 0, LONG) } else { None };
     let place = if has_long { RDI } else { XMM0 };
@@ -83,7 +83,7 @@ fn a_union_that_gains_an_integer_stays_behind_a_pointer(rt: HostRuntime) -> Resu
     let new = with_union(true);
     let roots = [(F, F)];
     let task = task_of(&old, &new, roots.as_slice());
-    // None misses: neither the access that stops at f nor those to the pointer, to the union and to its member.
+    // All land: the access that ends at f, and those to the pointer, to the union and to its member.
     assert!(rt; all_land(alloc, &task, 6, Reading::AsDefined)?);
     let broken = broken(&rt, alloc, &task)?;
     assert_eq!(rt; broken.as_str(), "");
@@ -97,12 +97,12 @@ fn a_union_that_gains_an_integer_is_passed_elsewhere(rt: HostRuntime) -> Result<
     let new = with_union(true);
     let roots = [(G, G)];
     let task = task_of(&old, &new, roots.as_slice());
-    // The access that stops at g misses, and the place of its parameter alone tells why.
+    // The access that ends at g does not land, and the place of its parameter is the only reason.
     let at_g = first_accesses(alloc, &task)?;
     let at_g = at_g.as_slice();
     assert!(rt; !each_lands(&task, at_g, Reading::AsDefined));
     assert!(rt; each_lands(&task, at_g, Reading::WithoutParamPlaces));
-    // Those to its result, to the union and to its member land.
+    // The accesses to its result, to the union and to its member land.
     let behind_g = longer(alloc, &task, at_g, Reading::AsDefined)?;
     assert_eq!(rt; behind_g.len(), 2);
     assert!(rt; each_lands(&task, behind_g.as_slice(), Reading::AsDefined));
@@ -121,8 +121,8 @@ const STRUCTURE_POINTER: usize = 3;
 // `void p(struct s *)`.
 const P: usize = 4;
 
-// `struct s { long a; long x; }`, where `x` has the name 2. It moves into a nameless union beside `y`, of the name 3, where that is
-// wanted: the members of a type are those of its nameless members too. The last two types are void.
+// `struct s { long a; long x; }`, where `x` has the name 2. Optionally, `x` is in a nameless union, beside `y` with the name 3: the
+// members of a nameless member are also those of the type. The last two types are void.
 fn with_member(is_in_union: bool) -> [Shape; 7] {
     let a = member(1, 0, 1);
     let x = member(2, 64, 1);

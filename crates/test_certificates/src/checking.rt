@@ -1,4 +1,4 @@
-// Certificates that were changed, each with the answer.
+// Changed certificates, each with the expected answer.
 use abi_base::{Fault, List, NoMemory, Refusal};
 use abi_types::{Export, Graph, Index, Library, Marks, NewIx, Node, OldIx, SymbolKind};
 use cert_check::check_cert;
@@ -9,8 +9,8 @@ use std::process::Abort;
 use std::test::Fail;
 use test_graphs::{function, graph, is_library, scalar, void};
 
-// Both libraries have the function `f` at symbol 1, of the type 22, which takes nothing and gives the `int` 15; 30 is another
-// `int`. Each line: what was done | what is not so in the second library, the rules or the digests | the lines of the
+// Both libraries have the function `f` at symbol 1, with the type 22; it takes nothing and returns the `int` 15; 30 is another
+// `int`. The columns of a line: the case | the changes to the second library, the rules or the digests | the lines of the
 // certificate after the first four | the answer.
 const ROWS: &str = "\
 as it was made||bind 1 1;pair 15 15 direct;pair 22 22 direct;end|accepted
@@ -57,7 +57,7 @@ fn has(words: &str, word: &str) -> bool {
     words.split_whitespace().any(|other| other == word)
 }
 
-// The type of a number, where an `int` has so many bytes.
+// The type with a number, where an `int` has so many bytes.
 fn node_of<'a, Ix: Index>(
     alloc: Global,
     number: u32,
@@ -117,7 +117,7 @@ fn library<'a, Ix: Index>(
     Library::new(alloc, b"abc", Some(soname), exports, graph)
 }
 
-// The library in whose place the other one is to stand.
+// The library that the other one is to replace.
 fn old_library<'a>(rt: &impl Abort, alloc: Global) -> Result<Library<'a, OldIx>, NoMemory> {
     library(rt, alloc, b"a.so", export_of(b"f", SymbolKind::Func), 4)
 }
@@ -141,7 +141,7 @@ fn new_library<'a>(
     library(rt, alloc, soname, export_of(b"f", kind), bytes)
 }
 
-// The flags of the old nodes, of which the first `int` may be marked.
+// The flags of the old nodes; the first `int` may be marked.
 fn flags(alloc: Global, is_marked: bool) -> Result<List<bool>, NoMemory> {
     List::copy_of(alloc, [false, is_marked, false, false].as_slice())
 }
@@ -162,7 +162,7 @@ const DIGEST_OF_RULES: &str = "0000000000000000000000000000000000000000000000000
 
 const OTHER: &str = "1111111111111111111111111111111111111111111111111111111111111111";
 
-// The line of the digest of an input, which may be another one.
+// Appends the line with the digest of an input, which may be wrong.
 fn push_digest(
     text: &mut String,
     input: &str,
@@ -185,7 +185,7 @@ fn text_of(alloc: Global, changes: &str, lines: &str) -> Result<String, NoMemory
     Ok(text)
 }
 
-// What a check of a certificate says.
+// The result of checking a certificate.
 fn judged(
     alloc: Global,
     old: &Library<OldIx>,
@@ -208,7 +208,7 @@ fn unreadable(alloc: Global, fault: Fault) -> Result<String, NoMemory> {
     Ok(format!(in alloc; "unreadable {number} {at}")?)
 }
 
-// The answer to a text.
+// The answer to the text of a certificate.
 fn answer(
     alloc: Global,
     old: &Library<OldIx>,
@@ -223,7 +223,7 @@ fn answer(
     }
 }
 
-// The answer to a text about these libraries, of which this was changed.
+// The answer to the text of a certificate for these libraries, with these changes.
 fn told_beside(
     alloc: Global,
     old: &Library<OldIx>,
@@ -235,7 +235,7 @@ fn told_beside(
     answer(alloc, old, new, &marks, text)
 }
 
-// The same, where the new library is still to be made.
+// The same, where the new library is made here.
 fn told_of(
     rt: &impl Abort,
     alloc: Global,
@@ -247,7 +247,7 @@ fn told_of(
     told_beside(alloc, old, &new, changes, text)
 }
 
-// The same, by the lines of the certificate behind the first four.
+// The same, given the lines of the certificate after the first four.
 fn told(
     rt: &impl Abort,
     alloc: Global,

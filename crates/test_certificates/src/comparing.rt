@@ -1,4 +1,4 @@
-// What no clause says: that calls find memory. And two comparisons by hand.
+// What no contract states: calls succeed with enough memory. Two comparisons are worked by hand.
 ghost use Rattle.std.specs.Prelude.{◌≡◌, ◌<◌};
 
 use crate::texts::binds_and_pairs;
@@ -29,7 +29,7 @@ const FUNCTION: u64 = 40;
 
 const INTEGER_SIZE: u64 = 4;
 
-// A structure of so many bytes, which holds an integer.
+// A structure with so many bytes, which holds an integer.
 fn holder<'a, Ix: Index>(alloc: Global, size: u64) -> Result<Node<'a, Ix>, NoMemory> {
     let mut members = Vec::new(alloc);
     members.push(member(b"n", 0, 1))?;
@@ -46,7 +46,7 @@ fn node_of<'a, Ix: Index>(alloc: Global, number: u32, size: u64) -> Result<Node<
     }
 }
 
-// The types of a function without a result that takes a pointer to a structure of so many bytes, which holds an integer.
+// The types of a function without a result that takes a pointer to a structure with so many bytes, which holds an integer.
 fn nodes<'a, Ix: Index>(alloc: Global, size: u64) -> Result<List<Node<'a, Ix>>, NoMemory> {
     let mut nodes = List::new(alloc);
     for number in 0..5 {
@@ -55,7 +55,7 @@ fn nodes<'a, Ix: Index>(alloc: Global, size: u64) -> Result<List<Node<'a, Ix>>, 
     Ok(nodes)
 }
 
-// So many calls with a place for one parameter.
+// So many calls, each with a place for one parameter.
 fn calls(alloc: Global, count: usize) -> Result<List<Call>, NoMemory> {
     let mut calls = List::new(alloc);
     for _ in 0..count {
@@ -99,7 +99,7 @@ fn export_of<'a>(symbol: u32, name: &'a [u8]) -> Export<'a> {
     }
 }
 
-// The library whose only export is that function, of this symbol.
+// The library whose only export is that function, with this symbol.
 fn library<'a, Ix: Index>(
     rt: &impl Abort,
     alloc: Global,
@@ -119,7 +119,7 @@ const DIGEST_OF_ABC: [u8; 32] = [
     0xb0, 0x03, 0x61, 0xa3, 0x96, 0x17, 0x7a, 0x9c, 0xb4, 0x10, 0xff, 0x61, 0xf2, 0x00, 0x15, 0xad,
 ];
 
-// What a comparison tells of two libraries.
+// The result of comparing two libraries.
 fn compared_by<L: Ledger>(
     alloc: Global,
     blank: Blank,
@@ -136,7 +136,7 @@ fn compared_by<L: Ledger>(
     compare(alloc, old, new, &marks, &mut steps)
 }
 
-// The same of a library and of one whose structure has so many bytes, with a counter of its own.
+// The same for a library and one whose structure has so many bytes, with a counter of its own.
 fn compared_with(
     rt: &impl Abort,
     alloc: Global,
@@ -147,7 +147,7 @@ fn compared_with(
     compared_by::<Brand>(alloc, Blank::new(1), old, &new)
 }
 
-// The same of the library whose structure has 4 bytes, and of one whose structure has so many.
+// The same for the library whose structure has 4 bytes, and one whose structure has so many.
 fn compared(rt: &impl Abort, alloc: Global, size: u64) -> Result<Comparison, NoMemory> {
     let old = library::<OldIx>(rt, alloc, 1, INTEGER_SIZE)?;
     compared_with(rt, alloc, &old, size)
@@ -157,7 +157,7 @@ fn names_the_files(cert: &Cert) -> bool {
     cert.old_digest == DIGEST_OF_ABC && cert.new_digest == DIGEST_OF_ABC
 }
 
-// The symbols that are bound and how many pairs there are, where the two are compatible.
+// The bound symbols and the number of pairs, if the two are compatible.
 fn certified(rt: &impl Abort, alloc: Global, comparison: &Comparison) -> Result<String, NoMemory> {
     match comparison {
         Comparison::Broken(_) => panic!(rt; "broken"),
@@ -181,7 +181,7 @@ fn the_same_types_are_compatible(rt: HostRuntime) -> Result<(), Fail> {
     Ok(())
 }
 
-// The rule and the old entry of each row, where there are rows.
+// The rule and the old entry of each row, if there are rows.
 fn rules_and_entries(alloc: Global, comparison: &Comparison) -> Result<String, NoMemory> {
     let mut text = String::new(alloc);
     if let Comparison::Broken(rows) = comparison {

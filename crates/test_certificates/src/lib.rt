@@ -1,4 +1,4 @@
-//! What no clause of certificates says: worked texts, and each call once. All of it is tests.
+//! Tests of certificates for what no contract states: worked texts, and each call once.
 #![tactic(auto)]
 
 #[cfg(test)]

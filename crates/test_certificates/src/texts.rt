@@ -1,4 +1,4 @@
-// Texts of certificates: their faults, and what is written and migrated.
+// Texts of certificates: their faults, and what writing and migrating gives.
 use abi_base::{NoMemory, Refusal};
 use cert_text::{Cert, Cert1, migrate, read_cert, read_cert_1, write_cert};
 use std::alloc::Global;
@@ -19,8 +19,8 @@ new 2222222222222222222222222222222222222222222222222222222222222222
 rules e3b0c44298fc1c149afbf4c8996fb92427ae41e4649b934ca495991b7852b855
 ";
 
-// A library with an export that takes nothing and gives back an `int`, which may replace itself; in version 1; and in version 2, by
-// the lines that say what those of version 1 say. A slash ends a line.
+// The lines for a library whose export takes nothing and returns an `int`, which may replace itself: in version 1; and in version
+// 2, as lines with the same meaning as those of version 1. A slash ends a line.
 const LINES: &str = "bind 1 1/pair 15 15 direct/pair 22 22 direct/end/";
 
 const FIRST_LINES: &str = "bind 1 1/pair 15 15/pair 22 22/end/";
@@ -28,8 +28,8 @@ const FIRST_LINES: &str = "bind 1 1/pair 15 15/pair 22 22/end/";
 const BOTH_WAYS: &str =
     "bind 1 1/pair 15 15 direct/pair 15 15 pointer/pair 22 22 direct/pair 22 22 pointer/end/";
 
-// Each line: lines behind the first four, each with a slash at its end | the number and the line of the fault, or zeros where there is
-// none.
+// The columns of a line: the lines of a certificate after the first four, each ended by a slash | the number and the line of the
+// fault, or zeros if there is none.
 const ROWS: &str = "\
 bind 1 1/pair 15 15 direct/pair 22 22 direct/end/|0 0
 end/|0 0
@@ -57,7 +57,7 @@ pair 18446744073709551616 0 direct/end/|60 5
 |62 5
 ";
 
-// The same of texts whose first four lines are changed.
+// The same for texts whose first four lines are changed.
 const HEADS: &str = "\
 |62 1
 yes 2|62 1
@@ -67,7 +67,7 @@ yes 2/old 11/|60 2
 yes 2/old 111111111111111111111111111111111111111111111111111111111111111A/|60 2
 ";
 
-// The text of these first lines, and of lines with a slash at the end of each.
+// The text of these first lines, followed by lines that a slash ends.
 fn text_of(alloc: Global, head: &str, lines: &str) -> Result<String, NoMemory> {
     let mut text = String::from_str(alloc, head)?;
     for c in lines.chars() {
@@ -76,7 +76,7 @@ fn text_of(alloc: Global, head: &str, lines: &str) -> Result<String, NoMemory> {
     Ok(text)
 }
 
-// The number and the line of the fault of a text of version 2, or zeros where it has none.
+// The number and the line of the fault of a text of version 2, or zeros if it has none.
 fn fault_of(alloc: Global, text: &str) -> Result<String, NoMemory> {
     let (number, at) = match read_cert(alloc, text.as_bytes()) {
         Ok(_) => (0, 0),
@@ -129,14 +129,14 @@ fn read_first(rt: &impl Abort, alloc: Global, text: &str) -> Cert1 {
     }
 }
 
-// What is written of a certificate is this text.
+// Expects that the certificate is written as this text.
 fn expect_written(rt: &impl Abort, alloc: Global, cert: &Cert, text: &str) -> Result<(), NoMemory> {
     let bytes = write_cert(alloc, cert)?;
     assert!(rt; bytes.as_slice() == text.as_bytes());
     Ok(())
 }
 
-/// The symbols that are bound, and how many pairs there are.
+/// The bound symbols, and the number of pairs.
 pub(crate) fn binds_and_pairs(alloc: Global, cert: &Cert) -> Result<String, NoMemory> {
     let mut text = String::new(alloc);
     for bind in cert.binds.as_slice() {
@@ -153,7 +153,7 @@ fn cert_of(rt: &impl Abort, alloc: Global) -> Result<Cert, NoMemory> {
     Ok(read(rt, alloc, text.as_str()))
 }
 
-// What is written of a certificate is the text of these lines.
+// Expects that the certificate is written as the text of these lines.
 fn expect_lines(rt: &impl Abort, alloc: Global, cert: &Cert, lines: &str) -> Result<(), NoMemory> {
     let text = text_of(alloc, HEAD, lines)?;
     expect_written(rt, alloc, cert, text.as_str())

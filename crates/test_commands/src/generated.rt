@@ -1,7 +1,7 @@
 use std::test::Fail;
 use trial_libraries::*;
 
-// The lengths of the libraries of some numbers of functions, the old one and the new one.
+// The lengths of the old and the new library, for some numbers of functions.
 #[test]
 fn libraries_have_their_lengths(rt: HostRuntime) -> Result<(), Fail> {
     for (n, old, new) in [

@@ -1,4 +1,4 @@
-//! What no clause of the command line, of sentences for people and of trials says. All of it is tests.
+//! Tests of the command line, of sentences for users and of trials, for what no contract states.
 #![tactic(auto)]
 
 #[cfg(test)]

@@ -1,10 +1,10 @@
-// Lines of a rule file behind whose value a comment seems to stand.
+// Lines of a rule file whose value seems to be followed by a comment.
 use abi_base::NoMemory;
 use explain::{comment_sentence, commented_values};
 use std::alloc::Global;
 use std::test::Fail;
 
-// Lines, of which those that begin with `name_` have a comment in the value.
+// Lines of a rule file. Those that begin with `name_` have a comment in the value.
 const LINES: &str = "\
 # a comment = with # and ;
   ; another = one # here
@@ -19,7 +19,7 @@ label = a=b
 name_equals = a=b # x
 ";
 
-// How many lines are found, and whether each begins as one that is to be found.
+// The number of lines that are found, and whether each begins with `name_`.
 fn found_in(alloc: Global, text: &str) -> Result<(usize, bool), NoMemory> {
     let found = commented_values(alloc, text)?;
     let right = found.iter().all(|line| line.trim().starts_with("name_"));

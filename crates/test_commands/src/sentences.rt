@@ -5,7 +5,7 @@ use explain::{failure_sentence, fault_sentence, notes_on, untyped_sentence};
 use std::alloc::Global;
 use std::test::Fail;
 
-// The sentence of a file of these bytes that has this fault.
+// The sentence about a file with these bytes that has this fault.
 fn sentence(alloc: Global, kind: FaultKind, at: u64, bytes: &[u8]) -> Result<String, NoMemory> {
     fault_sentence(alloc, "lib.so", Fault { kind, at }, bytes)
 }
@@ -181,11 +181,11 @@ fn places_are_named(rt: HostRuntime) -> Result<(), Fail> {
     Ok(())
 }
 
-// A section is named by the string table of the file, as far as the name can be read.
+// A section is named by the string table of the file, if the name can be read.
 #[test]
 fn sections_are_named(rt: HostRuntime) -> Result<(), Fail> {
     let alloc = rt.alloc();
-    // A header, its names, and two section headers, of which the first is that of the names.
+    // A header, its names, and two section headers, the first of which is that of the names.
     let mut file = [0; 208];
     file[40] = 80;
     file[64..79].copy_from_slice(b"\0.names\0.zdebug");
@@ -205,14 +205,14 @@ fn sections_are_named(rt: HostRuntime) -> Result<(), Fail> {
     }
     let text = sentence(alloc, FaultKind::Compressed, 1, &file[..100])?;
     assert!(rt; text.starts_with("lib.so: section 1 is compressed"));
-    // A name with a line feed is not told.
+    // A name with a line feed is not shown.
     file[75] = b'\n';
     let text = sentence(alloc, FaultKind::Compressed, 1, &file)?;
     assert!(rt; text.starts_with("lib.so: section 1 is compressed"));
     Ok(())
 }
 
-// A path stands in one line, whatever its characters are.
+// A path fits in one line, whatever characters it has.
 #[test]
 fn paths_do_not_break_the_line(rt: HostRuntime) -> Result<(), Fail> {
     let alloc = rt.alloc();
@@ -257,7 +257,7 @@ fn exports_without_types_are_told(rt: HostRuntime) -> Result<(), Fail> {
     Ok(())
 }
 
-// How many notes come with an outcome, and how the first one begins.
+// The number of notes on an outcome, and the beginning of the first one.
 #[test]
 fn an_outcome_has_its_notes(rt: HostRuntime) -> Result<(), Fail> {
     let alloc = rt.alloc();
@@ -315,7 +315,7 @@ fn an_outcome_has_its_notes(rt: HostRuntime) -> Result<(), Fail> {
     Ok(())
 }
 
-// Where so many exports have a size and no type, each note begins with the name of its library and these words.
+// For these numbers of exports with a size and without a type, each note begins with the name of its library and these words.
 #[test]
 fn lost_types_and_sizes_are_told(rt: HostRuntime) -> Result<(), Fail> {
     let alloc = rt.alloc();
@@ -360,14 +360,14 @@ const fn file<'a>(which: Input, name: &'a str) -> File<'a> {
     File { which, name }
 }
 
-// What is said of a refusal where these files are read: one note, or none.
+// The note on a refusal after these files were read, if there is one.
 fn refusal_of(alloc: Global, files: &[File<'_>]) -> Result<Option<String>, NoMemory> {
     let outcome = Outcome::Judged(Verdict::Refused, None);
     let mut notes = notes_on(alloc, outcome, files, b"", "")?;
     Ok(notes.pop())
 }
 
-// What a refused certificate does not prove.
+// A note names what a refused certificate does not prove.
 #[test]
 fn a_refusal_is_told(rt: HostRuntime) -> Result<(), Fail> {
     let alloc = rt.alloc();
@@ -393,7 +393,7 @@ fn a_refusal_is_told(rt: HostRuntime) -> Result<(), Fail> {
         said.as_str(),
         "c: with d it does not prove that b may replace a"
     );
-    // A structure that no library has is told elsewhere.
+    // A tag that no structure has is noted elsewhere.
     let said = refusal_of(alloc, &[file(Input::Library, "a.so")])?;
     assert!(rt; said.is_none());
     Ok(())

@@ -7,7 +7,7 @@ use std::alloc::Global;
 use std::process::Abort;
 use std::test::Fail;
 
-// The lines of a trial of n functions, with one listener that makes a line of each row.
+// Expects these lines of a trial of n functions, with one listener that makes a line of each row.
 fn assert_tried(rt: &impl Abort, alloc: Global, n: u32, lines: &[u8]) -> Result<(), Fail>
     requires some { 0 < n }
     requires few { n ≤ most_functions }

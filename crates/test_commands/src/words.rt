@@ -1,4 +1,4 @@
-// Words, and what they ask for.
+// Arguments and their meaning.
 use cli_args::{ParsedArguments, Request, parse_arguments};
 use report::styles::ReportStyle;
 use std::alloc::Global;
@@ -211,7 +211,7 @@ fn commands_have_their_files_and_options(rt: HostRuntime) -> Result<(), Fail> {
     Ok(())
 }
 
-// The trial with this word asks for so many structures.
+// Expects that a trial with this word requests so many functions.
 fn trial_is(rt: &impl Abort, alloc: Global, word: &str, want: Option<u32>) -> Result<(), Fail> {
     let asked = match want {
         Some(count) => ParsedArguments::Request(Request::Trial { count }),

@@ -1,4 +1,4 @@
-// Words that ask for nothing: which one is named, and what is said of it.
+// Wrong arguments: which one is named, and the sentence about it.
 use abi_base::NoMemory;
 use cli_args::wrong_words;
 use explain::wrong_sentence;
@@ -6,7 +6,7 @@ use std::alloc::Global;
 use std::process::Abort;
 use std::test::Fail;
 
-// Words, ` => `, and the sentence on them; none where they ask for something.
+// Arguments, ` => `, and the sentence about them; empty if they make a request.
 const ROWS: &str = "\
 --report text => no command is given
 chek A B => chek: it is no command; did you mean check?
@@ -38,7 +38,7 @@ check A B =>
 --help => 
 ";
 
-// The sentence on words with a blank between, or an empty one where they ask for something.
+// The sentence about arguments that are separated by spaces, or an empty one if they make a request.
 fn sentence_on(alloc: Global, line: &str) -> Result<String, NoMemory> {
     let mut words = Vec::new(alloc);
     for word in line.split(' ') {
@@ -50,7 +50,7 @@ fn sentence_on(alloc: Global, line: &str) -> Result<String, NoMemory> {
     }
 }
 
-// A row says what is said of its words.
+// Expects the sentence of a row for its arguments.
 fn says(rt: &impl Abort, alloc: Global, row: &str) -> Result<(), Fail> {
     let (line, wanted) = row.split_once(" => ").ok_or("a row has no sentence")?;
     assert_eq!(rt; sentence_on(alloc, line)?.as_str(), wanted);

@@ -1,5 +1,5 @@
-// Damaged libraries: cut files, cut units and changed bytes, and types that hold themselves. Each is the old library of a check against
-// a whole one.
+// Damaged libraries: cut files, cut units, changed bytes, and types that contain themselves. Each is the old library of a check
+// against an intact one.
 use crate::runs::{CHECK, number, pair, parted, says, with_number};
 use std::alloc::{AllocError, Global};
 use std::process::Abort;
@@ -10,9 +10,9 @@ use test_images::{
     add_debug_sections, described_library, versioned_function,
 };
 
-// Each row: what is cut, the least and the largest size that is left of it, and what the check says, where # stands for the size.
-// `versioned` is the file of a versioned function, `indexed` the file of one whose names and addresses stand behind indexes, and `unit`
-// the one unit of the first file, whose length is then the one of the cut unit.
+// The columns of a row: what is cut, and the smallest and the largest size to which it is cut; the answer of the check, where #
+// stands for the size. `versioned` is the file of a versioned function, `indexed` that of one whose names and addresses are given
+// by indexes, and `unit` the only unit of the first file, whose length field is then that of the cut unit.
 const CUTS: &str = "\
 versioned 0 63|2|unreadable old 1 ShortFile #;
 versioned 64 863|2|unreadable old 8 SectionTable 40;
@@ -32,7 +32,8 @@ unit 37 37|2|unreadable old 29 Tree 37;
 unit 38 38|0|bind 1 1;pair 15 15 direct;pair 22 22 direct;end;
 ";
 
-// Each row: whether a byte of the unit or of the abbreviations is changed, its place, its new value, and what the check says.
+// The columns of a row: whether a byte of the unit or of the abbreviations is changed, its position, its new value, and the answer
+// of the check.
 const CHANGES: &str = "\
 unit 4 4|2|unreadable old 23 AddressSize 0;
 unit 4 3|2|unreadable old 21 DwarfVersion 0;
@@ -52,7 +53,7 @@ abbreviations 4 29|2|unreadable old 38 Supplementary 12;
 abbreviations 18 2|2|unreadable old 25 Abbrev 18;
 ";
 
-// Abbreviations and a unit as clang writes them: names and addresses stand behind indexes.
+// Abbreviations and a unit as clang writes them, with names and addresses given by indexes.
 const INDEXED_ABBREVIATIONS: &[u8] = b"\x01\x11\x01\x13\x05\x03\x25\x72\x17\x11\x1b\x73\x17\x00\x00\
 \x02\x24\x00\x03\x25\x3e\x0b\x0b\x0b\x00\x00\
 \x03\x2e\x00\x11\x1b\x03\x25\x49\x13\x00\x00\x00";
@@ -63,7 +64,7 @@ const INDEXED_UNIT: &[u8] = b"\x21\x00\x00\x00\x05\x00\x01\x08\x00\x00\x00\x00\
 \x03\x00\x01\x19\x00\x00\x00\
 \x00";
 
-// What the indexes lead to.
+// The tables to which the indexes refer.
 const INDEXES: &[(&str, &[u8])] = &[
     (".debug_str", b"a.c\x00f\x00int\x00"),
     (
@@ -76,7 +77,7 @@ const INDEXES: &[(&str, &[u8])] = &[
     ),
 ];
 
-// A structure that is its own member.
+// A structure that is a member of itself.
 const HOLDS_ITSELF: &str = "\
 function f
 unit
@@ -88,7 +89,7 @@ unit
 58 end
 ";
 
-// Two structures that hold one another, behind a pointer and a typedef, which comes first.
+// Two structures that contain each other, after a pointer and a typedef.
 const HOLD_ONE_ANOTHER: &str = "\
 function f
 unit
@@ -106,7 +107,7 @@ unit
 118 end
 ";
 
-// A structure that holds an array of itself, which comes first, behind a pointer.
+// A structure that contains an array of itself, after a pointer.
 const HOLDS_AN_ARRAY: &str = "\
 function f
 unit
@@ -143,7 +144,7 @@ fn versioned(alloc: Global, abbreviations: &[u8], entries: &[u8]) -> Result<Vec<
     image.bytes(alloc)
 }
 
-// The file of a function whose name and address stand behind indexes.
+// The file of a function whose name and address are given by indexes.
 fn indexed(alloc: Global) -> Result<Vec<u8>, AllocError> {
     let mut image = Image::new(alloc);
     image.add_symbols(&[ImageSymbol::function(b"f")])?;
@@ -156,12 +157,12 @@ fn indexed(alloc: Global) -> Result<Vec<u8>, AllocError> {
     image.bytes(alloc)
 }
 
-// The front of bytes, of so many.
+// The first so many bytes.
 fn front(alloc: Global, bytes: &[u8], size: usize) -> Result<Vec<u8>, AllocError> {
     bytes.get(..size).unwrap_or(bytes).to_vec(alloc)
 }
 
-// Bytes of which one has another value.
+// The bytes, with another value at a position.
 fn changed(alloc: Global, bytes: &[u8], place: usize, value: u8) -> Result<Vec<u8>, AllocError> {
     let mut changed = bytes.to_vec(alloc)?;
     if let Some(byte) = changed.get_mut(place) {
@@ -170,13 +171,13 @@ fn changed(alloc: Global, bytes: &[u8], place: usize, value: u8) -> Result<Vec<u
     Ok(changed)
 }
 
-// The front of the unit, of so many bytes, with the length that is right for it.
+// The first so many bytes of the unit, with the right length field.
 fn cut_unit(alloc: Global, size: usize) -> Result<Vec<u8>, AllocError> {
     let length = u8::try_from(size.saturating_sub(4)).unwrap_or(0);
     changed(alloc, &front(alloc, FUNCTION_UNIT, size)?, 0, length)
 }
 
-// A library of which so many bytes are left of a part.
+// A library where one part is cut to so many bytes.
 fn cut(alloc: Global, part: &str, size: usize) -> Result<Vec<u8>, AllocError> {
     match part {
         "versioned" => front(alloc, &versioned_function(alloc, &[])?, size),
@@ -185,7 +186,7 @@ fn cut(alloc: Global, part: &str, size: usize) -> Result<Vec<u8>, AllocError> {
     }
 }
 
-// A library of which one byte of a part has another value.
+// A library where one byte of a part has another value.
 fn damaged(alloc: Global, part: &str, place: usize, value: u8) -> Result<Vec<u8>, AllocError> {
     if part == "unit" {
         let unit = changed(alloc, FUNCTION_UNIT, place, value)?;
@@ -196,14 +197,14 @@ fn damaged(alloc: Global, part: &str, place: usize, value: u8) -> Result<Vec<u8>
     }
 }
 
-// The check of a library against one that is whole must say this.
+// Expects this answer from the check of a library against an intact one.
 fn is_told<R: Abort + AllocGlobal>(rt: &R, library: &[u8], answer: &str) -> Result<(), Fail> {
     let whole = versioned_function(rt.alloc(), &[])?;
     let mut inputs = pair(rt.alloc(), library, &whole)?;
     says(rt, CHECK, &mut inputs, answer)
 }
 
-// A row of the cuts must hold.
+// Expects the answer of a row of the cuts, at each size.
 fn cuts_hold<R: Abort + AllocGlobal>(rt: &R, row: &str) -> Result<(), Fail> {
     let (words, answer) = parted(row);
     let mut words = words.split(' ');
@@ -216,7 +217,7 @@ fn cuts_hold<R: Abort + AllocGlobal>(rt: &R, row: &str) -> Result<(), Fail> {
     Ok(())
 }
 
-// A row of the changes must hold.
+// Expects the answer of a row of the changes.
 fn change_holds<R: Abort + AllocGlobal>(rt: &R, row: &str) -> Result<(), Fail> {
     let (words, answer) = parted(row);
     let mut words = words.split(' ');

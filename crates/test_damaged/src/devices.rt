@@ -7,7 +7,7 @@ use std::process::Abort;
 use std::test::Fail;
 use test_images::versioned_function;
 
-// What the check of a versioned function against itself prints. The digest was taken with another program from an image that another
+// The output of the check of a versioned function against itself. Another program computed the digest, from an image that another
 // program laid out.
 const CERTIFICATE: &str = "\
 yes 2
@@ -20,15 +20,15 @@ pair 22 22 direct
 end
 ";
 
-// Each row: the first and the last of the calls of the inputs that fail one at a time, and what that check says. Each input is started,
-// gives its bytes in one call, and none in the next.
+// The columns of a row: the first and the last of the input calls that fail, one at a time, and the answer of that check. Each
+// input takes three calls: one starts it, one gives its bytes, and one gives none.
 const CALLS: &str = "\
 1 3|3|read fault old;
 4 6|3|read fault new;
 7 7|0|bind 1 1;pair 15 15 direct;pair 22 22 direct;end;
 ";
 
-// Each row: how many bytes each input has, their value, the words, and what a run of them says.
+// The columns of a row: the number of bytes in each input, their value, the arguments, and the answer of a run with them.
 const LENGTHS: &str = "\
 268435457 0 check a b|2|unreadable old 40 TooLong 268435456;
 268435457 127 entries a|2|unreadable library 40 TooLong 268435456;
@@ -37,7 +37,7 @@ const LENGTHS: &str = "\
 0 127 exports a|2|unreadable library 1 ShortFile 0;
 ";
 
-// A row of the calls must hold of the library.
+// Expects the answer of a row of the calls, for the library.
 fn calls_hold<R: Abort + AllocGlobal>(rt: &R, library: &[u8], row: &str) -> Result<(), Fail> {
     let (words, answer) = parted(row);
     let mut words = words.split(' ');
@@ -49,7 +49,7 @@ fn calls_hold<R: Abort + AllocGlobal>(rt: &R, library: &[u8], row: &str) -> Resu
     Ok(())
 }
 
-// A row of the lengths must hold.
+// Expects the answer of a row of the lengths.
 fn length_holds<R: Abort + AllocGlobal>(rt: &R, row: &str) -> Result<(), Fail> {
     let (cells, answer) = parted(row);
     let mut cells = cells.split(' ');
@@ -60,7 +60,7 @@ fn length_holds<R: Abort + AllocGlobal>(rt: &R, row: &str) -> Result<(), Fail> {
     says(rt, &words, &mut inputs, answer)
 }
 
-// Where the sink takes a byte in each call and fails behind so many, it must hold those that the certificate begins with.
+// Expects that a sink that takes one byte in each call and then fails holds the beginning of the certificate.
 fn holds_front<R: Abort + AllocGlobal>(rt: &R, library: &[u8], size: usize) -> Result<(), Fail> {
     let alloc = rt.alloc();
     let failing = (size as u64).saturating_add(1);

@@ -1,6 +1,5 @@
-//! Hostile inputs, devices and listeners: what the program says of libraries that are cut or changed and of inputs that are too long,
-//! where a call of an input or of the sink fails, and where a listener runs out of memory. All of it is tests, but for the inputs that
-//! are made as they are read.
+//! Tests of hostile inputs, devices and listeners: libraries that are cut or changed, inputs that are too long, failing calls of an
+//! input or of the sink, and a listener that runs out of memory. Only the inputs that are generated as they are read are not tests.
 #![tactic(auto)]
 
 mod made;

@@ -1,4 +1,5 @@
-// Listeners that are written outside, of which one may run out of memory: what a run makes of them, and that each is dropped once.
+// Listeners that are written outside the program. One may run out of memory. The tests check the answer of a run, and that each
+// listener is dropped once.
 ghost use Rattle.std.specs.Prelude.{◌≡◌, [], All, IfOk};
 
 use crate::runs::{number, pair, parted, said};
@@ -13,11 +14,12 @@ use std::rc::Rc;
 use std::test::Fail;
 use test_images::described_library;
 
-// Two versions of an export, which are both gone.
+// Two versions of an export, which are both removed.
 const TWO_VERSIONS: &str = "version V1\nversion V2\nhidden f V1\nfunction f V2\n";
 
-// Each row: how many rows the listener of its own style has memory for, the words, and what the check says. The listeners stand in this order: a listener of counts, the one of its own style, one of a line for each row, and one of no
-// row.
+// The columns of a row: the number of rows for which the listener with its own style has memory, the arguments, and the answer of
+// the check. The listeners are, in order: one of counts, the one with its own style, one that prints a line for each row, and one
+// that prints no row.
 const ROWS: &str = "\
 1 check --report own old new|4|
 2 check --report own old new|1|no;2;
@@ -29,7 +31,7 @@ const ROWS: &str = "\
 2 check --report own new new|0|end;
 ";
 
-// How often each listener was dropped.
+// The number of drops of each listener.
 type Drops = Rc<RefCell<Vec<u8>>>;
 
 // Counts when a listener is dropped.
@@ -74,7 +76,7 @@ impl<L: Listener> Listener for Noted<L> {
     }
 }
 
-// Keeps so many rows, has no memory for more, and closes with their number.
+// Keeps so many rows, returns `NoMemory` for more, and closes with their number.
 #[derive(Drop)]
 struct Keeping {
     alloc: Global,
@@ -108,7 +110,7 @@ impl Listener for Keeping {
     }
 }
 
-// Counts the drops of a listener at a place.
+// A counter for the drops of the listener at a position.
 fn make_note(place: usize, drops: &Drops) -> Result<Note, NoMemory> {
     Ok(Note {
         place,
@@ -116,7 +118,7 @@ fn make_note(place: usize, drops: &Drops) -> Result<Note, NoMemory> {
     })
 }
 
-// A listener of its own style that keeps so many rows, and none yet.
+// A listener with its own style that may keep so many rows, and has kept none yet.
 fn make_keeping(alloc: Global, most: u64) -> Keeping
     ensures { result.rows.items ≡ [] }
 {
@@ -127,7 +129,7 @@ fn make_keeping(alloc: Global, most: u64) -> Keeping
     }
 }
 
-// The listeners of the rows.
+// The listeners that the rows use.
 fn all_listeners(
     alloc: Global,
     most: u64,
@@ -159,7 +161,7 @@ fn all_listeners(
     Ok(listeners)
 }
 
-// A row must hold of the old library, and each listener must be dropped once.
+// Expects the answer of a row for the old library, and that each listener is dropped once.
 fn holds<R: Abort + AllocGlobal>(rt: &R, old: &[u8], row: &str) -> Result<(), Fail> {
     let alloc = rt.alloc();
     let (cells, answer) = parted(row);

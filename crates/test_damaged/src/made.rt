@@ -1,11 +1,11 @@
-// Inputs that are made as they are read.
+// Inputs that are generated as they are read.
 ghost use Rattle.std.specs.Prelude.{◌≡◌, List, [], ℕ, Some, replicate, option_map, string_bytes};
 
 use abi_base::{Failed, Inputs};
 use std::alloc::Global;
 
-/// Inputs that are made as they are read: each name is an input of so many bytes, which are all the same. They take no memory but for
-/// the name of the current input, which answers to that name alone, and fail only where there is none for it.
+/// Inputs that are generated as they are read: each name is an input of so many equal bytes. They take memory only for the name of
+/// the current input, which serves that name only, and fail only if there is none for it.
 #[derive(Drop)]
 pub struct MadeInputs {
     alloc: Global,
@@ -19,12 +19,12 @@ pub struct MadeInputs {
 }
 
 impl MadeInputs {
-    /// Inputs of so many bytes that all are `byte`, with no current input yet.
+    /// Inputs of so many bytes, all equal to `byte`, with no current input yet.
     pub fn new(alloc: Global, length: u64, byte: u8) -> MadeInputs
         ensures told { (name : List ℕ) → ⟦<MadeInputs as Inputs>⟧.told result name ≡ Some (replicate length byte) }
         ensures faults { (name : List ℕ) → ⟦<MadeInputs as Inputs>⟧.faults result name ≡ 0 }
 
-        // Nothing is left before a first start.
+        // Nothing is left to read before the first start.
         ensures left { ⟦<MadeInputs as Inputs>⟧.left result ≡ Some [] }
         ensures given { ⟦<MadeInputs as Inputs>⟧.given result ≡ 0 }
         ensures started { ⟦<MadeInputs as Inputs>⟧.started result ≡ 0 }

@@ -1,4 +1,4 @@
-// The one call of the program, and what it says.
+// The call of the program, and its answer.
 ghost use Rattle.std.specs.Prelude.{◌≡◌, [], All};
 
 use abi_base::{Inputs, MemInputs, MemSink, NoMemory};
@@ -11,13 +11,13 @@ use std::test::Fail;
 /// A name and the bytes that it stands for.
 pub type NamedFile<'a, 'b> = (&'a str, &'b [u8]);
 
-/// The words of the rows.
+/// The arguments of the rows.
 pub const CHECK: &[&str] = &["check", "old", "new"];
 
-// How many bytes a certificate has before the line that follows the digests.
+// The number of bytes in a certificate before the line after the digests.
 const HEAD: usize = 215;
 
-/// Inputs in memory of these names and bytes, of whose calls the one of this number fails. No call has the number 0.
+/// Inputs in memory with these names and bytes. The call with this number fails; 0 is the number of none.
 pub(crate) fn inputs(
     alloc: Global,
     files: &[NamedFile],
@@ -36,7 +36,7 @@ pub(crate) fn pair(alloc: Global, old: &[u8], new: &[u8]) -> Result<MemInputs, A
     inputs(alloc, &files, 0)
 }
 
-// The exit number and the lines of a text, of a certificate those behind the digests. `;` stands for the end of a line.
+// The exit number and the lines of a text; for a certificate only those after the digests. `;` stands for the end of a line.
 fn line_of(alloc: Global, number: u8, text: &[u8]) -> Result<String, NoMemory> {
     let text = str::from_utf8(text).unwrap_or("");
     let head = if number == 0 { HEAD } else { 0 };
@@ -48,7 +48,7 @@ fn line_of(alloc: Global, number: u8, text: &[u8]) -> Result<String, NoMemory> {
     Ok(said)
 }
 
-/// What a run of the words says: its exit number, and its text as one line.
+/// The answer of a run with these arguments: its exit number, and its text as one line.
 pub(crate) fn said<I: Inputs>(
     alloc: Global,
     words: &[&str],
@@ -62,7 +62,7 @@ pub(crate) fn said<I: Inputs>(
     line_of(alloc, ended.outcome.number(), sink.held())
 }
 
-/// A run of the words must say this.
+/// Expects this answer from a run with these arguments.
 pub(crate) fn says<R: Abort + AllocGlobal, I: Inputs>(
     rt: &R,
     words: &[&str],
@@ -74,17 +74,17 @@ pub(crate) fn says<R: Abort + AllocGlobal, I: Inputs>(
     Ok(())
 }
 
-/// A row: its words, and the answer that stands behind the first `|`.
+/// The two columns of a row: its words, and the answer after the first `|`.
 pub(crate) fn parted(row: &str) -> (&str, &str) {
     row.split_once('|').unwrap_or((row, ""))
 }
 
-/// The number that a word is.
+/// The number that a word spells, or 0.
 pub(crate) fn number(word: Option<&str>) -> u64 {
     word.unwrap_or("").parse().unwrap_or(0)
 }
 
-/// The text with the number in the place of `#`.
+/// The text, with the number in place of `#`.
 pub(crate) fn with_number(alloc: Global, text: &str, number: u64) -> Result<String, NoMemory> {
     match text.split_once('#') {
         Some((before, after)) => Ok(format!(in alloc; "{before}{number}{after}")?),

@@ -1,4 +1,4 @@
-// What no clause says: tables in bytes, worked out by hand from the standard, and that a call gives them.
+// What no contract states: tables as bytes, worked by hand from the standard, and that a call returns them.
 use abi_base::{Fault, FaultKind, Refusal};
 use dwarf_forms::abbreviations::{Spec, table};
 use std::test::Fail;
@@ -9,7 +9,7 @@ const TABLE: &[u8] = &[
     0x00, 0x00, 0x03, 0x2e, 0x00, 0x03, 0x08, 0x49, 0x13, 0x11, 0x01, 0x00, 0x00, 0x00,
 ];
 
-// Codes that are not those of their places: 7, 3, 1 and 2^64 - 1.
+// Codes that differ from their positions: 7, 3, 1 and 2^64 - 1.
 const SCATTERED: &[u8] = &[
     0x07, 0x24, 0x00, 0x00, 0x00, 0x03, 0x0f, 0x00, 0x00, 0x00, 0x01, 0x11, 0x01, 0x00, 0x00, 0xff,
     0xff, 0xff, 0xff, 0xff, 0xff, 0xff, 0xff, 0xff, 0x01, 0x2e, 0x00, 0x00, 0x00, 0x00,
@@ -64,7 +64,7 @@ fn abbreviations_are_found(rt: HostRuntime) -> Result<(), Fail> {
 #[test]
 fn faults_are_at_their_abbreviation(rt: HostRuntime) -> Result<(), Fail> {
     for (place, byte, at, fault) in [
-        // A byte for children that is neither 0 nor 1.
+        // A children byte that is neither 0 nor 1.
         (2, 0x02, 0, 0),
         // A code that an earlier abbreviation has.
         (18, 0x02, 0, 18),

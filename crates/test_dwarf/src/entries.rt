@@ -11,18 +11,18 @@ use std::test::*;
 const ABBREVS: &[u8] = b"\x01\x11\x01\x13\x05\x00\x00\x02\x24\x00\x0b\x0b\x3e\x0b\x03\x08\x00\x00\
 \x03\x2e\x00\x03\x08\x49\x13\x11\x01\x00\x00\x04\x41\x01\x00\x00\x05\x2e\x00\x03\x08\x49\x20\x11\x01\x00\x00\x00";
 
-// A function `f` that gives an `int`.
+// A function `f` that returns an `int`.
 const FUNCTION: &[u8] =
     b"\x22\x00\x00\x00\x05\x00\x01\x08\x00\x00\x00\x00\x01\x0c\x00\x02\x04\x05int\x00\
 \x03f\x00\x0f\x00\x00\x00\x00\x10\x00\x00\x00\x00\x00\x00\x00";
 
-// A type unit of `int`, and a unit of a function that gives it.
+// A type unit of `int`, and a unit of a function that returns it.
 const TYPE_UNIT: &[u8] =
     b"\x1d\x00\x00\x00\x05\x00\x02\x08\x00\x00\x00\x00\x11\x22\x33\x44\x55\x66\x77\x88\x19\x00\x00\x00\
 \x04\x02\x04\x05int\x00\x00\x1f\x00\x00\x00\x05\x00\x01\x08\x00\x00\x00\x00\x01\x0c\x00\
 \x05f\x00\x11\x22\x33\x44\x55\x66\x77\x88\x00\x10\x00\x00\x00\x00\x00\x00\x00";
 
-// The same as `FUNCTION`, with the names and the address by their numbers.
+// The same as `FUNCTION`, with the names and the address given by indexes.
 const INDEXED: Sections<'static> = Sections {
     info: b"\x21\x00\x00\x00\x05\x00\x01\x08\x00\x00\x00\x00\x01\x00\x0c\x00\x08\x00\x00\x00\x08\x00\x00\x00\x00\
 \x02\x01\x04\x05\x03\x02\x19\x00\x00\x00\x00\x00",
@@ -66,7 +66,7 @@ const NAMELESS: &[u8] =
 const RANGELESS: &[u8] =
     b"\x11\x00\x00\x00\x05\x00\x01\x08\x00\x00\x00\x00\x01\x0c\x00\x09\x00\x00\x00\x00\x00";
 
-// The bytes, or none where they are longer than the limit of an input.
+// The bytes, or none if they exceed the limit of an input.
 fn within_limit(bytes: &[u8]) -> &[u8]
     ensures { length result.now ≤ input_limit }
 {
@@ -102,7 +102,7 @@ fn fault(kind: FaultKind, at: u64) -> Option<Refusal> {
     Some(Refusal::Fault(Fault { kind, at }))
 }
 
-// The bytes with another one at a place.
+// The bytes, with another one at a position.
 fn changed(alloc: Global, bytes: &[u8], at: usize, byte: u8) -> Result<Vec<u8>, AllocError> {
     let mut changed = Vec::from_slice(alloc, bytes)?;
     if let Some(place) = changed.get_mut(at) {
@@ -111,7 +111,7 @@ fn changed(alloc: Global, bytes: &[u8], at: usize, byte: u8) -> Result<Vec<u8>, 
     Ok(changed)
 }
 
-// Rows made by hand from DWARF 5, sections 2.13, 3.1.4, 7.5.5 and 7.32.
+// Worked by hand from DWARF 5, sections 2.13, 3.1.4, 7.5.5 and 7.32.
 #[test]
 fn each_entry_has_its_fault(rt: HostRuntime) -> Result<(), Fail> {
     let alloc = rt.alloc();
@@ -185,7 +185,7 @@ fn said<'a>(dwarf: &Dwarf<'a>, e: usize) -> (Option<&'a [u8]>, usize, Option<u64
     }
 }
 
-// Rows made by hand from DWARF 5, sections 2.13, 2.17, 2.18, 3.1.1 and 3.3.8.
+// Worked by hand from DWARF 5, sections 2.13, 2.17, 2.18, 3.1.1 and 3.3.8.
 #[test]
 fn each_entry_has_its_name_origin_and_address(rt: HostRuntime) -> Result<(), Fail> {
     let rows: [(Sections, usize, Option<&[u8]>, usize, Option<u64>); 10] = [
@@ -215,7 +215,7 @@ fn each_entry_has_its_name_origin_and_address(rt: HostRuntime) -> Result<(), Fai
     Ok(())
 }
 
-// Rows made by hand from DWARF 5, sections 2.17, 3.1.4 and 7.32.
+// Worked by hand from DWARF 5, sections 2.17, 3.1.4 and 7.32.
 #[test]
 fn entries_stand_for_addresses_and_signatures(rt: HostRuntime) -> Result<(), Fail> {
     let rows = [
@@ -242,7 +242,7 @@ fn entries_stand_for_addresses_and_signatures(rt: HostRuntime) -> Result<(), Fai
     Ok(())
 }
 
-// A function inherits the name of its origin, and not the address.
+// A function inherits the name of its origin, but not the address.
 #[test]
 fn a_name_is_taken_along_the_chain_and_an_address_is_not(rt: HostRuntime) -> Result<(), Fail> {
     match tree(rt.alloc(), sections(CHAIN_ABBREVS, CHAIN)) {

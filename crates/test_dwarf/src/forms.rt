@@ -3,7 +3,7 @@ use dwarf_forms::abbreviations::Spec;
 use dwarf_forms::*;
 use std::test::*;
 
-// Where the entry of each row begins.
+// The offset of the entry of each row.
 const ENTRY: u64 = 50;
 
 fn fault(kind: FaultKind) -> Result<(Value, usize), Fault> {
@@ -33,7 +33,7 @@ fn spelled(
     }
 }
 
-// Rows made by hand from DWARF 5, section 7.5.6.
+// Worked by hand from DWARF 5, section 7.5.6.
 #[test]
 fn each_form_spells_its_value(rt: HostRuntime) {
     let rows = [
@@ -52,7 +52,7 @@ fn each_form_spells_its_value(rt: HostRuntime) {
         spelled(0x16, 0, &[0x16, 0x0b], fault(FaultKind::Form)),
         // DW_FORM_strp_sup
         spelled(0x1d, 0, &[0, 0, 0, 0], fault(FaultKind::Supplementary)),
-        // no form
+        // a number that is not a form
         spelled(0, 0, &[0, 0, 0, 0], fault(FaultKind::Form)),
         // DW_FORM_flag
         spelled(0x0c, 0, &[2], Ok((Value::Flag(true), 1))),

@@ -1,4 +1,4 @@
-//! Tests of what no clause of the readers of DWARF says: worked values from outside, and each call once.
+//! Tests of the DWARF readers for what no contract states: worked values from outside, and each call once.
 #![tactic(auto)]
 
 #[cfg(test)]

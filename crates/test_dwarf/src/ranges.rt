@@ -7,7 +7,7 @@ use dwarf_text::Bases;
 use dwarf_text::ranges::*;
 use std::test::*;
 
-// Where the debugging information entry with the lists begins.
+// The offset of the debugging information entry with the lists.
 const ENTRY: u64 = 50;
 
 const LOW: u64 = 0x2000;
@@ -49,7 +49,7 @@ fn fault(kind: FaultKind) -> Result<Option<u64>, Fault> {
     Err(Fault { kind, at: ENTRY })
 }
 
-// The place of a list, the bytes of its section, and where its first range begins.
+// The position of a list, the bytes of its section, and the address at which its first range begins.
 #[derive(Drop)]
 struct Row<'a> {
     list: ListAt,
@@ -69,7 +69,7 @@ fn pairs<'a>(bytes: &'a [u8], want: Result<Option<u64>, Fault>) -> Row<'a> {
     at(ListAt::Pairs(0), bytes, want)
 }
 
-// Rows made by hand from DWARF 5, section 7.25, and DWARF 4, section 2.17.3.
+// Worked by hand from DWARF 5, section 7.25, and DWARF 4, section 2.17.3.
 #[test]
 fn each_list_begins_where_its_first_range_does(rt: HostRuntime) {
     let rows = [
@@ -138,7 +138,7 @@ fn each_list_begins_where_its_first_range_does(rt: HostRuntime) {
 // The effort for one byte.
 const EFFORT: usize = 64;
 
-// The place of a list, the bytes of its section, and how many of them stand before the end of its first range.
+// The position of a list, the bytes of its section, and the number of bytes up to the end of its first range.
 #[derive(Drop)]
 struct ListRow<'a> {
     list: ListAt,

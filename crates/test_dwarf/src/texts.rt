@@ -3,7 +3,7 @@ use dwarf_forms::{Sections, Value};
 use dwarf_text::*;
 use std::test::*;
 
-// Where the entry of the values begins.
+// The offset of the entry that has the values.
 const ENTRY: u64 = 50;
 
 const SECTIONS: Sections<'static> = Sections {
@@ -37,7 +37,7 @@ fn fault<T>(kind: FaultKind) -> Result<T, Fault> {
     Err(Fault { kind, at: ENTRY })
 }
 
-// Rows made by hand from DWARF 5, sections 7.5.5 and 7.26.
+// Worked by hand from DWARF 5, sections 7.5.5 and 7.26.
 #[test]
 fn each_value_stands_for_its_text(rt: HostRuntime) {
     let rows: [(Value, Bases, Result<&[u8], Fault>); 11] = [
@@ -62,7 +62,7 @@ fn each_value_stands_for_its_text(rt: HostRuntime) {
     }
 }
 
-// Rows made by hand from DWARF 5, sections 7.5.5 and 7.27.
+// Worked by hand from DWARF 5, sections 7.5.5 and 7.27.
 #[test]
 fn each_value_stands_for_its_address(rt: HostRuntime) {
     let rows = [

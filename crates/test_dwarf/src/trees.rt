@@ -1,4 +1,4 @@
-// What no clause says: that a tree is read where there is memory, and worked values from outside.
+// What no contract states: a tree is read if there is enough memory, and worked values from outside.
 ghost use Rattle.std.specs.Prelude.{◌<◌, ◌≤◌, length};
 ghost use Rattle.abi_base.specs.Limits.{input_limit};
 
@@ -21,13 +21,13 @@ const INFO: &[u8] = b"\x20\x00\x00\x00\x05\x00\x01\x08\x00\x00\x00\x00\x01\x0c\
 \x1b\x00\x00\x00\x05\x00\x02\x08\x00\x00\x00\x00\x11\x22\x33\x44\x55\x66\x77\x88\x19\x00\x00\x00\
 \x05\x04\x01c\x00\x01\x00";
 
-// The number of entries of a made file.
+// The number of entries in a generated file.
 const MANY: usize = 400;
 
-// The number of attributes that each of them has. Stored values would take 24,000 places.
+// The number of attributes of each entry. If values were stored, these would take 24,000 slots.
 const ATTRIBUTES: usize = 60;
 
-// Sections of these bytes.
+// Sections with these bytes.
 fn sections<'a>(info: &'a [u8], abbrevs: &'a [u8]) -> Sections<'a>
     requires info { length info.now ≤ input_limit }
     requires abbrevs { length abbrevs.now ≤ input_limit }
@@ -153,8 +153,8 @@ fn children_of_a_tag_are_listed(rt: HostRuntime) -> Result<(), Fail> {
     Ok(())
 }
 
-// The abbreviations of a unit and of a member with one pair of attribute and form very often, and a unit of as many entries of
-// the second one, each of them one byte.
+// The abbreviations of a unit and of a member that repeats one pair of attribute and form many times, and a unit with many one-byte
+// entries of that member.
 fn many(alloc: Global, pair: &[u8]) -> Result<(Vec<u8>, Vec<u8>), AllocError> {
     let mut abbrevs = b"\x01\x11\x01\x13\x0b\x00\x00\x02\x0d\x00".to_vec(alloc)?;
     for _ in 0..ATTRIBUTES {

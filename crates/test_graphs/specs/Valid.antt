@@ -1,4 +1,4 @@
--- What a graph keeps, node by node.
+-- The invariants of a graph, node by node.
 use Rattle.std.specs.Prelude.{◌≡◌, ◌<◌, ◌≤◌, ℕ, List, length, Some}
 use Rattle.abi_base.specs.Limits.{depth_limit}
 use Rattle.abi_types.specs.declared.kind.Kind.TheVariants as kind
@@ -19,16 +19,16 @@ entry_in n = n.entry
 abbrev pub HaveOwnEntries : List PlainNode → Type 0
 HaveOwnEntries nodes = (i j : ℕ) → i < length nodes → j < length nodes → (node_at nodes i).entry ≡ (node_at nodes j).entry → i ≡ j
 
--- a part of a node of a rank names a node, and one of a lower rank where it names it by value
+-- the part of a node with this rank names a node of the list, and one of a lower rank if it names it by value
 pub record NamesNode (nodes : List PlainNode) (rank : ℕ) (p : PlainPart) : Type 0 where
   pub inside : (to : ℕ) → to_of p ≡ Some to → to < length nodes
   pub falls : (to : ℕ) → inner_of p ≡ Some to → (node_at nodes to).rank < rank
 
--- all parts of a view do so
+-- this holds for all parts of a view
 abbrev pub NamesNodes : List PlainNode → ℕ → PlainView → Type 0
 NamesNodes nodes rank v = (k : ℕ) → NamesNode nodes rank (part_at v k)
 
--- what a node of a rank and a view keeps
+-- the invariants of a node with a rank and a view
 pub record Keeps (nodes : List PlainNode) (rank : ℕ) (v : PlainView) : Type 0 where
   pub shallow : rank ≤ depth_limit
   pub names : NamesNodes nodes rank v
@@ -36,6 +36,6 @@ pub record Keeps (nodes : List PlainNode) (rank : ℕ) (v : PlainView) : Type 0 
   pub limits : KeepsLimits nodes v
   pub whole : IsWhole nodes v
 
--- what each node keeps
+-- the invariants of node i
 abbrev pub KeepsNode : List PlainNode → ℕ → Type 0
 KeepsNode nodes i = Keeps nodes (node_at nodes i).rank (view_at nodes i)

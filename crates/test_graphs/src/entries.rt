@@ -1,4 +1,4 @@
-// The test whether no two nodes stand for one entry.
+// Tests whether no two nodes stand for one entry.
 ghost use Rattle.std.specs.Prelude.{◌≡◌, ◌↔◌, map, IsTrue, IfOk};
 ghost use Rattle.std.specs.List.Sorted.{IsStrictlyIncreasing};
 ghost use Rattle.test_graphs.specs.Valid.{entry_in, HaveOwnEntries};
@@ -7,7 +7,7 @@ use abi_base::NoMemory;
 use abi_types::{Index, Node};
 use std::alloc::Global;
 
-// The entries of the nodes, in their order.
+// The entries of the nodes, in order.
 fn entries_of<Ix: Index>(alloc: Global, nodes: &[Node<Ix>]) -> Result<Vec<u64>, NoMemory>
     ensures { IfOk result (λ entries. entries.items ≡ map entry_in nodes.now) }
 {

@@ -1,4 +1,4 @@
-// The test whether a view has the form of its kind.
+// Tests whether a view has the form of its kind.
 ghost use Rattle.std.specs.Prelude.{◌≡◌, ◌↔◌, false, true, [], map, IsTrue, IfSome};
 ghost use Rattle.std.specs.List.{list_all};
 ghost use Rattle.abi_types.specs.Parts.{plain_part};
@@ -24,7 +24,7 @@ pub fn has_elements(kind: Kind) -> bool
 // The size of a pointer in bytes.
 const POINTER_SIZE: u64 = 8;
 
-// The size that all types of a kind have, where they have one.
+// The size that all types of a kind have, if there is one.
 fn size_of_kind(kind: Kind) -> Option<u64>
     ensures { result ≡ spec.size_of_kind kind }
 {
@@ -109,7 +109,7 @@ fn are_of_function<Ix: Index>(parts: &[Part<Ix>]) -> bool
     }
 }
 
-// Whether the parts are those that a type of this kind has.
+// Whether a type of this kind may have these parts.
 fn parts_fit<Ix: Index>(kind: Kind, parts: &[Part<Ix>]) -> bool
     ensures { result ≡ they_fit kind (map (plain_part Ix.number_of) parts.now) }
 {
@@ -133,7 +133,7 @@ fn is_no_call(call: &Call) -> bool
     }
 }
 
-// Whether only a type whose kind has tags has one, or is declared only.
+// Whether the type has a tag, or is only declared, only if its kind allows tags.
 fn tag_fits<Ix: Index>(view: &View<Ix>) -> bool
     ensures { IsTrue result ↔ (spec.has_tag view.now.kind ≡ false → (view.now.tag ≡ []) × (view.now.declared_only ≡ false)) }
 {
@@ -146,7 +146,7 @@ fn tag_fits<Ix: Index>(view: &View<Ix>) -> bool
     view.tag.is_empty()
 }
 
-// Whether the size is that of the kind, where the kind has one.
+// Whether the size is that of the kind, if the kind fixes one.
 fn size_fits<Ix: Index>(view: &View<Ix>) -> bool
     ensures { IsTrue result ↔ IfSome (spec.size_of_kind view.now.kind) (λ size. view.now.size ≡ size) }
 {
@@ -156,7 +156,7 @@ fn size_fits<Ix: Index>(view: &View<Ix>) -> bool
     }
 }
 
-// Whether only a scalar has a group.
+// Whether the type has a group only if it is a scalar.
 fn group_fits<Ix: Index>(view: &View<Ix>) -> bool
     ensures { IsTrue result ↔ (is_scalar view.now.kind ≡ false → view.now.group ≡ Group.Bool) }
 {
@@ -166,7 +166,7 @@ fn group_fits<Ix: Index>(view: &View<Ix>) -> bool
     }
 }
 
-// Whether only an array or a vector has a count.
+// Whether the type has a count only if it is an array or a vector.
 fn count_fits<Ix: Index>(view: &View<Ix>) -> bool
     ensures { IsTrue result ↔ (spec.has_elements view.now.kind ≡ false → view.now.count ≡ 0) }
 {
@@ -176,7 +176,7 @@ fn count_fits<Ix: Index>(view: &View<Ix>) -> bool
     view.count == 0
 }
 
-// Whether only a function takes further arguments and has places of a call.
+// Whether the type is variadic and has places of a call only if it is a function.
 fn call_fits<Ix: Index>(view: &View<Ix>) -> bool
     ensures { IsTrue result ↔ (is_function view.now.kind ≡ false → (view.now.variadic ≡ false) × (view.now.call ≡ no_call)) }
 {
@@ -191,7 +191,7 @@ fn call_fits<Ix: Index>(view: &View<Ix>) -> bool
     }
 }
 
-// Whether a type that is declared only has no size and no parts.
+// Whether the type has no size and no parts if it is only declared.
 fn declaration_fits<Ix: Index>(view: &View<Ix>) -> bool
     ensures { IsTrue result ↔ (view.now.declared_only ≡ true → (view.now.size ≡ 0) × (view.now.parts ≡ [])) }
 {

@@ -1,6 +1,6 @@
-//! Graphs and libraries made by hand, for tests and benchmarks: makers of nodes and of graphs, and the tests whether nodes are a graph and
-//! whether exports and a graph are those of a library. What makes these from files proves that they are, so nothing that is
-//! shipped stands on this crate.
+//! Graphs and libraries made by hand, for tests and benchmarks: functions that make nodes and graphs, and tests whether nodes are a
+//! graph and whether exports and a graph are those of a library. The readers of files prove both of their results, so no shipped
+//! crate depends on this one.
 #![tactic(auto)]
 
 mod entries;

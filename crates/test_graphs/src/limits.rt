@@ -1,4 +1,4 @@
-// The tests whether a view keeps the limits of a graph.
+// Tests whether a view is within the limits of a graph.
 ghost use Rattle.std.specs.Prelude.{◌≡◌, ◌≤◌, ◌↔◌, ◌-◌, ◌*◌, ℕ, ◌^◌, min, length, IsTrue};
 ghost use Rattle.abi_types.specs.Parts.{plain_part};
 ghost use Rattle.abi_types.specs.Limits.{room_limit};
@@ -8,22 +8,22 @@ ghost use Rattle.abi_types.specs.Graphs as spec;
 use crate::form::has_elements;
 use abi_types::{Index, Node, Part, View};
 
-// The most bytes that a type has, and the most elements.
+// The limit on the bytes of a type, and on its elements.
 const SIZE_LIMIT: u64 = 1 << 60;
 
-// No place of a member in bits, and no width, reaches this.
+// The position of a member in bits, and its width, must be below this.
 const BIT_LIMIT: u64 = 1 << 63;
 
-// The greatest explicit alignment.
+// The limit on an explicit alignment.
 const ALIGN_LIMIT: u64 = 1 << 32;
 
-// The room that a parameter takes beside its size: twice the greatest alignment.
+// The room that a parameter takes in addition to its size: twice the limit on alignments.
 const ALIGN_ROOM: u64 = 1 << 33;
 
-// The most room that all parameters take.
+// The limit on the room of all parameters.
 const ROOM_LIMIT: u64 = 1 << 62;
 
-// The size of what a node is, 0 past the last node.
+// The size of a node's type; 0 past the last node.
 fn size_at<Ix: Index>(nodes: &[Node<Ix>], at: Ix) -> u64
     ensures { result ≡ (view_at nodes.now (Ix.number_of at)).size }
 {
@@ -36,7 +36,7 @@ fn size_at<Ix: Index>(nodes: &[Node<Ix>], at: Ix) -> u64
     view.size
 }
 
-// Whether the place and the width of a member are below the limit.
+// Whether the position and the width of a member are below the limit.
 fn keeps_bits<Ix: Index>(part: &Part<Ix>) -> bool
     ensures { IsTrue result ↔ KeepsBits (plain_part Ix.number_of part.now) }
 {
@@ -46,7 +46,7 @@ fn keeps_bits<Ix: Index>(part: &Part<Ix>) -> bool
     }
 }
 
-// Whether all members keep the limit of bits.
+// Whether all members are below the limit of bits.
 fn keep_bits<Ix: Index>(view: &View<Ix>) -> bool
     ensures { IsTrue result ↔ ((k : ℕ) → KeepsBits (part_at view.now k)) }
 {
@@ -58,7 +58,7 @@ fn keep_bits<Ix: Index>(view: &View<Ix>) -> bool
     true
 }
 
-// The room that a part takes among arguments, cut at the greatest number of 64 bits.
+// The room that a part takes among arguments, saturated at 64 bits.
 fn room_of<Ix: Index>(nodes: &[Node<Ix>], part: &Part<Ix>) -> u64
     ensures { result ≡ min (spec.room_of nodes.now (plain_part Ix.number_of part.now)) (2 ^ 64 - 1) }
 {
@@ -68,7 +68,7 @@ fn room_of<Ix: Index>(nodes: &[Node<Ix>], part: &Part<Ix>) -> u64
     }
 }
 
-// Whether the arguments of a function find room.
+// Whether the room of a function's arguments is within the limit.
 fn rooms_fit<Ix: Index>(nodes: &[Node<Ix>], view: &View<Ix>) -> bool
     ensures { IsTrue result ↔ (rooms nodes.now view.now ≤ room_limit) }
 {
@@ -83,7 +83,7 @@ fn rooms_fit<Ix: Index>(nodes: &[Node<Ix>], view: &View<Ix>) -> bool
     true
 }
 
-/// Whether the view keeps the limits.
+/// Whether the view is within the limits.
 pub fn keeps_limits<Ix: Index>(nodes: &[Node<Ix>], view: &View<Ix>) -> bool
     ensures { IsTrue result ↔ KeepsLimits nodes.now view.now }
 {
@@ -112,7 +112,7 @@ fn is_product(one: u64, other: u64, all: u64) -> bool
     }
 }
 
-/// Whether an array or a vector has the size of its elements together.
+/// Whether an array or a vector has the size of all its elements.
 pub fn is_whole<Ix: Index>(nodes: &[Node<Ix>], view: &View<Ix>) -> bool
     ensures { IsTrue result ↔ IsWhole nodes.now view.now }
 {

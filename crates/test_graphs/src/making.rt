@@ -1,4 +1,4 @@
-// Nodes, graphs and marks by hand.
+// Nodes, graphs and marks made by hand.
 ghost use Rattle.std.specs.Prelude.{◌≡◌, ◌+◌, ◌<◌, ◌^◌, [], ◌∷◌, false, map, length, replicate, IfOk, MatchOption};
 ghost use Rattle.std.specs.List.{range_with_len};
 ghost use Rattle.abi_types.specs.Types.{PlainPart, Member, Target, Outcome, Param};
@@ -11,7 +11,7 @@ use abi_base::{List, NoMemory};
 use abi_types::{Call, Graph, Group, Index, Kind, Marks, Node, Part, Parts, View};
 use std::alloc::Global;
 
-/// A view of a kind with a size and parts, and nothing in its other fields.
+/// A view of a kind with a size and parts. All other fields are empty.
 pub fn view<'a, Ix: Index>(
     alloc: Global,
     kind: Kind,
@@ -34,7 +34,7 @@ pub fn view<'a, Ix: Index>(
     })
 }
 
-/// A node without labels, whose view has nothing but a kind, a size and parts.
+/// A node without labels, whose view has only a kind, a size and parts.
 pub fn node<'a, Ix: Index>(
     alloc: Global,
     entry: u64,
@@ -60,14 +60,14 @@ pub fn void<'a, Ix: Index>(alloc: Global) -> Result<Node<'a, Ix>, NoMemory>
     node(alloc, 0, 0, Kind::Void, 0, Vec::new(alloc))
 }
 
-/// A scalar of so many bytes.
+/// A scalar with so many bytes.
 pub fn scalar<'a, Ix: Index>(alloc: Global, entry: u64, size: u64) -> Result<Node<'a, Ix>, NoMemory>
     ensures { IfOk result (λ node. node ≡ made_node entry 0 Kind.Scalar size []) }
 {
     node(alloc, entry, 0, Kind::Scalar, size, Vec::new(alloc))
 }
 
-/// A pointer to the node of a number.
+/// A pointer to the node with a number.
 pub fn pointer<'a, Ix: Index>(
     alloc: Global,
     entry: u64,
@@ -80,10 +80,10 @@ pub fn pointer<'a, Ix: Index>(
     node(alloc, entry, 0, Kind::Pointer, POINTER_SIZE, parts)
 }
 
-// How many bytes a pointer has.
+// The size of a pointer in bytes.
 const POINTER_SIZE: u64 = 8;
 
-/// A member that is no bit field, at a bit, of the type of a number.
+/// A member at a bit that is not a bit field, with the type that has a number.
 pub fn member<'a, Ix: Index>(name: &'a [u8], bit: u64, to: usize) -> Part<'a, Ix>
     ensures { plain_part Ix.number_of result ≡ made_member name.now bit to }
 {
@@ -95,7 +95,7 @@ pub fn member<'a, Ix: Index>(name: &'a [u8], bit: u64, to: usize) -> Part<'a, Ix
     }
 }
 
-/// A structure of so many bytes with these members.
+/// A structure with so many bytes and these members.
 pub fn structure<'a, Ix: Index>(
     alloc: Global,
     entry: u64,
@@ -140,7 +140,7 @@ pub fn function<'a, Ix: Index>(
     node(alloc, entry, rank, Kind::Function, 0, parts)
 }
 
-/// The graph of these nodes, or `None` where they are none.
+/// The graph of these nodes, or `None` if they are not a graph.
 pub fn graph<'a, Ix: Index>(
     alloc: Global,
     nodes: List<Node<'a, Ix>>,
@@ -154,7 +154,7 @@ pub fn graph<'a, Ix: Index>(
     Ok(Some(graph))
 }
 
-// So many flags that are not set.
+// A list of so many cleared flags.
 fn no_flags(alloc: Global, count: usize) -> Result<List<bool>, NoMemory>
     ensures { IfOk result (λ flags. flags ≡ replicate count false) }
 {
@@ -162,7 +162,7 @@ fn no_flags(alloc: Global, count: usize) -> Result<List<bool>, NoMemory>
     Ok(List::of(flags))
 }
 
-/// Marks of so many exports and nodes, none of which is marked.
+/// Marks for so many exports and nodes, none of which is marked.
 pub fn no_marks(alloc: Global, exports: usize, nodes: usize) -> Result<Marks, NoMemory>
     ensures exports { IfOk result (λ marks. marks.exports ≡ replicate exports false) }
     ensures direct { IfOk result (λ marks. marks.direct ≡ replicate nodes false) }

@@ -1,4 +1,4 @@
-// The tests whether a list of nodes is a graph, and whether exports and a graph are those of a library.
+// Tests whether a list of nodes is a graph, and whether exports and a graph are those of a library.
 ghost use Rattle.std.specs.Prelude.{◌≡◌, ◌<◌, ◌≤◌, ◌↔◌, ℕ, length, map, count_by, All, IsSome, IsTrue, IfOk};
 ghost use Rattle.abi_base.specs.Limits.{depth_limit};
 ghost use Rattle.abi_types.specs.Exports.{PlainExport};
@@ -31,7 +31,7 @@ fn is_void_first<Ix: Index>(nodes: &[Node<Ix>]) -> bool
     first.entry == 0 && view.kind == Kind::Void
 }
 
-// The rank of a node, 0 past the last one.
+// The rank of a node; 0 past the last one.
 fn rank_at<Ix: Index>(nodes: &[Node<Ix>], at: Ix) -> u32
     ensures { result ≡ (node_at nodes.now (Ix.number_of at)).rank }
 {
@@ -43,7 +43,7 @@ fn rank_at<Ix: Index>(nodes: &[Node<Ix>], at: Ix) -> u32
     node.rank
 }
 
-// Whether a part of a node of a rank names a node, and one of a lower rank where it names it by value.
+// Whether the part of a node with a rank names a node of the list, and one of a lower rank if it names it by value.
 fn names_node<Ix: Index>(nodes: &[Node<Ix>], rank: u32, part: &Part<Ix>) -> bool
     ensures { IsTrue result ↔ NamesNode nodes.now rank (plain_part Ix.number_of part.now) }
 {
@@ -58,7 +58,7 @@ fn names_node<Ix: Index>(nodes: &[Node<Ix>], rank: u32, part: &Part<Ix>) -> bool
     }
 }
 
-// Whether all parts of a node of a rank and a view do so.
+// Whether this holds for all parts of a view.
 fn names_nodes<Ix: Index>(nodes: &[Node<Ix>], rank: u32, view: &View<Ix>) -> bool
     ensures { IsTrue result ↔ NamesNodes nodes.now rank view.now }
 {
@@ -70,7 +70,7 @@ fn names_nodes<Ix: Index>(nodes: &[Node<Ix>], rank: u32, view: &View<Ix>) -> boo
     true
 }
 
-// Whether a node of a rank and a view keeps what those of a graph keep, each for itself.
+// Whether a node with a rank and a view meets the invariants of a graph's node.
 fn keeps<Ix: Index>(nodes: &[Node<Ix>], rank: u32, view: &View<Ix>) -> bool
     ensures { IsTrue result ↔ Keeps nodes.now rank view.now }
 {
@@ -89,7 +89,7 @@ fn keeps<Ix: Index>(nodes: &[Node<Ix>], rank: u32, view: &View<Ix>) -> bool
     is_whole(nodes, view)
 }
 
-// The same of the node of a number.
+// The same for the node with a number.
 fn keeps_node<Ix: Index>(nodes: &[Node<Ix>], i: usize) -> bool
     requires { i < length nodes.now }
     ensures { IsTrue result ↔ KeepsNode nodes.now i }
@@ -98,7 +98,7 @@ fn keeps_node<Ix: Index>(nodes: &[Node<Ix>], i: usize) -> bool
     keeps(nodes, node.rank, &node.view)
 }
 
-// Whether all nodes keep what those of a graph keep, each for itself.
+// Whether all nodes meet the invariants of a graph's node.
 fn keep_nodes<Ix: Index>(nodes: &[Node<Ix>]) -> bool
     ensures { IsTrue result ↔ ((i : ℕ) → i < length nodes.now → KeepsNode nodes.now i) }
 {
@@ -110,8 +110,8 @@ fn keep_nodes<Ix: Index>(nodes: &[Node<Ix>]) -> bool
     true
 }
 
-/// Whether the nodes are a graph, so that `Graph::of_nodes` takes them. It sorts their entries, and goes over the nodes and
-/// their parts once.
+/// Whether the nodes are a graph, so that `Graph::of_nodes` accepts them. It sorts their entries, and takes one pass over the nodes
+/// and their parts.
 pub fn is_graph<Ix: Index>(alloc: Global, nodes: &[Node<Ix>]) -> Result<bool, NoMemory>
     ensures { IfOk result (λ is. IsTrue is ↔ IsGraph nodes.now) }
 {
@@ -124,7 +124,7 @@ pub fn is_graph<Ix: Index>(alloc: Global, nodes: &[Node<Ix>]) -> Result<bool, No
     have_own_entries(alloc, nodes)
 }
 
-// How many of the parts are parameters.
+// The number of parts that are parameters.
 fn count_params<Ix: Index>(parts: &[Part<Ix>]) -> usize
     ensures { result ≡ count_by spec.is_param (map (plain_part Ix.number_of) parts.now) }
 {
@@ -153,7 +153,7 @@ fn have_places<Ix: Index>(graph: &Graph<Ix>) -> bool
     true
 }
 
-// Whether the entries of all exports are those of nodes.
+// Whether each export's entry is that of a node.
 fn have_nodes<Ix: Index>(exports: &[Export], graph: &Graph<Ix>) -> bool
     ensures { IsTrue result ↔ All (λ (e : PlainExport). IsSome (node_of graph.now e.entry)) (plain_exports exports.now) }
 {
@@ -171,7 +171,7 @@ fn symbol_of(export: &Export) -> u32
     export.symbol
 }
 
-// Whether the exports stand in order of the numbers of their symbols.
+// Whether the exports stand in order of their symbol numbers.
 fn are_numbered(exports: &[Export]) -> bool
     ensures { IsTrue result ↔ AreNumbered (plain_exports exports.now) }
 {
@@ -187,7 +187,7 @@ fn are_numbered(exports: &[Export]) -> bool
     true
 }
 
-/// Whether the exports and the graph are those of a library, so that `Library::new` takes them.
+/// Whether the exports and the graph are those of a library, so that `Library::new` accepts them.
 pub fn is_library<Ix: Index>(exports: &[Export], graph: &Graph<Ix>) -> bool
     ensures { IsTrue result ↔ IsLibrary (plain_exports exports.now) graph.now }
 {

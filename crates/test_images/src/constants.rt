@@ -1,10 +1,10 @@
-//! The numbers of the System V gABI and of GNU symbol versioning that images are built with, under their standard names,
-//! and the sizes of their 64-bit records.
+//! The constants of the System V gABI and of GNU symbol versioning with which images are built, under their standard names, and the
+//! sizes of the 64-bit records.
 
-/// The class of files with 64-bit records.
+/// The class of 64-bit files.
 pub const ELFCLASS64: u8 = 2;
 
-/// The byte order of files with little-endian numbers.
+/// The byte order of little-endian files.
 pub const ELFDATA2LSB: u8 = 1;
 
 /// The type of a shared object file.
@@ -16,11 +16,10 @@ pub const EM_X86_64: u16 = 62;
 /// The current version of the format.
 pub const EV_CURRENT: u8 = 1;
 
-/// The bytes of `E_IDENT`.
+/// The size of `E_IDENT` in bytes.
 pub const EI_NIDENT: usize = 16;
 
-/// What a file begins with, which says how it is to be read: the magic, the class, the byte order, the version and
-/// zeros.
+/// The beginning of a file, which says how to read it: the magic number, the class, the byte order, the version and zeros.
 pub const E_IDENT: [u8; EI_NIDENT] = [
     0x7f,
     b'E',
@@ -40,35 +39,35 @@ pub const E_IDENT: [u8; EI_NIDENT] = [
     0,
 ];
 
-/// The bytes of the file's header.
+/// The size of the file header in bytes.
 pub const ELF_HEADER_SIZE: usize = 64;
 
-/// The bytes of a section header.
+/// The size of a section header in bytes.
 pub const SECTION_HEADER_SIZE: usize = 64;
 
-/// The bytes of a symbol.
+/// The size of a symbol in bytes.
 pub const SYMBOL_SIZE: usize = 24;
 
-/// The bytes of an entry of the dynamic table.
+/// The size of an entry of the dynamic table in bytes.
 pub const DYNAMIC_ENTRY_SIZE: usize = 16;
 
-/// What the place of each section in an image is a multiple of.
+/// The alignment of each section in an image, in bytes.
 pub const ALIGNMENT: usize = 8;
 
-/// The first number that is no section's in a field of 16 bits. Where there are more sections, the header of section 0
-/// has their number and the number of the names'.
+/// The first value of a 16-bit field that is not a section index. If there are more sections, the header of section 0 holds their
+/// number and the index of the section of names.
 pub const SHN_LORESERVE: u32 = 0xff00;
 
-/// In place of the section's number of a symbol whose value does not move.
+/// The section index of a symbol whose value does not move.
 pub const SHN_ABS: u16 = 0xfff1;
 
-/// In place of a section number that does not fit.
+/// Replaces a section index that does not fit.
 pub const SHN_XINDEX: u16 = 0xffff;
 
-/// A section with no contents, as section 0.
+/// A section without contents, such as section 0.
 pub const SHT_NULL: u32 = 0;
 
-/// Bytes whose meaning the program that reads them knows, as debug entries.
+/// Bytes whose meaning the reading program knows, such as debug entries.
 pub const SHT_PROGBITS: u32 = 1;
 
 /// A string table.
@@ -89,7 +88,7 @@ pub const STT_OBJECT: u8 = 1;
 /// The type of a function's symbol.
 pub const STT_FUNC: u8 = 2;
 
-/// The visibility that the binding gives.
+/// The visibility that follows from the binding.
 pub const STV_DEFAULT: u8 = 0;
 
 /// The tag that ends the dynamic table.
@@ -104,25 +103,25 @@ pub const SHT_GNU_VERSYM: u32 = 0x6fff_ffff;
 /// The version definitions.
 pub const SHT_GNU_VERDEF: u32 = 0x6fff_fffd;
 
-/// The bytes of a symbol's version index.
+/// The size of a symbol's version index in bytes.
 pub const VERSYM_SIZE: usize = 2;
 
-/// The bit of a version index that says that the version is not the default one.
+/// The bit of a version index that marks the version as not the default one.
 pub const VERSYM_HIDDEN: u16 = 0x8000;
 
-/// The version index of a symbol that only its own file sees.
+/// The version index of a symbol that is visible only in its own file.
 pub const VER_NDX_LOCAL: u16 = 0;
 
-/// The version index of a symbol without a version that all files see.
+/// The version index of a global symbol without a version.
 pub const VER_NDX_GLOBAL: u16 = 1;
 
-/// The bytes of a version definition.
+/// The size of a version definition in bytes.
 pub const VERDEF_SIZE: usize = 20;
 
-/// The bytes of an auxiliary entry of a version definition.
+/// The size of an auxiliary entry of a version definition in bytes.
 pub const VERDAUX_SIZE: usize = 8;
 
-/// The one version of the format of version definitions.
+/// The only version of the format of version definitions.
 pub const VER_DEF_CURRENT: u16 = 1;
 
 /// The flag of the version definition that names the file itself.

@@ -1,4 +1,4 @@
-// Libraries that a text describes.
+// Libraries that are described by a text.
 ghost use Rattle.std.specs.Prelude.{◌≤◌, vec_len, IfOk};
 
 use crate::constants::{
@@ -12,15 +12,15 @@ use crate::units::{ENTRY_ABBREVIATIONS, put_entry, put_unit};
 use crate::version::ImageVersion;
 use std::alloc::{AllocError, Global};
 
-/// The image of the library that a text describes. A line is a word and its values:
+/// The image of the library that a text describes. A line has a word and its values:
 ///
 /// - `soname NAME`: a dynamic table with this soname.
-/// - `version NAME`: a version definition. Versions stand before the symbols that have them.
-/// - `function NAME` or `function NAME VERSION`: an exported function of no version, or of this one by default. Each has the next
-///   16 bytes of addresses, from 4096 on.
-/// - `hidden NAME VERSION`: the same, of a version that is not the default one.
-/// - `marker NAME`: the symbol that a linker puts beside the version of that name, global, an object and absolute.
-/// - `unit`: a unit of debug entries of version 5. The lines of its entries follow, as `put_entry` has them.
+/// - `version NAME`: a version definition. A version stands before the symbols that have it.
+/// - `function NAME` or `function NAME VERSION`: an exported function without a version, or with this one as its default. Each
+///   function takes the next 16 bytes of addresses, from 4096 on.
+/// - `hidden NAME VERSION`: the same, with a version that is not the default one.
+/// - `marker NAME`: the symbol that a linker adds for the version of that name, a global, absolute object.
+/// - `unit`: a unit of debug entries, of version 5. The lines of its entries follow, in the form that `put_entry` reads.
 pub fn described_library(alloc: Global, text: &str) -> Result<Vec<u8>, AllocError>
     ensures { IfOk result (λ file. ELF_HEADER_SIZE ≤ vec_len file) }
 {
@@ -31,17 +31,17 @@ pub fn described_library(alloc: Global, text: &str) -> Result<Vec<u8>, AllocErro
     description.image(alloc)?.bytes(alloc)
 }
 
-// What a text has described so far.
+// The description read so far.
 #[derive(Drop)]
 struct Description<'a> {
     soname: Option<&'a str>,
     versions: Vec<ImageVersion<'a>>,
     symbols: Vec<ImageSymbol<'a>>,
-    // The version indexes of symbol 0 and of the symbols.
+    // The version indexes of symbol 0 and of the other symbols.
     indexes: Vec<u16>,
     // The address of the next function.
     address: u64,
-    // The units that are whole, and the entries of the last one.
+    // The finished units, and the entries of the last one.
     units: Vec<u8>,
     entries: Option<Vec<u8>>,
 }
@@ -64,7 +64,7 @@ impl<'a> Description<'a> {
         })
     }
 
-    // The index of the version of this name, or of no version.
+    // The index of the version with this name, or of no version.
     fn index_of(&self, name: &str) -> u16 {
         for version in &self.versions {
             if version.name == name.as_bytes() {
@@ -104,7 +104,7 @@ impl<'a> Description<'a> {
         Ok(())
     }
 
-    // Makes the open unit whole.
+    // Finishes the open unit.
     fn close_unit(&mut self) -> Result<(), AllocError> {
         match self.entries.take() {
             Some(entries) => put_unit(&mut self.units, &entries),
@@ -136,7 +136,7 @@ impl<'a> Description<'a> {
         Ok(())
     }
 
-    // The image of all that was described.
+    // The image of the whole description.
     fn image(&mut self, alloc: Global) -> Result<Image, AllocError> {
         self.close_unit()?;
         let mut image = Image::new(alloc);
@@ -155,7 +155,7 @@ impl<'a> Description<'a> {
     }
 }
 
-/// The symbol that a linker puts beside a version, by the version's name: global, an object and absolute.
+/// The symbol that a linker adds for a version, given the version's name: a global, absolute object.
 pub fn marker(name: &[u8]) -> ImageSymbol<'_> {
     ImageSymbol {
         info: (STB_GLOBAL << 4) | STT_OBJECT,
@@ -166,7 +166,7 @@ pub fn marker(name: &[u8]) -> ImageSymbol<'_> {
     }
 }
 
-/// Puts the sections `.debug_abbrev` and `.debug_info` last, of these contents.
+/// Appends the sections `.debug_abbrev` and `.debug_info`, with these contents.
 pub fn add_debug_sections(
     image: &mut Image,
     alloc: Global,

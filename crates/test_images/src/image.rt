@@ -14,8 +14,8 @@ use crate::version::{ImageVersion, put_definition};
 use std::alloc::{AllocError, Global};
 use std::marker::Model;
 
-/// An ELF-64 shared object for x86-64, as the gABI has it. Contracts see it as its sections from number 1 on, without
-/// the one of the sections' names, which `bytes` adds.
+/// An ELF-64 shared object for x86-64, in the format of the gABI. Contracts see it as its sections from number 1 on, without the
+/// section of the section names, which `bytes` adds.
 #[derive(Drop)]
 pub struct Image {
     sections: Vec<ImageSection>,
@@ -31,7 +31,7 @@ impl Model for Image {
 }
 
 impl Image {
-    /// The image with no section.
+    /// An image without sections.
     pub fn new(alloc: Global) -> Image
         ensures { result ≡ [] }
     {
@@ -40,7 +40,7 @@ impl Image {
         }
     }
 
-    /// Puts a section last, and gives its number, counted from 1 as the gABI has it.
+    /// Appends a section, and returns its number, counted from 1 as in the gABI.
     pub fn add_section(&mut self, section: ImageSection) -> Result<u32, AllocError>
         ensures added { OnOk result (self.new ≡ self.old ++ section ∷ []) }
         ensures kept { OnErr result (self.new ≡ self.old) }
@@ -50,8 +50,8 @@ impl Image {
         Ok(to_u32(self.sections.len()))
     }
 
-    /// Puts the sections `.dynsym` and `.dynstr` last: the reserved symbol 0 and then these, and their names, as the
-    /// gABI has them.
+    /// Appends the sections `.dynsym`, with the reserved symbol 0 followed by these symbols, and `.dynstr`, with their names, in
+    /// the format of the gABI.
     pub fn add_symbols(&mut self, symbols: &[ImageSymbol]) -> Result<(), AllocError>
         ensures added { OnOk result (length self.new ≡ length self.old + 2) }
         ensures kept { OnErr result (self.new ≡ self.old) }
@@ -63,9 +63,8 @@ impl Image {
         self.add_with_strings(section, names)
     }
 
-    /// Puts the sections `.dynsym`, `.dynstr`, `.gnu.version` and `.gnu.version_d` last: the symbols as `add_symbols`
-    /// does, the version index of each, the reserved symbol 0 among them, and the version definitions. All names stand in
-    /// `.dynstr`.
+    /// Appends the sections `.dynsym`, `.dynstr`, `.gnu.version` and `.gnu.version_d`: the symbols as in `add_symbols`, the version
+    /// index of each, including the reserved symbol 0, and the version definitions. All names are in `.dynstr`.
     pub fn add_versioned_symbols(
         &mut self,
         symbols: &[ImageSymbol],
@@ -94,8 +93,8 @@ impl Image {
         self.sections.append(&mut all)
     }
 
-    /// Puts the sections `.dynamic` and `.dynamic.str` last: a dynamic table that gives the soname, and its strings,
-    /// as the gABI has them.
+    /// Appends the sections `.dynamic`, a dynamic table with the soname, and `.dynamic.str`, its strings, in the format of the
+    /// gABI.
     pub fn add_soname(&mut self, name: &[u8]) -> Result<(), AllocError>
         ensures added { OnOk result (length self.new ≡ length self.old + 2) }
         ensures kept { OnErr result (self.new ≡ self.old) }
@@ -109,8 +108,8 @@ impl Image {
         self.add_with_strings(section, names)
     }
 
-    /// Puts the section `.gnu.version` last, right after the symbols and their names: the version index of each symbol,
-    /// the reserved symbol 0 among them, as GNU symbol versioning has it.
+    /// Appends the section `.gnu.version`, right after the symbols and their names: the version index of each symbol, including the
+    /// reserved symbol 0, in the format of GNU symbol versioning.
     pub fn add_version_indexes(&mut self, indexes: &[u16]) -> Result<(), AllocError>
         ensures added { OnOk result (length self.new ≡ length self.old + 1) }
         ensures kept { OnErr result (self.new ≡ self.old) }
@@ -122,8 +121,8 @@ impl Image {
         Ok(())
     }
 
-    /// Puts the sections `.gnu.version_d` and `.gnu.version_d.str` last: the version definitions and their names, as GNU
-    /// symbol versioning has them.
+    /// Appends the sections `.gnu.version_d`, with the version definitions, and `.gnu.version_d.str`, with their names, in the
+    /// format of GNU symbol versioning.
     pub fn add_versions(&mut self, versions: &[ImageVersion]) -> Result<(), AllocError>
         ensures added { OnOk result (length self.new ≡ length self.old + 2) }
         ensures kept { OnErr result (self.new ≡ self.old) }
@@ -135,7 +134,7 @@ impl Image {
         self.add_with_strings(section, names)
     }
 
-    // Puts a section and then its string table last, to which it will link.
+    // Appends a section, followed by its string table, to which the section links.
     fn add_with_strings(
         &mut self,
         mut section: ImageSection,
@@ -151,7 +150,7 @@ impl Image {
         self.sections.append(&mut both)
     }
 
-    /// Puts the section of the sections' names last, `.shstrtab`. Its contents come with `bytes`, which otherwise puts it
+    /// Appends the section of the section names, `.shstrtab`. `bytes` fills in its contents; without this call, `bytes` appends it
     /// after all others.
     pub fn add_section_names(&mut self) -> Result<(), AllocError>
         ensures added { OnOk result (length self.new ≡ length self.old + 1) }
@@ -162,21 +161,21 @@ impl Image {
         Ok(())
     }
 
-    // The place of the section of the sections' names among the sections, where it was put.
+    // The position of the section of the section names, if it was appended.
     fn names_place(&self) -> Option<usize> {
         self.sections
             .iter()
             .position(|section| section.name.as_str() == SECTION_NAMES)
     }
 
-    /// The file as the gABI has it: its header, the sections in order, `.shstrtab` as the last of them where it was not
-    /// put before, and the section table. Each section and the table stand at the next multiple of 8, with zeros between.
-    /// The fields that a reader of sections does not need, as those for segments and the header's own size, are 0.
+    /// The file in the format of the gABI: its header, the sections in order, `.shstrtab` as the last of them unless it was
+    /// appended before, and the section table. Each section and the table begin at the next multiple of 8, after padding with
+    /// zeros. Fields that a reader of sections does not need, such as those for segments and the header's own size, are 0.
     pub fn bytes(&self, alloc: Global) -> Result<Vec<u8>, AllocError>
         ensures { IfOk result (λ file. ELF_HEADER_SIZE + SECTION_HEADER_SIZE * (length self.now + 1) ≤ vec_len file) }
     {
         let mut names = names_of(alloc, &self.sections)?;
-        // Section 0 is the other one.
+        // Section 0 is counted in addition.
         let own = to_u32(self.sections.len()).saturating_add(1);
         match self.names_place() {
             Some(place) => {
@@ -200,7 +199,7 @@ impl Image {
         }
     }
 
-    // The layout of the sections, whose names have this table.
+    // The layout of the sections, given the table of their names.
     fn layout(
         &self,
         alloc: Global,
@@ -224,15 +223,15 @@ impl Image {
     }
 }
 
-// The name of the section of the sections' names.
+// The name of the section of the section names.
 const SECTION_NAMES: &str = ".shstrtab";
 
-// The section of the sections' names, without contents yet.
+// The section of the section names, without contents yet.
 fn names_section(alloc: Global) -> Result<ImageSection, AllocError> {
     ImageSection::new(alloc, SECTION_NAMES, SHT_STRTAB, Vec::new(alloc))
 }
 
-// The table of the names of sections, in order.
+// The table of the section names, in order.
 fn names_of(alloc: Global, sections: &[ImageSection]) -> Result<StringTable, AllocError> {
     let mut names = StringTable::new(alloc)?;
     for section in sections {
@@ -241,7 +240,7 @@ fn names_of(alloc: Global, sections: &[ImageSection]) -> Result<StringTable, All
     Ok(names)
 }
 
-// The section of symbol 0 and of the symbols, whose names go to the string table.
+// The section of symbol 0 and the other symbols. Their names are added to the string table.
 fn symbol_section(
     alloc: Global,
     symbols: &[ImageSymbol],
@@ -249,7 +248,7 @@ fn symbol_section(
 ) -> Result<ImageSection, AllocError> {
     let table = symbol_table(alloc, symbols, names)?;
     let mut section = ImageSection::new(alloc, ".dynsym", SHT_DYNSYM, table)?;
-    // The first symbol that is not local.
+    // The index of the first symbol that is not local.
     section.info = 1;
     section.entry_size = SYMBOL_SIZE as u64;
     Ok(section)
@@ -263,7 +262,7 @@ fn index_section(alloc: Global, indexes: &[u16]) -> Result<ImageSection, AllocEr
     Ok(section)
 }
 
-// The section of the version definitions, whose names go to the string table.
+// The section of the version definitions. Their names are added to the string table.
 fn definition_section(
     alloc: Global,
     versions: &[ImageVersion],
@@ -275,7 +274,7 @@ fn definition_section(
     Ok(section)
 }
 
-// The records of symbol 0 and of the symbols, whose names go to the string table.
+// The records of symbol 0 and the other symbols. Their names are added to the string table.
 fn symbol_table(
     alloc: Global,
     symbols: &[ImageSymbol],
@@ -289,7 +288,7 @@ fn symbol_table(
     Ok(table)
 }
 
-// The entries of a dynamic table that gives the soname, which stands at an offset of the table's strings.
+// The entries of a dynamic table with the soname, whose offset in the table's strings is given.
 fn soname_table(alloc: Global, name_offset: u32) -> Result<Vec<u8>, AllocError>
     ensures { IfOk result (λ table. vec_len table ≡ DYNAMIC_ENTRY_SIZE + DYNAMIC_ENTRY_SIZE) }
 {
@@ -301,7 +300,7 @@ fn soname_table(alloc: Global, name_offset: u32) -> Result<Vec<u8>, AllocError>
     Ok(table)
 }
 
-// The version indexes one after the other.
+// The version indexes in order.
 fn index_table(alloc: Global, indexes: &[u16]) -> Result<Vec<u8>, AllocError> {
     let mut table = Vec::new(alloc);
     for index in indexes {
@@ -310,7 +309,7 @@ fn index_table(alloc: Global, indexes: &[u16]) -> Result<Vec<u8>, AllocError> {
     Ok(table)
 }
 
-// The version definitions one after the other, whose names go to the string table.
+// The version definitions in order. Their names are added to the string table.
 fn definition_table(
     alloc: Global,
     versions: &[ImageVersion],

@@ -1,4 +1,4 @@
-// How the parts of a file are laid out.
+// The layout of the parts of a file.
 ghost use Rattle.std.specs.Prelude.{◌≡◌, ◌+◌, ◌≤◌, ◌↔◌, vec_len, IsTrue, OnOk, IfOk};
 
 use crate::constants::{
@@ -10,15 +10,17 @@ use crate::section::{SectionHeader, put_section_header};
 use std::alloc::{AllocError, Global};
 use std::marker::Model;
 
-/// How many sections a file has, 0 and the one of their names among them, and the number of the one of their names.
+/// The number of sections in a file, including section 0 and the section of names, and the index of the section of names.
 #[derive(Clone, Copy)]
 pub struct SectionNumbers {
+    /// The number of sections.
     pub count: u32,
+    /// The index of the section of names.
     pub names: u32,
 }
 
-/// A file that is being laid out: the contents between its header and its section table, and the section table. Contracts
-/// see it as the length of the section table.
+/// A file that is being laid out: the contents between its header and its section table, and the section table. Contracts see it as
+/// the length of the section table.
 #[derive(Drop)]
 pub struct Layout {
     contents: Vec<u8>,
@@ -34,7 +36,7 @@ impl Model for Layout {
 }
 
 impl Layout {
-    /// The layout with section 0 alone, for a file whose sections will be numbered so.
+    /// A layout with only section 0, for a file with these section numbers.
     pub fn new(alloc: Global, numbers: SectionNumbers) -> Result<Layout, AllocError>
         ensures { IfOk result (λ layout. layout ≡ SECTION_HEADER_SIZE) }
     {
@@ -46,14 +48,14 @@ impl Layout {
         })
     }
 
-    /// Puts a section with this header and these contents last.
+    /// Appends a section with this header and these contents.
     pub fn add(&mut self, header: &SectionHeader, bytes: &[u8]) -> Result<(), AllocError>
         ensures { OnOk result (self.new ≡ self.old + SECTION_HEADER_SIZE) }
     {
         place(&mut self.contents, &mut self.table, header, bytes)
     }
 
-    /// The file whose sections are numbered so.
+    /// The finished file, with these section numbers.
     pub fn into_file(
         mut self,
         alloc: Global,
@@ -70,12 +72,12 @@ impl Layout {
     }
 }
 
-// The place in the file of what follows contents.
+// The offset in the file of the byte after the contents.
 fn after_header(contents: &[u8]) -> u64 {
     contents.len().saturating_add(ELF_HEADER_SIZE) as u64
 }
 
-// Puts contents last at the next multiple of the alignment, and their header in the table.
+// Appends contents at the next multiple of the alignment, and their header to the table.
 fn place(
     contents: &mut Vec<u8>,
     table: &mut Vec<u8>,
@@ -95,15 +97,15 @@ fn place(
     contents.extend_from_slice(bytes)
 }
 
-// Whether a number of sections, or of a section, needs more than the 16 bits of the file's header.
+// Whether a number of sections, or the index of one, does not fit the 16 bits of the file header.
 fn is_extended(number: u32) -> bool
     ensures { IsTrue result ↔ (SHN_LORESERVE ≤ number) }
 {
     number >= SHN_LORESERVE
 }
 
-// The header of section 0. It is zeros, but for the number of the sections and the number of the names' where the
-// file's header has no room for them.
+// The header of section 0. It is zero, except for the number of sections and the index of the section of names, if they do not fit
+// the file header.
 fn null_header(numbers: SectionNumbers) -> SectionHeader {
     SectionHeader {
         size: if is_extended(numbers.count) {
@@ -120,12 +122,12 @@ fn null_header(numbers: SectionNumbers) -> SectionHeader {
     }
 }
 
-// The field of the file's header for the number of sections.
+// The field of the file header for the number of sections.
 fn count_field(count: u32) -> u16 {
     if is_extended(count) { 0 } else { count as u16 }
 }
 
-// The field of the file's header for the number of the names' section.
+// The field of the file header for the index of the section of names.
 fn names_field(number: u32) -> u16 {
     if is_extended(number) {
         SHN_XINDEX
@@ -134,7 +136,7 @@ fn names_field(number: u32) -> u16 {
     }
 }
 
-// Puts the file's header last. The fields for segments, and the header's own size, are 0.
+// Appends the file header. The fields for segments, and the header's own size, are 0.
 fn put_file_header(
     file: &mut Vec<u8>,
     table_place: u64,

@@ -1,5 +1,5 @@
-//! Small ELF-64 x86-64 shared objects, as bytes, for tests. An image has a header, its sections in order and the
-//! section table, as the System V gABI has them, and no program headers.
+//! Small ELF-64 x86-64 shared objects, as bytes, for tests. An image has a header, its sections in order and the section table, in
+//! the format of the System V gABI, and no program headers.
 #![tactic(auto)]
 
 pub mod constants;

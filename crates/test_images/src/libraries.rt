@@ -9,8 +9,8 @@ use crate::units::{FUNCTION_ABBREVIATIONS, FUNCTION_UNIT};
 use crate::version::ImageVersion;
 use std::alloc::{AllocError, Global};
 
-/// The image, as the gABI has it, of a library that exports functions of these names, in order, and no more. Each has
-/// the next 16 bytes of addresses, from 4096 on.
+/// The image, in the format of the gABI, of a library that exports exactly the functions with these names, in order. Each takes the
+/// next 16 bytes of addresses, from 4096 on.
 pub fn library(alloc: Global, exports: &[&str]) -> Result<Vec<u8>, AllocError>
     ensures { IfOk result (λ file. ELF_HEADER_SIZE ≤ vec_len file) }
 {
@@ -19,7 +19,7 @@ pub fn library(alloc: Global, exports: &[&str]) -> Result<Vec<u8>, AllocError>
     image.bytes(alloc)
 }
 
-/// The image of `library`, and a dynamic table that gives the soname, as the gABI has it.
+/// The image of `library`, with a dynamic table that has the soname, in the format of the gABI.
 pub fn library_with_soname(
     alloc: Global,
     soname: &str,
@@ -33,9 +33,9 @@ pub fn library_with_soname(
     image.bytes(alloc)
 }
 
-/// The image of a library with the sections `.dynsym`, `.dynstr`, `.gnu.version`, `.gnu.version_d`, `.shstrtab`, `.debug_abbrev` and
-/// `.debug_info`, in this order. It exports the function `f` of version `V1`, with its type, and has the markers of these names
-/// beside it, which are of that version, too.
+/// The image of a library with the sections `.dynsym`, `.dynstr`, `.gnu.version`, `.gnu.version_d`, `.shstrtab`, `.debug_abbrev`
+/// and `.debug_info`, in this order. It exports the function `f` with the version `V1` and a type. The markers with these names,
+/// which have that version, too, are added to it.
 pub fn versioned_function(alloc: Global, markers: &[&str]) -> Result<Vec<u8>, AllocError>
     ensures { IfOk result (λ file. ELF_HEADER_SIZE ≤ vec_len file) }
 {
@@ -63,7 +63,7 @@ pub fn versioned_function(alloc: Global, markers: &[&str]) -> Result<Vec<u8>, Al
     image.bytes(alloc)
 }
 
-/// The image of `library` for `count` functions named `f0`, `f1` and so on.
+/// The image of `library` with `count` functions named `f0`, `f1` and so on.
 pub fn numbered_library(alloc: Global, count: u32) -> Result<Vec<u8>, AllocError>
     ensures { IfOk result (λ file. ELF_HEADER_SIZE ≤ vec_len file) }
 {
@@ -75,7 +75,7 @@ pub fn numbered_library(alloc: Global, count: u32) -> Result<Vec<u8>, AllocError
     library(alloc, &exports)
 }
 
-// Exported functions of these names, one after the other.
+// Exported functions with these names, in order.
 fn functions<'a>(alloc: Global, names: &[&'a str]) -> Result<Vec<ImageSymbol<'a>>, AllocError> {
     let mut symbols = Vec::new(alloc);
     let mut value = ImageSymbol::FUNCTION_ADDRESS;

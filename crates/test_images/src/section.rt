@@ -5,27 +5,27 @@ use crate::constants::SECTION_HEADER_SIZE;
 use crate::numbers::{put_u32, put_u64};
 use std::alloc::{AllocError, Global};
 
-/// A section of an image: its name, the fields of its header as the gABI has them, and its bytes.
+/// A section of an image: its name, the fields of its header in the gABI, and its bytes.
 #[derive(Drop)]
 pub struct ImageSection {
-    /// The name, which `.shstrtab` will hold.
+    /// The name, which goes to `.shstrtab`.
     pub name: String,
     /// `sh_type`.
     pub kind: u32,
     /// `sh_flags`.
     pub flags: u64,
-    /// `sh_link`: the number of a section that belongs to it.
+    /// `sh_link`: the index of a related section.
     pub link: u32,
     /// `sh_info`.
     pub info: u32,
     /// `sh_entsize`: the size of its entries, or 0.
     pub entry_size: u64,
-    /// What the file has at the section's place.
+    /// The contents in the file.
     pub bytes: Vec<u8>,
 }
 
 impl ImageSection {
-    /// A section of that name, type (`SHT_..` of the gABI) and contents, whose other fields are 0.
+    /// A section with this name, type (`SHT_..` of the gABI) and contents. All other fields are 0.
     pub fn new(
         alloc: Global,
         name: &str,
@@ -46,7 +46,7 @@ impl ImageSection {
         })
     }
 
-    // The header, whose name stands at an offset of the names. Where the section lies in a file is open yet.
+    // The header, given the offset of its name among the names. Its position in the file is not known yet.
     pub(crate) fn header(&self, name_offset: u32) -> SectionHeader {
         SectionHeader {
             flags: self.flags,
@@ -61,19 +61,28 @@ impl ImageSection {
 /// A section header. Its address is 0.
 #[derive(Clone, Copy)]
 pub struct SectionHeader {
+    /// `sh_name`: the offset of the name among the section names.
     pub name_offset: u32,
+    /// `sh_type`.
     pub kind: u32,
+    /// `sh_flags`.
     pub flags: u64,
+    /// `sh_offset`: the position in the file.
     pub place: u64,
+    /// `sh_size`, in bytes.
     pub size: u64,
+    /// `sh_link`.
     pub link: u32,
+    /// `sh_info`.
     pub info: u32,
+    /// `sh_addralign`, in bytes.
     pub alignment: u64,
+    /// `sh_entsize`, in bytes.
     pub entry_size: u64,
 }
 
 impl SectionHeader {
-    /// The header of a section of a type, whose other fields are 0.
+    /// The header of a section with a type. All other fields are 0.
     pub fn new(name_offset: u32, kind: u32) -> SectionHeader
         ensures { result.kind ≡ kind }
     {
@@ -91,7 +100,7 @@ impl SectionHeader {
     }
 }
 
-/// Puts a section header last.
+/// Appends a section header.
 pub fn put_section_header(table: &mut Vec<u8>, header: &SectionHeader) -> Result<(), AllocError>
     ensures { OnOk result (vec_len table.new ≡ vec_len table.old + SECTION_HEADER_SIZE) }
 {

@@ -5,8 +5,8 @@ use crate::numbers::to_u32;
 use std::alloc::{AllocError, Global};
 use std::marker::Model;
 
-/// A string table as the gABI has it: a 0 byte, then the names in order, each ended by a 0 byte. Contracts see it as
-/// its bytes.
+/// A string table in the format of the gABI: a 0 byte, followed by the names in order, each terminated by a 0 byte. Contracts see
+/// it as its bytes.
 #[derive(Drop)]
 pub struct StringTable {
     bytes: Vec<u8>,
@@ -21,7 +21,7 @@ impl Model for StringTable {
 }
 
 impl StringTable {
-    /// The table without names.
+    /// A table without names.
     pub fn new(alloc: Global) -> Result<StringTable, AllocError>
         ensures { IfOk result (λ table. table ≡ 0 ∷ []) }
     {
@@ -30,7 +30,7 @@ impl StringTable {
         })
     }
 
-    /// Puts a name last, and gives its offset, or the largest number of 32 bits where that does not fit.
+    /// Appends a name, and returns its offset, saturated at 32 bits.
     pub fn add(&mut self, name: &[u8]) -> Result<u32, AllocError>
         ensures added { OnOk result (self.new ≡ (self.old ++ name.now) ++ 0 ∷ []) }
         ensures offset { IfOk result (λ offset. offset ≡ min (length self.old) (2 ^ 32 - 1)) }
@@ -41,14 +41,14 @@ impl StringTable {
         Ok(offset)
     }
 
-    /// The bytes of the table so far.
+    /// The bytes of the table.
     pub fn as_slice(&self) -> &[u8]
         ensures { result.now ≡ self.now }
     {
         self.bytes.as_slice()
     }
 
-    /// The bytes of the table, given away.
+    /// Converts the table to its bytes.
     pub fn into_bytes(self) -> Vec<u8>
         ensures { result.items ≡ self }
     {

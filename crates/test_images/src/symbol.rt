@@ -5,31 +5,31 @@ use crate::constants::{STB_GLOBAL, STT_FUNC, STV_DEFAULT, SYMBOL_SIZE};
 use crate::numbers::{put_u16, put_u32, put_u64};
 use std::alloc::AllocError;
 
-/// A dynamic symbol of an image, as the gABI has it: its name and the other fields of its record.
+/// A dynamic symbol of an image: its name and the other fields of its record in the gABI.
 #[derive(Clone, Copy)]
 pub struct ImageSymbol<'a> {
-    /// The name, without the 0 byte that ends it.
+    /// The name, without the terminating 0 byte.
     pub name: &'a [u8],
     /// `st_info`: the binding times 16, and the type.
     pub info: u8,
     /// `st_other`: the visibility.
     pub other: u8,
-    /// `st_shndx`: the number of the section that it is defined in.
+    /// `st_shndx`: the index of the section that defines it.
     pub section: u16,
     /// `st_value`: its address.
     pub value: u64,
-    /// `st_size`: how many bytes it has.
+    /// `st_size`: its size in bytes.
     pub size: u64,
 }
 
 impl<'a> ImageSymbol<'a> {
-    /// The address of a function, where none is given.
+    /// The address of a function, unless another one is given.
     pub const FUNCTION_ADDRESS: u64 = 0x1000;
 
-    /// The bytes of a function.
+    /// The size of a function in bytes.
     pub const FUNCTION_SIZE: u64 = 16;
 
-    /// An exported function, as the gABI has it: global, of default visibility, defined in section 1.
+    /// An exported function in the sense of the gABI: global, of default visibility, defined in section 1.
     pub fn function(name: &'a [u8]) -> Self
         ensures name { result.name.now ≡ name.now }
         ensures section { result.section ≡ 1 }
@@ -45,7 +45,7 @@ impl<'a> ImageSymbol<'a> {
     }
 }
 
-/// Puts the record of a symbol last, whose name stands at an offset of the string table.
+/// Appends the record of a symbol, given the offset of its name in the string table.
 pub fn put_symbol(
     table: &mut Vec<u8>,
     name_offset: u32,

@@ -7,14 +7,14 @@ pub const FUNCTION_ABBREVIATIONS: &[u8] =
     b"\x01\x11\x01\x13\x05\x00\x00\x02\x24\x00\x0b\x0b\x3e\x0b\x03\x08\x00\x00\
 \x03\x2e\x00\x03\x08\x49\x13\x11\x01\x00\x00\x00";
 
-/// A unit of version 5: a function `f`, at 22, that gives the `int` at 15.
+/// A unit of version 5: a function `f`, at 22, that returns the `int` at 15.
 pub const FUNCTION_UNIT: &[u8] =
     b"\x22\x00\x00\x00\x05\x00\x01\x08\x00\x00\x00\x00\x01\x0c\x00\x02\x04\x05int\x00\
 \x03f\x00\x0f\x00\x00\x00\x00\x10\x00\x00\x00\x00\x00\x00\x00";
 
-/// The abbreviations of the entries that `put_entry` puts, by the code of `code_of`: the code, the tag, whether it has children, and
-/// pairs of an attribute and its form. Numbers have eight bytes, names stand in the entry, and a type is counted from the start of
-/// `.debug_info`.
+/// The abbreviations of the entries that `put_entry` appends, by the code of `code_of`: the code, the tag, whether it has children,
+/// and pairs of an attribute and its form. Numbers take eight bytes, names are in the entry, and types are offsets from the start
+/// of `.debug_info`.
 pub const ENTRY_ABBREVIATIONS: &[u8] = b"\
 \x01\x11\x01\x13\x05\x00\x00\
 \x02\x24\x00\x03\x08\x0b\x07\x3e\x07\x00\x00\
@@ -35,7 +35,7 @@ pub const ENTRY_ABBREVIATIONS: &[u8] = b"\
 \x11\x2e\x00\x11\x01\x31\x10\x00\x00\
 \x00";
 
-// The code of a kind of entries among the abbreviations.
+// The abbreviation code of a kind of entry.
 fn code_of(kind: &str) -> u8 {
     match kind {
         "base" => 2,
@@ -58,7 +58,7 @@ fn code_of(kind: &str) -> u8 {
     }
 }
 
-// Puts a value last: a place after `@`, a number, or a name.
+// Appends a value: an offset after `@`, a number, or a name.
 fn put_value(entries: &mut Vec<u8>, word: &str) -> Result<(), AllocError> {
     if let Some(place) = word.strip_prefix('@') {
         return put_u32(entries, place.parse().unwrap_or(0));
@@ -73,16 +73,16 @@ fn put_value(entries: &mut Vec<u8>, word: &str) -> Result<(), AllocError> {
     }
 }
 
-/// Puts the entry of a line last. The line has the entry's place in `.debug_info`, which is there for the reader alone, its kind, and
-/// its values:
+/// Appends the entry that a line describes. The line has the entry's offset in `.debug_info`, which is only there for the reader,
+/// its kind, and its values:
 ///
-/// - `base NAME SIZE ENCODING`, `pointer @TYPE`, `declared NAME` (a structure that is declared only)
-/// - `structure NAME SIZE` and `union NAME SIZE`, of whose children `member NAME @TYPE PLACE` is one, and `nameless @TYPE PLACE` a
+/// - `base NAME SIZE ENCODING`, `pointer @TYPE`, `declared NAME` (a structure that is only declared)
+/// - `structure NAME SIZE` and `union NAME SIZE`; their children are `member NAME @TYPE OFFSET`, and `nameless @TYPE OFFSET`, a
 ///   member without a name
-/// - `array @TYPE`, of whose children `count COUNT` is one
-/// - `typedef NAME @TYPE`, and `aligned NAME @TYPE ALIGNMENT` with an alignment of its own
-/// - `function NAME ADDRESS @TYPE` and `procedure NAME ADDRESS`, which gives nothing, of whose children `parameter @TYPE` is one
-/// - `link @ORIGIN` and `instance ADDRESS @ORIGIN`: a function that says no more than where its abstract origin stands
+/// - `array @TYPE`, with the child `count COUNT`
+/// - `typedef NAME @TYPE`, and `aligned NAME @TYPE ALIGNMENT` with an explicit alignment
+/// - `function NAME ADDRESS @TYPE`, and `procedure NAME ADDRESS`, which returns nothing; their children are `parameter @TYPE`
+/// - `link @ORIGIN` and `instance ADDRESS @ORIGIN`: a function that only refers to its abstract origin
 /// - `end`, which ends the children of a structure, a union, an array, a function or a procedure
 pub fn put_entry(entries: &mut Vec<u8>, line: &str) -> Result<(), AllocError> {
     let mut words = line.split_whitespace();
@@ -94,11 +94,11 @@ pub fn put_entry(entries: &mut Vec<u8>, line: &str) -> Result<(), AllocError> {
     Ok(())
 }
 
-/// Puts a unit of version 5 last, of a program in C, with these entries below its root. The first one stands 15 bytes behind the unit's
-/// begin.
+/// Appends a unit of version 5 of a C program, with these entries below its root. The first one is 15 bytes after the start of the
+/// unit.
 pub fn put_unit(units: &mut Vec<u8>, entries: &[u8]) -> Result<(), AllocError> {
     let (version, compile_unit, address_size, abbreviations) = (5, 1, 8, 0);
-    // The header without the length itself, the root, and the end of the root's children.
+    // The length counts the rest of the header, the root, and the end of the root's children.
     put_u32(units, to_u32(entries.len()).saturating_add(12))?;
     put_u16(units, version)?;
     units.extend_from_slice(&[compile_unit, address_size])?;

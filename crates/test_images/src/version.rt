@@ -5,19 +5,19 @@ use crate::constants::{VER_DEF_CURRENT, VERDAUX_SIZE, VERDEF_SIZE};
 use crate::numbers::{put_u16, put_u32};
 use std::alloc::AllocError;
 
-/// A version definition of an image, as GNU symbol versioning has it: its name and two fields of its record.
+/// A version definition of an image, in the format of GNU symbol versioning: its name and two fields of its record.
 #[derive(Clone, Copy)]
 pub struct ImageVersion<'a> {
-    /// `vd_ndx`: the index that the symbols of this version have.
+    /// `vd_ndx`: the index of the symbols with this version.
     pub index: u16,
     /// `vd_flags`.
     pub flags: u16,
-    /// The name, without the 0 byte that ends it.
+    /// The name, without the terminating 0 byte.
     pub name: &'a [u8],
 }
 
-/// Puts a version definition last, and after it its one auxiliary entry, whose name stands at an offset of the string
-/// table. The next definition, where there is one, follows the auxiliary entry. The hash of the name is 0.
+/// Appends a version definition and its only auxiliary entry, given the offset of the name in the string table. The next
+/// definition, if there is one, follows the auxiliary entry. The hash of the name is 0.
 pub fn put_definition(
     table: &mut Vec<u8>,
     name_offset: u32,
@@ -39,7 +39,7 @@ pub fn put_definition(
     put_u32(table, hash)?;
     put_u32(table, auxiliary)?;
     put_u32(table, next)?;
-    // The auxiliary entry: its name, and where the next one begins.
+    // The auxiliary entry: its name, and the offset of the next one.
     put_u32(table, name_offset)?;
     put_u32(table, 0)
 }

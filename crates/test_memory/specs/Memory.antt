@@ -1,4 +1,4 @@
--- What a check in memory asks of two libraries.
+-- What a check in memory requires of two libraries.
 use Rattle.std.specs.Prelude.{◌≡◌, ◌≤◌, ℕ, List, [], length, Option, None}
 use Rattle.abi_base.specs.Limits.{input_limit, sink_room}
 use Rattle.abi_base.specs.declared.remark.Remark.{Remark}
@@ -6,7 +6,7 @@ use Rattle.abi_top.specs.Says.{CheckSays}
 use Rattle.commands.specs.declared.verdict.Verdict.{Verdict}
 use Rattle.library_read.specs.Faults.{library_fault}
 
--- Both libraries are readable, and the sink in memory has room for whatever `check` may say of them.
+-- Both libraries are readable, and the sink in memory has room for any answer of `check` about them.
 pub record FitsInMemory (old new : List ℕ) : Type 0 where
   pub old_short : length old ≤ input_limit
   pub new_short : length new ≤ input_limit

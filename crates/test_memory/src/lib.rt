@@ -1,5 +1,5 @@
-//! A check of two libraries in memory, and what follows of its answer from public contracts alone: where both libraries are
-//! readable, it is yes exactly where the new library may replace the old one, and no exactly where it may not.
+//! A check of two libraries in memory, and what its answer means, by public contracts only: if both libraries are readable, it is
+//! yes exactly if the new library may replace the old one, and no exactly if it may not.
 #![tactic(auto)]
 
 ghost use Rattle.std.specs.Prelude.{◌≡◌, ◌↔◌, [], codes, Some, IfOk};
@@ -18,10 +18,10 @@ use std::alloc::{AllocError, Global};
 #[cfg(test)]
 mod checks;
 
-// The bytes that the sink takes in one call.
+// The most bytes that the sink takes in one call.
 const PIECE: usize = 4096;
 
-// The files in memory that are named as what they are.
+// The files in memory, named by their roles.
 fn named_files(
     alloc: Global,
     old: Vec<u8>,
@@ -36,14 +36,14 @@ fn named_files(
     Ok(files)
 }
 
-/// The outcome of `check old new` over these bytes in memory, with no rule file and no listener, where no call is made to fail.
-/// `NoMemory` is the one error: memory ran out.
+/// The outcome of `check old new` over these bytes in memory, with no rule file and no listener, if no call is made to fail. The
+/// only error is `NoMemory`.
 pub fn check_in_memory(alloc: Global, old: Vec<u8>, new: Vec<u8>) -> Result<Outcome, NoMemory>
-    // Yes comes exactly where the new library may replace the old one.
+    // The outcome is yes exactly if the new library may replace the old one.
     ensures yes { FitsInMemory old.items new.items
         → IfOk result (λ outcome. (outcome ≡ Outcome.Judged Verdict.Yes (Some (remark_on old.items new.items))) ↔ Compatible old.items new.items []) }
 
-    // And no comes exactly where it may not.
+    // The outcome is no exactly if the new library may not replace the old one.
     ensures no { FitsInMemory old.items new.items
         → IfOk result (λ outcome. (outcome ≡ Outcome.Judged Verdict.No (Some (remark_on old.items new.items))) ↔ (Compatible old.items new.items [] → ⊥)) }
 {

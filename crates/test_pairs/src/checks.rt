@@ -1,4 +1,4 @@
-// The rules on pairs of small types, by their words.
+// The rules on pairs of small types, which are described in words.
 ghost use Rattle.std.specs.Prelude.{◌≡◌, ◌<◌, ◌+◌, OnOk};
 
 use crate::words::{cut, expect, number, push_number, push_space};
@@ -13,9 +13,9 @@ use std::process::Abort;
 use std::sync::ledger::{Blank, Ledger};
 use std::test::Fail;
 
-// Each line: what is compared | the old type | the new type | the rules that they break, each with its part | their partners.
-// A type is a kind, what it says of itself, and its parts: a member as its name, its bit and its width as a bit field, an
-// enumerator as its name and its value, a result and a parameter with its place.
+// The columns of a line: the case | the old type | the new type | the rules that they break, each with its part | their partners. A
+// type is a kind, its properties, and its parts: a member with its name, its bit and its width as a bit field; an enumerator with
+// its name and its value; a result or a parameter with its place.
 const ROWS: &str = "\
 kinds differ, and much else|scalar size:4 signed tag:a member:x@0|pointer size:8 align:16 target|L1.0|
 a greater size|scalar size:4|scalar size:8|L2.0|
@@ -62,7 +62,7 @@ fn register(number: u8) -> Place {
     Place::Registers { eightbytes }
 }
 
-// Where a result or a parameter is, by a word for it.
+// The place of a result or a parameter, by a word for it.
 fn place(word: &str) -> Option<Place> {
     match word {
         "rdi" => Some(register(0)),
@@ -127,7 +127,7 @@ fn part<'a, Ix: Index>(key: &str, text: &'a str) -> Option<Part<'a, Ix>> {
     }
 }
 
-// What a type says of itself, but for its parts and its call.
+// The properties of a type, without its parts and its call.
 #[derive(Clone, Copy)]
 struct Sketch<'a> {
     kind: Kind,
@@ -220,7 +220,7 @@ fn view<'a, Ix: Index>(alloc: Global, cell: &'a str) -> Result<View<'a, Ix>, NoM
     })
 }
 
-// The answer of `breaks`, after two calls, which count as two steps.
+// The result of `breaks`, after two calls, which count as two steps.
 fn broken_twice<L: Ledger>(
     alloc: Global,
     old: &View<OldIx>,
@@ -301,7 +301,7 @@ fn partners_by_position(
     Ok(text)
 }
 
-// The old positions that lead on.
+// The old positions that have partners.
 fn leading<L: Ledger>(
     alloc: Global,
     blank: Blank,
@@ -325,7 +325,7 @@ fn leading<L: Ledger>(
     Ok(text)
 }
 
-// The old positions of a row's partners.
+// The old positions among the partners of a row.
 fn old_positions(alloc: Global, partners: &str) -> Result<String, NoMemory> {
     let mut text = String::new(alloc);
     for pair in partners.split(' ') {
@@ -335,7 +335,7 @@ fn old_positions(alloc: Global, partners: &str) -> Result<String, NoMemory> {
     Ok(text)
 }
 
-// The cells of a line.
+// The columns of a line.
 #[derive(Clone, Copy)]
 struct Row<'a> {
     what: &'a str,
@@ -413,7 +413,7 @@ fn check_views(
     check_leading(rt, alloc, row, old, new)
 }
 
-// The same, where the new type is still to be made.
+// The same, where the new type is made here.
 fn check_beside(
     rt: &impl Abort,
     alloc: Global,
@@ -430,7 +430,7 @@ fn check(rt: &impl Abort, alloc: Global, line: &str) -> Result<(), NoMemory> {
     check_beside(rt, alloc, &row, &old)
 }
 
-// Checks each row, and counts them.
+// Checks each row, and returns the number of rows.
 fn check_all(rt: &impl Abort, alloc: Global, rows: &str) -> Result<u32, NoMemory> {
     let mut count = 0u32;
     for row in rows.lines() {
@@ -446,7 +446,8 @@ fn types_break_these_rules(rt: HostRuntime) -> Result<(), Fail> {
     Ok(())
 }
 
-// Each line: a part | the way behind it from a value | and from behind a pointer.
+// The columns of a line: a part | the way of what it leads to, from a type reached by value | and from one reached through a
+// pointer.
 const WAYS: &str = "\
 target|pointer|pointer
 result|direct|direct

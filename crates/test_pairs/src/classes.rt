@@ -11,9 +11,9 @@ use std::test::Fail;
 use test_graphs::{graph, member, view};
 use type_classes::{Classes, alike, alike_beside, plain};
 
-// Each line: what the graph is | its types | the number of the type that stands for each of them.
-// A type is its entry, a word and numbers of types: a pointer to a type, or a structure of the tag `a`, which is linked, so that its
-// members `n` and `v` are of two types, or defined or declared without members. An `int` may have the name of a typedef of it.
+// The columns of a line: the case | the types of the graph | for each type, the number of its representative. A type is its entry,
+// a word and numbers of types: a pointer to a type, or a structure with the tag `a`. The structure may be linked, with the members
+// `n` and `v` of two types, or defined or declared without members. An `int` may have the name of a typedef.
 const ROWS: &str = "\
 rings of any length|0 void;5 int;20 linked 5 1;25 pointer 2;40 linked 3 1;45 pointer 4;60 linked 9 1;65 pointer 6;80 linked 11 1;85 pointer 8;100 linked 7 1;105 pointer 10|0 1 2 3 2 3 2 3 2 3 2 3
 a ring whose last structure has no int|0 void;5 int;20 linked 5 1;25 pointer 2;40 linked 3 1;45 pointer 4;60 linked 9 1;65 pointer 6;80 linked 11 1;85 pointer 8;100 linked 7 0;105 pointer 10|0 1 2 3 2 3 6 7 8 9 10 11
@@ -21,7 +21,7 @@ three units, the last of which has a typedef|0 void;5 int;20 linked 3 1;25 point
 declared and defined structures of one tag|0 void;5 int;20 declared;30 defined;10 declared|0 1 4 3 4
 ";
 
-// Each line: the types of an old graph | those of a new one | the number of the type that stands for each new one.
+// The columns of a line: the types of an old graph | those of a new one | for each new type, the number of its representative.
 const PAIRS: &str = "\
 0 void;5 int;20 linked 5 1;25 pointer 2;40 linked 3 1;45 pointer 4|0 void;5 int;20 linked 5 1;25 pointer 2;40 linked 3 1;45 pointer 4|0 1 2 3 2 3
 0 void;5 int;20 linked 5 1;25 pointer 2;40 linked 3 1;45 pointer 4|0 void;5 int;20 linked 5 1;25 pointer 2;40 linked 3 0;45 pointer 4|0 1 2 3 4 5
@@ -45,7 +45,7 @@ fn size(word: &str) -> u64 {
     }
 }
 
-// A structure holds others by value.
+// A structure holds other types by value.
 fn rank(kind: Kind) -> u32 {
     match kind {
         Kind::Pointer => 1,
@@ -130,7 +130,7 @@ fn graph_of<'a, Ix: Index>(
     }
 }
 
-// For each type the number of the one that stands for it.
+// For each type, the number of its representative.
 fn reps_of<Ix: Index>(
     alloc: Global,
     graph: &Graph<Ix>,
@@ -157,7 +157,7 @@ fn stand_alone<Ix: Index>(graph: &Graph<Ix>, classes: &Classes<Ix>) -> bool
     true
 }
 
-// For each type of a graph the number of the one that is alike and stands for it.
+// For each type of a graph, the number of its representative among alike types.
 fn alike_reps<Ix: Index>(alloc: Global, graph: &Graph<Ix>) -> Result<String, NoMemory> {
     let classes = alike(alloc, graph)?;
     reps_of(alloc, graph, &classes)
@@ -197,7 +197,7 @@ fn types_are_alike_to_these(rt: HostRuntime) -> Result<(), Fail> {
     Ok(())
 }
 
-// For each type of a graph the number of the one that is alike beside known classes and stands for it.
+// For each type of a graph, the number of its representative among alike types, given classes of another graph.
 fn beside_reps(
     alloc: Global,
     graph: &Graph<NewIx>,
@@ -209,7 +209,7 @@ fn beside_reps(
     reps_of(alloc, graph, &classes)
 }
 
-// The same, beside the classes of another graph.
+// The same, given another graph.
 fn reps_beside(
     alloc: Global,
     graph: &Graph<NewIx>,
@@ -219,7 +219,7 @@ fn reps_beside(
     beside_reps(alloc, graph, &known)
 }
 
-// Checks the classes of a graph beside those of another one, and alone.
+// Checks the classes of a graph, with those of another one and without.
 fn check_beside(
     rt: &impl Abort,
     alloc: Global,

@@ -1,4 +1,4 @@
-//! What no clause of the rules and of alike types says: worked rows, and each call once. All of it is tests.
+//! Tests of the rules and of alike types for what no contract states: worked rows, and each call once.
 #![tactic(auto)]
 
 #[cfg(test)]

@@ -1,11 +1,11 @@
-// The answers about libraries that are readable, and about words that are wrong.
+// The answers about readable libraries, and about wrong arguments.
 use crate::fixture::{Status, breaks, checks, cut, inputs, library_of, runs, told};
 use std::alloc::{AllocError, Global};
 use std::process::Abort;
 use std::test::Fail;
 use test_images::{ImageSymbol, library, library_with_soname};
 
-// The digests were taken with another program from images that another program laid out.
+// Another program computed the digests, from images that another program laid out.
 const YES_WITHOUT_EXPORTS: &str = "\
 yes 2
 old 736380ed8ffd151f2afafc4738979385096fbdc71614ffad839e93136f36707a
@@ -46,7 +46,7 @@ fn a_yes_prints_the_certificate(rt: HostRuntime) -> Result<(), Fail> {
     checks(&rt, &old, &new, Status::Yes, YES_TURNED_ROUND)
 }
 
-// The words of a cell, which commas part; an empty cell has none.
+// The words of a cell, separated by commas; an empty cell has none.
 fn words_of<'a>(alloc: Global, cell: &'a str) -> Result<Vec<&'a str>, AllocError> {
     let mut words = Vec::new(alloc);
     if !cell.is_empty() {
@@ -57,7 +57,7 @@ fn words_of<'a>(alloc: Global, cell: &'a str) -> Result<Vec<&'a str>, AllocError
     Ok(words)
 }
 
-// A library of a soname, if any, and of exports behind a colon.
+// A library with a soname, if there is one, and with exports after a colon.
 fn plain_library(alloc: Global, cell: &str) -> Result<Vec<u8>, AllocError> {
     let (soname, exports) = cut(cell, ':');
     let exports = words_of(alloc, exports)?;
@@ -67,7 +67,7 @@ fn plain_library(alloc: Global, cell: &str) -> Result<Vec<u8>, AllocError> {
     }
 }
 
-// Each line: the old library, its soname and its exports | the new one | what is said.
+// The columns of a line: the old library, as its soname and its exports | the new one | the rows of the answer.
 const BREAKS: &str = "\
 :f,g|:f|X2 g: gone
 :a\x01\\|:|X2 a\\x01\\x5c: gone
@@ -95,8 +95,8 @@ fn a_no_prints_each_break(rt: HostRuntime) -> Result<(), Fail> {
     Ok(())
 }
 
-// Each line: the info of a symbol, which is the binding times 16 and the type, its visibility and its section, in hexadecimal |
-// whether it is an export | what it is.
+// The columns of a line: the info field of a symbol, which is the binding times 16 plus the type, its visibility and its section,
+// in hexadecimal | whether it is an export | a description.
 const SYMBOLS: &str = "\
 12 0 1|yes|global function
 02 0 1|no|local
@@ -139,7 +139,7 @@ fn symbol_of(cell: &str) -> ImageSymbol<'static> {
     }
 }
 
-// An export of the old library is seen by its row where the new library has no symbol.
+// An export of the old library is visible by its row, because the new library has no symbol.
 fn as_old(alloc: Global, library_of_it: &[u8]) -> Result<&'static str, Fail> {
     let (ended, _) = told(alloc, library_of_it, &library(alloc, &[])?)?;
     Ok(match ended {
@@ -149,7 +149,7 @@ fn as_old(alloc: Global, library_of_it: &[u8]) -> Result<&'static str, Fail> {
     })
 }
 
-// An export of the new library is seen where the old one exports its name, and its row does not say that it is gone.
+// An export of the new library is visible because the old one exports the name, and there is no row that says it is gone.
 fn as_new(alloc: Global, library_of_it: &[u8]) -> Result<&'static str, Fail> {
     let (_, sink) = told(alloc, &library(alloc, &["s"])?, library_of_it)?;
     Ok(match str::from_utf8(sink.held()) {
@@ -175,7 +175,7 @@ fn exports_are_told_from_other_symbols(rt: HostRuntime) -> Result<(), Fail> {
     Ok(())
 }
 
-// Each line: words that are wrong. The first line has none.
+// Each line has wrong arguments. The first line has none.
 const WRONG: &str = "
 check
 check,a

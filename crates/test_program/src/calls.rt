@@ -32,7 +32,7 @@ fn library_with_comments(alloc: Global) -> Result<Vec<u8>, AllocError> {
     image.bytes(alloc)
 }
 
-// Appends bytes as a text, with a slash for each 0 byte.
+// Appends bytes as a text, with a slash in place of each 0 byte.
 fn push_bytes(text: &mut String, bytes: &[u8]) -> Result<(), AllocError> {
     for byte in bytes {
         text.push(if *byte == 0 { '/' } else { char::from(*byte) })?;
@@ -40,7 +40,7 @@ fn push_bytes(text: &mut String, bytes: &[u8]) -> Result<(), AllocError> {
     Ok(())
 }
 
-// Bytes as a text, or a minus where there are none.
+// Bytes as a text, or a minus if there are none.
 fn shown(alloc: Global, bytes: Option<&[u8]>) -> Result<String, AllocError> {
     let mut text = String::new(alloc);
     match bytes {
@@ -50,7 +50,7 @@ fn shown(alloc: Global, bytes: Option<&[u8]>) -> Result<String, AllocError> {
     Ok(text)
 }
 
-// Each line: a section by its name, or a name by its number | the bytes, or - where there are none.
+// The columns of a line: a section by its name, or a name by its offset | the bytes, or - if there are none.
 const LOOKUPS: &str = "\
 section .comment|first
 section .dynstr|/f/data/
@@ -63,7 +63,7 @@ strings 3|-
 strings 8|-
 ";
 
-// What a row asks of a file.
+// The result of the call in a row, for a file.
 fn looked_up<'a>(file: &ElfFile<'a>, row: &str) -> Option<&'a [u8]> {
     let (call, what) = cut(row, ' ');
     match call {
@@ -91,7 +91,7 @@ fn sections_are_found(rt: HostRuntime) -> Result<(), Fail> {
     Ok(())
 }
 
-// The first section of a type, by its number, its bytes, its link, its info and the size of its entries.
+// The first section of a type: its index, its bytes, its link, its info and the size of its entries.
 fn first_of_kind(alloc: Global, file: &ElfFile, kind: u32) -> Result<String, AllocError> {
     let mut text = String::new(alloc);
     if let Some(found) = file.section_of_kind(kind) {
@@ -114,7 +114,7 @@ fn the_first_section_of_a_type_is_found(rt: HostRuntime) -> Result<(), Fail> {
     Ok(())
 }
 
-// For each symbol its number, its name, whether it is an export, its binding, type, visibility, section, value and size.
+// For each symbol: its number, its name, whether it is an export, and its binding, type, visibility, section, value and size.
 const SYMBOLS: &str = "\
 0  false 0 0 0 0 0 0
 1 f true 1 2 0 1 4096 16

@@ -1,4 +1,4 @@
-// Debugging information entries: what `entries` prints, and the faults that it names.
+// Debugging information entries: what `entries` prints, and the faults that it reports.
 use crate::fixture::{Status, change, cut, inputs, number, runs};
 use std::alloc::{AllocError, Global};
 use std::process::Abort;
@@ -8,30 +8,30 @@ pub(crate) use test_images::{FUNCTION_ABBREVIATIONS as ABBREVS, FUNCTION_UNIT as
 
 const ENTRIES: &[&str] = &["entries", "lib"];
 
-// The unit of a function `f` that gives an `int`, in version 4.
+// The unit of a function `f` that returns an `int`, in version 4.
 pub(crate) const UNIT_4: &[u8] =
     b"\x21\x00\x00\x00\x04\x00\x00\x00\x00\x00\x08\x01\x0c\x00\x02\x04\x05int\x00\
 \x03f\x00\x0e\x00\x00\x00\x00\x10\x00\x00\x00\x00\x00\x00\x00";
 
-// The abbreviations and two more: of a type unit, and of a function whose type is a signature.
+// The same abbreviations and two more: of a type unit, and of a function whose type is a signature.
 pub(crate) const TYPE_ABBREVS: &[u8] =
     b"\x01\x11\x01\x13\x05\x00\x00\x02\x24\x00\x0b\x0b\x3e\x0b\x03\x08\x00\x00\
 \x03\x2e\x00\x03\x08\x49\x13\x11\x01\x00\x00\x04\x41\x01\x00\x00\x05\x2e\x00\x03\x08\x49\x20\x11\x01\x00\x00\x00";
 
-// A type unit of `int`, and a unit of a function that gives it.
+// A type unit of `int`, and a unit of a function that returns it.
 pub(crate) const TYPE_UNIT: &[u8] =
     b"\x1d\x00\x00\x00\x05\x00\x02\x08\x00\x00\x00\x00\x11\x22\x33\x44\x55\x66\x77\x88\x19\x00\x00\x00\
 \x04\x02\x04\x05int\x00\x00\x1f\x00\x00\x00\x05\x00\x01\x08\x00\x00\x00\x00\x01\x0c\x00\
 \x05f\x00\x11\x22\x33\x44\x55\x66\x77\x88\x00\x10\x00\x00\x00\x00\x00\x00\x00";
 
-// A library of these abbreviations and entries, without dynamic symbols.
+// A library with these abbreviations and entries, without dynamic symbols.
 fn library(alloc: Global, abbrevs: &[u8], entries: &[u8]) -> Result<Vec<u8>, AllocError> {
     let mut image = Image::new(alloc);
     add_debug_sections(&mut image, alloc, abbrevs, entries)?;
     image.bytes(alloc)
 }
 
-// The run over a library must end with the status, and write the text.
+// Expects this status and text from `entries` of a library.
 fn lists<R: Abort + AllocGlobal>(
     rt: &R,
     library: &[u8],
@@ -42,7 +42,7 @@ fn lists<R: Abort + AllocGlobal>(
     runs(rt, ENTRIES, &mut inputs, status, text)
 }
 
-// A library of these abbreviations and entries must be refused with the fault.
+// Expects that a library with these abbreviations and entries is refused with the fault.
 fn is_refused<R: Abort + AllocGlobal>(
     rt: &R,
     abbrevs: &[u8],
@@ -72,7 +72,7 @@ fn abbreviations_of(word: &str) -> &'static [u8] {
     }
 }
 
-// Each line: a unit of version 5 or 4, a type unit beside one, or none | the entries, which semicolons end.
+// The columns of a line: a unit of version 5 or 4, a type unit beside one, or none | the entries, each ended by a semicolon.
 const LISTS: &str = "\
 5|12 0 11;15 1 24;22 1 2e;
 4|11 0 11;14 1 24;21 1 2e;
@@ -98,7 +98,7 @@ fn entries_are_printed(rt: HostRuntime) -> Result<(), Fail> {
     Ok(())
 }
 
-// Symbols, versions and the dynamic table are not asked, and may be missing.
+// Symbols, versions and the dynamic table are not checked, and may be missing.
 #[test]
 fn a_library_may_have_no_entries(rt: HostRuntime) -> Result<(), Fail> {
     let alloc = rt.alloc();
@@ -108,7 +108,7 @@ fn a_library_may_have_no_entries(rt: HostRuntime) -> Result<(), Fail> {
     lists(&rt, &Image::new(alloc).bytes(alloc)?, Status::Done, "")
 }
 
-// The length of the unit is that of the cut section.
+// The unit, cut to a size, with the length field that fits.
 fn shortened(alloc: Global, entries: &[u8], size: usize) -> Result<Vec<u8>, AllocError> {
     let mut bytes = Vec::new(alloc);
     for byte in entries.iter().take(size) {
@@ -120,7 +120,7 @@ fn shortened(alloc: Global, entries: &[u8], size: usize) -> Result<Vec<u8>, Allo
     Ok(bytes)
 }
 
-// Each line: a unit | the sizes to which it is cut, from the first to the last | the fault.
+// The columns of a line: a unit | the first and the last of the sizes to which it is cut | the fault.
 const CUTS: &str = "\
 5|1 11|20 UnitHeader 0
 5|12 12|29 Tree 12
@@ -158,7 +158,7 @@ fn units_that_are_cut_are_refused(rt: HostRuntime) -> Result<(), Fail> {
     Ok(())
 }
 
-// Each line: a unit | a change of its abbreviations | a change of its entries | the fault.
+// The columns of a line: a unit | a change of its abbreviations | a change of its entries | the fault.
 const DAMAGED: &str = "\
 5||0=ff,ff,ff,ff|24 Dwarf64 0
 5||0=f0,ff,ff,ff|20 UnitHeader 0

@@ -1,4 +1,4 @@
-// The first fault of a library, by its number and its place.
+// The first fault of a library, by its number and its position.
 use crate::fixture::{
     are_refused, breaks, change, cut, good_library, library_of, library_with_section, names_fault,
     refuses,
@@ -8,7 +8,7 @@ use std::process::Abort;
 use std::test::Fail;
 use test_images::{ImageSymbol, library};
 
-// Each line: a change of the library of `good_library` | its fault.
+// The columns of a line: a change of the library of `good_library` | its fault.
 const HEADERS: &str = "\
 0=7e|2 NotElf 0
 3=47|2 NotElf 0
@@ -49,7 +49,7 @@ fn a_header_is_refused(rt: HostRuntime) -> Result<(), Fail> {
     are_refused(&rt, &good, HEADERS)
 }
 
-// The same of sections.
+// The same for sections.
 const SECTIONS: &str = "\
 # A section that ends or begins behind the file, and the names'.
 400=ff,ff|9 SectionRange 2
@@ -72,7 +72,7 @@ fn a_section_is_refused(rt: HostRuntime) -> Result<(), Fail> {
     are_refused(&rt, &good_library(rt.alloc())?, SECTIONS)
 }
 
-// The same of symbols and of the soname.
+// The same for symbols and for the soname.
 const SYMBOLS: &str = "\
 # The type of the symbols.
 308=01|12 NoDynamicSymbols 0
@@ -108,7 +108,7 @@ fn symbols_and_a_soname_are_refused(rt: HostRuntime) -> Result<(), Fail> {
     are_refused(&rt, &good_library(rt.alloc())?, SYMBOLS)
 }
 
-// Each line: a change of the same library, whose second export is made local | what is said of it as the new library.
+// The columns of a line: a change of the same library, whose second export is made local | the answer about it as the new library.
 const UNUSUAL: &str = "\
 # The number of sections and the names' number stand in section 0.
 60=00,00,ff,ff 272=06 280=05|X2 g: gone
@@ -139,7 +139,7 @@ fn unusual_libraries_are_readable(rt: HostRuntime) -> Result<(), Fail> {
     Ok(())
 }
 
-// A section that stands behind four others: its name, its type and its flags, in hexadecimal.
+// A section after four others: its name, and its type and flags in hexadecimal.
 fn library_of_row(alloc: Global, row: &str) -> Result<Vec<u8>, AllocError> {
     let (name, row) = cut(row, ' ');
     let (kind, flags) = cut(row, ' ');
@@ -148,7 +148,7 @@ fn library_of_row(alloc: Global, row: &str) -> Result<Vec<u8>, AllocError> {
     library_with_section(alloc, 4, name, kind, flags)
 }
 
-// Each line: such a section | the fault of the library.
+// The columns of a line: such a section | the fault of the library.
 const BAD_SECTIONS: &str = "\
 .debug_info 1 800|11 Compressed 7
 .debug_info 1 fff|11 Compressed 7
@@ -180,8 +180,8 @@ fn debug_and_version_sections_are_refused(rt: HostRuntime) -> Result<(), Fail> {
     Ok(())
 }
 
-// Names that are none of those, a flag that counts for names of debug sections alone, and the versions that a library needs. The
-// contents of the section of type 8 are in no file.
+// Names that are not in the list above, a flag that matters only for names of debug sections, and the version needs of a library.
+// The section of type 8 has no contents in the file.
 const OTHER_SECTIONS: &str = "\
 .debug 1 800
 debug_info 1 800
@@ -206,7 +206,7 @@ fn other_sections_are_passed_over(rt: HostRuntime) -> Result<(), Fail> {
     Ok(())
 }
 
-// A symbol of a word: `f` or `g` for such a function, a small `u` for `f` that is undefined, and `l` for a local `f`.
+// The symbol for a word: `f` or `g` for a function of that name, `u` for an undefined `f`, and `l` for a local `f`.
 fn symbol_of(word: &str) -> ImageSymbol<'static> {
     let f = ImageSymbol::function(b"f");
     match word {
@@ -225,7 +225,7 @@ fn library_of_words(alloc: Global, words: &str) -> Result<Vec<u8>, AllocError> {
     library_of(alloc, &symbols)
 }
 
-// Two exports of one name are refused, and an export beside an undefined or a local symbol of its name is not.
+// Two exports of one name are refused; an export beside an undefined or a local symbol of its name is not.
 #[test]
 fn twins_are_refused(rt: HostRuntime) -> Result<(), Fail> {
     let none = library(rt.alloc(), &[])?;
@@ -242,7 +242,7 @@ fn neighbours_of_one_name_are_refused(rt: HostRuntime) -> Result<(), Fail> {
     refuses(&rt, &twins, &none, "18 DuplicateExport 2")
 }
 
-// The old library's fault comes before an earlier one of the new library.
+// A fault of the old library is reported before one of the new library that comes earlier in the order of faults.
 #[test]
 fn the_old_library_comes_first(rt: HostRuntime) -> Result<(), Fail> {
     let twins = library_of_words(rt.alloc(), "f g f")?;

@@ -1,4 +1,4 @@
-// What the rows share: inputs and images, and the run of `check` over them.
+// What the rows share: inputs, images, and the run of `check` over them.
 ghost use Rattle.std.specs.Prelude.{◌≡◌, [], All, IfOk};
 
 use abi_base::{Inputs, MemInputs, MemSink, NoMemory};
@@ -10,11 +10,11 @@ use std::process::Abort;
 use std::test::Fail;
 use test_images::{Image, ImageSection, ImageSymbol, library_with_soname};
 
-/// The words of the rows, whose inputs are named as what they are.
+/// The arguments of the rows, where inputs are named by their roles.
 pub const CHECK: &[&str] = &["check", "old", "new"];
 
-/// How a run ended: its outcome, without the input and the fault that it names, which stand in the text, and without what is counted
-/// beside a verdict.
+/// How a run ended: its outcome, without the input and the fault that it names, which are in the text, and without the remark on a
+/// verdict.
 #[derive(Clone, Copy, Debug, PartialEq, Eq)]
 pub(crate) enum Status {
     Yes,
@@ -45,7 +45,7 @@ pub(crate) fn status_of(outcome: Outcome) -> Status {
     }
 }
 
-/// Inputs in memory of these names and bytes, whose listed calls fail.
+/// Inputs in memory with these names and bytes. The listed calls fail.
 pub(crate) fn inputs(
     alloc: Global,
     files: &[(&str, &[u8])],
@@ -67,7 +67,7 @@ pub(crate) fn listeners(alloc: Global) -> Result<Vec<Box<dyn Listener>>, NoMemor
     Ok(listeners)
 }
 
-/// How a run of the words over the inputs ends, with what it writes.
+/// How a run with these arguments over the inputs ends, with what it writes.
 fn ended<I: Inputs>(
     alloc: Global,
     words: &[&str],
@@ -79,7 +79,7 @@ fn ended<I: Inputs>(
     Ok((status_of(ended.outcome), sink))
 }
 
-/// A run of the words over the inputs must end with the status, and write the text.
+/// Expects this status and text from a run with these arguments over the inputs.
 pub(crate) fn runs<R: Abort + AllocGlobal, I: Inputs>(
     rt: &R,
     words: &[&str],
@@ -93,13 +93,13 @@ pub(crate) fn runs<R: Abort + AllocGlobal, I: Inputs>(
     Ok(())
 }
 
-/// How the check of an old and of a new library ends, with what it writes.
+/// How the check of an old and a new library ends, with what it writes.
 pub(crate) fn told(alloc: Global, old: &[u8], new: &[u8]) -> Result<(Status, MemSink), Fail> {
     let mut inputs = inputs(alloc, &[("old", old), ("new", new)], &[])?;
     ended(alloc, CHECK, &mut inputs)
 }
 
-/// The check of an old and of a new library must end with the status, and write the text.
+/// Expects this status and text from the check of an old and a new library.
 pub(crate) fn checks<R: Abort + AllocGlobal>(
     rt: &R,
     old: &[u8],
@@ -111,7 +111,7 @@ pub(crate) fn checks<R: Abort + AllocGlobal>(
     runs(rt, CHECK, &mut inputs, status, text)
 }
 
-/// The check must say no, with these lines behind it, which semicolons part.
+/// Expects that the check says no, followed by these lines, which semicolons separate.
 pub(crate) fn breaks<R: Abort + AllocGlobal>(
     rt: &R,
     old: &[u8],
@@ -122,12 +122,12 @@ pub(crate) fn breaks<R: Abort + AllocGlobal>(
     checks(rt, old, new, Status::No, &text)
 }
 
-// How many bytes a certificate has before the line of the rules.
+// The number of bytes in a certificate before the line of the rules.
 const BEFORE_RULES: usize = 144;
 
 const RULES: &str = "rules e3b0c44298fc1c149afbf4c8996fb92427ae41e4649b934ca495991b7852b855";
 
-// The check must say yes, with a certificate of this text behind the digests.
+// Expects that the check says yes, with a certificate that has this text after the digests.
 fn certifies<R: Abort + AllocGlobal>(
     rt: &R,
     old: &[u8],
@@ -140,7 +140,7 @@ fn certifies<R: Abort + AllocGlobal>(
     Ok(())
 }
 
-/// The check must say yes, with a certificate of these lines behind the digests, which semicolons part.
+/// Expects that the check says yes, with a certificate that has these lines after the digests, separated by semicolons.
 pub(crate) fn is_yes<R: Abort + AllocGlobal>(
     rt: &R,
     old: &[u8],
@@ -151,17 +151,17 @@ pub(crate) fn is_yes<R: Abort + AllocGlobal>(
     certifies(rt, old, new, &text)
 }
 
-/// What stands before the first such character, and what stands behind it.
+/// The text before the first occurrence of a character, and the text after it.
 pub(crate) fn cut(text: &str, by: char) -> (&str, &str) {
     text.split_once(by).unwrap_or((text, ""))
 }
 
-/// A number, and 0 where the text is none.
+/// A number, or 0 if the text is not one.
 pub(crate) fn number(text: &str) -> usize {
     text.parse().unwrap_or(0)
 }
 
-/// The text of a first line and of lines that semicolons part.
+/// A text with a first line, followed by lines that semicolons separate.
 pub(crate) fn lines_of(alloc: Global, first: &str, lines: &str) -> Result<String, AllocError> {
     let mut text = String::from_str(alloc, first)?;
     text.push('\n')?;
@@ -174,14 +174,14 @@ pub(crate) fn lines_of(alloc: Global, first: &str, lines: &str) -> Result<String
 
 /// A library of 624 bytes that exports `f` and `g` and has a soname.
 ///
-/// Its sections, each with its place, its size and the place of its header: 0 with its header at 240; 1 `.dynsym` at 64,
-/// 72 and 304; 2 `.dynstr` at 136, 5 and 368; 3 `.dynamic` at 144, 32 and 432; 4 `.dynamic.str` at 176, 6 and 496;
-/// 5 `.shstrtab` at 184, 49 and 560.
+/// Its sections, each with its offset, its size and the offset of its header: 0 with its header at 240; 1 `.dynsym` at 64, 72 and
+/// 304; 2 `.dynstr` at 136, 5 and 368; 3 `.dynamic` at 144, 32 and 432; 4 `.dynamic.str` at 176, 6 and 496; 5 `.shstrtab` at 184,
+/// 49 and 560.
 pub(crate) fn good_library(alloc: Global) -> Result<Vec<u8>, AllocError> {
     library_with_soname(alloc, "a.so", &["f", "g"])
 }
 
-// Puts bytes into an image: a word is a place and the bytes from there on.
+// Overwrites bytes of an image. A word has an offset and the bytes from there on.
 fn put(image: &mut [u8], word: &str) {
     let (at, bytes) = cut(word, '=');
     for (place, byte) in image.iter_mut().skip(number(at)).zip(bytes.split(',')) {
@@ -189,21 +189,21 @@ fn put(image: &mut [u8], word: &str) {
     }
 }
 
-/// Changes an image by words, as `60=00,ff` for the bytes 00 and ff from place 60 on.
+/// Changes an image by words such as `60=00,ff`, for the bytes 00 and ff from offset 60 on.
 pub(crate) fn change(image: &mut [u8], changes: &str) {
     for word in changes.split_whitespace() {
         put(image, word);
     }
 }
 
-/// A library of these symbols alone.
+/// A library with only these symbols.
 pub(crate) fn library_of(alloc: Global, symbols: &[ImageSymbol]) -> Result<Vec<u8>, AllocError> {
     let mut image = Image::new(alloc);
     image.add_symbols(symbols)?;
     image.bytes(alloc)
 }
 
-/// A library without exports: the symbols, their names, `before` comments, and last a section of that name, type and flags.
+/// A library without exports: the symbols, their names, `before` comments, and at the end a section with that name, type and flags.
 pub(crate) fn library_with_section(
     alloc: Global,
     before: usize,
@@ -222,7 +222,7 @@ pub(crate) fn library_with_section(
     image.bytes(alloc)
 }
 
-/// The check must refuse an old or a new library with its fault.
+/// Expects that the check refuses an old or a new library with its fault.
 pub(crate) fn names_fault<R: Abort + AllocGlobal>(
     rt: &R,
     old: &[u8],
@@ -234,7 +234,7 @@ pub(crate) fn names_fault<R: Abort + AllocGlobal>(
     checks(rt, old, new, Status::Unreadable, &text)
 }
 
-/// The check must refuse a library with its fault, as the old one and as the new one.
+/// Expects that the check refuses a library with its fault, both as the old one and as the new one.
 pub(crate) fn refuses<R: Abort + AllocGlobal>(
     rt: &R,
     bad: &[u8],
@@ -252,7 +252,7 @@ fn is_refused<R: Abort + AllocGlobal>(rt: &R, good: &[u8], row: &str) -> Result<
     refuses(rt, &bad, good, fault)
 }
 
-/// Each change of a readable library must be refused with its fault. A line is a change and the fault, or a remark behind a `#`.
+/// Expects that each changed library is refused with its fault. A line has a change and the fault, or a remark after a `#`.
 pub(crate) fn are_refused<R: Abort + AllocGlobal>(
     rt: &R,
     good: &[u8],

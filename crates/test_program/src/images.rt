@@ -2,8 +2,8 @@ use std::alloc::AllocError;
 use test_images::constants::{SHT_PROGBITS, VER_FLG_BASE, VERSYM_HIDDEN};
 use test_images::*;
 
-// A file of two exports and a soname: 72 bytes of symbols at 64, 5 of names at 136, 32 of the dynamic table at 144, 6
-// of the soname's strings at 176, 49 of section names at 184, and six section headers at 240.
+// A file with two exports and a soname: 72 bytes of symbols at 64, 5 of names at 136, 32 of the dynamic table at 144, 6 of the
+// soname's strings at 176, 49 of section names at 184, and six section headers at 240.
 #[test]
 fn lays_out_a_library(rt: HostRuntime) -> Result<(), AllocError> {
     let file = library_with_soname(rt.alloc(), "a.so", &["f", "g"])?;
@@ -15,7 +15,7 @@ fn lays_out_a_library(rt: HostRuntime) -> Result<(), AllocError> {
         0, 0, 0, 0, 0, 0, 0, 0, 0, 0, 0, 0, 0, 0, 0, 0, // entry, program headers
         240, 0, 0, 0, 0, 0, 0, 0, // section table
         0, 0, 0, 0, 0, 0, 0, 0, 0, 0, // flags, sizes and number of program headers
-        64, 0, 6, 0, 5, 0, // section headers: their size, their number and the names'
+        64, 0, 6, 0, 5, 0, // section headers: their size, their number and the index of the section of names
     ];
     assert_eq!(rt; file.get(..64), Some(header.as_slice()));
 
@@ -25,7 +25,7 @@ fn lays_out_a_library(rt: HostRuntime) -> Result<(), AllocError> {
     let dynamic = [
         17, 0, 0, 0, 6, 0, 0, 0, // name and type
         0, 0, 0, 0, 0, 0, 0, 0, 0, 0, 0, 0, 0, 0, 0, 0, // flags and address
-        144, 0, 0, 0, 0, 0, 0, 0, 32, 0, 0, 0, 0, 0, 0, 0, // place and size
+        144, 0, 0, 0, 0, 0, 0, 0, 32, 0, 0, 0, 0, 0, 0, 0, // offset and size
         4, 0, 0, 0, 0, 0, 0, 0, // link and info
         8, 0, 0, 0, 0, 0, 0, 0, 16, 0, 0, 0, 0, 0, 0, 0, // alignment and size of entries
     ];
@@ -33,7 +33,7 @@ fn lays_out_a_library(rt: HostRuntime) -> Result<(), AllocError> {
     Ok(())
 }
 
-// Four symbols of 24 bytes from 64 on, then their names.
+// Four symbols of 24 bytes from 64 on, followed by their names.
 #[test]
 fn numbers_exports(rt: HostRuntime) -> Result<(), AllocError> {
     let file = numbered_library(rt.alloc(), 3)?;
@@ -63,7 +63,7 @@ fn adds_sections(rt: HostRuntime) -> Result<(), AllocError> {
     Ok(())
 }
 
-// The version indexes stand at 120, after the symbols and their names, the definitions at 128, and their names at 184.
+// The version indexes are at 120, after the symbols and their names, the definitions at 128, and their names at 184.
 #[test]
 fn adds_versions(rt: HostRuntime) -> Result<(), AllocError> {
     let alloc = rt.alloc();
@@ -94,8 +94,8 @@ fn adds_versions(rt: HostRuntime) -> Result<(), AllocError> {
     Ok(())
 }
 
-// The symbols stand at 64, their names and the versions' at 112, the version indexes at 120, the definition at 128, the names
-// of the sections at 160 and the note at 224.
+// The symbols are at 64, their names and those of the versions at 112, the version indexes at 120, the definition at 128, the
+// section names at 160 and the note at 224.
 #[test]
 fn puts_section_names_in_the_middle(rt: HostRuntime) -> Result<(), AllocError> {
     let alloc = rt.alloc();

@@ -1,5 +1,5 @@
-//! The worked rows: pairs of small libraries, each with the status and the text that `check` must give for it,
-//! libraries with what `entries` must give, and the values of the reading calls on one image. All of it is tests.
+//! Tests of the whole program with worked rows: pairs of small libraries with the status and the text of `check`, libraries with
+//! the output of `entries`, and the values of the reading calls on one image.
 #![tactic(auto)]
 
 #[cfg(test)]

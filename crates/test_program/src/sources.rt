@@ -1,4 +1,4 @@
-// Inputs and sinks that fail, and inputs that are long.
+// Inputs and sinks that fail, and long inputs.
 ghost use Rattle.std.specs.Prelude.{List, ℕ, None};
 
 use crate::fixture::{CHECK, Status, checks, cut, inputs, listeners, number, runs, status_of};
@@ -29,8 +29,8 @@ fn a_failed_write_leaves_a_front(rt: HostRuntime) -> Result<(), Fail> {
     Ok(())
 }
 
-// Each line: the names of the inputs | the call that fails | what is said. A whole run over two files makes six calls: for each file
-// its start, the read that gives its bytes, and the read that gives none. No call has the number 0.
+// The columns of a line: the names of the inputs | the call that fails | the answer. A whole run over two files makes six calls:
+// for each file its start, the read that gives its bytes, and the read that gives none. The number 0 is that of no call.
 const READS: &str = "\
 old missing|0|read fault new
 missing new|0|read fault old
@@ -52,7 +52,7 @@ fn status(text: &str) -> Status {
     }
 }
 
-// Two libraries, the reading of which fails at a call.
+// Two libraries. The reading call with a number fails.
 fn failing_inputs(alloc: Global, failing: u64) -> Result<MemInputs, AllocError> {
     let old = library(alloc, &["f"])?;
     let new = library(alloc, &[])?;
@@ -102,7 +102,7 @@ fn a_folder_is_not_read(rt: HostRuntime) -> Result<(), Fail> {
     )
 }
 
-// Two inputs of zeros, which are made as they are read.
+// Two inputs of zeros, which are generated as they are read.
 #[derive(Drop)]
 struct Zeros {
     old: usize,
@@ -153,7 +153,7 @@ impl Inputs for Zeros {
     }
 }
 
-// Each line: how long the inputs are | the fault of the first that has one.
+// The columns of a line: the lengths of the inputs | the first fault.
 const LONG: &str = "\
 268435457 0|old 40 TooLong 268435456
 10 268435457|new 40 TooLong 268435456

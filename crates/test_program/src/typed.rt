@@ -7,7 +7,7 @@ use std::test::Fail;
 use test_images::constants::SHT_PROGBITS;
 use test_images::{Image, ImageSection, ImageSymbol};
 
-// A unit as clang writes it: names and addresses by index.
+// A unit as clang writes it, with names and addresses given by indexes.
 const INDEXED: &[(&str, &[u8])] = &[
     (
         ".debug_abbrev",
@@ -34,24 +34,24 @@ const INDEXED: &[(&str, &[u8])] = &[
     ),
 ];
 
-// The abbreviations and one more: of a typedef.
+// The same abbreviations and one more: that of a typedef.
 const TYPEDEF_ABBREVS: &[u8] =
     b"\x01\x11\x01\x13\x05\x00\x00\x02\x24\x00\x0b\x0b\x3e\x0b\x03\x08\x00\x00\
 \x03\x2e\x00\x03\x08\x49\x13\x11\x01\x00\x00\x04\x16\x00\x03\x08\x49\x13\x00\x00\x00";
 
-// A library that exports the function `f`, and has no section beside those of its symbols.
+// A library that exports the function `f`, with only the sections of its symbols.
 fn bare(alloc: Global) -> Result<Image, AllocError> {
     let mut image = Image::new(alloc);
     image.add_symbols(&[ImageSymbol::function(b"f")])?;
     Ok(image)
 }
 
-// A section of these bytes.
+// A section with these bytes.
 fn section(alloc: Global, name: &str, bytes: Vec<u8>) -> Result<ImageSection, AllocError> {
     ImageSection::new(alloc, name, SHT_PROGBITS, bytes)
 }
 
-// A library that exports the function `f` and has these sections.
+// A library that exports the function `f`, with these sections.
 fn library(alloc: Global, sections: &[(&str, &[u8])]) -> Result<Vec<u8>, AllocError> {
     let mut image = bare(alloc)?;
     for (name, bytes) in sections {
@@ -60,7 +60,7 @@ fn library(alloc: Global, sections: &[(&str, &[u8])]) -> Result<Vec<u8>, AllocEr
     image.bytes(alloc)
 }
 
-// A library of these abbreviations and of the unit with changes.
+// A library with these abbreviations and a changed unit.
 pub(crate) fn changed(
     alloc: Global,
     abbrevs: &[u8],
@@ -75,7 +75,7 @@ pub(crate) fn changed(
     image.bytes(alloc)
 }
 
-// The library of a word: a unit of version 5 or 4, one beside a type unit, one that clang wrote, or none.
+// The library for a word: with a unit of version 5 or 4, with one beside a type unit, with one that clang wrote, or with none.
 fn library_of(alloc: Global, word: &str) -> Result<Vec<u8>, AllocError> {
     match word {
         "5" => changed(alloc, ABBREVS, UNIT, ""),
@@ -86,7 +86,7 @@ fn library_of(alloc: Global, word: &str) -> Result<Vec<u8>, AllocError> {
     }
 }
 
-// Each line: two libraries of the same types | the lines of the certificate behind the digests.
+// The columns of a line: two libraries with the same types | the lines of the certificate after the digests.
 const ALIKE: &str = "\
 5 5|bind 1 1;pair 15 15 direct;pair 22 22 direct;end
 5 4|bind 1 1;pair 15 14 direct;pair 22 21 direct;end
@@ -111,8 +111,8 @@ fn a_library_may_replace_itself(rt: HostRuntime) -> Result<(), Fail> {
     Ok(())
 }
 
-// Each line: a change of the unit of the new library | what is said. In the last one the function stands at another address: the
-// export has no type.
+// The columns of a line: a change of the unit of the new library | the rows of the answer. In the last line the function has
+// another address, so the export has no type.
 const BREAKS: &str = "\
 16=08|L2 f result: size 4, now 8
 17=07|L3 f result: scalar signed, now unsigned
@@ -135,7 +135,7 @@ fn breaks_of_types_have_rows(rt: HostRuntime) -> Result<(), Fail> {
     Ok(())
 }
 
-// Each line: a change of the unit | the fault. The first one puts a typedef `t` that is itself in the place of the base type.
+// The columns of a line: a change of the unit | the fault. The first change replaces the base type by a typedef `t` of itself.
 const FAULTS: &str = "\
 15=04,74,00,0f,00,00,00|36 TooDeep 15
 17=0b|35 Shape 15
@@ -145,7 +145,7 @@ const FAULTS: &str = "\
 15=07|26 AbbrevCode 15
 ";
 
-// Only a fault of depth wants the abbreviation of a typedef.
+// Only a fault of depth needs the abbreviation of a typedef.
 fn abbreviations(fault: &str) -> &'static [u8] {
     match fault {
         "36 TooDeep 15" => TYPEDEF_ABBREVS,
@@ -153,7 +153,7 @@ fn abbreviations(fault: &str) -> &'static [u8] {
     }
 }
 
-// The check and `exports` must refuse a library with the fault.
+// Expects that the check and `exports` refuse a library with the fault.
 fn is_refused<R: Abort + AllocGlobal>(rt: &R, bad: &[u8], fault: &str) -> Result<(), Fail> {
     let good = changed(rt.alloc(), ABBREVS, UNIT, "")?;
     refuses(rt, bad, &good, fault)?;
@@ -171,7 +171,7 @@ fn faults_of_types_are_named(rt: HostRuntime) -> Result<(), Fail> {
     Ok(())
 }
 
-// The run of `exports` over a library must end with the status, and write the text.
+// Expects this status and text from `exports` of a library.
 fn lists<R: Abort + AllocGlobal>(
     rt: &R,
     library: &[u8],

@@ -1,4 +1,4 @@
-// Certificates that were changed, each with what `verify` must answer.
+// Changed certificates, each with the answer of `verify`.
 use crate::entries::{ABBREVS, UNIT};
 use crate::fixture::{Status, cut, inputs, runs, told};
 use crate::typed::changed;
@@ -8,12 +8,12 @@ use std::fmt::Write;
 use std::process::Abort;
 use std::test::Fail;
 
-// A digest of another file.
+// The digest of a different file.
 const OTHER_DIGEST: &str = "0000000000000000000000000000000000000000000000000000000000000000";
 
-// The library has the function `f` at symbol 1, of the type 22, which takes nothing and gives the `int` 15. Each line: which of
-// the first four lines of its own certificate stand in the text, where x is the second one with another digest | the lines that
-// follow | the answer.
+// The library has the function `f` at symbol 1, with the type 22; it takes nothing and returns the `int` 15. The columns of a line:
+// those of the first four lines of its own certificate that the text has, where x is the second line with another digest | the
+// lines that follow | the answer.
 const ROWS: &str = "\
 1234|bind 1 1;pair 15 15 direct;pair 22 22 direct;end|accepted
 234|bind 1 1;pair 15 15 direct;pair 22 22 direct;end|unreadable certificate 60 Line 1
@@ -42,7 +42,7 @@ const ROWS: &str = "\
 1234|bind 1 1;pair 22 22 direct;end|refused 77 Partner 6
 ";
 
-// Appends the line of a certificate at a position.
+// Appends the line of the certificate at a position.
 fn push_line(text: &mut String, own: &str, position: usize) -> Result<(), NoMemory> {
     for (k, line) in own.lines().enumerate() {
         if k == position {
@@ -53,7 +53,7 @@ fn push_line(text: &mut String, own: &str, position: usize) -> Result<(), NoMemo
     Ok(())
 }
 
-// The text of a certificate of which these lines stand at the head.
+// The text of a certificate with these lines at its head.
 fn certificate(alloc: Global, own: &str, heads: &str, lines: &str) -> Result<String, NoMemory> {
     let mut text = String::new(alloc);
     for head in heads.bytes() {
@@ -72,7 +72,7 @@ fn certificate(alloc: Global, own: &str, heads: &str, lines: &str) -> Result<Str
     Ok(text)
 }
 
-// The status with which an answer comes.
+// The status that belongs to an answer.
 fn status_of(answer: &str) -> Status {
     if answer.starts_with("refused") {
         Status::Refused
@@ -83,7 +83,7 @@ fn status_of(answer: &str) -> Status {
     }
 }
 
-// The verification of a certificate of a library that replaces itself must end with the status, and write the text.
+// Expects this status and text from the verification of a certificate that a library may replace itself.
 fn verifies<R: Abort + AllocGlobal>(
     rt: &R,
     library: &[u8],
@@ -105,7 +105,7 @@ fn verifies<R: Abort + AllocGlobal>(
     )
 }
 
-// The row must hold of a library and of the certificate that is its own.
+// Expects the answer of a row, for a library and its own certificate.
 fn expect<R: Abort + AllocGlobal>(
     rt: &R,
     library: &[u8],

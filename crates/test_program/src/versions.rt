@@ -1,4 +1,4 @@
-// Symbols with versions: what they bind to, how reports name them, and the faults of their tables.
+// Symbols with versions: what they bind to, how reports show them, and the faults of their tables.
 use crate::fixture::{are_refused, breaks, change, cut, is_yes, library_of, names_fault};
 use std::alloc::{AllocError, Global};
 use std::process::Abort;
@@ -6,7 +6,7 @@ use std::test::Fail;
 use test_images::constants::{VER_FLG_BASE, VER_NDX_GLOBAL, VER_NDX_LOCAL, VERSYM_HIDDEN};
 use test_images::{Image, ImageSymbol, ImageVersion, library, marker, versioned_function};
 
-// An exported data object of so many bytes.
+// An exported data object with so many bytes.
 fn object(name: &[u8], size: u64) -> ImageSymbol<'_> {
     ImageSymbol {
         info: 0x11,
@@ -15,7 +15,8 @@ fn object(name: &[u8], size: u64) -> ImageSymbol<'_> {
     }
 }
 
-// A library of these symbols, each with its version index, and of definitions with these names, whose indexes count from 1.
+// A library with these symbols, each with its version index, and with version definitions of these names, whose indexes count from
+// 1.
 fn library_with_versions(
     alloc: Global,
     names: &[&[u8]],
@@ -45,7 +46,8 @@ fn library_with_versions(
     Ok(image)
 }
 
-// The symbol and the version index of a word, as `f.2`, or `f.-2` for a hidden version. The symbol `V1` is that of the version.
+// The symbol and the version index for a word such as `f.2`, or `f.-2` for a hidden version. The symbol `V1` is that of the
+// version.
 fn versioned_symbol(word: &str) -> (ImageSymbol<'_>, u16) {
     let (name, index) = cut(word, '.');
     let (_, hidden) = cut(index, '-');
@@ -61,8 +63,8 @@ fn versioned_symbol(word: &str) -> (ImageSymbol<'_>, u16) {
     }
 }
 
-// The library of a row: names of versions, whose indexes count from 1, and symbols behind a colon; or a function alone without
-// versions, or none.
+// The library of a row: names of versions, whose indexes count from 1, followed by a colon and symbols; or only a function without
+// versions, or nothing.
 fn library_of_row(alloc: Global, row: &str) -> Result<Vec<u8>, AllocError> {
     let (names, words) = cut(row, ':');
     match names {
@@ -86,7 +88,7 @@ fn names_of<'a>(alloc: Global, words: &'a str) -> Result<Vec<&'a [u8]>, AllocErr
     Ok(names)
 }
 
-// Each line: the old library | the new one | how their symbols bind.
+// The columns of a line: the old library | the new one | how their symbols bind.
 const BINDINGS: &str = "\
 # Without a version: to the one without a version, else to the first version, else to the only default one.
 f|a.so,V1,V2:f.-2 f.3|bind 1 1;end
@@ -118,7 +120,7 @@ fn exports_bind_by_name_and_version(rt: HostRuntime) -> Result<(), Fail> {
     Ok(())
 }
 
-// Each line: the old library | the new one | what is said.
+// The columns of a line: the old library | the new one | the rows of the answer.
 const BREAKS: &str = "\
 a.so,V1,V2:f.-2 f.3|a.so,V1,V2:f.3|X3 f@V1: version gone
 a.so,V1,V2:f.-2 f.3||X2 f@V1: gone;X2 f@@V2: gone
@@ -148,7 +150,7 @@ fn breaks_of_versions_are_told(rt: HostRuntime) -> Result<(), Fail> {
     Ok(())
 }
 
-// A symbol by its kind and its size.
+// A symbol, given its kind and its size.
 fn symbol_of(word: &str) -> ImageSymbol<'static> {
     let f = ImageSymbol::function(b"f");
     match word {
@@ -160,7 +162,7 @@ fn symbol_of(word: &str) -> ImageSymbol<'static> {
     }
 }
 
-// Each line: the old symbol | the new one | what is said.
+// The columns of a line: the old symbol | the new one | the rows of the answer.
 const KINDS: &str = "\
 function|object of 16|X4 f: kind FUNC, now OBJECT
 v of 4|v of 8|X5 v: object size 4, now 8
@@ -183,7 +185,7 @@ fn kinds_and_sizes_are_compared(rt: HostRuntime) -> Result<(), Fail> {
     Ok(())
 }
 
-// Libraries with two exports of one name and version, the last of which has two definitions of one name.
+// Libraries with two exports of one name and version. The last one has two definitions of one name.
 const TWINS: &str = "\
 a.so,V1,V2:f.1 f.1
 a.so,V1,V2:f.1 f.-1
@@ -203,13 +205,13 @@ fn exports_of_one_name_and_version_are_refused(rt: HostRuntime) -> Result<(), Fa
 
 // A library of 760 bytes that exports `f@@V1`.
 //
-// The indexes of its two symbols stand at 120; the three definitions at 128, 156 and 184; their 12 bytes of strings at 216.
-// Of the section headers, that of the indexes, section 3, stands at 504, and that of the definitions, section 4, at 568.
+// The indexes of its two symbols are at 120; the three definitions at 128, 156 and 184; their 12 bytes of strings at 216. The
+// section header of the indexes, section 3, is at 504, and that of the definitions, section 4, at 568.
 fn good_versions(alloc: Global) -> Result<Vec<u8>, AllocError> {
     library_of_row(alloc, "a.so,V1,V2:f.2")
 }
 
-// Each line: a change of the library of `good_versions` | its fault.
+// The columns of a line: a change of the library of `good_versions` | its fault.
 const INDEXES: &str = "\
 # A size that is not that of two indexes.
 536=00|15 VersionTable 0
@@ -235,7 +237,7 @@ fn version_indexes_are_refused(rt: HostRuntime) -> Result<(), Fail> {
     are_refused(&rt, &good, INDEXES)
 }
 
-// The same of the chains of definitions.
+// The same for the chains of definitions.
 const CHAINS: &str = "\
 # Links to what is no string table.
 608=00|16 VersionDefinition 0
@@ -263,7 +265,7 @@ fn chains_of_version_definitions_are_refused(rt: HostRuntime) -> Result<(), Fail
     are_refused(&rt, &good_versions(rt.alloc())?, CHAINS)
 }
 
-// The same of their fields.
+// The same for the fields of definitions.
 const FIELDS: &str = "\
 # Another version of the format, no auxiliary entry, and no index.
 128=00|16 VersionDefinition 0
@@ -288,7 +290,7 @@ fn fields_of_version_definitions_are_refused(rt: HostRuntime) -> Result<(), Fail
     are_refused(&rt, &good_versions(rt.alloc())?, FIELDS)
 }
 
-// Each line: a change of the same library | what is said of it as the old library.
+// The columns of a line: a change of the same library | the answer about it as the old library.
 const UNUSUAL: &str = "\
 # The index of `f`, and that of symbol 0, which is no export.
 122=02,80|X2 f@V1: gone
@@ -325,6 +327,6 @@ fn exports_with_versions_have_types(rt: HostRuntime) -> Result<(), Fail> {
     let file = versioned_function(rt.alloc(), &[])?;
     let lines = "bind 1 1;pair 15 15 direct;pair 22 22 direct;end";
     is_yes(&rt, &file, &file, lines)?;
-    // An export without a type asks for none.
+    // An export without a type does not require one.
     is_yes(&rt, &library(rt.alloc(), &["f"])?, &file, "bind 1 1;end")
 }

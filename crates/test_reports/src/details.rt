@@ -1,4 +1,4 @@
-// A row for each rule: what it says of the old side and of the new one, and the part and the values that it gives.
+// A row for each rule: its detail about the old and the new side, its part and its values.
 ghost use Rattle.std.specs.Prelude.{◌≡◌, false};
 ghost use Rattle.pair_rules.specs.TypeRules.{speaks_of_parts};
 
@@ -14,7 +14,7 @@ use std::process::Abort;
 use std::str;
 use std::test::Fail;
 
-// A type of four bytes, with these parts.
+// A type with four bytes and these parts.
 fn made<'a, Ix: Index>(
     alloc: Global,
     kind: Kind,
@@ -35,12 +35,12 @@ fn made<'a, Ix: Index>(
     })
 }
 
-// A scalar of four bytes.
+// A scalar with four bytes.
 fn scalar<'a, Ix: Index>(alloc: Global, tag: &'a [u8]) -> Result<View<'a, Ix>, NoMemory> {
     made(alloc, Kind::Scalar, tag, Vec::new(alloc))
 }
 
-// No export and no steps.
+// A trail without an export and without steps.
 fn nowhere(alloc: Global) -> Trail {
     Trail {
         export: String::new(alloc),
@@ -48,7 +48,7 @@ fn nowhere(alloc: Global) -> Trail {
     }
 }
 
-// The row of a rule that two types break as a whole.
+// The row of a rule that two types break as wholes.
 fn whole(alloc: Global, rule: Rule, old: &View<OldIx>, new: &View<NewIx>) -> Result<Row, NoMemory>
     requires { speaks_of_parts rule ≡ false }
 {
@@ -86,7 +86,7 @@ fn utf8_of(bytes: &List<u8>) -> &str {
     str::from_utf8(bytes.as_slice()).unwrap_or("no text")
 }
 
-// What a row says is this: its detail, the part, what was there and what is there now.
+// Expects this of a row: its detail, the part, the old value and the new value.
 fn says(rt: &impl Abort, alloc: Global, row: &Row, wanted: &str) -> Result<(), NoMemory> {
     let detail = utf8_of(&row.detail);
     let part = utf8_of(&row.part);
@@ -97,7 +97,7 @@ fn says(rt: &impl Abort, alloc: Global, row: &Row, wanted: &str) -> Result<(), N
     Ok(())
 }
 
-// A structure that has nothing of what a scalar of four bytes without a name has.
+// A structure that differs in every property from a nameless scalar with four bytes.
 fn changed<'a, Ix: Index>(alloc: Global) -> Result<View<'a, Ix>, NoMemory> {
     let mut view = scalar(alloc, b"a b")?;
     view.kind = Kind::Structure;
@@ -109,7 +109,7 @@ fn changed<'a, Ix: Index>(alloc: Global) -> Result<View<'a, Ix>, NoMemory> {
     Ok(view)
 }
 
-// The row of a rule for this old type and one that became something else.
+// The row of a rule for this old type and one with a different kind.
 fn row_beside(alloc: Global, rule: Rule, old: &View<OldIx>) -> Result<Row, NoMemory>
     requires { speaks_of_parts rule ≡ false }
 {
@@ -124,7 +124,7 @@ fn scalar_row(alloc: Global, rule: Rule) -> Result<Row, NoMemory>
     row_beside(alloc, rule, &old)
 }
 
-// Of a scalar that became something else, the row of this rule says this.
+// Expects this of the rule's row for a scalar that became a different kind of type.
 fn says_of_scalar(rt: &impl Abort, alloc: Global, rule: Rule, wanted: &str) -> Result<(), NoMemory>
     requires { speaks_of_parts rule ≡ false }
 {
@@ -196,7 +196,7 @@ fn member<'a, Ix: Index>(name: &'a [u8], bit: u64, width: u64) -> Part<'a, Ix> {
     }
 }
 
-// A structure with a member `v`, and another of this name at a bit and of a width.
+// A structure with a member `v`, and a second member of this name at a bit and with a width.
 fn pair_of<'a, Ix: Index>(
     alloc: Global,
     name: &'a [u8],
@@ -226,7 +226,7 @@ fn member_row(rt: &impl Abort, alloc: Global, rule: Rule, part: usize) -> Result
     member_row_beside(rt, alloc, rule, part, &old)
 }
 
-// Of the second member `v`, which moved and became a bit field, or of the first one, the row of this rule says this.
+// Expects this of the rule's row for the second member `v`, which moved and became a bit field, or for the first one.
 fn says_of_member(
     rt: &impl Abort,
     alloc: Global,
@@ -272,7 +272,7 @@ fn members(rt: HostRuntime) -> Result<(), Fail> {
     Ok(())
 }
 
-// An enumeration of one enumerator, `A` of this value, in so many bytes.
+// An enumeration with one enumerator `A` of this value, in so many bytes.
 fn enumeration<'a, Ix: Index>(
     alloc: Global,
     name: &'a [u8],
@@ -286,7 +286,7 @@ fn enumeration<'a, Ix: Index>(
     Ok(view)
 }
 
-// The row of a rule for this old enumeration and one of another value.
+// The row of a rule for this old enumeration and one with a different value.
 fn enumerator_row_beside(
     rt: &impl Abort,
     alloc: Global,
@@ -302,7 +302,7 @@ fn enumerator_row(rt: &impl Abort, alloc: Global, rule: Rule) -> Result<Row, NoM
     enumerator_row_beside(rt, alloc, rule, &old)
 }
 
-// Of an enumerator of one byte whose value was the greatest one, the row of this rule says this.
+// Expects this of the rule's row for a one-byte enumerator whose value was the greatest one.
 fn says_of_enumerator(
     rt: &impl Abort,
     alloc: Global,
@@ -331,7 +331,7 @@ fn enumerators(rt: HostRuntime) -> Result<(), Fail> {
     Ok(())
 }
 
-// The general register of a number.
+// The general register with a number.
 fn register(number: u8) -> Place {
     let mut eightbytes = [Slot::Unused; 8];
     eightbytes[0] = Slot::General(number);
@@ -351,7 +351,7 @@ fn call_of(alloc: Global, outcome: Place, param: Place) -> Result<Call, NoMemory
     Call::of(alloc, CallShape { outcome, params })
 }
 
-// A function of one parameter, with these places.
+// A function with one parameter and these places.
 fn function<'a, Ix: Index>(
     alloc: Global,
     tag: &'a [u8],
@@ -365,7 +365,7 @@ fn function<'a, Ix: Index>(
     Ok(view)
 }
 
-// The row of places for this old function and one with its result in memory and its parameter on the stack.
+// The row about places for this old function and one with its result in memory and its parameter on the stack.
 fn place_row_beside(
     rt: &impl Abort,
     alloc: Global,
@@ -385,7 +385,7 @@ fn place_row(rt: &impl Abort, alloc: Global, part: usize) -> Result<Row, NoMemor
     place_row_beside(rt, alloc, part, &old)
 }
 
-// Of a function whose result went to memory and whose parameter went to the stack, the row says this of a part.
+// Expects this of the row for a part of a function whose result moved to memory and whose parameter moved to the stack.
 fn says_of_place(
     rt: &impl Abort,
     alloc: Global,
@@ -414,7 +414,7 @@ fn places(rt: HostRuntime) -> Result<(), Fail> {
     Ok(())
 }
 
-// An export of a version.
+// An export with a version.
 fn export<'a>(name: &'a [u8], version: &'a [u8], kind: SymbolKind, size: u64) -> Export<'a> {
     Export {
         symbol: 1,
@@ -431,7 +431,7 @@ fn export<'a>(name: &'a [u8], version: &'a [u8], kind: SymbolKind, size: u64) ->
     }
 }
 
-// Of a function of a version that became a thread-local object, the row of this rule says this.
+// Expects this of the rule's row for a function with a version that became a thread-local object.
 fn says_of_export(
     rt: &impl Abort,
     alloc: Global,

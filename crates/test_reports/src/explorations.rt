@@ -1,4 +1,4 @@
-// Explorations of small types, by hand.
+// Explorations of small types, worked by hand.
 ghost use Rattle.std.specs.Prelude.{◌≡◌, ◌<◌, IfOk};
 ghost use Rattle.pair_explorer.specs.Visits.{AreEarlier};
 
@@ -15,10 +15,10 @@ use std::sync::ledger::{Blank, Ledger};
 use std::test::Fail;
 use type_classes::{Classes, alike, plain};
 
-// Each line: what is explored | over classes of one type each, or of alike types | the old types | the new types | the roots |
-// the marked old types, where they are reached by value | and through a pointer | how many triples there are | the breaks.
-// Types are as `spelled_graph` takes them. A root is the position of its export and the numbers of both types. A break is its
-// rule, and its path as an export and positions of parts.
+// The columns of a line: the case | whether each type has its own class (`plain`) or alike types share one | the old types | the
+// new types | the roots | the old types that are marked by value | and through a pointer | the number of triples | the breaks.
+// Types are in the form that `spelled_graph` reads. A root is the position of its export and the numbers of both types. A break is
+// its rule, and its path as an export and positions of parts.
 const ROWS: &str = "\
 a ring of two and a ring of three|plain|int:4;ptr >3;struct:16 n@0>4 v@64>1;ptr >5;struct:16 n@0>2 v@64>1;fn >0 >2|int:4;ptr >3;struct:16 n@0>4 v@64>1;ptr >5;struct:16 n@0>6 v@64>1;ptr >7;struct:16 n@0>2 v@64>1;fn >0 >2|0:6-8|||16|
 a member of the third is longer|plain|int:4;ptr >3;struct:16 n@0>4 v@64>1;ptr >5;struct:16 n@0>2 v@64>1;fn >0 >2|int:4;ptr >3;struct:16 n@0>4 v@64>1;ptr >5;struct:16 n@0>6 v@64>1;ptr >7;struct:16 n@0>2 v@64>9;fn >0 >2;int:8|0:6-8|||17|L2@0/1/0/0/0/0/0/1
@@ -62,7 +62,7 @@ fn roots(alloc: Global, cell: &str) -> Result<Vec<Root>, NoMemory> {
     Ok(roots)
 }
 
-// For each of so many nodes whether the cell names it.
+// For each of so many nodes, whether the cell names it.
 fn flags(alloc: Global, nodes: usize, cell: &str) -> Result<List<bool>, NoMemory> {
     let mut flags = List::new(alloc);
     for i in 0..nodes {
@@ -77,7 +77,7 @@ fn flags(alloc: Global, nodes: usize, cell: &str) -> Result<List<bool>, NoMemory
     Ok(flags)
 }
 
-// The cells of a line.
+// The columns of a line.
 #[derive(Clone, Copy)]
 struct Row<'a> {
     what: &'a str,
@@ -142,7 +142,7 @@ fn push_break(
     Ok(())
 }
 
-// How many triples there are, and the breaks.
+// The number of triples, and the breaks.
 fn text_of(alloc: Global, explored: &Explored) -> Result<String, NoMemory>
     requires { AreEarlier explored.now.visits }
 {
@@ -155,7 +155,7 @@ fn text_of(alloc: Global, explored: &Explored) -> Result<String, NoMemory>
     Ok(format!(in alloc; "{triples}|{breaks}")?)
 }
 
-// What an exploration tells.
+// The result of an exploration, as a text.
 fn told_by<L: Ledger>(
     rt: &impl Abort,
     alloc: Global,
@@ -174,7 +174,7 @@ fn told_by<L: Ledger>(
     text_of(alloc, &explored)
 }
 
-// What an exploration over classes tells.
+// The result of an exploration over classes, as a text.
 fn told_over(
     rt: &impl Abort,
     alloc: Global,
@@ -204,7 +204,7 @@ fn expect(rt: &impl Abort, row: &Row, told: &str) {
     assert_eq!(rt; told, row.told, "{}", row.what);
 }
 
-// The classes that a word names.
+// The classes for a word.
 fn classes<'g, 'a, Ix: Index>(
     alloc: Global,
     graph: &'g Graph<'a, Ix>,
@@ -218,7 +218,7 @@ fn classes<'g, 'a, Ix: Index>(
     }
 }
 
-// What an exploration of two graphs tells.
+// The result of an exploration of two graphs, as a text.
 fn told_beside(
     rt: &impl Abort,
     alloc: Global,
@@ -231,7 +231,7 @@ fn told_beside(
     told_over(rt, alloc, row, old, new, &old_classes, &new_classes)
 }
 
-// The same, where the new graph is still to be made.
+// The same, where the new graph is made here.
 fn told_of(
     rt: &impl Abort,
     alloc: Global,
@@ -242,7 +242,7 @@ fn told_of(
     told_beside(rt, alloc, row, old, &new)
 }
 
-// What is told of a row.
+// The result for a row.
 fn told(rt: &impl Abort, alloc: Global, row: &Row) -> Result<String, NoMemory> {
     let old = graph::<OldIx>(rt, alloc, row.old)?;
     told_of(rt, alloc, row, &old)

@@ -1,5 +1,4 @@
-//! What explorations of small types find, what rows say of each rule, and listeners that are written outside the crate of
-//! reports. All of it is tests.
+//! Tests of explorations of small types, of the rows for each rule, and of listeners that are written outside the crate of reports.
 #![tactic(auto)]
 
 #[cfg(test)]

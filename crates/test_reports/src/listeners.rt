@@ -1,4 +1,4 @@
-// Listeners that are written outside the crate of reports: told, closed and dropped in their order.
+// Listeners that are written outside the crate of reports: they are told, closed and dropped in order.
 ghost use Rattle.std.specs.Prelude.{◌≡◌, [], All, IfOk};
 
 use abi_base::{List, NoMemory};
@@ -12,7 +12,7 @@ use std::cell::RefCell;
 use std::rc::Rc;
 use std::test::Fail;
 
-// Says in a list when it is dropped.
+// Records in a list when it is dropped.
 struct Note {
     number: u8,
     dropped: Rc<RefCell<Vec<u8>>>,
@@ -30,7 +30,7 @@ impl Drop for Note {
     }
 }
 
-// Keeps so many rows, wants memory for more, and closes with their number.
+// Keeps so many rows, returns `NoMemory` for more, and closes with their number.
 #[derive(Drop)]
 struct Counting {
     alloc: Global,
@@ -65,7 +65,7 @@ impl Listener for Counting {
     }
 }
 
-// A row of these texts.
+// A row with these texts.
 fn row(
     alloc: Global,
     rule: Rule,
@@ -86,7 +86,7 @@ fn row(
     })
 }
 
-// The row of a member that grew.
+// The row about a member that grew.
 fn grown(alloc: Global) -> Result<Row, NoMemory> {
     row(
         alloc,
@@ -97,12 +97,12 @@ fn grown(alloc: Global) -> Result<Row, NoMemory> {
     )
 }
 
-// The row of an export that is gone.
+// The row about an export that is gone.
 fn gone(alloc: Global) -> Result<Row, NoMemory> {
     row(alloc, Rule::ExportPresence, b"f@V1", b"", b"gone")
 }
 
-// A listener of each style of the library, which heard nothing yet.
+// A listener of each style in the library. None has heard anything yet.
 fn of_each_style(alloc: Global) -> Result<Vec<Box<dyn Listener>>, NoMemory>
     ensures { IfOk result (λ listeners. All (λ listener. heard listener ≡ []) listeners.items) }
 {
@@ -121,7 +121,7 @@ fn of_each_style(alloc: Global) -> Result<Vec<Box<dyn Listener>>, NoMemory>
     Ok(listeners)
 }
 
-// A listener of this number that keeps so many rows, and none yet.
+// A listener with this number that may keep so many rows, and has kept none yet.
 fn keeping(
     alloc: Global,
     number: u8,

@@ -1,4 +1,4 @@
-// Reports on small libraries, by hand.
+// Reports on small libraries, worked by hand.
 ghost use Rattle.std.specs.Prelude.{◌≡◌, ◌<◌, IfOk};
 ghost use Rattle.cert_check.specs.Compatible.{task_of};
 ghost use Rattle.pair_compare.specs.BoundPair.{IsBinding, sides_of};
@@ -23,9 +23,9 @@ use std::test::Fail;
 use test_graphs::is_library;
 use type_classes::alike;
 
-// Each line: what is compared | the old types | the new types | the old exports | the new exports | the rows.
-// Types are as `spelled_graph` takes them. An export is its name, its version, its kind, its size and its type, behind a minus where a
-// rule drops it. The soname stands before the exports.
+// The columns of a line: the case | the old types | the new types | the old exports | the new exports | the rows. Types are in the
+// form that `spelled_graph` reads. An export is its name, its version, its kind, its size and its type, after a minus if a
+// suppression drops it. The soname comes before the exports.
 const ROWS: &str = "\
 a longer member|int:4;struct:16 n@0>3 v@64>1;ptr >2;fn >1=6 >3=0|int:4;struct:16 n@0>3 v@64>5;ptr >2;fn >1=6 >3=0;int:8|a.so len::f:0:4|a.so len::f:0:4|L2 len param 1 / target / member v: size 4, now 8
 a ring of two in the place of itself|int:4;ptr >3;struct:16 n@0>4 v@64>1;ptr >5;struct:16 n@0>2 v@64>1;fn >0=- >2=0|int:4;ptr >3;struct:16 n@0>4 v@64>1;ptr >5;struct:16 n@0>2 v@64>1;fn >0=- >2=0|a.so walk::f:0:6|a.so walk::f:0:6|
@@ -133,7 +133,7 @@ fn marks(alloc: Global, cell: &str, nodes: usize) -> Result<Marks, NoMemory> {
     })
 }
 
-// What an exploration of the types over the classes of alike ones finds.
+// The result of an exploration of the types over the classes of alike ones.
 fn explored<L: Ledger>(
     rt: &impl Abort,
     alloc: Global,
@@ -187,7 +187,7 @@ fn push_row(rt: &impl Abort, text: &mut String, row: &Row) -> Result<(), NoMemor
     Ok(())
 }
 
-// The rows between two libraries whose exports are bound.
+// The rows about two libraries whose exports are bound.
 fn rows_of(rt: &impl Abort, alloc: Global, pair: &BoundPair) -> Result<List<Row>, NoMemory>
     requires { IsBinding pair.now }
 {
@@ -203,7 +203,7 @@ fn text_of(rt: &impl Abort, alloc: Global, rows: &[Row]) -> Result<String, NoMem
     Ok(text)
 }
 
-// The same rows as a text.
+// The same rows, as a text.
 fn told_by(rt: &impl Abort, alloc: Global, pair: &BoundPair) -> Result<String, NoMemory>
     requires { IsBinding pair.now }
 {
@@ -211,7 +211,7 @@ fn told_by(rt: &impl Abort, alloc: Global, pair: &BoundPair) -> Result<String, N
     text_of(rt, alloc, rows.as_slice())
 }
 
-// The rows between two libraries.
+// The rows about two libraries.
 fn told(
     rt: &impl Abort,
     alloc: Global,
@@ -230,7 +230,7 @@ fn told(
     told_by(rt, alloc, &pair)
 }
 
-// The cells of a line.
+// The columns of a line.
 #[derive(Clone, Copy)]
 struct Cells<'a> {
     what: &'a str,
@@ -257,7 +257,7 @@ fn cells_of(line: &str) -> Cells<'_> {
     }
 }
 
-// The rows between two libraries, by the old exports of a line.
+// The rows about two libraries, given the old exports of a line.
 fn told_beside(
     rt: &impl Abort,
     alloc: Global,
@@ -269,7 +269,7 @@ fn told_beside(
     told(rt, alloc, old, new, &marks)
 }
 
-// The same, where the new library is still to be made.
+// The same, where the new library is made here.
 fn told_of(
     rt: &impl Abort,
     alloc: Global,

@@ -4,17 +4,17 @@ use abi_types::{Call, CallShape, Graph, Group, Index, Kind, Node, Part, Parts, P
 use std::alloc::Global;
 use test_graphs::graph;
 
-/// What stands before the first such character, and what stands behind it.
+/// The text before the first occurrence of a character, and the text after it.
 pub(crate) fn cut(text: &str, by: char) -> (&str, &str) {
     text.split_once(by).unwrap_or((text, ""))
 }
 
-// A number in decimal, and 0 where it is none.
+// A decimal number, or 0 if the text is not one.
 fn number(text: &str) -> usize {
     text.parse().unwrap_or(0)
 }
 
-// The kind of a type, by the word that it begins with.
+// The kind of a type, by its first word.
 fn kind(word: &str) -> Kind {
     match word {
         "int" => Kind::Scalar,
@@ -34,7 +34,7 @@ fn group(kind: Kind) -> Group {
     }
 }
 
-// In bytes.
+// The size of a type in bytes.
 fn size(kind: Kind, text: &str) -> u64 {
     match kind {
         Kind::Pointer => 8,
@@ -42,7 +42,7 @@ fn size(kind: Kind, text: &str) -> u64 {
     }
 }
 
-// No type here is by value in one of its own kind.
+// No type here contains one of its own kind by value.
 fn rank(kind: Kind) -> u32 {
     match kind {
         Kind::Structure | Kind::Union => 1,
@@ -51,7 +51,7 @@ fn rank(kind: Kind) -> u32 {
     }
 }
 
-// What a word of a type of this kind leads to, as the part at this position.
+// The part at this position that a word of a type of this kind describes.
 fn part<'a, Ix: Index>(kind: Kind, position: usize, word: &'a str) -> Part<'a, Ix> {
     let (place, to) = cut(word, '>');
     let (name, bit) = cut(place, '@');
@@ -92,7 +92,7 @@ fn place(word: &str) -> Place {
     Place::Registers { eightbytes }
 }
 
-// The places of the parameters among some words, the first of which is of the result.
+// The places of the parameters in words, the first of which is for the result.
 fn params(alloc: Global, words: &str) -> Result<List<Place>, NoMemory> {
     let mut params = List::new(alloc);
     for word in words.split_whitespace().skip(2) {
@@ -101,7 +101,7 @@ fn params(alloc: Global, words: &str) -> Result<List<Place>, NoMemory> {
     Ok(params)
 }
 
-// The places of a call, by the words of a type of this kind.
+// The places of a call, from the words of a type of this kind.
 fn call(alloc: Global, kind: Kind, text: &str) -> Result<Call, NoMemory> {
     match kind {
         Kind::Function => {
@@ -113,7 +113,7 @@ fn call(alloc: Global, kind: Kind, text: &str) -> Result<Call, NoMemory> {
     }
 }
 
-// The parts of a type of this kind, by the words behind the first.
+// The parts of a type of this kind, from the words after the first.
 fn parts<'a, Ix: Index>(
     alloc: Global,
     kind: Kind,
@@ -152,11 +152,11 @@ fn node<'a, Ix: Index>(alloc: Global, entry: u64, text: &'a str) -> Result<Node<
     })
 }
 
-/// The graph that a line spells, or `None` where it spells none. Types stand behind one another with a semicolon between; the
-/// first has number 1, as 0 is void, and the entry of each is ten times its number. A type is its kind (`int`, `ptr`, `struct`,
-/// `union`, `fn`), a colon and its size in bytes, and its parts: a member as its name, `@` and its bit, `>` and the number of its
-/// type; a target as `>` and the number alone; the result of a function and then its parameters as `>` and the number, where
-/// wanted with `=` and the register, a vector one with `x`.
+/// The graph that a line describes, or `None` if it is not a graph. Types are separated by semicolons; the first has number 1, as 0
+/// is void, and the entry of each is ten times its number. A type is its kind (`int`, `ptr`, `struct`, `union`, `fn`), a colon and
+/// its size in bytes, and its parts: a member as its name, `@` and its bit, `>` and the number of its type; a target as only `>`
+/// and the number; the result of a function, followed by its parameters, each as `>` and the number, optionally with `=` and the
+/// register, which is a vector one after `x`.
 pub(crate) fn spelled_graph<'a, Ix: Index>(
     alloc: Global,
     line: &'a str,

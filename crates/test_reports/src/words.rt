@@ -1,4 +1,4 @@
-// Worked rows of the printed form of places.
+// Worked rows for the printed form of places.
 use crate::spelled::cut;
 use abi_base::NoMemory;
 use abi_types::{Place, Slot};
@@ -7,7 +7,7 @@ use std::alloc::Global;
 use std::process::Abort;
 use std::test::Fail;
 
-// Each line: a place, with the number of each register behind a dot | its text.
+// The columns of a line: a place, with the number of each register after a dot | its text.
 const PLACES: &str = "\
 none|none
 memory|memory

@@ -1,10 +1,10 @@
-// What no clause says: that idle sections are found where there is memory, in a rule file made by hand.
+// What no contract states: idle sections are found if there is enough memory, in a rule file made by hand.
 use crate::marking::{SONAME, library, rules_in};
 use idle_sections::idle_sections;
 use std::test::Fail;
 use suppression_text::{Key, Section};
 
-// Of its sections the second holds of nothing.
+// The second of its sections matches nothing.
 const TEXT: &str = "\
 [suppress_function]
 name = g_decl
@@ -15,7 +15,7 @@ name = priv
 accessed_through = pointer
 ";
 
-// The name that the first section asks.
+// The name that the first section requires.
 fn first_name<'r>(sections: &[&'r Section]) -> &'r [u8] {
     match sections.first() {
         Some(section) => section.value(Key::Name).unwrap_or(&[]),

@@ -1,4 +1,4 @@
-//! What no clause of rule files says: worked texts and marks. All of it is tests.
+//! Tests of rule files for what no contract states: worked texts and marks.
 #![tactic(auto)]
 
 #[cfg(test)]

@@ -1,4 +1,5 @@
-// What no clause says: that rules are asked where there is memory, and what rule files made by hand say of a library made by hand.
+// What no contract states: rules are evaluated if there is enough memory, and the marks of a handmade library by handmade rule
+// files.
 use crate::rows::{file_of, wanted_of};
 use abi_base::{List, NoMemory};
 use abi_types::{
@@ -11,8 +12,8 @@ use suppression_text::Rules;
 use suppressions::{drops_export, drops_labels, marks, read_rules};
 use test_graphs::{graph, is_library, view, void};
 
-// Each line: a rule file, with a slash for the end of each line | a digit for each export, then for each node where it is reached by
-// value, and then for each node behind a pointer: 1 where it is dropped or marked.
+// The columns of a line: a rule file, with a slash at the end of each line | a digit for each export, for each node reached by
+// value, and for each node reached through a pointer: 1 if it is dropped or marked.
 const ROWS: &str = "\
 |0000000 0000000 0000000
 [suppress_function]/name = g_decl|0100000 0000000 0000000
@@ -64,7 +65,7 @@ c c - common
 t t - thread-local
 ";
 
-// The labels of its types behind void, which are scalars of four bytes.
+// The labels of its types after void, which are scalars with four bytes.
 const TYPES: &str = "\
 struct:priv
 typedef:priv_t struct:priv
@@ -147,7 +148,7 @@ fn labels<'a>(alloc: Global, line: &'a str) -> Result<List<Label<'a>>, NoMemory>
     Ok(labels)
 }
 
-// A scalar of four bytes.
+// A scalar with four bytes.
 fn scalar<'a>(alloc: Global, entry: u64, line: &'a str) -> Result<Node<'a, OldIx>, NoMemory> {
     Ok(Node {
         entry,
@@ -210,7 +211,7 @@ fn digits(alloc: Global, marks: &Marks) -> Result<String, NoMemory> {
     Ok(digits)
 }
 
-// The marks of a library by a rule file.
+// The marks of a library, given a rule file.
 fn marks_by(
     rt: &impl Abort,
     alloc: Global,
@@ -232,7 +233,7 @@ fn told(
     digits(alloc, &marks)
 }
 
-// The same, by the file of a row.
+// The same, given the rule file of a row.
 fn told_of(
     rt: &impl Abort,
     alloc: Global,
@@ -280,7 +281,7 @@ fn a_soname_that_is_not_there_has_no_pattern(rt: HostRuntime) -> Result<(), Fail
     Ok(())
 }
 
-// Whether the rules drop an object of this name, and mark a union of this name by value, and behind a pointer.
+// Whether the rules drop an object with this name, and mark a union with this name by value and through a pointer.
 fn asked(alloc: Global, rules: &Rules) -> Result<[bool; 3], NoMemory> {
     let object = export(5, "o o - object");
     let labels = [label("union:u")];

@@ -1,4 +1,4 @@
-// Rows of text: a rule file, with a slash for the end of each of its lines, a bar, and what is wanted of it.
+// Rows of text: a rule file, with a slash at the end of each of its lines, a bar, and the expected result.
 use abi_base::NoMemory;
 use std::alloc::Global;
 
@@ -15,7 +15,7 @@ pub(crate) fn file_of(alloc: Global, row: &str) -> Result<String, NoMemory> {
     Ok(file)
 }
 
-/// What is wanted of the file of a row.
+/// The expected result of a row.
 pub(crate) fn wanted_of(row: &str) -> &str {
     cells_of(row).1
 }

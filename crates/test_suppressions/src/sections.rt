@@ -1,4 +1,4 @@
-// What no clause says: that rule files are read where there is memory, and the faults of files made by hand.
+// What no contract states: rule files are read if there is enough memory, and the faults of files made by hand.
 use crate::rows::{file_of, wanted_of};
 use abi_base::{NoMemory, Refusal};
 use std::alloc::Global;
@@ -6,7 +6,8 @@ use std::process::Abort;
 use std::test::Fail;
 use suppression_text::read_rules;
 
-// Each line: a rule file, with a slash for the end of each line | the number and the line of its fault, or zeros where it has none.
+// The columns of a line: a rule file, with a slash at the end of each line | the number and the line of its fault, or zeros if it
+// has none.
 const ROWS: &str = "\
 |0 0
 # c/; c// \t /|0 0
@@ -43,7 +44,7 @@ name = x|51 1
 [suppress_type = a]|52 1
 ";
 
-// The number and the line of a file's fault, or zeros where it has none.
+// The number and the line of a file's fault, or zeros if it has none.
 fn answer(alloc: Global, bytes: &[u8]) -> Result<String, NoMemory> {
     let (number, at) = match read_rules(alloc, bytes) {
         Ok(_) => (0, 0),

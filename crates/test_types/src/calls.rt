@@ -1,4 +1,4 @@
-// What no clause says: that calls find memory, and where calls of small functions put their results and arguments.
+// What no contract states: calls succeed with enough memory, and the places of results and arguments in calls of small functions.
 use abi_base::{List, NoMemory};
 use abi_types::{Call, Graph, Group, Index, Kind, Node, OldIx, Part, Place, Slot};
 use psabi::{align, call_shape, call_shapes, classes, size};
@@ -8,8 +8,9 @@ use std::process::Abort;
 use std::test::Fail;
 use test_graphs::{function, graph, view};
 
-// Each line: the name of a type, its kind or the group of its scalar, its size, and its parts: a member as its bit, the width of a bit
-// field behind a plus, `>` and the name of its type, and an element as the count of the array, `>` and the name of its type.
+// The columns of a line: the name of a type, its kind or the group of its scalar, its size, and its parts: a member as its bit, the
+// width of a bit field after a plus, `>` and the name of its type; an element as the count of the array, `>` and the name of its
+// type.
 const TYPES: &str = "\
 void void 0
 int signed 4
@@ -30,7 +31,7 @@ nil structure 0
 doubles array 64 8>double
 ";
 
-// The number of the function behind these types.
+// The number of the function that follows these types.
 const FUNCTION: usize = 17;
 
 fn cut(text: &str, by: char) -> (&str, &str) {
@@ -105,7 +106,7 @@ fn count(kind: Kind, words: &str) -> u64 {
     }
 }
 
-// The type of a line. One that holds others by value ranks above those before it.
+// The type of a line. One that holds others by value has a higher rank than those before it.
 fn node_of<'a, Ix: Index>(
     alloc: Global,
     number_of_it: u32,
@@ -146,7 +147,7 @@ fn graph_of(
     }
 }
 
-// Each line: a type | the classes of its first two eightbytes.
+// The columns of a line: a type | the classes of its first two eightbytes.
 const CLASSES: &str = "\
 int|Integer NoClass
 long_double|X87 X87Up
@@ -207,7 +208,7 @@ fn a_size_and_an_alignment(rt: HostRuntime) -> Result<(), Fail> {
     Ok(())
 }
 
-// The general registers in their order.
+// The general registers in the order in which they are numbered.
 const GENERAL: [&str; 7] = ["rdi", "rsi", "rdx", "rcx", "r8", "r9", "rax"];
 
 fn push_slot(text: &mut String, slot: Slot) -> Result<(), NoMemory> {
@@ -224,7 +225,7 @@ fn push_slot(text: &mut String, slot: Slot) -> Result<(), NoMemory> {
     Ok(())
 }
 
-// Where a result or an argument is: its registers, each behind a plus, or its place and its size on the stack.
+// The place of a result or an argument: its registers, each after a plus, or its offset and its size on the stack.
 fn push_place(text: &mut String, place: Place) -> Result<(), NoMemory> {
     match place {
         Place::Nothing => text.push_str("none")?,
@@ -239,7 +240,7 @@ fn push_place(text: &mut String, place: Place) -> Result<(), NoMemory> {
     Ok(())
 }
 
-// Where a call puts its result, and behind it its arguments.
+// The place of a call's result, followed by those of its arguments.
 fn places_of(alloc: Global, call: &Call) -> Result<String, NoMemory> {
     let mut text = String::new(alloc);
     push_place(&mut text, call.outcome())?;
@@ -251,7 +252,7 @@ fn places_of(alloc: Global, call: &Call) -> Result<String, NoMemory> {
     Ok(text)
 }
 
-// The graph with a function of this result and these parameters.
+// The graph with a function that has this result and these parameters.
 fn graph_with(
     rt: &impl Abort,
     alloc: Global,
@@ -268,7 +269,7 @@ fn graph_with(
     graph_of(rt, alloc, nodes)
 }
 
-// Each line: the result and the parameters of a function | where a call puts the result | and the arguments.
+// The columns of a line: the result and the parameters of a function | the place of the result | and of the arguments.
 const CALLS: &str = "\
 void double_union long|none| +xmm0 +rdi
 int int int int int int two int|+rax| +rdi +rsi +rdx +rcx +r8 stack+0:16 +r9
@@ -281,7 +282,7 @@ two|+rax+rdx|
 void two two two two int|none| +rdi+rsi +rdx+rcx +r8+r9 stack+0:16 stack+16:8
 ";
 
-// Where a call of the function of a graph puts its result and its arguments.
+// The places of the result and the arguments in a call of the graph's function.
 fn places_in(rt: &impl Abort, alloc: Global, graph: &Graph<OldIx>) -> Result<String, NoMemory> {
     assert!(rt; FUNCTION < graph.len());
     let call = call_shape(alloc, graph, OldIx::of(FUNCTION))?;
@@ -305,7 +306,7 @@ fn places_of_small_calls(rt: HostRuntime) -> Result<(), Fail> {
     Ok(())
 }
 
-// Where the call of the type of a number puts its result and its arguments.
+// Expects the places of the result and the arguments in a call of the type with a number.
 fn expect_places(
     rt: &impl Abort,
     alloc: Global,
@@ -323,7 +324,7 @@ fn expect_places(
     Ok(())
 }
 
-// The calls of all types, of which an `int` has no places.
+// Checks the calls of all types. An `int` has no places.
 fn check_calls(rt: &impl Abort, alloc: Global, graph: &Graph<OldIx>) -> Result<(), NoMemory> {
     let calls = call_shapes(alloc, graph)?;
     let calls = calls.as_slice();

@@ -1,4 +1,4 @@
-// What no clause says: that calls find memory, and that the run-time tests know well-formed nodes and libraries.
+// What no contract states: calls succeed with enough memory, and the run-time tests recognize well-formed nodes and libraries.
 use abi_base::{List, NoMemory};
 use abi_types::{
     Call, CallShape, Export, Graph, Index, Kind, Library, NewIx, Node, OldIx, Place, SymbolKind,
@@ -35,7 +35,7 @@ fn small_nodes<'a, Ix: Index>(alloc: Global) -> Result<List<Node<'a, Ix>>, NoMem
     Ok(nodes)
 }
 
-// So many calls with a place for one parameter.
+// So many calls, each with a place for one parameter.
 fn calls(alloc: Global, count: usize) -> Result<List<Call>, NoMemory> {
     let mut calls = List::new(alloc);
     for _ in 0..count {
@@ -71,7 +71,7 @@ fn small_graph(rt: &impl Abort, alloc: Global) -> Result<Graph<'static, OldIx>, 
     }
 }
 
-// The same with places of calls.
+// The same, with the places of calls.
 fn graph_with_calls(rt: &impl Abort, alloc: Global) -> Result<Graph<'static, OldIx>, NoMemory> {
     let graph = small_graph(rt, alloc)?;
     let calls = calls(alloc, graph.len())?;
@@ -79,7 +79,7 @@ fn graph_with_calls(rt: &impl Abort, alloc: Global) -> Result<Graph<'static, Old
     Ok(graph.with_calls(calls))
 }
 
-// The numbers of the types at these entries, and a minus where there is none.
+// The numbers of the types at these entries, with a minus where there is none.
 fn found<Ix: Index>(alloc: Global, graph: &Graph<Ix>, entries: &str) -> Result<String, NoMemory> {
     let mut text = String::new(alloc);
     for word in entries.split(' ') {
@@ -127,7 +127,7 @@ fn library(rt: &impl Abort, alloc: Global) -> Result<Library<'static, OldIx>, No
     Library::new(alloc, b"abc", None, exports, graph)
 }
 
-// The positions of the exports of each name.
+// The positions of the exports with each name.
 fn named<Ix: Index>(alloc: Global, library: &Library<Ix>, names: &str) -> Result<String, NoMemory> {
     let mut text = String::new(alloc);
     for name in names.split(' ') {

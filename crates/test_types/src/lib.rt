@@ -1,4 +1,4 @@
-//! What no clause of graphs and of their readers says: worked values from outside, and each call once. All of it is tests.
+//! Tests of graphs and their readers for what no contract states: worked values from outside, and each call once.
 #![tactic(auto)]
 
 #[cfg(test)]

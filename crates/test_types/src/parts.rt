@@ -1,10 +1,10 @@
-// What no clause says: that calls find memory. Graphs and libraries are made in the rows of hand_graphs.
+// What no contract states: calls succeed with enough memory. `hand_made` has the rows of graphs and libraries.
 use abi_base::NoMemory;
 use abi_types::{Index, NewIx, OldIx, Part, Parts};
 use std::alloc::Global;
 use std::test::Fail;
 
-// Members of two names in turn.
+// Members with two alternating names.
 fn members<'a, Ix: Index>(
     alloc: Global,
     count: usize,

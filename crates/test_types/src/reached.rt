@@ -10,12 +10,12 @@ use type_reach::*;
 const ABBREVS: &[u8] = b"\x01\x11\x01\x13\x05\x00\x00\x02\x24\x00\x0b\x0b\x3e\x0b\x03\x08\x00\x00\
 \x03\x2e\x00\x03\x08\x49\x13\x11\x01\x00\x00\x04\x16\x00\x03\x08\x49\x13\x00\x00\x00";
 
-// A function at 22 that gives an `int`, which stands at 15.
+// A function at 22 that returns the `int` at 15.
 const FUNCTION: &[u8] =
     b"\x22\x00\x00\x00\x05\x00\x01\x08\x00\x00\x00\x00\x01\x0c\x00\x02\x04\x05int\x00\
 \x03f\x00\x0f\x00\x00\x00\x00\x10\x00\x00\x00\x00\x00\x00\x00";
 
-// The same with a typedef at 15 whose type it is itself.
+// The same, with a typedef of itself at 15.
 const CIRCLE: &[u8] =
     b"\x22\x00\x00\x00\x05\x00\x01\x08\x00\x00\x00\x00\x01\x0c\x00\x04t\x00\x0f\x00\x00\x00\
 \x03f\x00\x0f\x00\x00\x00\x00\x10\x00\x00\x00\x00\x00\x00\x00";
@@ -27,15 +27,15 @@ const MORE_ABBREVS: &[u8] =
 \x03\x13\x01\x0b\x0b\x00\x00\x04\x0d\x00\x03\x08\x49\x13\x0d\x0b\x0c\x0b\x38\x0b\x00\x00\x05\x13\x00\x3c\x19\x00\x00\
 \x06\x01\x01\x49\x13\x00\x00\x07\x21\x00\x37\x07\x00\x00\x08\x21\x00\x2f\x0d\x00\x00\x09\x16\x00\x03\x08\x49\x13\x00\x00\x00";
 
-// `int` at 15; `struct { int a : 3; int b : 5; }` at 22, as version 3 spells it; a declared structure at 45; an array of it of
-// 2^32 times 2^32 at 46; `int [4]` at 70, by an upper bound of 3; and a typedef of that at 78.
+// `int` at 15; `struct { int a : 3; int b : 5; }` at 22, in the encoding of version 3; a declared structure at 45; an array of 2^32
+// times 2^32 of these at 46; `int [4]` at 70, with an upper bound of 3; and a typedef of that at 78.
 const TYPES: &[u8] =
     b"\x52\x00\x00\x00\x05\x00\x01\x08\x00\x00\x00\x00\x01\x0c\x00\x02\x04\x05int\x00\
 \x03\x04\x04a\x00\x0f\x00\x00\x00\x03\x1d\x00\x04b\x00\x0f\x00\x00\x00\x05\x18\x00\x00\
 \x05\x06\x2d\x00\x00\x00\x07\x00\x00\x00\x00\x01\x00\x00\x00\x07\x00\x00\x00\x00\x01\x00\x00\x00\x00\
 \x06\x0f\x00\x00\x00\x08\x03\x00\x09t\x00\x46\x00\x00\x00\x00";
 
-// What is reached from the entry at an offset, in order of offset.
+// The entries reached from the entry at an offset, in order of offset.
 fn listed(alloc: Global, dwarf: &Dwarf, offset: u64) -> Result<ReachedEntries, NoMemory> {
     match dwarf.find(offset) {
         Some(root) => reached(alloc, dwarf, &[root]),
@@ -43,7 +43,7 @@ fn listed(alloc: Global, dwarf: &Dwarf, offset: u64) -> Result<ReachedEntries, N
     }
 }
 
-// The offsets of what was found.
+// The offsets of the entries that were found.
 fn offsets(alloc: Global, dwarf: &Dwarf, found: &ReachedEntries) -> Result<Vec<u64>, NoMemory> {
     let mut offsets = Vec::new(alloc);
     for number in 0..found.len() {
@@ -79,7 +79,7 @@ fn a_function_leads_to_its_type(rt: HostRuntime) -> Result<(), Fail> {
     Ok(())
 }
 
-// The number and the place of a fault, or zeros where there is none.
+// The number and the position of a fault, or zeros if there is none.
 fn fault_of(judged: Result<Option<Facts>, Refusal>) -> (u64, u64) {
     match judged {
         Err(Refusal::Fault(fault)) => (fault.kind.number(), fault.at),
@@ -95,7 +95,7 @@ fn a_typedef_of_itself_is_too_deep(rt: HostRuntime) -> Result<(), Fail> {
     Ok(())
 }
 
-// Each line: the offset of a type | its size, its count, its weight and its rank.
+// The columns of a line: the offset of a type | its size, its count, its weight and its rank.
 const FACTS: &str = "\
 15|4 0 1 0
 22|4 0 3 1

@@ -1,4 +1,4 @@
-// Debug information of bytes that rows spell out.
+// Debug information from bytes that are given in rows.
 ghost use Rattle.std.specs.Prelude.{◌≤◌, length};
 ghost use Rattle.abi_base.specs.Limits.{input_limit};
 
@@ -7,7 +7,7 @@ use dwarf_entries::{Dwarf, tree};
 use dwarf_forms::Sections;
 use std::alloc::Global;
 
-// The bytes, or none where they are more than an input may have.
+// The bytes, or none if they exceed the limit of an input.
 fn within_limit(bytes: &[u8]) -> &[u8]
     ensures { length result.now ≤ input_limit }
 {
@@ -18,7 +18,7 @@ fn within_limit(bytes: &[u8]) -> &[u8]
     }
 }
 
-// The tree of these entries, by these abbreviations.
+// The tree of these entries, with these abbreviations.
 pub(crate) fn dwarf<'a>(
     alloc: Global,
     abbrev: &'a [u8],

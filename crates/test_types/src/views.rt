@@ -7,8 +7,8 @@ use std::process::Abort;
 use std::test::*;
 use type_graph::{GraphLimits, raw_graph};
 
-// The abbreviations of a unit, of a base type, of a structure, of a nameless one, of a member, of a nameless one, of a typedef,
-// and of a qualifier.
+// The abbreviations of a unit, a base type, a structure, a nameless structure, a member, a nameless member, a typedef, and a
+// qualifier.
 const ABBREVS: &[u8] = b"\x01\x11\x01\x13\x05\x00\x00\x02\x24\x00\x0b\x0b\x3e\x0b\x03\x08\x00\x00\
 \x03\x13\x01\x03\x08\x0b\x0b\x00\x00\x04\x13\x01\x0b\x0b\x00\x00\x05\x0d\x00\x03\x08\x49\x13\x38\x0b\x00\x00\
 \x06\x0d\x00\x49\x13\x38\x0b\x00\x00\x07\x16\x00\x03\x08\x49\x13\x00\x00\x08\x26\x00\x49\x13\x00\x00\x00";
@@ -20,13 +20,13 @@ const TYPES: &[u8] =
 \x03p\x00\x08\x05a\x00\x0f\x00\x00\x00\x00\x04\x04\x05b\x00\x0f\x00\x00\x00\x00\x00\x06\x22\x00\x00\x00\x04\x00\
 \x08\x16\x00\x00\x00\x07t\x00\x34\x00\x00\x00\x00";
 
-// The same with an encoding of `int` that is none.
+// The same, with an encoding of `int` that does not exist.
 const NO_ENCODING: &[u8] =
     b"\x3d\x00\x00\x00\x05\x00\x01\x08\x00\x00\x00\x00\x01\x0c\x00\x02\x04\x00int\x00\
 \x03p\x00\x08\x05a\x00\x0f\x00\x00\x00\x00\x04\x04\x05b\x00\x0f\x00\x00\x00\x00\x00\x06\x22\x00\x00\x00\x04\x00\
 \x08\x16\x00\x00\x00\x07t\x00\x34\x00\x00\x00\x00";
 
-// The graph of what is reached from the entry at an offset.
+// The graph of the types reached from the entry at an offset.
 fn graph<'a>(alloc: Global, dwarf: &Dwarf<'a>, offset: u64) -> Result<Graph<'a, OldIx>, Refusal> {
     let limits = GraphLimits::for_file(0);
     match dwarf.find(offset) {
@@ -35,7 +35,7 @@ fn graph<'a>(alloc: Global, dwarf: &Dwarf<'a>, offset: u64) -> Result<Graph<'a, 
     }
 }
 
-// The size, the rank, and how many labels and parts the node of an entry has.
+// The size, the rank, and the numbers of labels and parts of an entry's node.
 fn node(alloc: Global, graph: &Graph<OldIx>, offset: u64) -> Result<String, NoMemory> {
     let Some(ix) = graph.find(offset) else {
         return Ok(String::new(alloc));
@@ -46,7 +46,7 @@ fn node(alloc: Global, graph: &Graph<OldIx>, offset: u64) -> Result<String, NoMe
     Ok(format!(in alloc; "{size} {rank} {labels} {parts}")?)
 }
 
-// Where the members of a type begin, and the entries of their types.
+// The positions of the members of a type, and the entries of their types.
 fn members(alloc: Global, graph: &Graph<OldIx>, offset: u64) -> Result<Vec<(u64, u64)>, NoMemory> {
     let mut members = Vec::new(alloc);
     if let Some(ix) = graph.find(offset) {
@@ -60,7 +60,7 @@ fn members(alloc: Global, graph: &Graph<OldIx>, offset: u64) -> Result<Vec<(u64,
     Ok(members)
 }
 
-// The entry of a node; 0 where there is no such node.
+// The entry of a node; 0 if there is no such node.
 fn entry(graph: &Graph<OldIx>, ix: OldIx) -> u64 {
     if ix.number() < graph.len() {
         graph.entry_of(ix)
@@ -69,7 +69,7 @@ fn entry(graph: &Graph<OldIx>, ix: OldIx) -> u64 {
     }
 }
 
-// Each line: the offset of a type | its size, its rank, and how many labels and parts it has.
+// The columns of a line: the offset of a type | its size, its rank, and its numbers of labels and parts.
 const NODES: &str = "\
 0|0 0 0 0
 15|4 0 1 0
@@ -111,7 +111,7 @@ fn members_lie_where_they_are_said_to(rt: HostRuntime) -> Result<(), Fail> {
     Ok(())
 }
 
-// The number and the place of a fault, or zeros where there is none.
+// The number and the position of a fault, or zeros if there is none.
 fn fault_of(judged: Result<Graph<OldIx>, Refusal>) -> (u64, u64) {
     match judged {
         Err(Refusal::Fault(fault)) => (fault.kind.number(), fault.at),

@@ -10,8 +10,8 @@ use test_images::{Image, ImageSection, ImageSymbol, described_library};
 // The type of the section of version needs (Linux Standard Base, "Section Types").
 const SHT_GNU_VERNEED: u32 = 0x6fff_fffe;
 
-// The number of the strings of needs among the sections of an application: behind its symbols, their names, their indexes and its
-// needs.
+// The index of the section with the strings of needs in an application: it follows the symbols, their names, their version indexes
+// and the needs.
 const NEED_STRINGS: u32 = 5;
 
 const OLD: &str = "\
@@ -27,8 +27,8 @@ version V1
 function f V1
 ";
 
-// An application that imports functions of the version V1 of a file, or of none where the index is 1, and how many needs its table says
-// that it has; and what `app` must give for it.
+// An application that imports functions of version V1 of a file, or of no version if the index is 1; the number of needs that its
+// table states; and the expected answer of `app`.
 #[derive(Clone, Copy)]
 struct Row {
     imports: &'static [&'static str],
@@ -82,7 +82,7 @@ const ROWS: [Row; 5] = [
     },
 ];
 
-// A need of one auxiliary entry, of the index 2: the file whose name is at byte 4 of the strings, and the version at byte 1.
+// A need with one auxiliary entry, for index 2: the name of the file is at byte 4 of the strings, and the version at byte 1.
 fn need(alloc: Global) -> Result<Vec<u8>, AllocError> {
     let mut bytes = Vec::new(alloc);
     bytes.extend_from_slice(&[1, 0, 1, 0, 4, 0, 0, 0, 16, 0, 0, 0, 0, 0, 0, 0])?;
@@ -90,7 +90,7 @@ fn need(alloc: Global) -> Result<Vec<u8>, AllocError> {
     Ok(bytes)
 }
 
-// Puts the needs of a row and their strings last.
+// Appends the needs of a row, and their strings.
 fn add_needs(alloc: Global, image: &mut Image, row: &Row) -> Result<(), AllocError> {
     let mut strings = Vec::new(alloc);
     strings.extend_from_slice(b"\0V1\0")?;
@@ -123,14 +123,14 @@ fn application(alloc: Global, row: &Row) -> Result<Vec<u8>, AllocError> {
     image.bytes(alloc)
 }
 
-// The exit number of `app` over an application and the two libraries, and its text.
+// The exit number and the text of `app` over an application and the two libraries.
 fn judged(alloc: Global, app: &[u8], old: &[u8], new: &[u8]) -> Result<(u8, Vec<u8>), NoMemory> {
     let files = [("app", app), ("old", old), ("new", new)];
     let words = ["app", "app", "old", "new"];
     ran(alloc, &words, &files, text_listener(alloc)?)
 }
 
-// The row must hold.
+// Expects the answer of a row.
 fn holds<R: Abort + AllocGlobal>(rt: &R, row: &Row) -> Result<(), Fail> {
     let alloc = rt.alloc();
     let app = application(alloc, row)?;

@@ -3,7 +3,7 @@ use crate::runs::{CHECK, NamedFile, Row, VERIFY, holds, ran, text_listener};
 use std::test::Fail;
 use test_images::versioned_function;
 
-// The digest was taken with another program from an image that another program laid out.
+// Another program computed the digest, from an image that another program laid out.
 const OF_A_VERSIONED_FUNCTION: &str = "\
 yes 2
 old 910e4cd9cf0d2ef5bd2961889d3af781373eca7dc9bc8da9dd2e153d2ffa1725
@@ -20,7 +20,7 @@ const F: &str = "function f";
 
 const NOTHING: &str = "";
 
-// Two structures of one tag, each with a pointer to the other.
+// Two structures with one tag, each with a pointer to the other.
 const RING_OF_TWO: &str = "\
 function r
 unit
@@ -40,7 +40,7 @@ unit
 146 end
 ";
 
-// Three of them in a ring.
+// Three of these structures in a ring.
 const RING_OF_THREE: &str = "\
 function r
 unit
@@ -65,7 +65,7 @@ unit
 193 end
 ";
 
-// The same, the last with a longer member.
+// The same, where the last structure has a longer member.
 const RING_WITH_A_LONG: &str = "\
 function r
 unit
@@ -91,7 +91,7 @@ unit
 215 end
 ";
 
-// Every structure and every pointer but the first of each is alike to the first.
+// Every structure and every pointer except the first of each is alike to the first.
 const ALIKE_RINGS: &str = "\
 bind 1 1
 alike old 41 36
@@ -140,7 +140,7 @@ fn a_marker_beside_types_is_no_export(rt: HostRuntime) -> Result<(), Fail> {
 #[test]
 fn a_certificate_has_lines_for_what_binds_and_what_is_alike(rt: HostRuntime) -> Result<(), Fail> {
     let rows = [
-        // The one export is left out, so nothing is bound.
+        // The only export is suppressed, so nothing is bound.
         Row {
             old: F,
             new: NOTHING,
@@ -148,7 +148,7 @@ fn a_certificate_has_lines_for_what_binds_and_what_is_alike(rt: HostRuntime) -> 
             number: 0,
             text: "end\n",
         },
-        // Rings of any length are alike: one structure and one pointer stand for all.
+        // Rings of any length are alike: one structure and one pointer represent all.
         Row {
             old: RING_OF_TWO,
             new: RING_OF_THREE,

@@ -5,7 +5,7 @@ use std::process::Abort;
 use std::test::Fail;
 use test_images::{described_library, versioned_function};
 
-// Where the digests of a certificate stand.
+// The position of the digests in a certificate.
 const DIGESTS: std::ops::Range<usize> = 6..215;
 
 // A function that takes a pointer to a structure with a member.
@@ -22,7 +22,7 @@ unit
 84 end
 ";
 
-// The same, which only declares the structure.
+// The same function, where the structure is only declared.
 const DECLARES: &str = "\
 function f
 unit
@@ -51,7 +51,7 @@ unit
 136 end
 ";
 
-// A structure of a nameless union.
+// A structure with a nameless union.
 const OF_A_UNION: &str = "\
 function f
 unit
@@ -70,7 +70,7 @@ unit
 146 end
 ";
 
-// A run of the words over these files must end with this number and text.
+// Expects this exit number and text from a run with these arguments over these files.
 fn answers<R: Abort + AllocGlobal>(
     rt: &R,
     words: &[&str],
@@ -86,7 +86,7 @@ fn answers<R: Abort + AllocGlobal>(
     Ok(())
 }
 
-// A certificate that begins and ends with these lines, with the digests of another one between.
+// A certificate that begins and ends with these lines, with the digests of another one between them.
 fn with_digests(
     alloc: Global,
     first: &str,
@@ -130,7 +130,7 @@ fn a_certificate_composes_with_itself(rt: HostRuntime) -> Result<(), Fail> {
     let (_, own) = ran(alloc, &["check", "a", "a"], &files, Vec::new(alloc))?;
     let text = str::from_utf8(&own).unwrap_or("");
     let lines = "bind 1 1\npair 15 15 direct\npair 22 22 direct\nend\n";
-    // Line 2 has the digest of another file.
+    // Line 2 has the digest of a different file.
     let zeros = "yes 2\nold 0000000000000000000000000000000000000000000000000000000000000000\n";
     let mut other = String::from_str(alloc, zeros)?;
     other.push_str(text.get(zeros.len()..).unwrap_or(""))?;
@@ -142,7 +142,7 @@ fn a_certificate_composes_with_itself(rt: HostRuntime) -> Result<(), Fail> {
     answers(&rt, &words, &files, 5, "refused second 70 OtherInput 2\n")
 }
 
-// `compose` of the certificates that `check` prints of three libraries must say this.
+// Expects this answer from `compose` of the certificates that `check` prints for three libraries.
 fn composes<R: Abort + AllocGlobal>(
     rt: &R,
     texts: [&str; 3],
@@ -170,7 +170,7 @@ fn composes<R: Abort + AllocGlobal>(
 
 #[test]
 fn what_is_lost_in_the_middle_is_named(rt: HostRuntime) -> Result<(), Fail> {
-    // Through the middle the function binds to the versioned one, and without it to the one of no version.
+    // Through the middle library the function binds to the versioned one, and without it to the one without a version.
     let bindings = [
         "function f\n",
         "version V1\nfunction f V1\n",

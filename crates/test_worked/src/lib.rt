@@ -1,5 +1,5 @@
-//! Worked rows over the whole program and over the reader of one library: what each example of the rules must give, on libraries that
-//! are described by a text. All of it is tests.
+//! Tests with worked rows of the whole program and of the reader of one library: the expected result for each example of the rules,
+//! on libraries that are described by a text.
 #![tactic(auto)]
 
 #[cfg(test)]

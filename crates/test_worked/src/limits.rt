@@ -1,4 +1,4 @@
-// Libraries at the limits of what is read, and one step behind them.
+// Libraries at the limits of the reader, and one step beyond them.
 use crate::runs::{CHECK, NamedFile, ran, text_listener};
 use abi_base::NoMemory;
 use std::alloc::Global;
@@ -7,8 +7,7 @@ use std::process::Abort;
 use std::test::Fail;
 use test_images::described_library;
 
-// In each text N stands for a number.
-// An array of so many elements, whose type is declared only.
+// N stands for a number in each of these texts. An array with N elements, whose type is only declared.
 const COUNT: &str = "\
 function f
 unit
@@ -22,7 +21,7 @@ unit
 54 end
 ";
 
-// An array of arrays, whose counts are within the limit one by one.
+// An array of arrays. Each count alone is within the limit.
 const COUNTS: &str = "\
 function f
 unit
@@ -37,7 +36,7 @@ unit
 63 end
 ";
 
-// A structure of this size.
+// A structure with this size.
 const SIZE: &str = "\
 function f
 unit
@@ -49,7 +48,7 @@ unit
 48 end
 ";
 
-// A typedef of this alignment.
+// A typedef with this alignment.
 const ALIGNMENT: &str = "\
 function f
 unit
@@ -75,7 +74,7 @@ unit
 84 end
 ";
 
-// A union whose member stands far behind, in a structure of which it is a member without a name, at this byte.
+// A union with a member at a large offset, in a structure that has the union as a nameless member at this byte.
 const FLAT_PLACE: &str = "\
 function f
 unit
@@ -92,7 +91,7 @@ unit
 109 end
 ";
 
-// Four parameters: three of the largest size, and one of this.
+// Four parameters: three with the largest size, and one with this size.
 const PARAMETERS: &str = "\
 function f
 unit
@@ -141,7 +140,7 @@ unit
 67 instance 4096 @62
 ";
 
-// The text with the number in the place of N.
+// The text, with the number in place of N.
 fn with_number(alloc: Global, text: &str, number: u64) -> Result<String, NoMemory> {
     let (before, after) = text.split_once('N').unwrap_or((text, ""));
     Ok(format!(in alloc; "{before}{number}{after}")?)
@@ -163,7 +162,8 @@ fn typedefs(alloc: Global, count: u32) -> Result<String, NoMemory> {
     Ok(text)
 }
 
-// A function that takes a pointer to a structure in which so many structures lie one in the other, each twice, by so many typedefs.
+// A function that takes a pointer, through so many typedefs, to a structure with so many levels. Each structure contains the next
+// inner one twice.
 fn doubled(alloc: Global, count: u32, typedefs: u32) -> Result<String, NoMemory> {
     let mut text = String::from_str(alloc, "function f\nunit\n15 base int 4 5\n")?;
     let (mut last, mut place) = (15_u32, 36_u32);
@@ -187,7 +187,7 @@ fn doubled(alloc: Global, count: u32, typedefs: u32) -> Result<String, NoMemory>
     Ok(text)
 }
 
-// The library must have this fault, or none where it is empty, so that it may replace itself.
+// Expects this fault of the library, or if it is empty, that the library may replace itself.
 fn is_read<R: Abort + AllocGlobal>(rt: &R, text: &str, fault: &str) -> Result<(), Fail> {
     let alloc = rt.alloc();
     let library = described_library(alloc, text)?;
@@ -217,7 +217,7 @@ fn numbers_of_types_have_limits(rt: HostRuntime) -> Result<(), Fail> {
         (PLACE, 1 << 62, "37 TooLarge 36"),
         (FLAT_PLACE, (1 << 59) - 1, ""),
         (FLAT_PLACE, 1 << 59, "37 TooLarge 63"),
-        // The sizes and four times 2^33 come to 2^62.
+        // The sizes plus four times 2^33 are 2^62.
         (PARAMETERS, (1 << 60) - (1 << 35), ""),
         (PARAMETERS, (1 << 60) - (1 << 35) + 1, "37 TooLarge 39"),
     ];
@@ -234,7 +234,7 @@ fn chains_have_limits(rt: HostRuntime) -> Result<(), Fail> {
     is_read(&rt, NINE_LINKS, "39 OriginTooDeep 67")?;
     is_read(&rt, &typedefs(alloc, 512)?, "")?;
     is_read(&rt, &typedefs(alloc, 513)?, "36 TooDeep 3620")?;
-    // The weights of 19 structures, one in the other, come to 2^20 - 1, and each typedef adds 1.
+    // The weight of 19 structures, one in the other, is 2^20 - 1, and each typedef adds 1.
     is_read(&rt, &doubled(alloc, 19, 1)?, "")?;
     is_read(&rt, &doubled(alloc, 19, 2)?, "37 TooLarge 841")
 }

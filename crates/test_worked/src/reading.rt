@@ -1,4 +1,4 @@
-// One library, as it is read, and a library that can't be made.
+// One library as it is read, and a library that cannot be made.
 use abi_types::{Export, Library, OldIx};
 use library_read::read_library;
 use std::fmt::Write;
@@ -7,7 +7,7 @@ use std::test::Fail;
 use test_images::{described_library, library, versioned_function};
 use trial_libraries::{GenRefusal, Side, make};
 
-// An export whose function has another name in the debug information.
+// An export whose function has a different name in the debug information.
 const OTHER_NAME: &str = "\
 version V1
 hidden f V1
@@ -19,8 +19,8 @@ unit
 80 end
 ";
 
-// Appends what is read of an export: its symbol's number, its name and its version, the name that the debug information gives it, and
-// the entry of its type.
+// Appends what is read about an export: its symbol number, its name and its version, the name in the debug information, and the
+// entry of its type.
 fn push_export(text: &mut String, export: &Export) -> Result<(), Fail> {
     let symbol = export.symbol;
     let name = str::from_utf8(export.name).unwrap_or("");
@@ -31,7 +31,7 @@ fn push_export(text: &mut String, export: &Export) -> Result<(), Fail> {
     Ok(())
 }
 
-// What is read of a library must be this: a line for each export, and one of the number of nodes and those of their entries that are
+// Expects this from reading a library: a line for each export, and one with the number of nodes and those of their entries that are
 // below 100.
 fn reads<R: Abort + AllocGlobal>(rt: &R, bytes: &[u8], wanted: &str) -> Result<(), Fail> {
     assert!(rt; bytes.len() < 4096);

@@ -1,4 +1,4 @@
-// The one call of the program, and the checks that the rows are.
+// The call of the program, and the checks of the rows.
 ghost use Rattle.std.specs.Prelude.{◌≡◌, [], All, IfOk};
 
 use abi_base::{MemInputs, MemSink, NoMemory};
@@ -9,22 +9,25 @@ use std::process::Abort;
 use std::test::Fail;
 use test_images::described_library;
 
-/// How many bytes a certificate has before the line that follows the digests.
+/// The number of bytes in a certificate before the line after the digests.
 const HEAD: usize = 215;
 
 /// A name and the bytes that it stands for.
 pub type NamedFile<'a, 'b> = (&'a str, &'b [u8]);
 
-/// The words of the rows, whose inputs are named as what they are.
+/// The arguments of the rows, where inputs are named by their roles.
 pub const CHECK: &[&str] = &["check", "old", "new"];
 
+/// The same, with a rule file.
 pub const CHECK_WITH_RULES: &[&str] = &["check", "--rules", "rules", "old", "new"];
 
+/// The arguments for verifying a certificate.
 pub const VERIFY: &[&str] = &["verify", "old", "new", "cert"];
 
+/// The same, with a rule file.
 pub const VERIFY_WITH_RULES: &[&str] = &["verify", "--rules", "rules", "old", "new", "cert"];
 
-// Inputs in memory of these names and bytes, none of whose calls fails.
+// Inputs in memory with these names and bytes. No call fails.
 fn inputs(alloc: Global, files: &[NamedFile]) -> Result<MemInputs, AllocError> {
     let mut held = Vec::new(alloc);
     for (name, bytes) in files {
@@ -33,7 +36,7 @@ fn inputs(alloc: Global, files: &[NamedFile]) -> Result<MemInputs, AllocError> {
     Ok(MemInputs::new(held, Vec::new(alloc)))
 }
 
-/// The exit number of a run of the words over these files, and its text.
+/// The exit number and the text of a run with these arguments over these files.
 pub(crate) fn ran(
     alloc: Global,
     words: &[&str],
@@ -59,7 +62,7 @@ pub(crate) fn text_listener(alloc: Global) -> Result<Vec<Box<dyn Listener>>, NoM
     Ok(listeners)
 }
 
-/// The exit number of `check` over two libraries and a rule file, and its text.
+/// The exit number and the text of `check` over two libraries and a rule file.
 pub(crate) fn checked(
     alloc: Global,
     old: &[u8],
@@ -70,18 +73,23 @@ pub(crate) fn checked(
     ran(alloc, CHECK_WITH_RULES, &files, text_listener(alloc)?)
 }
 
-/// A pair of libraries that are described, a rule file, and what `check` must give: its exit number, and its text, of a certificate
-/// without the lines up to the digests.
+/// A pair of described libraries, a rule file, and the expected answer of `check`: its exit number, and its text, which for a
+/// certificate begins after the digests.
 #[derive(Clone, Copy)]
 pub(crate) struct Row {
+    /// The description of the old library.
     pub old: &'static str,
+    /// The description of the new library.
     pub new: &'static str,
+    /// The rule file.
     pub rules: &'static str,
+    /// The exit number.
     pub number: u8,
+    /// The text.
     pub text: &'static str,
 }
 
-/// The row must hold.
+/// Expects the answer of a row.
 pub(crate) fn holds<R: Abort + AllocGlobal>(rt: &R, row: &Row) -> Result<(), Fail> {
     let alloc = rt.alloc();
     let old = described_library(alloc, row.old)?;

@@ -14,7 +14,7 @@ use std::rc::Rc;
 use std::test::Fail;
 use test_images::described_library;
 
-// A list.
+// A linked list.
 const LIST_OF_INT: &str = "\
 function len
 unit
@@ -48,7 +48,7 @@ unit
 // Two versions of an export.
 const TWO_VERSIONS: &str = "version V1\nversion V2\nhidden f V1\nfunction f V2\n";
 
-// The words for each style.
+// The arguments for each style.
 const TEXT: &[&str] = &["check", "--report", "text", "old", "new"];
 
 const TABLE: &[&str] = &["check", "--report", "table", "old", "new"];
@@ -89,7 +89,7 @@ impl Listener for Counting {
     }
 }
 
-// A listener of the style Own, which has heard nothing yet.
+// A listener with the style `Own`, which has heard nothing yet.
 fn new_counting(alloc: Global) -> Counting
     ensures { result.rows.items ≡ [] }
 {
@@ -99,7 +99,7 @@ fn new_counting(alloc: Global) -> Counting
     }
 }
 
-// Listeners of four styles.
+// Listeners with four styles.
 fn of_four_styles(alloc: Global) -> Result<Vec<Box<dyn Listener>>, NoMemory>
     ensures { IfOk result (λ listeners. All (λ listener. heard listener ≡ []) listeners.items) }
 {
@@ -114,7 +114,7 @@ fn of_four_styles(alloc: Global) -> Result<Vec<Box<dyn Listener>>, NoMemory>
     Ok(listeners)
 }
 
-// Two listeners of the style Text, and between them one of another.
+// Two listeners with the style `Text`, and one with another style between them.
 fn of_text_twice(alloc: Global) -> Result<Vec<Box<dyn Listener>>, NoMemory>
     ensures { IfOk result (λ listeners. All (λ listener. heard listener ≡ []) listeners.items) }
 {
@@ -170,7 +170,7 @@ fn no_listener_of_the_style_prints_no_row(rt: HostRuntime) -> Result<(), Fail> {
     Ok(())
 }
 
-// Says in a list what becomes of a listener: a letter for each row that it hears, and the large letter when it is dropped.
+// Records in a list what happens to a listener: a letter for each row that it hears, and the capital letter when it is dropped.
 struct Note {
     letter: u8,
     said: Rc<RefCell<Vec<u8>>>,
@@ -191,7 +191,7 @@ impl Drop for Note {
     }
 }
 
-// A listener, of which a note says what becomes of it.
+// A listener with a note that records what happens to it.
 #[derive(Drop)]
 struct Noted<L: Listener> {
     listener: L,
@@ -217,7 +217,7 @@ impl<L: Listener> Listener for Noted<L> {
     }
 }
 
-// The row of an export that is gone.
+// The row about an export that is gone.
 fn gone(alloc: Global) -> Result<Row, NoMemory> {
     Ok(Row {
         rule: Rule::ExportPresence,

@@ -3,7 +3,7 @@ use crate::runs::{CHECK_WITH_RULES, NamedFile, Row, VERIFY_WITH_RULES, holds, ra
 use std::test::Fail;
 use test_images::described_library;
 
-// A union, which is passed.
+// A union that is passed by value.
 const UNION: &str = "\
 function f
 unit
@@ -18,7 +18,7 @@ unit
 109 end
 ";
 
-// The same, behind a pointer.
+// The same union, passed through a pointer.
 const UNION_BEHIND: &str = "\
 function f
 unit
@@ -33,7 +33,7 @@ unit
 109 end
 ";
 
-// The union with one more member, which is passed.
+// The union with one more member, passed by value.
 const LARGER_UNION: &str = "\
 function f
 unit
@@ -49,7 +49,7 @@ unit
 124 end
 ";
 
-// The same, behind a pointer.
+// The same, passed through a pointer.
 const LARGER_UNION_BEHIND: &str = "\
 function f
 unit
@@ -65,7 +65,8 @@ unit
 124 end
 ";
 
-// A library as zlib is built: versions with their markers, and three units. One unit only declares a structure that another one defines.
+// A library that is built like zlib: versions with their markers, and three units. One unit only declares a structure that another
+// one defines.
 const STREAM: &str = "\
 soname libz.so.1
 version Z_1
@@ -150,7 +151,7 @@ unit
 385 end
 ";
 
-// An export whose function has another name in the debug information.
+// An export whose function has a different name in the debug information.
 const F_OF_INT: &str = "\
 version V1
 hidden f V1
@@ -196,7 +197,7 @@ fn a_type_that_grows_breaks_what_passes_it(rt: HostRuntime) -> Result<(), Fail> 
             number: 1,
             text: "no\nL14 f: param 1 in xmm0, now rdi\n",
         },
-        // A rule for a type takes no call's place away.
+        // A suppression of a type does not suppress the place where a call passes it.
         Row {
             old: UNION,
             new: LARGER_UNION,

@@ -1,4 +1,4 @@
-// Classes of alike types: the nodes of a graph are put into classes as often as the words say, for `bench/alike.sh`.
+// Classes of alike types: the nodes of a graph are put into classes as often as the arguments say, for `bench/alike.sh`.
 
 ghost use Rattle.std.specs.Prelude.{◌<◌};
 
@@ -10,48 +10,48 @@ use std::fmt::Write;
 use test_graphs::{graph, member, pointer, scalar, structure, void};
 use type_classes::alike;
 
-// The number of the node of an integer, which stands behind void, and of the first node behind it.
+// The number of the node of an integer, which follows void, and of the first node after it.
 const INTEGER: usize = 1;
 
 const FIRST: usize = 2;
 
-// How many bytes the name of a member has.
+// The length of a member's name in bytes.
 const NAME_BYTES: usize = 8;
 
-// How many bytes an integer has, and a structure.
+// The sizes of an integer and of a structure, in bytes.
 const INTEGER_SIZE: u64 = 4;
 
 const STRUCTURE_SIZE: u64 = 8;
 
-// How many nodes a wide structure and its pointers are, and those of a ring.
+// The number of nodes that a wide structure and its pointers take, and the number in a ring.
 const WIDE: usize = 1000;
 
 const RING: usize = 10;
 
-// How many copies there are of one set of types.
+// The number of copies of one set of types.
 const COPIES: usize = 50;
 
-// How the nodes of a graph name one another.
+// How the nodes of a graph refer to one another.
 #[derive(Clone, Copy)]
 enum Pattern {
     // Rings of structures, each with a pointer to the next.
     Rings,
     // Pointers, each to the one before.
     Chain,
-    // Structures of many pointers, which lead to the structure before.
+    // Structures of many pointers, which point to the structure before.
     Wide,
-    // Copies of one set of structures and pointers, each of which leads to the one before.
+    // Copies of one set of structures and pointers, each of which refers to the one before.
     Copies,
 }
 
-// What a node is.
+// The plan of a node.
 enum Plan {
     Pointer { to: usize },
-    // Its members have the types of so many nodes from the first on.
+    // Its members have the types of so many consecutive nodes, from `first` on.
     Structure { first: usize, members: usize },
 }
 
-// So many names, one after the other.
+// So many names, concatenated.
 fn names(alloc: Global, count: u32) -> Result<String, AllocError> {
     let mut names = String::new(alloc);
     for number in 0..count {
@@ -60,7 +60,7 @@ fn names(alloc: Global, count: u32) -> Result<String, AllocError> {
     Ok(names)
 }
 
-// A structure whose members have these names and the types of so many nodes from the first on, one after the other.
+// A structure whose members have these names, and the types of so many consecutive nodes.
 fn linked<'a, Ix: Index>(
     alloc: Global,
     number: usize,
@@ -77,7 +77,7 @@ fn linked<'a, Ix: Index>(
     structure(alloc, number as u64, 1, STRUCTURE_SIZE, members)
 }
 
-// A structure and its pointer by turns; the last structure of a ring has the pointer to the first.
+// Structures alternate with their pointers; the last structure of a ring has the pointer to the first.
 fn ring_plan(number: usize) -> Plan {
     let within = number.saturating_sub(FIRST) % RING;
     if within % 2 == 1 {
@@ -134,7 +134,7 @@ fn plan_of(pattern: Pattern, number: usize, count: usize) -> Plan {
     }
 }
 
-// Void and an integer, and then structures and pointers up to a number of nodes.
+// Void and an integer, followed by structures and pointers up to a number of nodes.
 fn nodes<'a, Ix: Index>(
     alloc: Global,
     pattern: Pattern,
@@ -159,7 +159,7 @@ fn nodes<'a, Ix: Index>(
     Ok(nodes)
 }
 
-// How many classes the nodes of a graph have, by the nodes that stand for themselves.
+// The number of classes of a graph's nodes, counted by the nodes that represent themselves.
 fn count_classes(alloc: Global, graph: &Graph<OldIx>) -> Result<usize, NoMemory> {
     let classes = alike(alloc, graph)?;
     classes.known();
@@ -172,7 +172,7 @@ fn count_classes(alloc: Global, graph: &Graph<OldIx>) -> Result<usize, NoMemory>
     Ok(count)
 }
 
-// How many nodes there are and how many classes, over all rounds.
+// The number of nodes, and the number of classes over all rounds.
 fn measured(
     alloc: Global,
     pattern: Pattern,
@@ -202,7 +202,8 @@ fn pattern_of(word: &str) -> Option<Pattern> {
     }
 }
 
-/// What `alike rings|chain|wide|copies NODES ROUNDS` prints: how many nodes the graph has, and how many classes over all rounds.
+/// The output of `alike rings|chain|wide|copies NODES ROUNDS`: the number of nodes in the graph, and the number of classes over all
+/// rounds.
 pub(crate) fn line(alloc: Global, words: &[&str]) -> Result<String, NoMemory> {
     let pattern = match words.first() {
         Some(word) => pattern_of(word),

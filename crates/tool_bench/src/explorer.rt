@@ -1,4 +1,4 @@
-// The exploration: two rings of structures are explored as often as the words say, for `bench/explore.sh`.
+// The exploration: two rings of structures are explored as often as the arguments say, for `bench/explore.sh`.
 
 ghost use Rattle.std.specs.Prelude.{◌≡◌, ◌<◌};
 
@@ -13,21 +13,21 @@ use std::sync::ledger::{Blank, Ledger};
 use test_graphs::{function, graph, member, no_marks, pointer, scalar, structure, void};
 use type_classes::plain;
 
-// The numbers of the nodes: void, then an integer, then each structure with the pointer to it, then the function.
+// The numbers of the nodes: void, an integer, each structure with the pointer to it, and the function.
 const VOID: usize = 0;
 
 const INTEGER: usize = 1;
 
 const FIRST: usize = 2;
 
-// Sizes in bytes, and how many bits a pointer has.
+// Sizes in bytes, and the size of a pointer in bits.
 const INTEGER_SIZE: u64 = 4;
 
 const STRUCTURE_SIZE: u64 = 16;
 
 const POINTER_BITS: u64 = 64;
 
-// The ranks of structures and of functions over them. All other nodes have 0.
+// The ranks of structures and of functions over them. All other nodes have rank 0.
 const STRUCTURE_RANK: u32 = 1;
 
 const FUNCTION_RANK: u32 = 2;
@@ -77,7 +77,7 @@ fn ring<'a, Ix: Index>(alloc: Global, count: u32) -> Result<List<Node<'a, Ix>>, 
     Ok(nodes)
 }
 
-// How many triples there are and how many breaks, over all rounds.
+// The number of triples and the number of breaks, over all rounds.
 fn explored<L: Ledger>(
     alloc: Global,
     blank: Blank,
@@ -141,7 +141,7 @@ fn count<L: Ledger>(
     explored::<L>(alloc, blank, &old, &new, rounds)
 }
 
-/// What `explorer OLD NEW ROUNDS` prints: how many triples there are and how many breaks, over all rounds.
+/// The output of `explorer OLD NEW ROUNDS`: the number of triples and the number of breaks, over all rounds.
 pub(crate) fn line(alloc: Global, words: &[&str]) -> Result<String, NoMemory> {
     let (old, new, rounds) = (number(words, 0), number(words, 1), number(words, 2));
     let (triples, breaks) = count::<Brand>(alloc, Blank::new(1), old, new, rounds)?;

@@ -1,4 +1,4 @@
-//! Does one part of the checker's work as often as it is told, so that the scripts of `bench/` can time it.
+//! Does one part of the checker's work as often as requested, so that the scripts of `bench/` can time it.
 //!
 //! usage: tool_bench rules MEMBERS ROUNDS
 //!        tool_bench alike rings|chain|wide|copies NODES ROUNDS
@@ -19,7 +19,7 @@ use abi_base::NoMemory;
 use std::alloc::Global;
 use std::{env, io};
 
-// A small piece of each bench, a line each.
+// A small run of each bench, one line each.
 fn all(alloc: Global) -> Result<String, NoMemory> {
     let rules = rules::line(alloc, &["1000", "2"])?;
     let alike = alike::line(alloc, &["copies", "102", "1"])?;
@@ -28,7 +28,7 @@ fn all(alloc: Global) -> Result<String, NoMemory> {
     Ok(format!(in alloc; "{rules}\n{alike}\n{explorer}\n{marks}")?)
 }
 
-// What the words print.
+// The output for these arguments.
 fn line(alloc: Global, words: &[&str]) -> Result<String, NoMemory> {
     let rest = words.get(1..).unwrap_or(&[]);
     match words.first() {

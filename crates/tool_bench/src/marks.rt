@@ -1,4 +1,5 @@
-// Marks: what a made rule file says of a made library is found as often as the words say, for `bench/marks.sh`.
+// Marks: the marks of a generated library by a generated rule file are computed as often as the arguments say, for
+// `bench/marks.sh`.
 
 use crate::words::number;
 use abi_base::{List, NoMemory};
@@ -8,23 +9,23 @@ use std::fmt::Write;
 use suppressions::{RuleRefusal, Rules, marks, read_rules};
 use test_graphs::{graph, is_library, scalar, void};
 
-// How many bytes a name has.
+// The length of a name in bytes.
 const NAME_BYTES: usize = 16;
 
-// How many bytes an integer has.
+// The size of an integer in bytes.
 const INTEGER_SIZE: u64 = 4;
 
-// What the sections of a rule file speak of.
+// The kinds of the sections in a rule file.
 #[derive(Clone, Copy)]
 enum Pattern {
-    // Functions, variables and types by turns.
+    // Functions, variables and types in turn.
     Mixed,
     Functions,
     Variables,
     Types,
 }
 
-// What a run needs: so many exports, nodes and sections, and how often marks are found.
+// The parameters of a run: so many exports, nodes, sections and rounds.
 #[derive(Clone, Copy)]
 struct Plan {
     pattern: Pattern,
@@ -34,11 +35,11 @@ struct Plan {
     rounds: u32,
 }
 
-// Why there is no answer.
+// Why there is no result.
 #[derive(Drop)]
 enum Trouble {
     NoMemory,
-    // The rule file has a fault, or there is no library.
+    // The rule file has a fault, or the library is not valid.
     Wrong,
 }
 
@@ -54,7 +55,7 @@ impl From<AllocError> for Trouble {
     }
 }
 
-// So many names, one after the other.
+// So many names, concatenated.
 fn names(alloc: Global, count: u32) -> Result<String, AllocError> {
     let mut names = String::new(alloc);
     for number in 0..count {
@@ -63,7 +64,7 @@ fn names(alloc: Global, count: u32) -> Result<String, AllocError> {
     Ok(names)
 }
 
-// The section of a number: its name, and what its pattern asks. No pattern is found in a name.
+// Appends the section with a number: its head, and the properties of its pattern. No pattern matches a name.
 fn write_section(text: &mut String, pattern: Pattern, number: u32) -> Result<(), AllocError> {
     let turn = match pattern {
         Pattern::Mixed => number % 3,
@@ -133,7 +134,7 @@ fn exports<'a>(alloc: Global, names: &'a [u8]) -> Result<List<Export<'a>>, NoMem
     Ok(exports)
 }
 
-// Two nodes after the other have one name.
+// Two consecutive nodes share one name.
 fn nodes<'a>(
     alloc: Global,
     names: &'a [u8],
@@ -165,7 +166,7 @@ fn library<'a>(alloc: Global, names: &'a [u8], count: u32) -> Result<Library<'a,
     Ok(Library::new(alloc, b"", None, exports, graph)?)
 }
 
-// How many flags are set.
+// The number of flags that are set.
 fn count(flags: &[bool]) -> usize {
     let mut count = 0usize;
     for flag in flags {
@@ -182,7 +183,7 @@ fn marked(marks: &Marks) -> usize {
         .saturating_add(count(marks.pointer.as_slice()))
 }
 
-// How many marks there are, over all rounds.
+// The number of marks, over all rounds.
 fn total(alloc: Global, plan: Plan) -> Result<usize, Trouble> {
     let names = names(alloc, plan.exports)?;
     let text = rule_text(alloc, plan)?;
@@ -205,7 +206,7 @@ fn named_pattern(words: &[&str]) -> Pattern {
     }
 }
 
-/// What `marks mixed|functions|variables|types EXPORTS NODES SECTIONS ROUNDS` prints: how many marks there are, over all rounds.
+/// The output of `marks mixed|functions|variables|types EXPORTS NODES SECTIONS ROUNDS`: the number of marks, over all rounds.
 pub(crate) fn line(alloc: Global, words: &[&str]) -> Result<String, NoMemory> {
     let plan = Plan {
         pattern: named_pattern(words),

@@ -1,4 +1,4 @@
-// The rules of two types: two structures of many members are compared as often as the words say, for `bench/rules.sh`.
+// The rules of two types: two structures with many members are compared as often as the arguments say, for `bench/rules.sh`.
 
 ghost use Rattle.std.specs.Prelude.{◌≡◌, ◌<◌};
 
@@ -12,16 +12,16 @@ use std::marker::Brand;
 use std::sync::ledger::{Blank, Ledger};
 use test_graphs::{member, view};
 
-// How many bytes a name has.
+// The length of a name in bytes.
 const NAME_BYTES: usize = 8;
 
 // The number of the node of void, which is the type of all members.
 const VOID: usize = 0;
 
-// How many bytes the structure has.
+// The size of the structure in bytes.
 const STRUCTURE_SIZE: u64 = 8;
 
-// So many names, one after the other.
+// So many names, concatenated.
 fn names(alloc: Global, count: u32) -> Result<String, AllocError> {
     let mut names = String::new(alloc);
     for number in 0..count {
@@ -39,7 +39,7 @@ fn structure<'a, Ix: Index>(alloc: Global, names: &'a [u8]) -> Result<View<'a, I
     view(alloc, Kind::Structure, STRUCTURE_SIZE, members)
 }
 
-// How many rules the structures break and how many partners they have, over all rounds.
+// The number of rules that the structures break and the number of their partners, over all rounds.
 fn count<L: Ledger>(
     alloc: Global,
     blank: Blank,
@@ -63,7 +63,7 @@ fn count<L: Ledger>(
                 partners = partners.saturating_add(1);
             }
         }
-        // One look for the last partner, which goes over all before it.
+        // A single lookup of the last partner, which visits all before it.
         if let Some(last) = old.parts_len().checked_sub(1) {
             if partner(&old, &new, last).is_none() {
                 partners = 0;
@@ -73,7 +73,8 @@ fn count<L: Ledger>(
     Ok((broken, partners))
 }
 
-/// What `rules MEMBERS ROUNDS` prints: how many rules the structures break and how many partners they have, over all rounds.
+/// The output of `rules MEMBERS ROUNDS`: the number of rules that the structures break and the number of their partners, over all
+/// rounds.
 pub(crate) fn line(alloc: Global, words: &[&str]) -> Result<String, NoMemory> {
     let names = names(alloc, number(words, 0))?;
     let (broken, partners) = count::<Brand>(

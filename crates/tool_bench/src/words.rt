@@ -1,6 +1,6 @@
-// The words of the command line.
+// The arguments of the command line.
 
-/// The number that a word is, or 0 where it is none or missing.
+/// The number in the argument at a position, or 0 if it is not a number or missing.
 pub(crate) fn number(words: &[&str], at: usize) -> u32 {
     match words.get(at) {
         Some(word) => word.parse().unwrap_or(0),

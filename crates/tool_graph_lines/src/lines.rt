@@ -31,7 +31,7 @@ pub(crate) fn push_exports(
     Ok(())
 }
 
-// Appends a part that names the entry at `to`, or none.
+// Appends a part that names the entry at `to`.
 fn push_part(
     alloc: Global,
     text: &mut String,
@@ -61,7 +61,7 @@ fn push_part(
     }
 }
 
-// The offset of the entry that a part of a node names, and 0 where it names none.
+// The offset of the entry that a part of a node names, or 0 if it names none.
 fn named(graph: &Graph<'_, OldIx>, ix: OldIx, k: usize) -> u64
     requires node { ix < length graph.now }
     requires part { k < length (view_at graph.now ix).parts }

@@ -1,12 +1,12 @@
 //! Prints the exports of a library and the graph of their types, so that `tests/typed_exports.sh` and `tests/typed_graphs.sh` can
-//! compare them with what readelf lists and with what a compiler says of the same types.
+//! compare them with the output of readelf and with what a compiler knows about the same types.
 //!
 //! The lines of an export and of a node are
 //!
 //!     export LABEL entry OFFSET named NAME
 //!     node OFFSET KIND size BYTES align BYTES count N [group GROUP] [declared] [variadic] tag TAG labels [KIND:NAME ..]
 //!
-//! in order of symbols and of nodes, and below that of a node stand those of its parts:
+//! in order of symbols and of nodes. After the line of a node come those of its parts:
 //!
 //!     member NAME bit BIT width BITS to OFFSET
 //!     enumerator NAME VALUE
@@ -15,8 +15,8 @@
 //!     result OFFSET
 //!     param OFFSET
 //!
-//! An offset is that of an entry, and 0 is void; of an export it is 0 where it has no entry. The name of an export is that of its
-//! entry, or of its symbol where it has none. A name is in its printed form, and `-` where it is empty.
+//! An offset is that of an entry, and 0 is void; for an export without an entry it is 0. The name of an export is that of its
+//! entry, or of its symbol if it has none. A name is in its printed form, and `-` if it is empty.
 //!
 //! usage: graph_lines LIBRARY
 #![tactic(auto)]
@@ -100,7 +100,7 @@ fn list<R: Files + Print + Env + AllocGlobal>(rt: &R) -> Result<(), Stop> {
     print_library(rt.alloc(), &bytes, &mut sink)
 }
 
-// The one word that is given.
+// The single argument, if exactly one is given.
 fn library_word<R: Env + AllocGlobal>(rt: &R) -> io::Result<Option<String>> {
     let mut words = env::args(rt)?.skip(1);
     let library = words.next();

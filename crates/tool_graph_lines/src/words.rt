@@ -1,4 +1,4 @@
-// The words for what sorts of types there are.
+// The words for kinds of types, groups of scalars and kinds of labels.
 use abi_types::{Group, Kind, LabelKind};
 
 pub(crate) fn kind_word(kind: Kind) -> &'static str {

@@ -1,5 +1,5 @@
-//! Writes a library to standard output as `abi trial` makes it, so that `tests/trials.sh` can give it to `abi check` and to tools
-//! that are not of this repository.
+//! Writes one library of `abi trial` to standard output, so that `tests/trials.sh` can give it to `abi check` and to tools from
+//! outside this repository.
 //!
 //! usage: trial_library FUNCTIONS old|new
 #![tactic(auto)]
@@ -22,7 +22,7 @@ enum Stop {
     Output,
 }
 
-// A number of functions and a side, where the words are those.
+// The number of functions and the side, if the arguments are those.
 fn asked<R: Env + AllocGlobal>(rt: &R) -> io::Result<Option<(u32, Side)>> {
     let mut words = env::args(rt)?.skip(1);
     let count = words.next();

@@ -1,5 +1,5 @@
--- The one abbreviation table of a made library (DWARF 5, section 7.5.3 "Abbreviations Tables"). All numbers in it are below 128,
--- so each has one byte.
+-- The only abbreviation table of a generated library (DWARF 5, section 7.5.3 "Abbreviations Tables"). All its numbers are below
+-- 128, so each has one byte.
 use Rattle.std.specs.Prelude.{ℕ, List, [], ◌∷◌, ◌++◌}
 use Rattle.std.specs.List.{flat_map, concat}
 use Rattle.abi_base.specs.Dwarf.{dw_tag_compile_unit, dw_tag_base_type, dw_tag_pointer_type, dw_tag_structure_type, dw_tag_member, dw_tag_subprogram, dw_tag_formal_parameter, dw_children_yes, dw_children_no, dw_at_language, dw_at_byte_size, dw_at_encoding, dw_at_name, dw_at_type, dw_at_data_member_location, dw_at_low_pc, dw_form_data1, dw_form_data2, dw_form_string, dw_form_ref4, dw_form_addr}
@@ -8,7 +8,7 @@ use Rattle.abi_base.specs.Dwarf.{dw_tag_compile_unit, dw_tag_base_type, dw_tag_p
 abbrev pub attribute : ℕ × ℕ → List ℕ
 attribute a = a.0 ∷ a.1 ∷ []
 
--- an abbreviation: its code, its tag, whether its entries have children, its attributes, and the pair that ends them
+-- an abbreviation: its code, its tag, whether its entries have children, its attribute specifications, and the pair that ends them
 abbrev pub abbreviation : ℕ → ℕ → ℕ → List (ℕ × ℕ) → List ℕ
 abbreviation code tag children attributes = code ∷ tag ∷ children ∷ (flat_map attribute attributes ++ 0 ∷ 0 ∷ [])
 
@@ -34,7 +34,7 @@ function_code = 6
 abbrev pub parameter_code : ℕ
 parameter_code = 7
 
--- the table, which a 0 byte ends
+-- the table, with the 0 byte that ends it
 abbrev pub abbreviations : List ℕ
 abbreviations = concat (
     abbreviation unit_code dw_tag_compile_unit dw_children_yes ((dw_at_language, dw_form_data2) ∷ [])

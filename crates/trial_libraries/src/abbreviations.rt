@@ -1,4 +1,4 @@
-// The abbreviation table of a made library, which all its units share.
+// The abbreviation table of a generated library, which all its units share.
 ghost use Rattle.std.specs.Prelude.{◌≡◌};
 ghost use Rattle.trial_libraries.specs.Abbreviations.{abbreviations};
 
@@ -10,7 +10,7 @@ use abi_base::dwarf::{
     DW_TAG_subprogram,
 };
 
-// The codes of the abbreviations.
+// The abbreviation codes.
 pub(crate) const UNIT: u8 = 1;
 
 pub(crate) const BASE: u8 = 2;
@@ -25,7 +25,7 @@ pub(crate) const FUNCTION: u8 = 6;
 
 pub(crate) const PARAMETER: u8 = 7;
 
-// Two zeros end the attributes of an abbreviation, and one more the table.
+// Two zeros end the attribute specifications of an abbreviation, and another one ends the table.
 const TABLE: [u8; 66] = [
     UNIT,
     DW_TAG_compile_unit as u8,
@@ -102,7 +102,7 @@ const TABLE: [u8; 66] = [
     0,
 ];
 
-// The table.
+// The abbreviation table.
 pub(crate) fn abbreviation_table() -> &'static [u8]
     ensures { result.now ≡ abbreviations }
 {

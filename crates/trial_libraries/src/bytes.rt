@@ -1,4 +1,4 @@
-// Numbers, texts and filling at the end of bytes. Each call fails only when memory runs out.
+// Appends numbers, strings and padding to bytes. Each call fails only where memory runs out.
 ghost use Rattle.std.specs.Prelude.{◌≡◌, ◌<◌, ◌++◌, OnOk};
 ghost use Rattle.trial_libraries.specs.Bytes.{number_bytes, ended, filling, filled};
 
@@ -6,7 +6,7 @@ use crate::constants::ALIGNMENT;
 use byteorder::{ByteOrder, LittleEndian};
 use std::alloc::AllocError;
 
-// Puts a number of two bytes last, the lowest byte first.
+// Appends a little-endian number of two bytes.
 #[tactic(auto, unfolding(crate::specs::Bytes::number_bytes))]
 pub(crate) fn put_u16(bytes: &mut Vec<u8>, number: u16) -> Result<(), AllocError>
     ensures { OnOk result (bytes.new.items ≡ bytes.old.items ++ number_bytes 2 number) }
@@ -16,7 +16,7 @@ pub(crate) fn put_u16(bytes: &mut Vec<u8>, number: u16) -> Result<(), AllocError
     bytes.extend_from_slice(&spelled)
 }
 
-// Puts a number of four bytes last, the lowest byte first.
+// Appends a little-endian number of four bytes.
 #[tactic(auto, unfolding(crate::specs::Bytes::number_bytes))]
 pub(crate) fn put_u32(bytes: &mut Vec<u8>, number: u32) -> Result<(), AllocError>
     ensures { OnOk result (bytes.new.items ≡ bytes.old.items ++ number_bytes 4 number) }
@@ -26,7 +26,7 @@ pub(crate) fn put_u32(bytes: &mut Vec<u8>, number: u32) -> Result<(), AllocError
     bytes.extend_from_slice(&spelled)
 }
 
-// Puts a number of eight bytes last, the lowest byte first.
+// Appends a little-endian number of eight bytes.
 #[tactic(auto, unfolding(crate::specs::Bytes::number_bytes))]
 pub(crate) fn put_u64(bytes: &mut Vec<u8>, number: u64) -> Result<(), AllocError>
     ensures { OnOk result (bytes.new.items ≡ bytes.old.items ++ number_bytes 8 number) }
@@ -36,7 +36,7 @@ pub(crate) fn put_u64(bytes: &mut Vec<u8>, number: u64) -> Result<(), AllocError
     bytes.extend_from_slice(&spelled)
 }
 
-// Puts a text last, and the 0 byte that ends it.
+// Appends a string and its terminating 0 byte.
 pub(crate) fn put_text(bytes: &mut Vec<u8>, text: &str) -> Result<(), AllocError>
     ensures { OnOk result (bytes.new.items ≡ bytes.old.items ++ ended text.now) }
 {
@@ -45,7 +45,7 @@ pub(crate) fn put_text(bytes: &mut Vec<u8>, text: &str) -> Result<(), AllocError
     Ok(())
 }
 
-// How many zeros bring a length to the next multiple of the alignment.
+// The number of zeros from a length to the next multiple of the alignment.
 #[tactic(auto, unfolding(crate::specs::Bytes::filling))]
 fn filling(len: usize) -> usize
     ensures value { result ≡ filling len }
@@ -54,7 +54,7 @@ fn filling(len: usize) -> usize
     (ALIGNMENT - len % ALIGNMENT) % ALIGNMENT
 }
 
-// Puts bytes last, and zeros up to the next multiple of the alignment.
+// Appends bytes, and zeros up to the next multiple of the alignment.
 #[tactic(auto, unfolding(crate::specs::Bytes::filled))]
 pub(crate) fn put_filled(bytes: &mut Vec<u8>, contents: &[u8]) -> Result<(), AllocError>
     ensures { OnOk result (bytes.new.items ≡ bytes.old.items ++ filled contents.now) }

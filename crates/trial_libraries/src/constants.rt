@@ -1,10 +1,10 @@
-// The numbers of the System V gABI that a made library has, and what is this format's own.
+// The constants of the System V gABI in a generated library, and those of this generator.
 
-/// The first bytes of a file (ELFMAG), 64-bit (ELFCLASS64), little-endian (ELFDATA2LSB), in version EV_CURRENT, and the rest of
-/// `e_ident`.
+/// `e_ident`: the magic number (ELFMAG), 64-bit (ELFCLASS64), little-endian (ELFDATA2LSB), version EV_CURRENT, and zeros for the
+/// rest.
 pub const E_IDENT: [u8; 16] = *b"\x7fELF\x02\x01\x01\0\0\0\0\0\0\0\0\0";
 
-/// The type of a file that is a shared object.
+/// The file type of shared objects.
 pub const ET_DYN: u16 = 3;
 
 /// The machine x86-64.
@@ -22,20 +22,20 @@ pub const SHDR_SIZE: usize = 64;
 /// The size of a symbol, `Elf64_Sym`, in bytes.
 pub const SYM_SIZE: usize = 24;
 
-/// The type of a section whose bytes the program gives a meaning.
+/// The type of a section whose contents only programs interpret.
 pub const SHT_PROGBITS: u32 = 1;
 
-/// The type of a section of texts.
+/// The type of string tables.
 pub const SHT_STRTAB: u32 = 3;
 
-/// The type of the section of symbols for dynamic linking.
+/// The type of the dynamic symbol table.
 pub const SHT_DYNSYM: u32 = 11;
 
-/// `st_info` of a function that all files see: STB_GLOBAL in the high half, STT_FUNC in the low one.
+/// `st_info` of a global function: STB_GLOBAL in the high half, STT_FUNC in the low half.
 pub const GLOBAL_FUNCTION: u8 = 0x12;
 
-/// The visibility that the binding gives.
+/// The visibility that the binding implies.
 pub const STV_DEFAULT: u8 = 0;
 
-/// Each section begins at a multiple of this.
+/// The alignment of each section in the file.
 pub const ALIGNMENT: usize = 8;

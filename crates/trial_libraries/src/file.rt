@@ -1,4 +1,4 @@
-// A file of sections.
+// Files made of sections.
 ghost use Rattle.std.specs.Prelude.{◌≡◌, ◌+◌, ◌++◌, length, OnOk, IfOk};
 ghost use Rattle.std.specs.List.{flat_map};
 ghost use Rattle.trial_libraries.specs.Bytes.{filled};
@@ -12,7 +12,7 @@ use crate::constants::{
 };
 use std::alloc::{AllocError, Global};
 
-// What a section header says of a section, apart from its offset and size.
+// The fields of a section header except the offset and the size.
 struct Section {
     name_place: u32,
     kind: u32,
@@ -21,15 +21,15 @@ struct Section {
     entry_size: u64,
 }
 
-// The names of sections 1 to 5, as their string table.
+// The section name string table, with the names of sections 1 to 5.
 const NAMES: [u8; 53] = *b"\0.dynsym\0.dynstr\0.debug_abbrev\0.debug_info\0.shstrtab\0";
 
-// How many sections there are, 0 among them, and the number of the one of their names.
+// The number of sections, including section 0, and the index of the section name string table.
 const SECTION_COUNT: u16 = 6;
 
 const NAMES_NUMBER: u16 = 5;
 
-// The dynamic symbols. They have their names in section 2, and symbol 1 is the first that is not local.
+// The dynamic symbol table. Section 2 is its string table, and symbol 1 is the first one that is not local.
 const SYMBOLS: Section = Section {
     name_place: 1,
     kind: SHT_DYNSYM,
@@ -70,14 +70,14 @@ const SECTION_NAMES: Section = Section {
     entry_size: 0,
 };
 
-// What stands behind the file's header: the sections, and the section table.
+// The parts of the file after its header: the sections, and the section header table.
 #[derive(Drop)]
 struct Layout {
     sections: Vec<u8>,
     table: Vec<u8>,
 }
 
-// Puts the first fields of the file's header last: what kind of file it is.
+// Appends the first fields of the file header: the kind of file.
 fn put_file_kind(file: &mut Vec<u8>) -> Result<(), AllocError>
     ensures { OnOk result (file.new.items ≡ file.old.items ++ file_kind) }
 {
@@ -87,7 +87,7 @@ fn put_file_kind(file: &mut Vec<u8>) -> Result<(), AllocError>
     put_u32(file, EV_CURRENT)
 }
 
-// Puts the next fields of the file's header last: the entry point, and where the tables stand. There are no segments.
+// Appends the next fields of the file header: the entry point, and the offsets of the tables. There are no segments.
 fn put_file_places(file: &mut Vec<u8>, table_place: u64) -> Result<(), AllocError>
     ensures { OnOk result (file.new.items ≡ file.old.items ++ file_places table_place) }
 {
@@ -96,7 +96,7 @@ fn put_file_places(file: &mut Vec<u8>, table_place: u64) -> Result<(), AllocErro
     put_u64(file, table_place)
 }
 
-// Puts the last fields of the file's header last: the flags, and sizes and counts. The header's own size is left 0.
+// Appends the last fields of the file header: the flags, and sizes and counts. The header's own size remains 0.
 fn put_file_sizes(file: &mut Vec<u8>) -> Result<(), AllocError>
     ensures { OnOk result (file.new.items ≡ file.old.items ++ file_sizes) }
 {
@@ -109,7 +109,7 @@ fn put_file_sizes(file: &mut Vec<u8>) -> Result<(), AllocError>
     put_u16(file, NAMES_NUMBER)
 }
 
-// Puts the file's header last.
+// Appends the file header.
 fn put_file_header(file: &mut Vec<u8>, table_place: u64) -> Result<(), AllocError>
     ensures { OnOk result (file.new.items ≡ file.old.items ++ file_header table_place) }
 {
@@ -118,7 +118,7 @@ fn put_file_header(file: &mut Vec<u8>, table_place: u64) -> Result<(), AllocErro
     put_file_sizes(file)
 }
 
-// Puts the header of a section last, which stands at a place and has so many bytes.
+// Appends the header of a section with this offset and size.
 fn put_section_header(
     table: &mut Vec<u8>,
     section: &Section,
@@ -140,7 +140,7 @@ fn put_section_header(
     put_u64(table, section.entry_size)
 }
 
-// Puts a section last: its contents, filled up with zeros, and its header in the table.
+// Appends a section: its contents, padded with zeros, and its header in the table.
 fn put_section(layout: &mut Layout, section: &Section, contents: &[u8]) -> Result<(), AllocError>
     ensures sections { OnOk result (layout.new.sections.items ≡ layout.old.sections.items ++ filled contents.now) }
     ensures table { OnOk result (layout.new.table.items ≡ layout.old.table.items ++ section_header section.now.name_place section.now.kind (EHDR_SIZE + length layout.old.sections.items) (length contents.now) section.now.link section.now.info section.now.entry_size) }
@@ -150,7 +150,7 @@ fn put_section(layout: &mut Layout, section: &Section, contents: &[u8]) -> Resul
     put_filled(&mut layout.sections, contents)
 }
 
-// What stands behind the header of a file of these symbols, names of symbols and units.
+// The parts after the header of a file with these symbols, symbol names and units.
 fn lay_out(alloc: Global, symbols: &[u8], names: &[u8], units: &[u8]) -> Result<Layout, AllocError>
     ensures sections { IfOk result (λ layout. layout.sections.items ≡ flat_map filled (contents_of symbols.now names.now units.now)) }
     ensures table { IfOk result (λ layout. layout.table.items ≡ section_table (contents_of symbols.now names.now units.now)) }
@@ -167,7 +167,7 @@ fn lay_out(alloc: Global, symbols: &[u8], names: &[u8], units: &[u8]) -> Result<
     Ok(layout)
 }
 
-// The file of these symbols, names of symbols and units. It fails only when memory runs out.
+// The file with these symbols, symbol names and units. Fails only where memory runs out.
 pub(crate) fn make_file(
     alloc: Global,
     symbols: &[u8],

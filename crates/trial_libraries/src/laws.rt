@@ -1,4 +1,4 @@
-//! What made libraries are. Each law is the contract of a function whose body does nothing.
+//! Laws about generated libraries, as the contracts of functions with empty bodies.
 ghost use Rattle.std.specs.Prelude.{◌≡◌, ◌≤◌, ◌<◌, ℕ, length};
 ghost use Rattle.std.specs.List.{flat_map, range_with_len};
 ghost use Rattle.abi_base.specs.Limits.{input_limit};
@@ -9,23 +9,22 @@ ghost use Rattle.trial_libraries.specs.Units.{HasAt, functions_of, int, int_plac
 
 use crate::making::MOST_FUNCTIONS;
 
-/// The limit of the code is the one that contracts speak of.
+/// The limit in the code is the one in the contracts.
 pub fn the_limit_of_functions_is_as_said()
     ensures { MOST_FUNCTIONS ≡ most_functions }
 {}
 
-/// A made library may be an input.
+/// A generated library is within the limit on inputs.
 pub fn made_libraries_are_no_longer_than_inputs()
     ensures { (n : ℕ) (side : AnySide) → n ≤ most_functions → length (library n side) ≤ input_limit }
 {}
 
-/// The units of a made library have each of its functions once, in order.
+/// The units of a generated library have each of its functions once, in order.
 pub fn units_have_each_function_once()
     ensures { (n : ℕ) → flat_map (functions_of n) (range_with_len 0 (unit_count n)) ≡ range_with_len 0 n }
 {}
 
-/// The places that references say are those where the entries stand: in each unit, `int`, each pointer of its ring and each
-/// structure.
+/// References lead to the entries that they are meant for: in each unit, `int`, each pointer of its ring and each structure.
 pub fn references_lead_to_entries()
     ensures int { (n k u : ℕ) → HasAt (unit n k u) int_place int }
     ensures pointers { (n k u j : ℕ) → j < k → HasAt (unit n k u) (pointer_place j) (pointer k j) }

@@ -1,6 +1,6 @@
-//! Libraries of any number of functions, made byte by byte, for trials of the checker: ELF-64 x86-64 shared objects with
-//! debug units. Each function takes a pointer into a ring of structures, and the rings of an old library and of its new
-//! one differ in length.
+//! Generated libraries with any number of functions, for trials of the checker: ELF-64 x86-64 shared objects with debug
+//! units, written byte by byte. Each function takes a pointer into a ring of structures. The rings of an old library and of
+//! its new one differ in length.
 #![tactic(auto)]
 
 mod abbreviations;

@@ -1,4 +1,4 @@
-// A library of so many functions.
+// A library with a given number of functions.
 ghost use Rattle.std.specs.Prelude.{◌≡◌, ◌<◌, ◌≤◌, ◌⊎◌, ◌↔◌, length, IfOk};
 ghost use Rattle.abi_base.specs.Limits.{input_limit};
 ghost use Rattle.trial_libraries.specs.declared.making.GenRefusal.TheVariants.{NoMemory as OutOfMemory};
@@ -12,10 +12,10 @@ use abi_base::NoMemory;
 use std::alloc::{AllocError, Global};
 use thiserror::Error;
 
-/// The most functions of a made library.
+/// The most functions of a generated library.
 pub const MOST_FUNCTIONS: u32 = 50_000;
 
-/// Which library of a pair is made. They differ in the length of their rings of structures.
+/// The side of a pair of libraries. The two sides differ in the length of their rings of structures.
 #[derive(Clone, Copy, Debug, PartialEq, Eq)]
 pub enum Side {
     /// The old one, with rings of three structures.
@@ -24,10 +24,10 @@ pub enum Side {
     New,
 }
 
-/// Why no library is made.
+/// Why no library is generated.
 #[derive(Clone, Copy, Debug, PartialEq, Eq, Error)]
 pub enum GenRefusal {
-    /// The number of functions is 0, or above `MOST_FUNCTIONS`.
+    /// The number of functions is 0 or above `MOST_FUNCTIONS`.
     #[error("a made library has 1 to 50000 functions")]
     Size,
     /// Memory ran out.
@@ -43,7 +43,7 @@ impl From<AllocError> for GenRefusal {
     }
 }
 
-// The library of n functions for a side. It fails only when memory runs out.
+// The library of n functions for a side. Fails only where memory runs out.
 fn make_library(alloc: Global, n: u32, side: Side) -> Result<Vec<u8>, AllocError>
     requires { n ≤ most_functions }
     ensures { IfOk result (λ file. file.items ≡ library n side) }
@@ -58,8 +58,8 @@ fn make_library(alloc: Global, n: u32, side: Side) -> Result<Vec<u8>, AllocError
     )
 }
 
-/// The bytes of the library of n functions for a side, which is always the same one. It is as long as an input may be at most.
-/// `Size` comes exactly where n is 0 or above `MOST_FUNCTIONS`.
+/// The bytes of the library with n functions for a side, which is the same at each call. Its size is within the limit on inputs.
+/// Err is `Size` exactly where n is 0 or above `MOST_FUNCTIONS`.
 pub fn make(alloc: Global, n: u32, side: Side) -> Result<Vec<u8>, GenRefusal>
     ensures library { IfOk result (λ file. file.items ≡ library n side) }
     ensures short { IfOk result (λ file. length file.items ≤ input_limit) }

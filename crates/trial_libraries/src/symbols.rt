@@ -1,4 +1,4 @@
-// The dynamic symbols of a made library, and their names.
+// The dynamic symbols of a generated library, and their names.
 ghost use Rattle.std.specs.Prelude.{◌≡◌, ◌≤◌, ◌+◌, ◌++◌, OnOk, IfOk};
 ghost use Rattle.trial_libraries.specs.Bytes.{ended, string_table};
 ghost use Rattle.trial_libraries.specs.Limits.{most_functions};
@@ -8,29 +8,29 @@ use crate::bytes::{put_text, put_u16, put_u32, put_u64};
 use crate::constants::{GLOBAL_FUNCTION, STV_DEFAULT, SYM_SIZE};
 use std::alloc::{AllocError, Global};
 
-// Where function 0 begins, and how many bytes each function has.
+// The address of function 0, and the size of each function in bytes.
 const FIRST_ADDRESS: u64 = 4096;
 
 const FUNCTION_SIZE: u64 = 16;
 
-// The section that functions say they stand in.
+// The section index in the functions' symbols.
 const FUNCTION_SECTION: u16 = 1;
 
-// The symbols and the string table of their names.
+// The symbols and their string table.
 #[derive(Drop)]
 pub(crate) struct Symbols {
     pub(crate) symbols: Vec<u8>,
     pub(crate) names: Vec<u8>,
 }
 
-// Where a function begins.
+// The address of a function.
 pub(crate) fn address_of(number: u32) -> u64
     ensures { result ≡ function_address number }
 {
     FIRST_ADDRESS + FUNCTION_SIZE * number as u64
 }
 
-// Puts a function's name last, and the 0 byte that ends it.
+// Appends a function's name and its terminating 0 byte.
 pub(crate) fn put_name(bytes: &mut Vec<u8>, number: u32) -> Result<(), AllocError>
     ensures { OnOk result (bytes.new.items ≡ bytes.old.items ++ ended (function_name number)) }
 {
@@ -38,7 +38,7 @@ pub(crate) fn put_name(bytes: &mut Vec<u8>, number: u32) -> Result<(), AllocErro
     put_text(bytes, name.as_str())
 }
 
-// Puts a function's symbol last, whose name stands at a place of the string table.
+// Appends a function's symbol, with the offset of its name in the string table.
 fn put_symbol(symbols: &mut Vec<u8>, name_place: u32, number: u32) -> Result<(), AllocError>
     ensures { OnOk result (symbols.new.items ≡ symbols.old.items ++ symbol name_place number) }
 {
@@ -49,7 +49,7 @@ fn put_symbol(symbols: &mut Vec<u8>, name_place: u32, number: u32) -> Result<(),
     put_u64(symbols, FUNCTION_SIZE)
 }
 
-// The symbols of so many functions. It fails only when memory runs out.
+// The symbols of the first n functions. Fails only where memory runs out.
 pub(crate) fn make_symbols(alloc: Global, n: u32) -> Result<Symbols, AllocError>
     requires { n ≤ most_functions }
     ensures symbols { IfOk result (λ made. made.symbols.items ≡ symbol_table n) }

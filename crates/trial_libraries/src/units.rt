@@ -1,4 +1,4 @@
-// The debug units of a made library.
+// The debug units of a generated library.
 ghost use Rattle.std.specs.Prelude.{◌≡◌, ◌≤◌, ◌<◌, ◌+◌, ◌^◌, ◌++◌, length, OnOk, IfOk};
 ghost use Rattle.std.specs.List.{flat_map, range_with_len};
 ghost use Rattle.trial_libraries.specs.Limits.{most_functions};
@@ -11,28 +11,28 @@ use crate::symbols::{address_of, put_name};
 use abi_base::dwarf::{DW_ATE_signed, DW_LANG_C99, DW_UT_compile};
 use std::alloc::{AllocError, Global};
 
-// How many functions each unit but the last one has.
+// The number of functions in each unit except the last.
 const UNIT_FUNCTIONS: u32 = 100;
 
 // Each function whose number is a multiple of this has a second parameter.
 const SECOND_PARAMETER: u32 = 7;
 
-// What a unit header says: its DWARF version, and the size of addresses. Its length counts the bytes behind the number.
+// Fields of a unit header: the DWARF version, the address size, and the number of header bytes that the unit length counts.
 const DWARF_VERSION: u16 = 5;
 
 const ADDRESS_SIZE: u8 = 8;
 
 const HEADER_REST: usize = 8;
 
-// How many structures the rings of an old library have, and of a new one.
+// The number of structures in the rings of an old library, and of a new one.
 const OLD_RING: u32 = 3;
 
 const NEW_RING: u32 = 2;
 
 const LONGEST_RING: u32 = 3;
 
-// Where entries stand in their unit, counted from its header on: `int`, the first pointer; and how many bytes a pointer has, and a
-// structure with its members.
+// Offsets of entries in their unit, from its header on: `int`, and the first pointer. Then the sizes in bytes of a pointer's entry,
+// and of those of a structure with its members.
 const INT_PLACE: u32 = 15;
 
 const POINTERS_PLACE: u32 = 22;
@@ -41,14 +41,14 @@ const POINTER_BYTES: u32 = 6;
 
 const STRUCTURE_BYTES: u32 = 27;
 
-// The sizes that types say.
+// The sizes in the entries of types.
 const INT_SIZE: u8 = 4;
 
 const POINTER_SIZE: u8 = 8;
 
 const STRUCTURE_SIZE: u8 = 16;
 
-// Where members stand in a structure.
+// The offsets of members in a structure.
 const NEXT_PLACE: u8 = 0;
 
 const VALUE_PLACE: u8 = 8;
@@ -56,7 +56,7 @@ const VALUE_PLACE: u8 = 8;
 // Ends a list of children.
 const NO_MORE: u8 = 0;
 
-// How many structures the rings of a side have.
+// The number of structures in the rings of a side.
 pub(crate) fn ring_of(side: Side) -> u32
     ensures value { result ≡ ring_length side }
     ensures some { 0 < result }
@@ -68,7 +68,7 @@ pub(crate) fn ring_of(side: Side) -> u32
     }
 }
 
-// Where a pointer of a ring stands in its unit.
+// The offset of a ring's pointer in its unit.
 fn place_of_pointer(pointer: u32) -> u32
     requires { pointer ≤ LONGEST_RING }
     ensures { result ≡ pointer_place pointer }
@@ -76,7 +76,7 @@ fn place_of_pointer(pointer: u32) -> u32
     POINTERS_PLACE + POINTER_BYTES * pointer
 }
 
-// Where a structure of a ring of so many stands in its unit.
+// The offset of a structure in its unit, in a ring with this many.
 fn place_of_structure(ring: u32, structure: u32) -> u32
     requires few { ring ≤ LONGEST_RING }
     requires among { structure < ring }
@@ -85,7 +85,7 @@ fn place_of_structure(ring: u32, structure: u32) -> u32
     POINTERS_PLACE + POINTER_BYTES * ring + STRUCTURE_BYTES * structure
 }
 
-// Puts the root of a unit last, and `int`.
+// Appends the root of a unit, and `int`.
 fn put_root(body: &mut Vec<u8>) -> Result<(), AllocError>
     ensures { OnOk result (body.new.items ≡ body.old.items ++ (root ++ int)) }
 {
@@ -95,7 +95,7 @@ fn put_root(body: &mut Vec<u8>) -> Result<(), AllocError>
     put_text(body, "int")
 }
 
-// Puts a pointer of a ring of so many last.
+// Appends a pointer of a ring with this many.
 fn put_pointer(body: &mut Vec<u8>, ring: u32, number: u32) -> Result<(), AllocError>
     requires few { ring ≤ LONGEST_RING }
     requires among { number < ring }
@@ -105,7 +105,7 @@ fn put_pointer(body: &mut Vec<u8>, ring: u32, number: u32) -> Result<(), AllocEr
     put_u32(body, place_of_structure(ring, number))
 }
 
-// Puts the pointers of a ring of so many last.
+// Appends the pointers of a ring with this many.
 fn put_pointers(body: &mut Vec<u8>, ring: u32) -> Result<(), AllocError>
     requires { ring ≤ LONGEST_RING }
     ensures { OnOk result (body.new.items ≡ body.old.items ++ flat_map (pointer ring) (range_with_len 0 ring)) }
@@ -116,7 +116,7 @@ fn put_pointers(body: &mut Vec<u8>, ring: u32) -> Result<(), AllocError>
     Ok(())
 }
 
-// Puts a member last, whose type stands at a place of the unit, and which stands at a place of its structure.
+// Appends a member, with the offset of its type in the unit and its own offset in the structure.
 fn put_member(body: &mut Vec<u8>, name: &str, type_place: u32, place: u8) -> Result<(), AllocError>
     ensures { OnOk result (body.new.items ≡ body.old.items ++ member name.now type_place place) }
 {
@@ -127,7 +127,7 @@ fn put_member(body: &mut Vec<u8>, name: &str, type_place: u32, place: u8) -> Res
     Ok(())
 }
 
-// Puts a structure of a ring of so many last.
+// Appends a structure of a ring with this many.
 fn put_structure(body: &mut Vec<u8>, ring: u32, number: u32) -> Result<(), AllocError>
     requires few { ring ≤ LONGEST_RING }
     requires among { number < ring }
@@ -147,7 +147,7 @@ fn put_structure(body: &mut Vec<u8>, ring: u32, number: u32) -> Result<(), Alloc
     Ok(())
 }
 
-// Puts the structures of a ring of so many last.
+// Appends the structures of a ring with this many.
 fn put_structures(body: &mut Vec<u8>, ring: u32) -> Result<(), AllocError>
     requires { ring ≤ LONGEST_RING }
     ensures { OnOk result (body.new.items ≡ body.old.items ++ flat_map (structure ring) (range_with_len 0 ring)) }
@@ -158,7 +158,7 @@ fn put_structures(body: &mut Vec<u8>, ring: u32) -> Result<(), AllocError>
     Ok(())
 }
 
-// Puts a parameter last, whose type stands at a place of the unit.
+// Appends a parameter, with the offset of its type in the unit.
 fn put_parameter(body: &mut Vec<u8>, type_place: u32) -> Result<(), AllocError>
     ensures { OnOk result (body.new.items ≡ body.old.items ++ parameter type_place) }
 {
@@ -166,7 +166,7 @@ fn put_parameter(body: &mut Vec<u8>, type_place: u32) -> Result<(), AllocError>
     put_u32(body, type_place)
 }
 
-// Puts the parameters of a function last.
+// Appends the parameters of a function.
 fn put_parameters(body: &mut Vec<u8>, number: u32) -> Result<(), AllocError>
     ensures { OnOk result (body.new.items ≡ body.old.items ++ parameters number) }
 {
@@ -177,7 +177,7 @@ fn put_parameters(body: &mut Vec<u8>, number: u32) -> Result<(), AllocError>
     Ok(())
 }
 
-// Puts a function last.
+// Appends a function.
 fn put_function(body: &mut Vec<u8>, number: u32) -> Result<(), AllocError>
     ensures { OnOk result (body.new.items ≡ body.old.items ++ function number) }
 {
@@ -190,7 +190,7 @@ fn put_function(body: &mut Vec<u8>, number: u32) -> Result<(), AllocError>
     Ok(())
 }
 
-// Puts the functions of a unit last, which are those of n that are its own.
+// Appends the functions of a unit: those of the n functions that belong to it.
 fn put_functions(body: &mut Vec<u8>, n: u32, unit: u32) -> Result<(), AllocError>
     requires few { n ≤ most_functions }
     requires among { unit < unit_count n }
@@ -203,7 +203,7 @@ fn put_functions(body: &mut Vec<u8>, n: u32, unit: u32) -> Result<(), AllocError
     Ok(())
 }
 
-// The entries of a unit of a library of n functions.
+// The entries of a unit in a library of n functions.
 fn make_entries(alloc: Global, n: u32, ring: u32, unit: u32) -> Result<Vec<u8>, AllocError>
     requires short { ring ≤ LONGEST_RING }
     requires few { n ≤ most_functions }
@@ -219,7 +219,7 @@ fn make_entries(alloc: Global, n: u32, ring: u32, unit: u32) -> Result<Vec<u8>, 
     Ok(body)
 }
 
-// Puts the unit of these entries last.
+// Appends the unit with these entries.
 fn put_unit(info: &mut Vec<u8>, body: &[u8]) -> Result<(), AllocError>
     requires { 8 + length body.now < 2 ^ 32 }
     ensures { OnOk result (info.new.items ≡ info.old.items ++ unit_of body.now) }
@@ -231,7 +231,7 @@ fn put_unit(info: &mut Vec<u8>, body: &[u8]) -> Result<(), AllocError>
     info.extend_from_slice(body)
 }
 
-// How many units a library of n functions has.
+// The number of units in a library of n functions.
 fn count_units(n: u32) -> u32
     requires { n ≤ most_functions }
     ensures { result ≡ unit_count n }
@@ -239,7 +239,7 @@ fn count_units(n: u32) -> u32
     n.div_ceil(UNIT_FUNCTIONS)
 }
 
-// The units of a library of n functions, whose rings have so many structures. It fails only when memory runs out.
+// The units of a library of n functions, with rings of this many structures. Fails only where memory runs out.
 pub(crate) fn make_units(alloc: Global, n: u32, ring: u32) -> Result<Vec<u8>, AllocError>
     requires short { ring ≤ LONGEST_RING }
     requires few { n ≤ most_functions }

@@ -1,9 +1,9 @@
--- Numbers in classes: each class takes places side by side in an order of the numbers, its marked ones first.
+-- A partition of numbers into classes: each class occupies adjacent places in an order of the numbers, its marked ones first.
 use Rattle.std.specs.Prelude.{◌≡◌, ◌≢◌, ◌+◌, ◌<◌, ◌≤◌, ◌↔◌, ◌⊎◌, ℕ, Bool, false, nat_lt, List, length, slice_index_or, slice_set, Contains}
 use Rattle.type_classes.specs.declared.blocks.Block.{Block}
 use Rattle.type_classes.specs.declared.blocks.Blocks.{Blocks}
 
--- ---- look-ups, which give 0 past the end
+-- ---- look-ups; past the end they give 0
 
 abbrev pub at : List ℕ → ℕ → ℕ
 at xs i = slice_index_or xs i 0
@@ -25,8 +25,7 @@ end_at blocks c = (block_at blocks c).end
 
 -- ---- the layout
 
--- The order and the places are inverse to each other. The numbers of a class stand from its first place to its end, and there
--- is at least one.
+-- The order and the places are inverse to each other. A class has the numbers from its first place up to its end, at least one.
 pub record IsLayout (n count : ℕ) (order place class first middle last : ℕ → ℕ) : Type 0 where
   pub order_inside : (i : ℕ) → i < n → order i < n
   pub place_inside : (x : ℕ) → x < n → place x < n
@@ -41,7 +40,7 @@ pub record IsLayout (n count : ℕ) (order place class first middle last : ℕ �
   pub middle_high : (c : ℕ) → c < count → middle c ≤ last c
   pub end_inside : (c : ℕ) → c < count → last c ≤ n
 
--- ---- what is seen of classes
+-- ---- the observable state of classes
 
 -- how many numbers and how many classes there are
 abbrev pub len_of : Blocks → ℕ
@@ -61,7 +60,7 @@ mark_at place class blocks x = nat_lt (at place x) (middle_at blocks (at class x
 abbrev pub is_marked : Blocks → ℕ → Bool
 is_marked b = mark_at b.place.items b.class.items b.blocks.items
 
--- the lists of numbers are as long as there are numbers, and they are a layout
+-- the lists are as long as there are numbers, and form a layout
 pub record IsLaidOut (order place class : List ℕ) (blocks : List Block) : Type 0 where
   pub places : length place ≡ length order
   pub classes : length class ≡ length order
@@ -79,11 +78,11 @@ pub record ListsMarks (b : Blocks) : Type 0 where
 abbrev pub HasNoMarks : Blocks → Type 0
 HasNoMarks b = (x : ℕ) → x < len_of b → is_marked b x ≡ false
 
--- two numbers are of one class, and both are marked or neither
+-- two numbers are in one class, and both are marked or neither
 abbrev pub AreTogether : Blocks → ℕ → ℕ → Type 0
 AreTogether b x y = (class_in b x ≡ class_in b y) × (is_marked b x ≡ is_marked b y)
 
--- The same numbers are together as before, and each class comes from one that was there: a class that was there from itself.
+-- The same numbers are together as before, and each class comes from an old one: an old class from itself.
 pub record KeepsTogether (old new : Blocks) : Type 0 where
   pub len : len_of new ≡ len_of old
   pub count : count_of old ≤ count_of new
@@ -94,7 +93,7 @@ pub record KeepsTogether (old new : Blocks) : Type 0 where
 
 -- ---- single steps
 
--- A block is split into its marked part and the others, either first, with no marks.
+-- A block is split into its marked part and the rest, in either order, without marks.
 pub record IsPart (part : Block) (first last : ℕ) : Type 0 where
   pub first_is : part.first ≡ first
   pub middle_is : part.middle ≡ first
@@ -116,7 +115,7 @@ pub record IsAdvanced (old new : Blocks) (c : ℕ) : Type 0 where
   pub touched : new.touched ≡ old.touched
   pub blocks : new.blocks.items ≡ slice_set old.blocks.items c (advanced old.blocks.items c)
 
--- the numbers at two places are changed, and all else stays
+-- the numbers at two places are swapped, and everything else is unchanged
 pub record IsSwapped (old new : Blocks) (one other : ℕ) : Type 0 where
   pub order : new.order.items ≡ slice_set (slice_set old.order.items one (at old.order.items other)) other (at old.order.items one)
   pub place : new.place.items ≡ slice_set (slice_set old.place.items (at old.order.items other) one) (at old.order.items one) other
@@ -124,7 +123,7 @@ pub record IsSwapped (old new : Blocks) (one other : ℕ) : Type 0 where
   pub blocks : new.blocks ≡ old.blocks
   pub touched : new.touched ≡ old.touched
 
--- A class is split into its marked numbers and the others where it has both, and loses its marks.
+-- A class is split into its marked numbers and the others, if it has both, and loses its marks.
 pub record IsSplitAt (old new : Blocks) (c : ℕ) : Type 0 where
   pub blocks : AreBlocks new
   pub keeps : KeepsTogether old new

@@ -1,4 +1,4 @@
--- Which parts name which nodes.
+-- The edges of a graph: which parts name which nodes.
 use Rattle.std.specs.Prelude.{◌≡◌, ◌≢◌, ◌<◌, ◌≤◌, ◌-◌, ◌↔◌, ◌⊎◌, ℕ, List, length, slice_index_or, Some}
 use Rattle.abi_types.specs.Types.{PlainNode}
 use Rattle.abi_types.specs.Graphs.{view_at, part_at, to_of}
@@ -22,13 +22,13 @@ edge_at edges i = slice_index_or edges i no_edge
 
 -- ---- links
 
--- A link is one more than the number of the last edge below a bound that leads to a node, or 0 where none does.
+-- A link is one more than the index of the last edge below a bound that leads to a node, or 0 where none does.
 pub record IsLast (edges : List Edge) (bound s link : ℕ) : Type 0 where
   pub inside : link ≤ bound
   pub own : 0 < link → (edge_at edges (link - 1)).to ≡ s
   pub none : (j : ℕ) → link ≤ j → j < bound → (edge_at edges j).to ≢ s
 
--- the edges that lead to one node are linked
+-- the edges to one node are linked
 pub record HasLinks (edges : List Edge) (ends : List ℕ) : Type 0 where
   pub earlier : (i : ℕ) → i < length edges → IsLast edges i (edge_at edges i).to (edge_at edges i).earlier
   pub last : (s : ℕ) → s < length ends → IsLast edges (length edges) s (at ends s)
@@ -36,23 +36,23 @@ pub record HasLinks (edges : List Edge) (ends : List ℕ) : Type 0 where
 abbrev pub AreLinked : Incoming → Type 0
 AreLinked incoming = HasLinks incoming.edges.items incoming.last.items
 
--- ---- what is seen of the edges
+-- ---- the observable state of the edges
 
--- an edge at this number or after it leads to a node, from this part
+-- an edge with this index or a later one leads to a node, from this part
 abbrev pub LeadsFrom : List Edge → ℕ → ℕ → ℕ × ℕ → Type 0
 LeadsFrom edges link s e = (i : ℕ) × (link ≤ i) × (i < length edges) × ((edge_at edges i).to ≡ s) × ((edge_at edges i).part ≡ e)
 
--- a part, by its position and its node, is among those that name a node
+-- a part, given by its position and its node, is among those that name a node
 abbrev pub IsIncoming : Incoming → ℕ → ℕ × ℕ → Type 0
 IsIncoming incoming s e = LeadsFrom incoming.edges.items 0 s e
 
--- Those that name a node are the parts of the nodes below a bound that do.
+-- The edges are those from the parts of the nodes below a bound.
 pub record AreIncoming (nodes : List PlainNode) (bound : ℕ) (incoming : Incoming) : Type 0 where
   pub many : node_count incoming ≡ length nodes
   pub linked : AreLinked incoming
   pub edges : (s k x : ℕ) → IsIncoming incoming s (k, x) ↔ ((x < bound) × Names nodes x k s)
 
--- one part more names a node
+-- one more part names a node
 pub record IsAdded (old new : Incoming) (to : ℕ) (part : ℕ × ℕ) : Type 0 where
   pub many : node_count new ≡ node_count old
   pub linked : AreLinked new

@@ -1,4 +1,4 @@
--- Shapes numbered by the first node of each.
+-- Shapes, numbered by the first node of each.
 use Rattle.std.specs.Prelude.{◌≡◌, ◌<◌, ◌↔◌, ◌==◌, ◌&&◌, ℕ, Bool, List, [], ◌∷◌, length, Option, Contains}
 use Rattle.std.specs.Global.{Vec}
 use Rattle.std.specs.Cmp.Lexicographic.{pointwise}
@@ -12,7 +12,7 @@ use Rattle.abi_types.specs.ClassLooks.{Look, shape_of}
 use Rattle.type_classes.specs.declared.spelling.Spelling.{Spelling}
 use Rattle.type_classes.specs.Shapes.{spelled, letters_of}
 
--- the spelling is that of what is seen
+-- the spelling of a look
 pub record IsSpellingOf (s : Spelling) (l : Look) : Type 0 where
   pub numbers : s.numbers.items ≡ spelled l
   pub letters : s.letters.items ≡ letters_of l
@@ -22,7 +22,7 @@ pub record AreOneSpelling (s t : Spelling) : Type 0 where
   pub numbers : s.numbers.items ≡ t.numbers.items
   pub letters : s.letters.items ≡ t.letters.items
 
--- letters that are written to a hasher at once
+-- letters that are fed to a hasher at once
 abbrev pub fed_text : List ℕ → HashWrites
 fed_text letters = letters ∷ []
 
@@ -36,7 +36,7 @@ same_spelling s t = same_numbers s.numbers.items t.numbers.items && same_numbers
 abbrev pub Numbers : Type 0
 Numbers = HashMap Spelling ℕ (BuildHasherDefault FoldHasher)
 
--- what stands under a spelling
+-- the number of a spelling
 abbrev pub number_in : Numbers → Spelling → Option ℕ
 number_in numbers s = get_by (same_spelling s) numbers
 

@@ -1,4 +1,4 @@
--- Nodes that stand for classes.
+-- Representatives of classes.
 use Rattle.std.specs.Prelude.{◌≡◌, ◌≢◌, ◌<◌, ◌≤◌, ◌⊎◌, ℕ, List, length}
 use Rattle.abi_types.specs.Types.{PlainNode}
 use Rattle.abi_types.specs.Graphs.{node_at}
@@ -13,7 +13,7 @@ pub record AreOfClasses (n count : ℕ) (class : ℕ → ℕ) (list : List ℕ) 
   pub inside : (c : ℕ) → c < count → at list c < n
   pub own : (c : ℕ) → c < count → class (at list c) ≡ c
 
--- the node of a class is another one at most, and its entry is not after that one's, nor after what it was
+-- at most the representative of node x's class has changed; its entry is not after that of x, nor after the old one
 pub record IsLowered (nodes : List PlainNode) (old new : List ℕ) (c x : ℕ) : Type 0 where
   pub len : length new ≡ length old
   pub others : (d : ℕ) → d ≢ c → at new d ≡ at old d
@@ -21,7 +21,7 @@ pub record IsLowered (nodes : List PlainNode) (old new : List ℕ) (c x : ℕ) :
   pub low : entry_at nodes (at new c) ≤ entry_at nodes x
   pub lower : entry_at nodes (at new c) ≤ entry_at nodes (at old c)
 
--- for each node the node of least entry offset in its class
+-- for each node the node with the least entry offset in its class
 pub record AreReps (nodes : List PlainNode) (class : ℕ → ℕ) (reps : List ℕ) : Type 0 where
   pub each : length reps ≡ length nodes
   pub inside : (x : ℕ) → x < length nodes → at reps x < length nodes

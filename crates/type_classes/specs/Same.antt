@@ -1,4 +1,4 @@
--- Views that are the same in all but their parts and calls.
+-- Views that are the same except for their parts and calls.
 use Rattle.std.specs.Prelude.{◌≡◌}
 use Rattle.abi_types.specs.Types.{PlainView}
 

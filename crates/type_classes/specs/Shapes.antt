@@ -1,4 +1,4 @@
--- Shapes of nodes, spelled as numbers and letters: equal shapes are spelled alike, and others are not.
+-- Shapes of nodes, spelled as numbers and letters. Two shapes are equal exactly if their spellings are.
 use Rattle.std.specs.Prelude.{ℕ, ◌+◌, ◌*◌, ◌++◌, Bool, List, [], ◌∷◌, length, flat_map, if◌then◌else◌}
 use Rattle.abi_types.specs.declared.kind.Kind.{Kind}
 use Rattle.abi_types.specs.declared.kind.Group.{Group}
@@ -13,7 +13,7 @@ use Rattle.abi_types.specs.Types.{PlainPart, Member, Enumerator, Target, Element
 use Rattle.abi_types.specs.ClassLooks.{Look}
 use Rattle.pair_rules.specs.Same.{kind_number, group_number}
 
--- each kind of label has a number of its own
+-- each kind of label has its own number
 abbrev pub label_number : LabelKind → ℕ
 label_number label.Structure = 0
 label_number label.Union = 1
@@ -24,14 +24,14 @@ label_number label.Builtin = 4
 abbrev pub truth_number : Bool → ℕ
 truth_number b = if b then 1 else 0
 
--- how many items there are, and then each of them
+-- the number of items, then each of them
 unfoldable pub spelled_list : {X : Type 0} → (X → List ℕ) → List X → List ℕ
 spelled_list f xs = length xs ∷ flat_map f xs
 
 abbrev pub spelled_number : ℕ → List ℕ
 spelled_number n = n ∷ []
 
--- each slot has a number of its own
+-- each slot has its own number
 abbrev pub slot_number : Slot → ℕ
 slot_number slot.Unused = 0
 slot_number (slot.General n) = 5 * n + 1
@@ -51,7 +51,7 @@ spelled_place place.Hidden = 3 ∷ []
 unfoldable pub spelled_call : CallShape → List ℕ
 spelled_call c = spelled_place c.outcome ++ spelled_list spelled_place c.params
 
--- a part, without the node that it names, and of its name the length alone
+-- a part without the node that it names, and with only the length of its name
 unfoldable pub spelled_part : PlainPart → List ℕ
 spelled_part (Member name bit width to) = 0 ∷ length name ∷ bit ∷ width ∷ []
 spelled_part (Enumerator name value) = 1 ∷ length name ∷ value ∷ []
@@ -63,11 +63,11 @@ spelled_part (Param to) = 5 ∷ []
 abbrev pub spelled_label : PlainLabel → List ℕ
 spelled_label l = label_number l.kind ∷ length l.name ∷ []
 
--- each kind and group, with two truths, has a number of its own
+-- each combination of kind, group and two flags has its own number
 abbrev pub head_number : Kind → Group → Bool → Bool → ℕ
 head_number kind group declared_only variadic = kind_number kind + 9 * group_number group + 63 * truth_number declared_only + 126 * truth_number variadic
 
--- what a view says in numbers alone
+-- the numbers of a view
 abbrev pub spelled_numbers : PlainView → List ℕ
 spelled_numbers v = head_number v.kind v.group v.declared_only v.variadic ∷ v.size ∷ v.align ∷ v.count ∷ length v.tag ∷ []
 

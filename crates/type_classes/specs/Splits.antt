@@ -1,4 +1,4 @@
--- Classes split by pairs of keys and numbers.
+-- Splits of classes by pairs of keys and numbers.
 use Rattle.std.specs.Prelude.{◌≡◌, ◌≢◌, ◌<◌, ◌≤◌, ◌↔◌, ◌==◌, ◌&&◌, ℕ, Bool, List, length, slice_index_or, take}
 use Rattle.std.specs.List.{list_any}
 use Rattle.type_classes.specs.declared.blocks.Blocks.{Blocks}
@@ -14,15 +14,15 @@ key_at pairs i = (slice_index_or pairs i (0, 0)).0
 abbrev pub number_at : List (ℕ × ℕ) → ℕ → ℕ
 number_at pairs i = (slice_index_or pairs i (0, 0)).1
 
--- whether a number stands beside a key
+-- whether a number is paired with a key
 unfoldable pub stands_beside : List (ℕ × ℕ) → ℕ → ℕ → Bool
 stands_beside pairs key x = list_any (λ pair. pair.0 == key && pair.1 == x) pairs
 
--- two numbers stand beside the same keys
+-- two numbers are paired with the same keys
 abbrev pub HaveSameKeys : List (ℕ × ℕ) → ℕ → ℕ → Type 0
 HaveSameKeys pairs x y = (key : ℕ) → stands_beside pairs key x ≡ stands_beside pairs key y
 
--- The pairs from a position to the next have one key, and the numbers beside it are marked.
+-- The pairs from a position up to the next share one key, and the numbers paired with it are marked.
 pub record IsMarkedRun (old new : Blocks) (pairs : List (ℕ × ℕ)) (from next : ℕ) : Type 0 where
   pub blocks : AreBlocks new
   pub listed : ListsMarks new
@@ -35,8 +35,8 @@ pub record IsMarkedRun (old new : Blocks) (pairs : List (ℕ × ℕ)) (from next
   pub run : (i : ℕ) → from ≤ i → i < next → key_at pairs i ≡ key_at pairs from
   pub ends : next < length pairs → key_at pairs next ≢ key_at pairs from
 
--- Two numbers are of one class exactly where they were of one class and stand beside the same keys. Each
--- class comes from one that was there: a class that was there from itself.
+-- Two numbers are in one class exactly where they were in one class and are paired with the same keys. Each class comes from an old
+-- one: an old class from itself.
 pub record IsSplitBy (old new : Blocks) (pairs : List (ℕ × ℕ)) : Type 0 where
   pub blocks : AreBlocks new
   pub listed : ListsMarks new

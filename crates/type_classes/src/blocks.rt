@@ -1,23 +1,23 @@
-// Numbers in classes, which are split by marks.
+// A partition of numbers into classes, refined by marks.
 ghost use Rattle.std.specs.Prelude.{◌≡◌, ◌≢◌, ◌≤◌, ◌<◌, ◌+◌, ◌==◌, ◌||◌, ◌↔◌, ◌⊎◌, ℕ, nat_lt, nat_le, ◌&&◌, if◌then◌else◌, length, IfOk, OnOk, IsTrue, Contains};
 ghost use Rattle.type_classes.specs.Blocks.{at, block_at, first_at, middle_at, end_at, len_of, count_of, class_in, is_marked, AreBlocks, ListsMarks, HasNoMarks, KeepsTogether, IsWhole, IsSplitAt, IsAdvanced, IsSwapped, IsSplitOf};
 
 use abi_base::NoMemory;
 use std::alloc::Global;
 
-/// The places of one class in the order of the numbers.
+/// The places of one class in the order of numbers.
 #[derive(Clone, Copy)]
 pub struct Block {
-    /// Its first place.
+    /// The place of its first number.
     pub first: usize,
-    /// The place after its marked numbers, which stand first.
+    /// The place after its marked numbers, which come first.
     pub middle: usize,
     /// The place after its last number.
     pub end: usize,
 }
 
-/// The numbers below a bound in classes. Numbers are marked one by one, and then each class with both is split into its marked
-/// numbers and the others, in a time that grows with the count of marks alone.
+/// The numbers below a bound, partitioned into classes. Numbers are marked one by one; `split` then separates the marked numbers of
+/// each class from its others. The time grows only with the number of marks.
 #[derive(Drop)]
 pub struct Blocks {
     // The numbers, those of one class side by side.
@@ -32,7 +32,7 @@ pub struct Blocks {
     touched: Vec<usize>,
 }
 
-// The larger and the smaller of the two parts into which the marks of a block split it, with no marks.
+// The larger and the smaller of the two parts into which its marks split a block, both without marks.
 fn halves(block: Block) -> (Block, Block)
     requires low { block.first ≤ block.middle }
     requires high { block.middle ≤ block.end }
@@ -55,7 +55,7 @@ fn halves(block: Block) -> (Block, Block)
     }
 }
 
-// Whether all numbers of a block are marked or none is.
+// Whether a block has only marked numbers or none.
 fn is_whole(block: Block) -> bool
     ensures { IsTrue result ↔ IsWhole block }
 {
@@ -63,7 +63,7 @@ fn is_whole(block: Block) -> bool
 }
 
 impl Blocks {
-    /// All numbers below a bound in one class.
+    /// All numbers below a bound, in one class.
     pub fn one(alloc: Global, len: usize) -> Result<Blocks, NoMemory>
         requires { 0 < len }
         ensures len { IfOk result (λ b. len_of b ≡ len) }
@@ -96,7 +96,7 @@ impl Blocks {
         })
     }
 
-    /// How many classes there are.
+    /// The number of classes.
     pub fn count(&self) -> usize
         ensures { result ≡ count_of self.now }
     {
@@ -165,7 +165,7 @@ impl Blocks {
         Ok(())
     }
 
-    // Moves the middle of a class on by one.
+    // Moves the middle of a class up by one.
     fn advance(&mut self, class: usize)
         requires inside { class < count_of self.old }
         requires fits { middle_at self.old.blocks.items class < len_of self.old }
@@ -175,7 +175,7 @@ impl Blocks {
         block.middle += 1;
     }
 
-    // Changes the numbers at two places.
+    // Swaps the numbers at two places.
     fn swap(&mut self, one: usize, other: usize)
         requires blocks { AreBlocks self.old }
         requires one { one < len_of self.old }
@@ -190,7 +190,7 @@ impl Blocks {
         self.place[number] = other;
     }
 
-    // Puts the numbers at the places of a block into a class.
+    // Assigns the numbers at the places of a block to a class.
     fn put_into(&mut self, block: Block, class: usize)
         requires blocks { (i : ℕ) → i < length self.old.order.items → at self.old.order.items i < length self.old.class.items }
         requires placed { (i : ℕ) → i < length self.old.order.items → at self.old.place.items (at self.old.order.items i) ≡ i }
@@ -211,7 +211,7 @@ impl Blocks {
         }
     }
 
-    // Takes the marks of a class away, where all its numbers are marked or none is.
+    // Removes the marks of a class if all its numbers are marked or none is.
     fn unmark(&mut self, class: usize)
         requires blocks { AreBlocks self.old }
         requires inside { class < count_of self.old }
@@ -222,7 +222,7 @@ impl Blocks {
         block.middle = block.first;
     }
 
-    // Puts the smaller of the marked numbers of a class and the others into a class of their own.
+    // Makes the smaller of the marked numbers of a class and the others a class of its own.
     fn cut(&mut self, class: usize) -> Result<(), NoMemory>
         requires blocks { AreBlocks self.old }
         requires inside { class < count_of self.old }
@@ -237,7 +237,7 @@ impl Blocks {
         Ok(())
     }
 
-    // Splits a class into its marked numbers and the others, where it has both, and takes the marks away.
+    // Splits a class into its marked numbers and the others, if it has both, and removes the marks.
     fn split_class(&mut self, class: usize) -> Result<(), NoMemory>
         requires blocks { AreBlocks self.old }
         requires inside { class < count_of self.old }
@@ -250,7 +250,7 @@ impl Blocks {
         self.cut(class)
     }
 
-    /// Splits each class into its marked numbers and the others, where it has both, and takes all marks away.
+    /// Splits each class into its marked numbers and the others, if it has both, and removes all marks.
     pub fn split(&mut self) -> Result<(), NoMemory>
         requires blocks { AreBlocks self.old }
         requires listed { ListsMarks self.old }

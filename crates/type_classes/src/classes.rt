@@ -14,13 +14,13 @@ use abi_types::{Graph, Index};
 use std::alloc::Global;
 use std::marker::Model;
 
-/// Classes of the nodes of a graph, each with the node of least entry offset in it. Nodes of one class have equal labels, and
-/// views that are equal in all but the nodes that parts name; and the nodes that their parts at one position name are of one
-/// class.
+/// A partition of a graph's nodes into classes, each represented by its node with the least entry offset. Nodes of one class have
+/// equal labels, and views that are equal except for the nodes that parts name. The nodes that their parts at one position name are
+/// in one class.
 #[derive(Drop)]
 pub struct Classes<'g, 'a, Ix: Index> {
     graph: &'g Graph<'a, Ix>,
-    // For each node the number of the node that stands for its class.
+    // For each node the number of its class's representative.
     reps: Vec<usize>,
 }
 
@@ -35,14 +35,14 @@ impl<'g, 'a, Ix: Index> Model for Classes<'g, 'a, Ix> {
 }
 
 impl<'g, 'a, Ix: Index> Classes<'g, 'a, Ix> {
-    /// What the classes keep.
+    /// The invariants of the classes, as a contract. Does nothing.
     pub fn known(&self)
         ensures { AreSound self.now }
     {
         let _ = &self.reps;
     }
 
-    /// The node of least entry offset in the class of a node.
+    /// The representative of a node's class: its node with the least entry offset.
     pub fn rep(&self, ix: Ix) -> Ix
         requires { Ix.number_of ix < length self.now.nodes }
         ensures rep { Ix.number_of result ≡ rep_of self.now (Ix.number_of ix) }
@@ -52,7 +52,7 @@ impl<'g, 'a, Ix: Index> Classes<'g, 'a, Ix> {
     }
 }
 
-/// The classes in which each node stands alone.
+/// The classes in which each node is alone.
 pub fn plain<'g, 'a, Ix: Index>(
     alloc: Global,
     graph: &'g Graph<'a, Ix>,
@@ -67,7 +67,7 @@ pub fn plain<'g, 'a, Ix: Index>(
     Ok(Classes { graph, reps })
 }
 
-/// The classes of nodes that are alike, which are as few as they can be.
+/// The classes of alike nodes, which are as few as possible.
 pub fn alike<'g, 'a, Ix: Index>(
     alloc: Global,
     graph: &'g Graph<'a, Ix>,
@@ -84,8 +84,7 @@ pub fn alike<'g, 'a, Ix: Index>(
     Ok(Classes { graph, reps })
 }
 
-/// The classes of nodes that are alike, beside those of another graph that are known: where the two graphs are the same, they
-/// are not computed again.
+/// The classes of alike nodes, given those of another graph. Where the two graphs are the same, those are reused.
 pub fn alike_beside<'g, 'a, Ix: Index, Jx: Index>(
     alloc: Global,
     graph: &'g Graph<'a, Ix>,

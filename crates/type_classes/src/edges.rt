@@ -1,4 +1,4 @@
-// Which parts name which nodes.
+// The edges of a graph: which parts name which nodes.
 ghost use Rattle.std.specs.Prelude.{◌≡◌, ◌<◌, ◌↔◌, ◌⊎◌, ◌+◌, ℕ, [], length, Some, IfOk, OnOk, Contains};
 ghost use Rattle.std.specs.List.Sorted.{IsNonDecreasingBy};
 ghost use Rattle.abi_types.specs.Graphs.{IsGraph, to_of};
@@ -16,22 +16,23 @@ use std::alloc::Global;
 pub struct Edge {
     /// The node that it names.
     pub to: usize,
-    /// Its position, and the node that it is of.
+    /// The position of the part, and its node.
     pub part: (usize, usize),
-    /// One more than the number of the last edge before it that leads to the same node, or 0 where there is none.
+    /// One more than the index of the previous edge to the same node, or 0 where there is none.
     pub earlier: usize,
 }
 
-/// The parts that name nodes, as they were added. Those that name one node are linked, from the last to the first.
+/// The parts that name nodes, in the order in which they were added. Those that name the same node are linked, from the last to the
+/// first.
 #[derive(Drop)]
 pub struct Incoming {
     edges: Vec<Edge>,
-    // For each node one more than the number of the last edge that leads to it, or 0 where there is none.
+    // For each node one more than the index of the last edge to it, or 0 where there is none.
     last: Vec<usize>,
 }
 
 impl Incoming {
-    // So many nodes that no part names, with room for so many parts that do.
+    // A list for this many nodes without any edge yet, with capacity for edges.
     fn none(alloc: Global, count: usize, room: usize) -> Result<Incoming, NoMemory>
         ensures edges { IfOk result (λ i. i.edges.items ≡ []) }
         ensures count { IfOk result (λ i. node_count i ≡ count) }
@@ -43,7 +44,7 @@ impl Incoming {
         Ok(Incoming { edges, last })
     }
 
-    // Adds a part, given by its position and its node, that names a node.
+    // Adds an edge to a node, from a part given by its position and its node.
     fn add(&mut self, to: usize, part: (usize, usize)) -> Result<(), NoMemory>
         requires linked { AreLinked self.old }
         requires inside { to < node_count self.old }
@@ -59,7 +60,7 @@ impl Incoming {
         Ok(())
     }
 
-    // Puts the parts that name a node last.
+    // Appends the parts that name a node.
     fn push_parts(&self, into: &mut Vec<(usize, usize)>, node: usize) -> Result<(), NoMemory>
         requires linked { AreLinked self.now }
         requires inside { node < node_count self.now }
@@ -75,7 +76,7 @@ impl Incoming {
     }
 }
 
-// Adds a part, given by its position and its node, if it names a node.
+// Adds the edge of a part, given by its position and its node, if the part names a node.
 fn add_part<Ix: Index>(
     incoming: &mut Incoming,
     part: &Part<Ix>,
@@ -94,7 +95,7 @@ fn add_part<Ix: Index>(
     }
 }
 
-// Adds the parts of a node that name nodes.
+// Adds the edges of a node's parts.
 fn add_parts<Ix: Index>(
     incoming: &mut Incoming,
     graph: &Graph<Ix>,
@@ -112,7 +113,7 @@ fn add_parts<Ix: Index>(
     Ok(())
 }
 
-// How many parts there are that name a node. Enumerations have none.
+// The number of parts that name a node. Enumerations have none.
 fn edge_count<Ix: Index>(graph: &Graph<Ix>) -> usize {
     let mut count: usize = 0;
     for node in 0..graph.len() {
@@ -125,7 +126,7 @@ fn edge_count<Ix: Index>(graph: &Graph<Ix>) -> usize {
     count
 }
 
-/// For each node of the graph the parts that name it, each by its position and the node that it is of.
+/// For each node of the graph the parts that name it, each by its position and its node.
 pub fn incoming_of<Ix: Index>(alloc: Global, graph: &Graph<Ix>) -> Result<Incoming, NoMemory>
     ensures { IfOk result (AreIncoming graph.now (length graph.now)) }
 {
@@ -136,7 +137,7 @@ pub fn incoming_of<Ix: Index>(alloc: Global, graph: &Graph<Ix>) -> Result<Incomi
     Ok(incoming)
 }
 
-// Puts the parts that name these nodes in place of what was there.
+// Replaces a list by the parts that name these nodes.
 fn join(
     into: &mut Vec<(usize, usize)>,
     incoming: &Incoming,
@@ -153,7 +154,7 @@ fn join(
     Ok(())
 }
 
-/// Puts the parts that name one of these nodes, in order of their positions, in place of what was there.
+/// Replaces a list by the parts that name one of these nodes, ordered by position.
 pub fn join_incoming(
     into: &mut Vec<(usize, usize)>,
     incoming: &Incoming,

@@ -1,4 +1,4 @@
-//! What alike nodes and stable classes come to. Each law is the contract of a function that does nothing.
+//! Laws about alike nodes and stable classes, as the contracts of functions with empty bodies.
 ghost use Rattle.std.specs.Prelude.{◌≡◌, ◌<◌, ℕ, List, length};
 ghost use Rattle.abi_types.specs.Types.{PlainNode, PlainView};
 ghost use Rattle.abi_types.specs.Graphs.{IsGraph, node_at, view_at};
@@ -11,13 +11,13 @@ ghost use Rattle.type_classes.specs.Classes.{PlainClasses, AreSound, AreCoarsest
 
 use pair_rules::laws::rules_see_no_nodes;
 
-/// Where classes of a graph are stable, nodes of one class are alike.
+/// If the classes of a graph are stable, nodes of one class are alike.
 pub fn what_is_stable_is_alike()
     ensures { (nodes : List PlainNode) (class : ℕ → ℕ) → IsGraph nodes → IsStable nodes class → (i j : ℕ) → i < length nodes → j < length nodes
         → class i ≡ class j → AreAlike nodes i j }
 {}
 
-/// Each node is alike to itself, alike nodes are alike either way round, and what is alike to one node of a graph is alike.
+/// Alikeness is reflexive, symmetric and, on the nodes of a graph, transitive.
 pub fn alike_is_an_equivalence()
     ensures reflexive { (nodes : List PlainNode) (i : ℕ) → AreAlike nodes i i }
     ensures symmetric { (nodes : List PlainNode) (i j : ℕ) → AreAlike nodes i j → AreAlike nodes j i }
@@ -25,8 +25,8 @@ pub fn alike_is_an_equivalence()
         → AreAlike nodes i j → AreAlike nodes j k → AreAlike nodes i k }
 {}
 
-/// In the place of alike nodes a type breaks the same rules, and its parts have partners at the same positions, whether the
-/// nodes are the old ones or the new ones.
+/// A type breaks the same rules against alike nodes, and its parts have partners at the same positions, whether the alike nodes are
+/// the old ones or the new ones.
 pub fn alike_nodes_break_the_same_rules()
     ensures old { (nodes : List PlainNode) (i j : ℕ) (w : PlainView) → AreAlike nodes i j → breaks (view_at nodes i) w ≡ breaks (view_at nodes j) w }
     ensures new { (nodes : List PlainNode) (i j : ℕ) (v : PlainView) → AreAlike nodes i j → breaks v (view_at nodes i) ≡ breaks v (view_at nodes j) }
@@ -38,14 +38,14 @@ pub fn alike_nodes_break_the_same_rules()
     rules_see_no_nodes();
 }
 
-/// By classes that alike nodes share, alike nodes look the same, with the class of each node that a part names in its place.
+/// Given classes that alike nodes share, alike nodes look the same, with each node that a part names replaced by its class.
 pub fn alike_nodes_look_the_same()
     ensures { (nodes : List PlainNode) (class : ℕ → ℕ) → IsGraph nodes → KeepsAlike nodes class → (i j : ℕ) → AreAlike nodes i j
         → look_of class (node_at nodes i) ≡ look_of class (node_at nodes j) }
 {}
 
-/// Where nodes are of one class exactly where they are alike, the entry of the node that stands for a class is the least of those
-/// of the nodes that are alike to one of it, and no other entry is.
+/// If nodes share a class exactly where they are alike, the entry of a class's representative is the least one among the nodes
+/// alike to a member, and no other entry is.
 pub fn classes_stand_by_their_least_entries()
     ensures stands { (c : PlainClasses) (a : ℕ) → AreSound c → AreCoarsest c → a < length c.nodes
         → IsLeastEntry c.nodes (node_at c.nodes (rep_of c a)).entry a }

@@ -1,5 +1,5 @@
-//! Classes of alike nodes: each unit of a library repeats the types of its headers, and what cannot be told apart need be
-//! looked at once.
+//! Classes of alike nodes. Each unit of a library repeats the types of its headers, and types that cannot be told apart need to be
+//! compared only once.
 #![tactic(auto)]
 
 mod blocks;

@@ -1,4 +1,4 @@
-// The coarsest stable classes.
+// Refinement to the coarsest stable classes.
 ghost use Rattle.std.specs.Prelude.{◌≡◌, ◌<◌, ◌≤◌, length, OnOk};
 ghost use Rattle.type_classes.specs.Blocks.{len_of, class_in, AreBlocks, ListsMarks, HasNoMarks};
 ghost use Rattle.type_classes.specs.Refined.{IsRefined};
@@ -12,8 +12,8 @@ use std::alloc::Global;
 
 /// Splits classes until the parts of two nodes of one class name nodes of one class at each position.
 ///
-/// Each class is used once, to split all classes by whether their parts name a node of it. Where a class is split later, its
-/// smaller half gets a new number, and so is used too; to use the other half would tell nothing new.
+/// Each class serves once to split all classes by whether their parts name a node of it. If a class is split later, its smaller
+/// half gets a new number and so serves too; the other half would split nothing more.
 pub fn refine<Ix: Index>(
     alloc: Global,
     graph: &Graph<Ix>,

@@ -1,4 +1,4 @@
-// The nodes that stand for classes.
+// The representatives of classes.
 ghost use Rattle.std.specs.Prelude.{◌≡◌, ◌<◌, ◌≤◌, ℕ, length, IfOk};
 ghost use Rattle.type_classes.specs.Blocks.{at, len_of, count_of, class_in, AreBlocks};
 ghost use Rattle.type_classes.specs.Reps.{entry_at, AreOfClasses, IsLowered, AreReps};
@@ -21,7 +21,7 @@ fn first_nodes(alloc: Global, blocks: &Blocks) -> Result<Vec<usize>, NoMemory>
     Ok(list)
 }
 
-// Puts a node in place of that of its class, if its entry comes before.
+// Makes a node the representative of its class if its entry comes before that of the current one.
 fn lower<Ix: Index>(list: &mut Vec<usize>, graph: &Graph<Ix>, class: usize, node: usize)
     requires class { class < length list.old.items }
     requires node { node < length graph.now }
@@ -33,7 +33,7 @@ fn lower<Ix: Index>(list: &mut Vec<usize>, graph: &Graph<Ix>, class: usize, node
     }
 }
 
-// For each class its node of least entry offset.
+// For each class its node with the least entry offset.
 fn least_nodes<Ix: Index>(
     alloc: Global,
     graph: &Graph<Ix>,
@@ -51,7 +51,7 @@ fn least_nodes<Ix: Index>(
     Ok(list)
 }
 
-/// For each node the node of least entry offset in its class.
+/// For each node the node with the least entry offset in its class.
 pub fn reps_of<Ix: Index>(
     alloc: Global,
     graph: &Graph<Ix>,

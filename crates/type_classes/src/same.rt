@@ -1,4 +1,4 @@
-// Whether two graphs are the same, whichever library each is of.
+// Equality of two graphs, of any libraries.
 ghost use Rattle.std.specs.Prelude.{◌≡◌, ◌<◌, ◌↔◌, IsTrue, length, map};
 ghost use Rattle.abi_types.specs.Graphs.{node_at};
 ghost use Rattle.abi_types.specs.Parts.{plain_part};
@@ -123,7 +123,7 @@ fn same_parts<Ix: Index, Jx: Index>(one: &View<Ix>, other: &View<Jx>) -> bool
     true
 }
 
-// Whether all of two views but their parts and calls is the same.
+// Whether two views are the same except for their parts and calls.
 fn same_heads<Ix: Index, Jx: Index>(one: &View<Ix>, other: &View<Jx>) -> bool
     ensures { IsTrue result → HaveSameHeads one.now other.now }
 {
@@ -165,7 +165,7 @@ fn same_view<Ix: Index, Jx: Index>(one: &View<Ix>, other: &View<Jx>) -> bool
     same_heads(one, other) && same_parts(one, other) && same_call(&one.call, &other.call)
 }
 
-// Whether the nodes of one number are the same.
+// Whether the nodes with one number are the same.
 fn same_at<Ix: Index, Jx: Index>(one: &Graph<Ix>, other: &Graph<Jx>, node: usize) -> bool
     requires one { node < length one.now }
     requires other { node < length other.now }
@@ -179,7 +179,7 @@ fn same_at<Ix: Index, Jx: Index>(one: &Graph<Ix>, other: &Graph<Jx>, node: usize
         && same_labels(one.labels(ix), other.labels(jx))
 }
 
-/// Whether two graphs have the same nodes, each under the same number. The first difference ends the comparison.
+/// Whether two graphs have the same nodes under the same numbers. Stops at the first difference.
 pub(crate) fn are_same<Ix: Index, Jx: Index>(one: &Graph<Ix>, other: &Graph<Jx>) -> bool
     ensures { IsTrue result → one.now ≡ other.now }
 {

@@ -1,4 +1,4 @@
-// Nodes of one shape, found by how their shapes are spelled.
+// Nodes of one shape, found by the spellings of shapes.
 ghost use Rattle.std.specs.Prelude.{◌≡◌, ◌<◌, ◌↔◌, ◌⊎◌, ℕ, length, Some, IfOk, OnOk};
 ghost use Rattle.std.specs.List.Sorted.{IsNonDecreasingBy};
 ghost use Rattle.abi_types.specs.Graphs.{node_at};
@@ -14,7 +14,7 @@ use pair_rules::laws::the_same_are_equal;
 use std::alloc::Global;
 use std::collections::HashMap;
 
-// The number of a spelling, which is `fresh` where it has none yet.
+// The number of a spelling, which becomes `fresh` where it has none yet.
 fn number_of(
     alloc: Global,
     numbers: &mut HashMap<Spelling, usize>,
@@ -34,7 +34,7 @@ fn number_of(
     Ok(fresh)
 }
 
-// For each node the first node of its shape, and the node.
+// For each node the first node with its shape, and the node.
 fn numbered<Ix: Index>(alloc: Global, graph: &Graph<Ix>) -> Result<Vec<(usize, usize)>, NoMemory>
     ensures { IfOk result (IsNumbered graph.now) }
 {
@@ -54,7 +54,7 @@ fn numbered<Ix: Index>(alloc: Global, graph: &Graph<Ix>) -> Result<Vec<(usize, u
     Ok(pairs)
 }
 
-/// For each node a number that it shares with the nodes of its shape alone, and the node, in order of these numbers.
+/// For each node a number that exactly the nodes of its shape share, and the node, ordered by number.
 pub fn shape_pairs<Ix: Index>(
     alloc: Global,
     graph: &Graph<Ix>,

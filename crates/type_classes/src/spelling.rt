@@ -1,4 +1,4 @@
-// A node as it looks in all but the nodes that its parts name, spelled as numbers and letters.
+// The spelling of a node's shape: the node without the nodes that its parts name, as numbers and letters.
 ghost use Rattle.std.specs.Prelude.{◌≡◌, ◌<◌, ◌++◌, [], ◌∷◌, length, map, flat_map, IfOk, OnOk};
 ghost use Rattle.std.specs.Hash as fed;
 ghost use Rattle.std.specs.Hash.{same_Alike, on_Alike, items_Alike, and-Alike};
@@ -17,15 +17,14 @@ use abi_types::{Call, Group, Index, Kind, Label, LabelKind, Part, Place, Slot, V
 use std::alloc::Global;
 use std::hash::{Hash, Hasher};
 
-/// A shape as it is spelled: its numbers, among them the length of each name, and the letters of its names, one name after the
-/// other.
+/// The spelling of a shape: its numbers, including the length of each name, and the letters of its names, one name after the other.
 #[derive(PartialEq, Eq, Drop)]
 pub struct Spelling {
     pub numbers: Vec<u64>,
     pub letters: Vec<u8>,
 }
 
-// The letters are hashed as one text, which is faster than letter by letter.
+// Hashes the letters as one text, which is faster than one by one.
 impl Hash for Spelling {
     ghost hash_input = { λ s. fed.slice fed.u64 s.numbers.items ++ fed_text s.letters.items };
 
@@ -37,23 +36,23 @@ impl Hash for Spelling {
     }
 }
 
-// Each kind has a number of its own, and so have groups, kinds of labels, slots, places and parts.
+// Each kind has its own number, as have groups, kinds of labels, slots, places and parts.
 
-// The head of a view counts its kind, its group and two truths in one number: each of them counts by more than all before it
-// come to. There are 9 kinds and 7 groups.
+// The head of a view packs its kind, its group and two flags into one number. Each has a factor above the greatest sum of those
+// before it. There are 9 kinds and 7 groups.
 const GROUP_STEP: u64 = 9;
-// 9 kinds in 7 groups.
+// 9 kinds times 7 groups.
 const DECLARED_ONLY_STEP: u64 = 63;
-// As many again for what is only declared.
+// Twice that, for the flag `declared_only`.
 const VARIADIC_STEP: u64 = 126;
 
-// There are 5 sorts of slots: the number of a register counts by as many, and its sort stands in between.
+// There are 5 sorts of slots. A slot's number is that of its register times 5, plus its sort.
 const SLOT_STEP: u64 = 5;
 
-// How many eightbytes places in registers have.
+// The number of eightbytes of a place in registers.
 const EIGHTBYTES: u64 = 8;
 
-// What a place begins with.
+// The first numbers of spelled places.
 const NOTHING: u64 = 0;
 
 const REGISTERS: u64 = 1;
@@ -62,7 +61,7 @@ const STACK: u64 = 2;
 
 const HIDDEN: u64 = 3;
 
-// What a part begins with.
+// The first numbers of spelled parts.
 const MEMBER: u64 = 0;
 
 const ENUMERATOR: u64 = 1;
@@ -139,7 +138,7 @@ fn slot_number(slot: Slot) -> u64
     }
 }
 
-// The numbers are pushed as one list, which is faster than one by one.
+// Appends the numbers as one slice, which is faster than one by one.
 fn push_registers(into: &mut Vec<u64>, slots: &[Slot; 8]) -> Result<(), NoMemory>
     ensures { OnOk result (into.new.items ≡ into.old.items ++ 1 ∷ spelled_list spelled_slot slots.now) }
 {
@@ -335,7 +334,7 @@ fn push_letters<Ix: Index>(
     push_part_letters(into, view.parts.as_slice())
 }
 
-/// Spells the shape of a node in place of what was spelled before.
+/// Spells the shape of a node into a spelling whose contents it replaces.
 #[tactic(auto, unfolding(crate::specs::Shapes::spelled))]
 pub(crate) fn spell<Ix: Index>(
     into: &mut Spelling,
@@ -351,7 +350,7 @@ pub(crate) fn spell<Ix: Index>(
     push_letters(&mut into.letters, labels, view)
 }
 
-/// The spelling in memory of its own, with no room to spare.
+/// A copy of the spelling, without spare capacity.
 pub(crate) fn copy(alloc: Global, spelling: &Spelling) -> Result<Spelling, NoMemory>
     ensures { IfOk result (λ copied. AreOneSpelling copied spelling.now) }
 {

@@ -1,4 +1,4 @@
-// Classes split by lists of numbers.
+// Splits of classes by lists of numbers.
 ghost use Rattle.std.specs.Prelude.{◌≡◌, ◌<◌, ◌≤◌, ℕ, false, length, take, IfOk, OnOk};
 ghost use Rattle.std.specs.List.Sorted.{IsNonDecreasingBy};
 ghost use Rattle.type_classes.specs.Blocks.{len_of, AreBlocks, ListsMarks, HasNoMarks};
@@ -7,7 +7,7 @@ ghost use Rattle.type_classes.specs.Splits.{key_of, key_at, number_at, stands_be
 use crate::blocks::Blocks;
 use abi_base::NoMemory;
 
-// Marks the numbers that stand beside the key of the pair at `from`, and gives the position after the last of them.
+// Marks the numbers paired with the key of the pair at `from`, and answers the position after the last of them.
 fn mark_run(blocks: &mut Blocks, pairs: &[(usize, usize)], from: usize) -> Result<usize, NoMemory>
     requires blocks { AreBlocks blocks.old }
     requires listed { ListsMarks blocks.old }
@@ -28,8 +28,8 @@ fn mark_run(blocks: &mut Blocks, pairs: &[(usize, usize)], from: usize) -> Resul
     Ok(pairs.len())
 }
 
-/// Splits classes by keys, in whose order the pairs are: two numbers stay in one class exactly where they were in one class and
-/// stand beside the same keys.
+/// Splits classes by the keys of pairs, which are ordered by key: two numbers remain in one class exactly where they were in one
+/// class and are paired with the same keys.
 pub fn split_by_keys(blocks: &mut Blocks, pairs: &[(usize, usize)]) -> Result<(), NoMemory>
     requires blocks { AreBlocks blocks.old }
     requires listed { ListsMarks blocks.old }

@@ -1,4 +1,4 @@
--- In which aspects two entries are compared that no rule judges.
+-- The aspects in which entries are compared that no rule judges.
 use Rattle.std.specs.Prelude.{ℕ, Bool, ◌==◌, ◌&&◌, if◌then◌else◌, List, [], ◌∷◌}
 use Rattle.abi_base.specs.Dwarf.{dw_tag_variable}
 use Rattle.type_reach.specs.declared.role.Role.{Role}
@@ -26,7 +26,7 @@ kind_of Atomic = kind.Qualifiers
 kind_of ConstObject = kind.ObjectQualifiers
 kind_of VolatileObject = kind.ObjectQualifiers
 
--- the test of roles that the code derives
+-- equality of roles, as the code derives it
 abbrev pub same_role : Role → Role → Bool
 same_role = ghosts.eq
 
@@ -39,10 +39,10 @@ aspects_of role.Enumeration = Sign ∷ []
 aspects_of role.Pointer = AddressClass ∷ Const ∷ Volatile ∷ Restrict ∷ Atomic ∷ []
 aspects_of _ = []
 
--- those of two entries of one role; entries of two roles have none
+-- the aspects of two entries of one role; entries of different roles have none
 abbrev pub aspects_between : Role → Role → List Aspect
 aspects_between old new = if same_role old new then aspects_of old else []
 
--- those of two objects, by the tags of the entries (DWARF 5, section 4.1 "Data Object Entries"); other entries have none
+-- the aspects of two objects, by the tags of the entries (DWARF 5, section 4.1 "Data Object Entries"); other entries have none
 abbrev pub object_aspects : ℕ → ℕ → List Aspect
 object_aspects old new = if old == dw_tag_variable && new == dw_tag_variable then ConstObject ∷ VolatileObject ∷ [] else []

@@ -1,4 +1,4 @@
--- What differs between two types, and no rule judges.
+-- The differences between two types that no rule judges.
 use Rattle.std.specs.Prelude.{ℕ, List, [], ◌++◌, Some, option_to_list}
 use Rattle.abi_types.specs.Graphs.{node_at, view_at}
 use Rattle.abi_types.specs.Types.{PlainNode, PlainView}
@@ -13,26 +13,26 @@ use Rattle.type_notes.specs.Padding.{padding_changes}
 use Rattle.type_notes.specs.TypeNames.{name_change}
 use Rattle.type_notes.specs.Unions.{union_change}
 
--- what two entries say, where both are there
+-- the differences of two entries as types, if both exist
 abbrev pub entry_changes : PlainDwarf → PlainDwarf → Type_ → Type_ → List Difference
 entry_changes d e (Some a) (Some b) = changes (record { old_dwarf = d; new_dwarf = e; old = a; new = b })
 entry_changes d e a b = []
 
--- what two entries say as objects, where both are there
+-- the differences of two entries as objects, if both exist
 abbrev pub object_entry_changes : PlainDwarf → PlainDwarf → Type_ → Type_ → List Difference
 object_entry_changes d e (Some a) (Some b) = object_changes (record { old_dwarf = d; new_dwarf = e; old = a; new = b })
 object_entry_changes d e a b = []
 
--- that one is a union without members, and the new members that stand in the padding of the old type
+-- that one type is a union without members, and the new members that stand in the padding of the old type
 abbrev pub view_changes : List PlainNode → List PlainNode → PlainView → PlainView → List Difference
 view_changes old new v w = option_to_list (union_change v w) ++ padding_changes old new v w
 
--- the names, and whether one alone is packed
+-- the names, and whether only one type is packed
 abbrev pub node_changes : List PlainNode → List PlainNode → ℕ → ℕ → List Difference
 node_changes old new i j = option_to_list (name_change (node_at old i) (node_at new j)) ++ option_to_list (packing_change old new i j)
 
--- All that differs between an old node and a new one and is not judged: what the entries say for which the nodes stand, whether
--- one alone of two objects has a qualifier, what the nodes look like, and their names and alignments.
+-- All differences between an old node and a new one that no rule judges: those of the entries for which the nodes stand, a
+-- qualifier that only one of two objects has, those of the views, and those of names and packing.
 unfoldable pub differences : PlainDwarf → PlainDwarf → List PlainNode → List PlainNode → ℕ → ℕ → List Difference
 differences d e old new i j =
     entry_changes d e (core_at d.tree (node_at old i).entry) (core_at e.tree (node_at new j).entry)

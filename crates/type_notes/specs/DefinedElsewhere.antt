@@ -1,4 +1,4 @@
--- Structures, unions and enumerations that one unit only declares, and another unit of the same library defines (DWARF 5, section
+-- Structures, unions and enumerations that one unit only declares and another unit of the same library defines (DWARF 5, section
 -- 2.13.1 "Non-Defining Declarations and Completions").
 use Rattle.std.specs.Prelude.{◌≡◌, ◌<◌, ℕ, ◌==◌, Bool, false, not, ◌&&◌, ◌||◌, if◌then◌else◌, List, [], ◌∷◌, length, map, All, flat_map, filter, position, max, Option, Some, None, slice_get, unwrap_or}
 use Rattle.std.specs.Borrow.{Bor}
@@ -26,19 +26,19 @@ use Rattle.type_notes.specs.Texts.{none}
 
 -- ---- the definitions of a name
 
--- the root of a unit (sections 3.1.1 "Full and Partial Compilation Unit Entries" and 3.1.4 "Type Unit Entries")
+-- the tag of the root of a unit (sections 3.1.1 "Full and Partial Compilation Unit Entries" and 3.1.4 "Type Unit Entries")
 abbrev pub is_unit_tag : ℕ → Bool
 is_unit_tag tag = tag == dw_tag_compile_unit || (tag == dw_tag_partial_unit || tag == dw_tag_type_unit)
 
--- the entries of a tag at the top of a unit, where the entry is the root of one
+-- the entries with a tag at the top of a unit, if the entry is the root of one
 unfoldable pub at_top_of : PlainTree → ℕ → ℕ → List ℕ
 at_top_of t tag root = if is_unit_tag (tag_at t root) then tagged_children t root tag else []
 
--- the entries of a tag at the top of the units, in their order, among the first entries
+-- the entries with a tag at the top of the units whose roots are among the first entries, in order
 abbrev pub tops_below : PlainTree → ℕ → ℕ → List ℕ
 tops_below t tag n = flat_map (at_top_of t tag) (range_with_len 0 n)
 
--- those of the whole library
+-- the entries with a tag at the top of all units of the library
 abbrev pub tops_of : PlainTree → ℕ → List ℕ
 tops_of t tag = tops_below t tag (length t.entries)
 
@@ -46,11 +46,11 @@ abbrev pub has_name : List ℕ → Option (List ℕ) → Bool
 has_name name (Some said) = bytes_eq said name
 has_name name None = false
 
--- an entry is no declaration, and has the name
+-- an entry is not a declaration, and has the name
 unfoldable pub defines : PlainDwarf → List ℕ → ℕ → Bool
 defines d name e = not (is_declared_only d.tree e) && has_name name (name_of d e)
 
--- the definitions of a tag and a name: the entries with both that are no declarations, at the top of a unit, in their order
+-- the definitions of a tag and a name: the entries with both that are not declarations, at the top of a unit, in order
 unfoldable pub definitions_of : PlainDwarf → ℕ → List ℕ → List ℕ
 definitions_of d tag name = filter (defines d name) (tops_of d.tree tag)
 
@@ -69,7 +69,7 @@ abbrev pub first_in : List ℕ → Option ℕ
 first_in [] = None
 first_in (x ∷ xs) = Some x
 
--- what defines the type of an entry first: the entry itself, or where it is a declaration the first definition of its tag and name
+-- the definition of an entry's type: the entry itself, or for a declaration the first definition of its tag and name
 unfoldable pub defined_by : PlainDwarf → ℕ → Option ℕ
 defined_by d e = if is_declared_only d.tree e then first_in (definitions_like d e) else Some e
 
@@ -77,13 +77,13 @@ abbrev pub or_alone : ℕ → List ℕ → List ℕ
 or_alone e [] = e ∷ []
 or_alone e (x ∷ xs) = x ∷ xs
 
--- all definitions of the tag and name of a definition, or it alone where it stands at the top of no unit
+-- all definitions of the tag and name of a definition, or only itself if it is not at the top of a unit
 unfoldable pub kin_of : PlainDwarf → ℕ → List ℕ
 kin_of d e = or_alone e (definitions_like d e)
 
 -- ---- two definitions
 
--- the item of a list at a place, as a text
+-- the text of a member or enumerator, or that there is none
 abbrev pub part_or_none : PlainDwarf → Option ℕ → List ℕ
 part_or_none d None = none
 part_or_none d (Some m) = part_text d m
@@ -91,7 +91,7 @@ part_or_none d (Some m) = part_text d m
 abbrev pub part_change : PlainDwarf → PlainDwarf → List ℕ → List ℕ → ℕ → Option Difference
 part_change d e ms ns k = differing note.DefinedElsewhere (part_or_none d (slice_get ms k)) (part_or_none e (slice_get ns k))
 
--- the first difference
+-- the first difference in a list
 abbrev pub first_of : List (Option Difference) → Option Difference
 first_of [] = None
 first_of (None ∷ others) = first_of others
@@ -100,25 +100,25 @@ first_of (Some found ∷ others) = Some found
 abbrev pub part_changes_from : PlainDwarf → PlainDwarf → List ℕ → List ℕ → List ℕ → Option Difference
 part_changes_from d e ms ns places = first_of (map (part_change d e ms ns) places)
 
--- the first place at which the texts of two lists of members or enumerators differ, up to the end of the longer one
+-- the first position where the texts of two lists of members or enumerators differ, up to the end of the longer list
 abbrev pub first_part_change : PlainDwarf → PlainDwarf → List ℕ → List ℕ → Option Difference
 first_part_change d e ms ns = part_changes_from d e ms ns (range_with_len 0 (max (length ms) (length ns)))
 
--- the sizes of two definitions, where they differ, or else the first members or enumerators that do
+-- the sizes of two definitions, if they differ, or else the first members or enumerators that differ
 unfoldable pub definition_change : PlainDwarf → PlainDwarf → ℕ → ℕ → Option Difference
 definition_change d e a b =
     option_or (differing note.DefinedElsewhere (size_text d.tree a) (size_text e.tree b)) (first_part_change d e (parts_of d.tree a) (parts_of e.tree b))
 
 -- ---- all definitions of a tag and a name
 
--- a text is one of some
+-- a text is in a list
 abbrev pub is_among : List (List ℕ) → List ℕ → Bool
 is_among texts text = list_any (λ (t : List ℕ). bytes_eq t text) texts
 
 abbrev pub is_lacking : List (List ℕ) → List ℕ → Bool
 is_lacking others text = not (is_among others text)
 
--- the position of the first text that is none of others
+-- the position of the first text that is not among the others
 abbrev pub first_lacking : List (List ℕ) → List (List ℕ) → Option ℕ
 first_lacking texts others = position (is_lacking others) texts
 
@@ -133,9 +133,9 @@ abbrev pub change_from : PlainDwarf → PlainDwarf → List ℕ → List ℕ →
 change_from d e olds news None other = None
 change_from d e olds news (Some place) other = change_between d e (slice_get olds place) (slice_get news (unwrap_or other 0))
 
--- What differs between all old definitions of a tag and a name and all new ones: nothing where each old one has the text of some new
--- one. Else the first old one that has not is told, beside the first new one that has the text of no old one, or the first of all
--- new ones.
+-- The difference between all old definitions of a tag and a name and all new ones. There is none if each old one has the text of
+-- some new one. Else the first old one without an equal is shown beside the first new one that has the text of no old one, or
+-- beside the first new one.
 unfoldable pub kin_change : PlainDwarf → PlainDwarf → List ℕ → List ℕ → Option Difference
 kin_change d e olds news =
     change_from d e olds news (first_lacking (texts_of d olds) (texts_of e news)) (first_lacking (texts_of e news) (texts_of d olds))
@@ -144,7 +144,7 @@ abbrev pub both : Option ℕ → Option ℕ → Option (ℕ × ℕ)
 both (Some a) (Some b) = Some (a, b)
 both a b = None
 
--- the definitions of two types, where one of the entries at least is a declaration
+-- the definitions of two types, if at least one of the entries is a declaration
 unfoldable pub definitions_by : PlainDwarf → PlainDwarf → ℕ → ℕ → Option (ℕ × ℕ)
 definitions_by d e a b = if is_declared_only d.tree a || is_declared_only e.tree b then both (defined_by d a) (defined_by e b) else None
 
@@ -164,18 +164,18 @@ list_or_none (Some list) = list
 abbrev pub places_under : Named → List ℕ → List ℕ
 places_under places name = list_or_none (get_by (λ k. bytes_eq name k.now) places)
 
--- the maps have the definitions of each name
+-- the maps hold the definitions of each name
 pub record AreDefinitions (d : PlainDwarf) (m : Definitions) : Type 0 where
   pub structures : (name : List ℕ) → places_under m.structures name ≡ definitions_of d dw_tag_structure_type name
   pub unions : (name : List ℕ) → places_under m.unions name ≡ definitions_of d dw_tag_union_type name
   pub enumerations : (name : List ℕ) → places_under m.enumerations name ≡ definitions_of d dw_tag_enumeration_type name
 
--- those of both libraries
+-- the maps of both libraries
 pub record AreOfBoth (d e : PlainDwarf) (p : DefinitionPair) : Type 0 where
   pub old : AreDefinitions d p.old.now
   pub new : AreDefinitions e p.new.now
 
--- these are entries of both
+-- the positions are entries of both libraries
 pub record AreKin (k : Kin) : Type 0 where
   pub old : All (λ e. e < length k.old_dwarf.now.tree.entries) k.old.now
   pub new : All (λ e. e < length k.new_dwarf.now.tree.entries) k.new.now

@@ -1,4 +1,4 @@
--- What definitions of structures, unions and enumerations say, as printed texts: their sizes, and each member or enumerator.
+-- The texts of definitions of structures, unions and enumerations: their sizes, and each member or enumerator.
 use Rattle.std.specs.Prelude.{ℕ, zero, suc, ◌+◌, ◌==◌, ◌||◌, Bool, true, false, if◌then◌else◌, List, [], ◌∷◌, ◌++◌, Option, Some, None, codes, decimal}
 use Rattle.std.specs.List.{concat, flat_map}
 use Rattle.abi_base.specs.Dwarf.{dw_tag_structure_type, dw_tag_union_type, dw_tag_enumeration_type, dw_tag_enumerator, dw_tag_member, dw_at_byte_size, dw_at_const_value, dw_at_encoding, dw_ate_boolean, dw_ate_complex_float, dw_ate_decimal_float, dw_ate_float, dw_ate_unsigned, dw_ate_unsigned_char, dw_ate_utf}
@@ -17,7 +17,7 @@ use Rattle.type_notes.specs.Texts.{dimensions_text, is_signed_encoding, name_tex
 
 -- ---- types (DWARF 5, section 5 "Type Entries")
 
--- what a base type is, by its encoding (section 7.8 "Base Type Attribute Encodings")
+-- the word for a base type, by its encoding (section 7.8 "Base Type Attribute Encodings")
 unfoldable pub encoding_word : ℕ → List ℕ
 encoding_word encoding =
     if is_signed_encoding encoding then codes "signed integer"
@@ -30,14 +30,14 @@ encoding_word encoding =
 abbrev pub size_of : PlainTree → ℕ → List ℕ
 size_of t e = decimal (number_at t e dw_at_byte_size)
 
--- A base type by its size in bytes and what it is, since compilers call it by different names.
+-- A base type by its size in bytes and the word for its encoding, since compilers use different names for it.
 abbrev pub base_text : PlainTree → ℕ → List ℕ
 base_text t e = concat (size_of t e ∷ codes "-byte " ∷ encoding_word (number_at t e dw_at_encoding) ∷ [])
 
 abbrev pub keyword_of : ℕ → List ℕ
 keyword_of tag = if tag == dw_tag_structure_type then codes "struct " else (if tag == dw_tag_union_type then codes "union " else codes "enum ")
 
--- a name, or the size of what has none
+-- a name, or the size of a type without a name
 abbrev pub name_or_size : PlainTree → ℕ → Option (List ℕ) → List ℕ
 name_or_size t e (Some name) = shown name
 name_or_size t e None = codes "of size " ++ size_of t e
@@ -61,14 +61,14 @@ word_for _ d e = []
 unfoldable pub type_word : PlainDwarf → ℕ → List ℕ
 type_word d e = word_for (role_of d.tree e) d e
 
--- the text goes on with the type of an entry of a role
+-- the text continues with the type of an entry of this role
 abbrev pub goes_on : Role → Bool
 goes_on role.Wrapper = true
 goes_on role.Pointer = true
 goes_on role.Array = true
 goes_on _ = false
 
--- A type, by so many entries on the way to the one that ends it; the text of a longer way is cut off.
+-- A type, within so many entries of its chain; the text of a longer chain is cut off.
 unfoldable pub type_text : PlainDwarf → ℕ → Type_ → List ℕ
 type_text d zero r = []
 type_text d (suc n) None = codes "void"
@@ -76,7 +76,7 @@ type_text d (suc n) (Some e) = type_word d e ++ (if goes_on (role_of d.tree e) t
 
 -- ---- members and enumerators (DWARF 5, sections 5.7.6 "Data Member Entries" and 5.7 "Enumeration Type Entries")
 
--- a member by its name, its place and its type
+-- a member by its name, its position and its type
 unfoldable pub member_text : PlainDwarf → ℕ → List ℕ
 member_text d m =
     concat (codes "member " ∷ name_text (name_of d m) ∷ place_text d m ∷ codes ": " ∷ type_text d (depth_limit + 1) (type_of d.tree m) ∷ [])
@@ -101,6 +101,6 @@ size_text t e = codes "size " ++ size_of t e
 abbrev pub part_behind : PlainDwarf → ℕ → List ℕ
 part_behind d m = codes ", " ++ part_text d m
 
--- all that a definition says: its size, and its members or enumerators in order
+-- a whole definition: its size, and its members or enumerators in order
 unfoldable pub definition_text : PlainDwarf → ℕ → List ℕ
 definition_text d e = size_text d.tree e ++ flat_map (part_behind d) (parts_of d.tree e)

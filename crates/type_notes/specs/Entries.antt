@@ -21,23 +21,23 @@ pub record PlainEntries : Type 0 where
 abbrev pub plain : EntryPair → PlainEntries
 plain p = record { old_dwarf = p.old_dwarf.now; new_dwarf = p.new_dwarf.now; old = p.old; new = p.new }
 
--- both entries are there
+-- both entries exist
 pub record AreThere (p : PlainEntries) : Type 0 where
   pub old : p.old < length p.old_dwarf.tree.entries
   pub new : p.new < length p.new_dwarf.tree.entries
 
--- the texts that both say in an aspect, where they differ
+-- the texts of both entries in an aspect, if they differ
 unfoldable pub change : PlainEntries → Aspect → Option Difference
 change p aspect = differing (kind_of aspect) (said aspect p.old_dwarf p.old) (said aspect p.new_dwarf p.new)
 
--- those of aspects, in order
+-- the differences in these aspects, in order
 abbrev pub changes_in : PlainEntries → List Aspect → List Difference
 changes_in p aspects = flat_map (λ aspect. option_to_list (change p aspect)) aspects
 
--- those of two entries that stand for types
+-- the differences of two entries that stand for types
 unfoldable pub changes : PlainEntries → List Difference
 changes p = changes_in p (aspects_between (role_of p.old_dwarf.tree p.old) (role_of p.new_dwarf.tree p.new))
 
--- those of two entries that stand for objects
+-- the differences of two entries that stand for objects
 unfoldable pub object_changes : PlainEntries → List Difference
 object_changes p = changes_in p (object_aspects (tag_at p.old_dwarf.tree p.old) (tag_at p.new_dwarf.tree p.new))

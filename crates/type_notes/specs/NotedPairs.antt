@@ -26,7 +26,7 @@ use Rattle.type_notes.specs.Between.{differences}
 use Rattle.type_notes.specs.Chains.{core_at}
 use Rattle.type_notes.specs.DefinedElsewhere.{definitions_behind, kin_change, kin_of}
 
--- two libraries and marks, and the entries of both
+-- two libraries with marks, and the debug entries of both
 pub record PlainPair : Type 0 where
   pub sides : Sides
   pub old_dwarf : PlainDwarf
@@ -37,15 +37,15 @@ noted_pair p = record { sides = sides_of p.pair; old_dwarf = p.old_dwarf.now; ne
 
 -- ---- one visit
 
--- the note of a difference, under the printed forms of an export and a path
+-- the note on a difference, with the printed forms of an export and a path
 abbrev pub difference_note : List ℕ → List ℕ → Difference → Note
 difference_note export path d = record { kind = d.kind; export = export; path = path; was = d.was; is = d.is }
 
--- the same, under the path to the visit of a number
+-- the same, with the path to visit number n
 abbrev pub noted_at : Sides → List Visit → ℕ → Difference → Note
 noted_at s visits n d = difference_note (label_at s.old (export_of (path_at visits n))) (steps_text s.old (path_at visits n)) d
 
--- what differs between the types of a visit
+-- the differences between the types of a visit
 abbrev pub differences_of : PlainPair → Visit → List Difference
 differences_of p v = differences p.old_dwarf p.new_dwarf p.sides.old.graph p.sides.new.graph v.old v.new
 
@@ -56,7 +56,7 @@ old_core p v = core_at p.old_dwarf.tree (node_at p.sides.old.graph v.old).entry
 abbrev pub new_core : PlainPair → Visit → Type_
 new_core p v = core_at p.new_dwarf.tree (node_at p.sides.new.graph v.new).entry
 
--- the definitions that are compared at a visit, where one of its types at least is only declared
+-- the definitions that are compared at a visit, if at least one of its types is only declared
 unfoldable pub definitions_at : PlainPair → Visit → Option (ℕ × ℕ)
 definitions_at p v =
     if is_marked (task_of p.sides) v.old v.way then None else definitions_behind p.old_dwarf p.new_dwarf (old_core p v) (new_core p v)
@@ -65,20 +65,20 @@ abbrev pub is_of : ℕ → Option (ℕ × ℕ) → Bool
 is_of a None = false
 is_of a (Some definitions) = definitions.0 == a
 
--- an old definition is compared at one of the first visits
+-- the old definition is compared at one of the first visits
 abbrev pub was_compared : PlainPair → List Visit → ℕ → ℕ → Bool
 was_compared p visits n a = list_any (λ v. is_of a (definitions_at p v)) (take n visits)
 
--- what differs between all definitions of the tags and names of two definitions
+-- the difference between all definitions of the tags and names of two definitions
 abbrev pub change_behind : PlainPair → ℕ → ℕ → Option Difference
 change_behind p a b = kin_change p.old_dwarf p.new_dwarf (kin_of p.old_dwarf a) (kin_of p.new_dwarf b)
 
--- the same, unless the old definition is among some
+-- the same, unless the old definition is in a set
 abbrev pub change_unless : (ℕ → Bool) → PlainPair → Option (ℕ × ℕ) → List Difference
 change_unless among p None = []
 change_unless among p (Some (a, b)) = if among a then [] else option_to_list (change_behind p a b)
 
--- what differs between the definitions that are compared at the visit of a number, where no earlier one compares the old definition
+-- the difference between the definitions that are compared at visit number n, unless an earlier visit compares the old definition
 abbrev pub definition_changes : PlainPair → List Visit → ℕ → Visit → List Difference
 definition_changes p visits n v = change_unless (was_compared p visits n) p (definitions_at p v)
 
@@ -87,21 +87,21 @@ notes_from p visits n None = []
 notes_from p visits n (Some v) =
     if is_marked (task_of p.sides) v.old v.way then [] else map (noted_at p.sides visits n) (differences_of p v ++ definition_changes p visits n v)
 
--- The notes of the visit of a number. The types of a triple whose old node is marked at its way have none.
+-- The notes of visit number n. There are none where its old node is marked at its way.
 unfoldable pub notes_at : PlainPair → List Visit → ℕ → List Note
 notes_at p visits n = notes_from p visits n (slice_get visits n)
 
 -- ---- all visits
 
--- those of the first visits, in their order
+-- the notes of the first visits, in order
 abbrev pub notes_below : PlainPair → List Visit → ℕ → List Note
 notes_below p visits n = flat_map (notes_at p visits) (range_with_len 0 n)
 
--- Each node stands for itself alone.
+-- Each node stands for itself only.
 abbrev pub AreAlone : PlainClasses → Type 0
 AreAlone c = (i : ℕ) → rep_of c i ≡ i
 
--- The notes of all visits of an exploration from the types of the exports that are compared, in which each type stands for itself.
+-- The notes of all visits of an exploration from the types of the compared exports, where each type stands for itself.
 pub record AreNotes (p : PlainPair) (notes : List Note) : Type 0 where
   pub old_classes : PlainClasses
   pub new_classes : PlainClasses
@@ -114,9 +114,9 @@ pub record AreNotes (p : PlainPair) (notes : List Note) : Type 0 where
   pub explored : IsExploration (scope_of p.sides old_classes new_classes) visits breaks
   pub are : notes ≡ notes_below p visits (length visits)
 
--- ---- what is there to be read
+-- ---- what exists
 
--- the visit of a number is there, and so are its nodes and the path to it
+-- the visit exists, and so do its nodes and the path to it
 pub record IsReadable (s : Sides) (visits : List Visit) (n : ℕ) : Type 0 where
   pub visit : Visit
   pub at : slice_get visits n ≡ Some visit
@@ -133,6 +133,6 @@ pub record AreReadable (s : Sides) (visits : List Visit) : Type 0 where
 abbrev pub Numbers : Type 0
 Numbers = HashSet ℕ (BuildHasherDefault FoldHasher)
 
--- the set has the old definitions that are compared at the first visits
+-- the set holds the old definitions that are compared at the first visits
 pub record AreCompared (p : PlainPair) (visits : List Visit) (n : ℕ) (compared : Numbers) : Type 0 where
   pub each : (a : ℕ) → contains nat_eq compared a ≡ was_compared p visits n a

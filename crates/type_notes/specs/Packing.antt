@@ -1,5 +1,5 @@
--- Structures that are packed, as the places of their members say: one of them, which is no bit field, does not stand at a multiple
--- of its alignment (psABI, section 3.1.2 "Data Representation", "Aggregates and Unions").
+-- Packed structures, as the positions of their members show: at least one member that is not a bit field does not stand at a
+-- multiple of its alignment (psABI, section 3.1.2 "Data Representation", "Aggregates and Unions").
 use Rattle.std.specs.Prelude.{ℕ, ◌*◌, ◌%◌, ◌==◌, Bool, false, not, ◌&&◌, if◌then◌else◌, List, Option, codes}
 use Rattle.std.specs.List.{list_any}
 use Rattle.abi_types.specs.Graphs.{view_at}
@@ -9,11 +9,11 @@ use Rattle.type_notes.specs.declared.note.NoteKind.TheVariants as note
 use Rattle.type_notes.specs.declared.difference.Difference.{Difference}
 use Rattle.type_notes.specs.Differences.{differing}
 
--- a bit is not one at which an object of an alignment in bytes may begin
+-- an object with this alignment in bytes may not begin at this bit
 abbrev pub is_off : ℕ → ℕ → Bool
 is_off bit align = if align == 0 then false else not (bit % (8 * align) == 0)
 
--- a member is no bit field, and does not stand at a multiple of its alignment
+-- a member is not a bit field, and does not stand at a multiple of its alignment
 abbrev pub stands_off : List PlainNode → PlainPart → Bool
 stands_off nodes (Member name bit width to) = width == 0 && is_off bit (align_of nodes to)
 stands_off nodes other = false
@@ -24,6 +24,6 @@ is_packed nodes i = list_any (stands_off nodes) (view_at nodes i).parts
 abbrev pub packing_text : List PlainNode → ℕ → List ℕ
 packing_text nodes i = if is_packed nodes i then codes "packed" else codes "none"
 
--- whether two types are packed, where one is and the other is not
+-- whether each of two types is packed, if only one of them is
 unfoldable pub packing_change : List PlainNode → List PlainNode → ℕ → ℕ → Option Difference
 packing_change old new i j = differing note.Packing (packing_text old i) (packing_text new j)

@@ -1,4 +1,4 @@
--- New members of structures that stand where the old structure has no member: in a hole or in the padding behind the last one.
+-- New members of structures that stand where the old structure has no member: in a hole, or in the padding after the last member.
 use Rattle.std.specs.Prelude.{ℕ, ◌+◌, ◌*◌, Bool, true, false, not, max, min, nat_lt, nat_le, ◌&&◌, if◌then◌else◌, is_none, List, [], ◌∷◌, codes, decimal}
 use Rattle.std.specs.List.{concat, flat_map, list_any}
 use Rattle.abi_types.specs.declared.kind.Kind.{Kind}
@@ -15,7 +15,7 @@ abbrev pub is_structure_kind : Kind → Bool
 is_structure_kind kind.Structure = true
 is_structure_kind other = false
 
--- how many bits a member has: its width where it is a bit field, else those of its type
+-- the bits in a member: the width of a bit field, or the size of its type
 abbrev pub bits_in : List PlainNode → ℕ → ℕ → ℕ
 bits_in nodes width to = if nat_lt 0 width then width else (view_at nodes to).size * 8
 
@@ -24,7 +24,7 @@ abbrev pub bits_of : List PlainNode → PlainPart → Bits
 bits_of nodes (Member name bit width to) = record { from = bit; to = bit + bits_in nodes width to }
 bits_of nodes other = record { from = 0; to = 0 }
 
--- some bit is one of both
+-- the ranges have a bit in common
 abbrev pub share : Bits → Bits → Bool
 share a b = nat_lt (max a.from b.from) (min a.to b.to)
 
@@ -32,12 +32,12 @@ share a b = nat_lt (max a.from b.from) (min a.to b.to)
 abbrev pub is_free : List PlainNode → PlainView → Bits → Bool
 is_free nodes v bits = not (list_any (λ p. share bits (bits_of nodes p)) v.parts)
 
--- there are bits, and all are below the end of the size in bytes
+-- the range is not empty, and ends within the size in bytes
 abbrev pub lies_inside : Bits → ℕ → Bool
 lies_inside bits size = nat_lt bits.from bits.to && nat_le bits.to (size * 8)
 
--- A member of the new structure that the old one has not, by name, and whose bits lie inside the old structure, where no old
--- member has one of them.
+-- A member of the new structure that the old one does not have by name. Its bits lie inside the old structure, and no old member
+-- has one of them.
 unfoldable pub fills : List PlainNode → List PlainNode → PlainView → PlainPart → Bool
 fills old new v p = is_none (place_of (like p) 0 v.parts) && (lies_inside (bits_of new p) v.size && is_free old v (bits_of new p))
 
@@ -55,6 +55,6 @@ part_changes old new v p = if fills old new v p then member_change p ∷ [] else
 abbrev pub is_structure : PlainView → Bool
 is_structure v = is_structure_kind v.kind
 
--- those of two structures, in order of the new members
+-- the differences of two structures, in order of the new members
 unfoldable pub padding_changes : List PlainNode → List PlainNode → PlainView → PlainView → List Difference
 padding_changes old new v w = if is_structure v && is_structure w then flat_map (part_changes old new v) w.parts else []

@@ -1,4 +1,4 @@
--- What entries say in each aspect, as printed texts.
+-- The printed text of an entry in each aspect.
 use Rattle.std.specs.Prelude.{ℕ, ◌+◌, Bool, true, false, if◌then◌else◌, ◌==◌, ◌||◌, List, [], ◌∷◌, ◌++◌, drop, Option, Some, None, codes, decimal, negsuc}
 use Rattle.std.specs.List.{concat, flat_map, list_any}
 use Rattle.abi_base.specs.Dwarf.{dw_tag_subrange_type, dw_tag_enumerator, dw_tag_formal_parameter, dw_tag_const_type, dw_tag_volatile_type, dw_tag_restrict_type, dw_tag_atomic_type, dw_at_count, dw_at_upper_bound, dw_at_const_value, dw_at_encoding, dw_ate_signed, dw_ate_signed_char}
@@ -25,12 +25,12 @@ abbrev pub either_number : Option ℕ → Option ℕ → Option ℕ
 either_number (Some n) other = Some n
 either_number None other = other
 
--- How many elements a dimension has: its count, else one more than its upper bound. A dimension whose number no constant says is
+-- The number of elements of a dimension: its count, or one more than its upper bound. A dimension without a constant for either is
 -- open.
 unfoldable pub dimension_of : PlainTree → ℕ → Option ℕ
 dimension_of t s = either_number (natural_of (attribute_along t s dw_at_count)) (counted_to (attribute_along t s dw_at_upper_bound))
 
--- `[]` where it is open, and else `[N]`
+-- `[]` if the dimension is open, else `[N]`
 abbrev pub dimension_text : Option ℕ → List ℕ
 dimension_text None = codes "[]"
 dimension_text (Some n) = concat (codes "[" ∷ decimal n ∷ codes "]" ∷ [])
@@ -48,7 +48,7 @@ abbrev pub number_text : Option ℕ → List ℕ
 number_text None = none
 number_text (Some n) = decimal n
 
--- the constant that an entry has of an attribute
+-- the value of an entry's attribute, if it is a constant
 abbrev pub constant_text : PlainTree → ℕ → ℕ → List ℕ
 constant_text t e name = number_text (natural_of (attribute_along t e name))
 
@@ -69,7 +69,7 @@ abbrev pub signed_by : PlainTree → Type_ → Bool → Bool
 signed_by t (Some b) negative = is_signed_encoding (number_at t b dw_at_encoding)
 signed_by t None negative = negative
 
--- The type of an enumeration is a signed integer; of one without a type some enumerator is negative.
+-- An enumeration with a type has a sign if the encoding of that type is signed; one without a type, if some enumerator is negative.
 unfoldable pub has_sign : PlainTree → ℕ → Bool
 has_sign t e = signed_by t (behind t (depth_limit + 1) (type_of t e)) (has_negative t e)
 
@@ -85,7 +85,7 @@ name_text (Some name) = shown name
 abbrev pub named_behind : PlainDwarf → ℕ → List ℕ
 named_behind d p = codes ", " ++ name_text (name_of d p)
 
--- the names with `, ` between them: each stands behind one, but for the first
+-- the names, with `, ` between them: each comes with a separator in front, and the first separator is dropped
 unfoldable pub names_text : PlainDwarf → ℕ → List ℕ
 names_text d e = drop 2 (flat_map (named_behind d) (tagged_children d.tree (body_of d.tree e) dw_tag_formal_parameter))
 

@@ -22,7 +22,7 @@ old_node p = node_at p.old_graph.now p.old
 abbrev pub new_node : TypePair → PlainNode
 new_node p = node_at p.new_graph.now p.new
 
--- both are nodes
+-- both are nodes of their graphs
 pub record AreNodes (p : TypePair) : Type 0 where
   pub old : p.old < length p.old_graph.now
   pub new : p.new < length p.new_graph.now

@@ -1,4 +1,4 @@
-// What entries say beside what rules compare.
+// The aspects of entries that no rule compares.
 ghost use Rattle.std.specs.Prelude.{◌≡◌};
 ghost use Rattle.type_notes.specs.Aspects as spec;
 
@@ -6,32 +6,32 @@ use crate::note::NoteKind;
 use abi_base::dwarf::DW_TAG_variable;
 use type_reach::Role;
 
-/// What an entry says that no rule compares.
+/// A property of an entry that no rule compares.
 #[derive(Clone, Copy)]
 pub enum Aspect {
     /// The dimensions of an array.
     Dimensions,
-    /// Whether a function is declared with a list of parameters.
+    /// Whether a function is declared with a prototype.
     Prototyped,
-    /// How a function is called.
+    /// The calling convention of a function.
     CallingConvention,
-    /// What kind of address a pointer or a function has.
+    /// The address class of a pointer or a function.
     AddressClass,
     /// Whether a function never returns.
     NoReturn,
     /// The names of a function's parameters.
     ParameterNames,
-    /// The order of the bytes of a base type.
+    /// The byte order of a base type.
     Endianity,
-    /// Whether an enumeration has a sign.
+    /// Whether an enumeration is signed.
     Sign,
-    /// Whether a pointer points to what is `const`.
+    /// Whether a pointer points to a `const` type.
     Const,
-    /// Whether it points to what is `volatile`.
+    /// Whether a pointer points to a `volatile` type.
     Volatile,
-    /// Whether it points to a pointer that is `restrict`.
+    /// Whether a pointer points to a `restrict` pointer.
     Restrict,
-    /// Whether it points to what is `_Atomic`.
+    /// Whether a pointer points to an `_Atomic` type.
     Atomic,
     /// Whether an object is `const`.
     ConstObject,

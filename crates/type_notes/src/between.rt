@@ -17,14 +17,16 @@ use abi_base::{List, NoMemory};
 use dwarf_entries::Dwarf;
 use std::alloc::Global;
 
-/// The entries of two libraries.
+/// The debug entries of two libraries.
 #[derive(Clone, Copy)]
 pub struct DwarfPair<'x, 'o, 'n> {
+    /// The entries of the old library.
     pub old: &'x Dwarf<'o>,
+    /// The entries of the new library.
     pub new: &'x Dwarf<'n>,
 }
 
-// Adds what differs between two entries, where both are there.
+// Adds the differences of two entries as types, if both exist.
 fn push_entry_changes(
     alloc: Global,
     list: &mut List<Difference>,
@@ -50,7 +52,7 @@ fn push_entry_changes(
     }
 }
 
-// Adds what differs between two entries as objects, where both are there.
+// Adds the differences of two entries as objects, if both exist.
 fn push_object_entry_changes(
     alloc: Global,
     list: &mut List<Difference>,
@@ -76,7 +78,7 @@ fn push_object_entry_changes(
     }
 }
 
-// Adds what differs between what two types look like.
+// Adds the differences between the views of two types.
 fn push_view_changes(
     alloc: Global,
     list: &mut List<Difference>,
@@ -91,7 +93,7 @@ fn push_view_changes(
     push_padding_changes(alloc, list, types)
 }
 
-// Adds what differs between the names and the alignments of two types.
+// Adds the differences in the names and the packing of two types.
 fn push_node_changes(
     alloc: Global,
     list: &mut List<Difference>,
@@ -104,9 +106,9 @@ fn push_node_changes(
     push_found(list, packing_change(alloc, types)?)
 }
 
-/// Adds what differs between two types and is not judged: what the entries behind them say, in order of aspects; that one alone of
-/// two objects is `const` or `volatile`; that one is a union without members; the new members that stand in the padding of the old
-/// type; the names; and whether one alone is packed.
+/// Adds the differences between two types that no rule judges: those of their entries, in order of aspects; `const` or `volatile`
+/// on only one of two objects; a union without members; new members in the padding of the old type; the names; and packing of only
+/// one type.
 #[tactic(auto, unfolding(crate::specs::Between::differences))]
 pub fn push_differences(
     alloc: Global,

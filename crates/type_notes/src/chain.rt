@@ -1,4 +1,4 @@
-// What stands behind typedefs and qualifiers.
+// The type behind typedefs and qualifiers.
 ghost use Rattle.std.specs.Prelude.{◌≡◌, ◌<◌, ◌+◌, length, Some, IfSome};
 ghost use Rattle.abi_base.specs.Limits.{depth_limit};
 ghost use Rattle.type_reach.specs.References as references;
@@ -7,7 +7,7 @@ ghost use Rattle.type_notes.specs.Chains as spec;
 use dwarf_entries::Dwarf;
 use type_reach::{Role, role_of, type_of};
 
-// So many entries stand on the way from a type to what it stands for, at most: a step by value more than a library may have.
+// The most entries in the chain from a type to the type for which it stands: one by-value step more than a library may have.
 pub(crate) const ENTRIES: usize = 513;
 
 // The type behind typedefs, qualifiers, variables and signatures.
@@ -29,7 +29,7 @@ fn behind(dwarf: &Dwarf, from: Option<usize>) -> Option<usize>
     None
 }
 
-// The entry that the type at an offset stands for.
+// The entry for which the type at an offset stands.
 pub(crate) fn core_at(dwarf: &Dwarf, offset: u64) -> Option<usize>
     ensures found { result ≡ spec.core_at dwarf.now.tree offset }
     ensures inside { IfSome result (λ e. e < length dwarf.now.tree.entries) }
@@ -37,7 +37,7 @@ pub(crate) fn core_at(dwarf: &Dwarf, offset: u64) -> Option<usize>
     behind(dwarf, dwarf.find(offset))
 }
 
-// The entry that the type of an entry stands for.
+// The entry for which the type of an entry stands.
 pub(crate) fn core_of_type(dwarf: &Dwarf, e: usize) -> Option<usize>
     requires { e < length dwarf.now.tree.entries }
     ensures found { result ≡ spec.behind dwarf.now.tree (depth_limit + 1) (references.type_of dwarf.now.tree e) }
@@ -46,14 +46,14 @@ pub(crate) fn core_of_type(dwarf: &Dwarf, e: usize) -> Option<usize>
     behind(dwarf, type_of(dwarf, e))
 }
 
-// Whether an entry of a role leads on to what has its qualifiers.
+// Whether an entry of a role leads on to the type that has its qualifiers.
 fn leads_further(role: Role) -> bool
     ensures { result ≡ spec.leads_further role }
 {
     matches!(role, Role::Wrapper | Role::Array)
 }
 
-// Whether an entry with a tag stands on the way from a type to what it stands for, or to the elements of that array.
+// Whether the chain from a type has an entry with a tag, also behind the elements of an array.
 fn is_passed(dwarf: &Dwarf, from: Option<usize>, tag: u64) -> bool
     requires { IfSome from (λ e. e < length dwarf.now.tree.entries) }
     ensures { result ≡ spec.is_passed dwarf.now.tree tag (depth_limit + 1) from }
@@ -77,7 +77,7 @@ fn is_passed(dwarf: &Dwarf, from: Option<usize>, tag: u64) -> bool
     false
 }
 
-// Whether the type of an entry has a qualifier, by its tag, or its elements have it where it is an array.
+// Whether the type of an entry has the qualifier with a tag; an array has it if its elements do.
 pub(crate) fn has_qualifier(dwarf: &Dwarf, e: usize, tag: u64) -> bool
     requires { e < length dwarf.now.tree.entries }
     ensures { result ≡ spec.has_qualifier dwarf.now.tree tag e }

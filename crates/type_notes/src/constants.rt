@@ -1,15 +1,15 @@
 //! Attributes that no rule reads (DWARF 5, section 7.5.4 "Attribute Encodings").
 
-/// Whether the declaration of a function had a list of parameters (section 3.3.1).
+/// Whether a function was declared with a prototype (section 3.3.1).
 pub(crate) const DW_AT_prototyped: u64 = 0x27;
 
-/// What kind of address a pointer holds (section 2.12).
+/// The address class of a pointer or a function (section 2.12).
 pub(crate) const DW_AT_address_class: u64 = 0x33;
 
-/// How a function is called (section 3.3.1.1).
+/// The calling convention of a function (section 3.3.1.1).
 pub(crate) const DW_AT_calling_convention: u64 = 0x36;
 
-/// In which order the bytes of a base type stand (section 5.1).
+/// The byte order of a base type (section 5.1).
 pub(crate) const DW_AT_endianity: u64 = 0x65;
 
 /// Whether a function never returns (section 3.3.1).

@@ -1,4 +1,4 @@
-// What definitions of types say, as texts.
+// The texts of definitions of types.
 ghost use Rattle.std.specs.Prelude.{◌≡◌, ◌<◌, ◌+◌, ◌++◌, length, All, IfOk, IfSome, OnOk, string_bytes};
 ghost use Rattle.std.specs.List.{flat_map};
 ghost use Rattle.abi_base.specs.Limits.{depth_limit};
@@ -24,7 +24,7 @@ use std::alloc::{AllocError, Global};
 use std::fmt::Write;
 use type_reach::{Role, number_at, role_of, type_of, wrapped_of};
 
-// What a base type is, by its encoding.
+// The word for a base type, by its encoding.
 #[tactic(auto, unfolding(crate::specs::DefinitionTexts::encoding_word))]
 fn encoding_word(encoding: u64) -> &'static str
     ensures { result.now ≡ spec.encoding_word encoding }
@@ -51,7 +51,7 @@ fn push_size(text: &mut String, dwarf: &Dwarf, e: usize) -> Result<(), AllocErro
     write!(text, "{size}")
 }
 
-// Appends a base type by its size and what it is.
+// Appends a base type by its size and the word for its encoding.
 fn push_base(text: &mut String, dwarf: &Dwarf, e: usize) -> Result<(), AllocError>
     requires { e < length dwarf.now.tree.entries }
     ensures { OnOk result (string_bytes text.new ≡ string_bytes text.old ++ spec.base_text dwarf.now.tree e) }
@@ -61,7 +61,7 @@ fn push_base(text: &mut String, dwarf: &Dwarf, e: usize) -> Result<(), AllocErro
     text.push_str(encoding_word(number_at(dwarf, e, DW_AT_encoding)))
 }
 
-// What stands before the name of a type, by its tag.
+// The keyword in front of the name of a type, by its tag.
 fn keyword_of(tag: u64) -> &'static str
     ensures { result.now ≡ spec.keyword_of tag }
 {
@@ -74,7 +74,7 @@ fn keyword_of(tag: u64) -> &'static str
     }
 }
 
-// Appends a name, or the size of what has none.
+// Appends a name, or the size of a type without a name.
 fn push_name_or_size(
     alloc: Global,
     text: &mut String,
@@ -102,7 +102,7 @@ fn push_tag(alloc: Global, text: &mut String, dwarf: &Dwarf, e: usize) -> Result
     push_name_or_size(alloc, text, dwarf, e)
 }
 
-// Appends that a type is an array, with its dimensions.
+// Appends `array` and the dimensions of an array.
 fn push_array(alloc: Global, text: &mut String, dwarf: &Dwarf, e: usize) -> Result<(), NoMemory>
     requires { e < length dwarf.now.tree.entries }
     ensures { OnOk result (string_bytes text.new ≡ string_bytes text.old ++ spec.array_text dwarf.now.tree e) }
@@ -114,7 +114,7 @@ fn push_array(alloc: Global, text: &mut String, dwarf: &Dwarf, e: usize) -> Resu
     Ok(())
 }
 
-// Appends what an entry adds to the text of a type.
+// Appends the part of a type's text that one entry contributes.
 #[tactic(auto, unfolding(crate::specs::DefinitionTexts::type_word))]
 fn push_word(alloc: Global, text: &mut String, dwarf: &Dwarf, e: usize) -> Result<(), NoMemory>
     requires { e < length dwarf.now.tree.entries }
@@ -131,7 +131,7 @@ fn push_word(alloc: Global, text: &mut String, dwarf: &Dwarf, e: usize) -> Resul
     Ok(())
 }
 
-// Whether the text of a type goes on with the type of an entry of a role.
+// Whether the text of a type continues with the type of an entry of a role.
 fn goes_on(role: Role) -> bool
     ensures { result ≡ spec.goes_on role }
 {
@@ -167,7 +167,7 @@ fn push_type(
     Ok(())
 }
 
-// A member by its name, its place and its type.
+// A member by its name, its position and its type.
 #[tactic(auto, unfolding(crate::specs::DefinitionTexts::member_text))]
 fn member_text(alloc: Global, dwarf: &Dwarf, m: usize) -> Result<String, NoMemory>
     requires { m < length dwarf.now.tree.entries }
@@ -182,7 +182,7 @@ fn member_text(alloc: Global, dwarf: &Dwarf, m: usize) -> Result<String, NoMemor
     Ok(text)
 }
 
-// Appends a number, or that there is none.
+// Appends a number, or a note that there is none.
 fn push_number(text: &mut String, number: Option<u64>) -> Result<(), AllocError>
     ensures { OnOk result (string_bytes text.new ≡ string_bytes text.old ++ texts.number_text number) }
 {
@@ -206,7 +206,7 @@ fn enumerator_text(alloc: Global, dwarf: &Dwarf, c: usize) -> Result<String, NoM
     Ok(text)
 }
 
-/// A member or an enumerator.
+/// The text of a member or an enumerator.
 pub(crate) fn part_text(alloc: Global, dwarf: &Dwarf, m: usize) -> Result<Vec<u8>, NoMemory>
     requires { m < length dwarf.now.tree.entries }
     ensures { IfOk result (λ text. text.items ≡ spec.part_text dwarf.now m) }
@@ -234,7 +234,7 @@ pub(crate) fn parts_of(alloc: Global, dwarf: &Dwarf, e: usize) -> Result<Vec<usi
     dwarf.tagged(alloc, e, tag)
 }
 
-/// The size of a definition, as a text.
+/// The text of a definition's size.
 pub(crate) fn size_text(alloc: Global, dwarf: &Dwarf, e: usize) -> Result<Vec<u8>, NoMemory>
     requires { e < length dwarf.now.tree.entries }
     ensures { IfOk result (λ text. text.items ≡ spec.size_text dwarf.now.tree e) }
@@ -245,7 +245,7 @@ pub(crate) fn size_text(alloc: Global, dwarf: &Dwarf, e: usize) -> Result<Vec<u8
     Ok(text.into_bytes())
 }
 
-// Appends members or enumerators, each behind what stands between two of them.
+// Appends members or enumerators, each with the separator in front.
 fn push_parts(
     alloc: Global,
     text: &mut Vec<u8>,
@@ -262,7 +262,7 @@ fn push_parts(
     Ok(())
 }
 
-// Appends a member or an enumerator behind what stands between two of them.
+// Appends a member or an enumerator, with the separator in front.
 fn push_part(alloc: Global, text: &mut Vec<u8>, dwarf: &Dwarf, m: usize) -> Result<(), NoMemory>
     requires { m < length dwarf.now.tree.entries }
     ensures { OnOk result (text.new.items ≡ text.old.items ++ spec.part_behind dwarf.now m) }
@@ -273,7 +273,7 @@ fn push_part(alloc: Global, text: &mut Vec<u8>, dwarf: &Dwarf, m: usize) -> Resu
     Ok(())
 }
 
-/// All that a definition says, as a text.
+/// The text of a whole definition: its size, and its members or enumerators in order.
 #[tactic(auto, unfolding(crate::specs::DefinitionTexts::definition_text))]
 pub(crate) fn definition_text(alloc: Global, dwarf: &Dwarf, e: usize) -> Result<List<u8>, NoMemory>
     requires { e < length dwarf.now.tree.entries }

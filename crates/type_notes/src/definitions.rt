@@ -1,4 +1,4 @@
-// The definitions of types by their names.
+// The definitions of types, by name.
 ghost use Rattle.std.specs.Prelude.{◌≡◌, ◌<◌, ◌++◌, ◌∷◌, [], ℕ, List, filter, if◌then◌else◌, length, All, IfOk, IfSome, OnOk};
 ghost use Rattle.std.specs.Option.{option_copied};
 ghost use Rattle.std.specs.Str.{bytes_eq};
@@ -15,22 +15,27 @@ use dwarf_tree::laws::children_stand_one_deeper;
 use std::alloc::Global;
 use std::collections::HashMap;
 
-/// The positions of the definitions of a library's types, by their names.
+/// The positions of the entries that define a library's types, by name.
 #[derive(Drop)]
 pub struct Definitions<'a> {
+    /// The definitions of structures.
     pub structures: HashMap<&'a [u8], List<usize>>,
+    /// The definitions of unions.
     pub unions: HashMap<&'a [u8], List<usize>>,
+    /// The definitions of enumerations.
     pub enumerations: HashMap<&'a [u8], List<usize>>,
 }
 
 /// The definitions of two libraries.
 #[derive(Clone, Copy)]
 pub struct DefinitionPair<'x, 'o, 'n> {
+    /// The definitions of the old library.
     pub old: &'x Definitions<'o>,
+    /// The definitions of the new library.
     pub new: &'x Definitions<'n>,
 }
 
-// The positions under a name, which are taken out.
+// Removes the positions under a name from the map, and returns them.
 fn taken<'a>(
     alloc: Global,
     places: &mut HashMap<&'a [u8], List<usize>>,
@@ -45,7 +50,7 @@ fn taken<'a>(
     }
 }
 
-// Puts a position behind those under a name.
+// Appends a position to those under a name.
 fn keep<'a>(
     alloc: Global,
     places: &mut HashMap<&'a [u8], List<usize>>,
@@ -60,7 +65,7 @@ fn keep<'a>(
     Ok(())
 }
 
-// Puts an entry under its name, where it is a definition.
+// Adds an entry under its name, if it is a definition.
 #[tactic(auto, unfolding(crate::specs::DefinedElsewhere::defines))]
 fn keep_definition<'a>(
     alloc: Global,
@@ -80,7 +85,7 @@ fn keep_definition<'a>(
     }
 }
 
-// Puts entries under their names, where they are definitions.
+// Adds those entries that are definitions, under their names.
 fn keep_definitions<'a>(
     alloc: Global,
     places: &mut HashMap<&'a [u8], List<usize>>,
@@ -107,7 +112,7 @@ fn is_unit_tag(tag: u64) -> bool
     )
 }
 
-// The entries of a tag at the top of the unit of which an entry is the root.
+// The entries with a tag at the top of a unit, given the root of the unit.
 #[tactic(auto, unfolding(crate::specs::DefinedElsewhere::at_top_of, type_reach::specs::References::tagged_children))]
 fn at_top_of(alloc: Global, dwarf: &Dwarf, root: usize, tag: u64) -> Result<Vec<usize>, NoMemory>
     requires { root < length dwarf.now.tree.entries }
@@ -121,7 +126,7 @@ fn at_top_of(alloc: Global, dwarf: &Dwarf, root: usize, tag: u64) -> Result<Vec<
     }
 }
 
-// The definitions of all types of a tag, by their names.
+// The definitions of all types with a tag, by name.
 fn definitions_with<'a>(
     alloc: Global,
     dwarf: &Dwarf<'a>,
@@ -137,7 +142,7 @@ fn definitions_with<'a>(
     Ok(places)
 }
 
-/// The definitions of a library's types: of each name the entries that are no declarations, at the top of a unit.
+/// The definitions of a library's types: for each name, the entries at the top of a unit that are not declarations.
 pub(crate) fn definitions_of<'a>(
     alloc: Global,
     dwarf: &Dwarf<'a>,
@@ -198,15 +203,14 @@ fn definitions_like<'x>(dwarf: &'x Dwarf, definitions: &'x Definitions, e: usize
     definitions_named(dwarf, definitions, dwarf.tag(e), dwarf.name_of(e))
 }
 
-// The first of some positions.
+// The first position of a list.
 fn first_in(places: &[usize]) -> Option<usize>
     ensures { result ≡ spec.first_in places.now }
 {
     places.first().copied()
 }
 
-/// What defines the type of an entry first: the entry itself, or where it is a declaration the first definition of its tag and its
-/// name.
+/// The definition of an entry's type: the entry itself, or for a declaration the first definition of its tag and name.
 #[tactic(auto, unfolding(crate::specs::DefinedElsewhere::defined_by))]
 pub(crate) fn defined_by(dwarf: &Dwarf, definitions: &Definitions, e: usize) -> Option<usize>
     requires inside { e < length dwarf.now.tree.entries }
@@ -220,7 +224,7 @@ pub(crate) fn defined_by(dwarf: &Dwarf, definitions: &Definitions, e: usize) -> 
     first_in(definitions_like(dwarf, definitions, e))
 }
 
-/// All definitions of the tag and name of a definition, or it alone where it stands at the top of no unit.
+/// All definitions of the tag and name of a definition, or only itself if it is not at the top of a unit.
 #[tactic(auto, unfolding(crate::specs::DefinedElsewhere::kin_of))]
 pub(crate) fn kin_of(
     alloc: Global,

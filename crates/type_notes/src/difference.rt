@@ -1,22 +1,22 @@
-// What differs between two types.
+// A difference between two types.
 ghost use Rattle.std.specs.Prelude.{◌≡◌, ◌++◌, option_to_list, OnOk};
 ghost use Rattle.type_notes.specs.Differences as spec;
 
 use crate::note::NoteKind;
 use abi_base::{List, NoMemory};
 
-/// What a kind of notes says of two types: what was there, and what is there now. The texts are in their printed form.
+/// One difference between two types: the old and the new state. The texts are in their printed form.
 #[derive(Drop)]
 pub struct Difference {
-    /// What it is about.
+    /// The kind of note.
     pub kind: NoteKind,
-    /// What was there.
+    /// The old state.
     pub was: List<u8>,
-    /// What is there now.
+    /// The new state.
     pub is: List<u8>,
 }
 
-// The difference of two texts.
+// A difference with these two texts.
 pub(crate) fn difference_of(kind: NoteKind, was: Vec<u8>, is: Vec<u8>) -> Difference
     ensures kind { result.kind ≡ kind }
     ensures was { result.was ≡ was.items }
@@ -29,7 +29,7 @@ pub(crate) fn difference_of(kind: NoteKind, was: Vec<u8>, is: Vec<u8>) -> Differ
     }
 }
 
-// The difference of two texts, where they differ.
+// A difference with these two texts, if they differ.
 pub(crate) fn differing(kind: NoteKind, was: Vec<u8>, is: Vec<u8>) -> Option<Difference>
     ensures { result ≡ spec.differing kind was.items is.items }
 {
@@ -39,7 +39,7 @@ pub(crate) fn differing(kind: NoteKind, was: Vec<u8>, is: Vec<u8>) -> Option<Dif
     Some(difference_of(kind, was, is))
 }
 
-// Adds a difference, where there is one.
+// Adds a difference, if there is one.
 pub(crate) fn push_found(
     list: &mut List<Difference>,
     found: Option<Difference>,

@@ -11,7 +11,7 @@ use std::alloc::{AllocError, Global};
 use std::fmt::Write;
 use type_reach::{counted_to, natural_of};
 
-// How many elements a dimension has, where it is not open.
+// The number of elements of a dimension, or `None` if it is open.
 #[tactic(auto, unfolding(crate::specs::Texts::dimension_of))]
 fn dimension_of(dwarf: &Dwarf, subrange: usize) -> Option<u64>
     requires { subrange < length dwarf.now.tree.entries }

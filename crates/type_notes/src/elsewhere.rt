@@ -1,4 +1,4 @@
-// Types that are only declared, and defined in another unit.
+// Types that one unit only declares and another unit defines.
 ghost use Rattle.std.specs.Prelude.{◌≡◌, ◌<◌, length, slice_get, All, IfOk, IfSome};
 ghost use Rattle.type_notes.specs.DefinedElsewhere.{AreKin, AreOfBoth};
 ghost use Rattle.type_notes.specs.DefinedElsewhere as spec;
@@ -14,7 +14,7 @@ use abi_base::{List, NoMemory};
 use dwarf_entries::Dwarf;
 use std::alloc::Global;
 
-// The member or enumerator at a place of a list, or that there is none.
+// The text of the member or enumerator at a position of a list, or that there is none.
 fn part_or_none(
     alloc: Global,
     dwarf: &Dwarf,
@@ -31,7 +31,7 @@ fn part_or_none(
     Ok(Vec::from_slice(alloc, b"none")?)
 }
 
-// What differs between the members or enumerators at a place of two lists.
+// The difference between the members or enumerators at one position of two lists.
 fn part_change(
     alloc: Global,
     pair: &EntryPair,
@@ -48,7 +48,7 @@ fn part_change(
     Ok(differing(NoteKind::DefinedElsewhere, was, is))
 }
 
-// What differs between the first members or enumerators that differ.
+// The difference between the first members or enumerators that differ.
 fn first_part_change(
     alloc: Global,
     pair: &EntryPair,
@@ -68,7 +68,7 @@ fn first_part_change(
     Ok(None)
 }
 
-/// What differs between two definitions: their sizes, or else their first members or enumerators that differ.
+/// The difference between two definitions: that of their sizes, or else of the first members or enumerators that differ.
 #[tactic(auto, unfolding(crate::specs::DefinedElsewhere::definition_change))]
 pub(crate) fn definition_change(
     alloc: Global,
@@ -88,7 +88,7 @@ pub(crate) fn definition_change(
     first_part_change(alloc, pair, old.as_slice(), new.as_slice())
 }
 
-// What definitions say, as texts.
+// The texts of definitions.
 fn texts_of(alloc: Global, dwarf: &Dwarf, entries: &[usize]) -> Result<List<List<u8>>, NoMemory>
     requires { All (λ e. e < length dwarf.now.tree.entries) entries.now }
     ensures { IfOk result (λ texts. texts ≡ spec.texts_of dwarf.now entries.now) }
@@ -102,7 +102,7 @@ fn texts_of(alloc: Global, dwarf: &Dwarf, entries: &[usize]) -> Result<List<List
     Ok(texts)
 }
 
-// The entry at a place of a list.
+// The entry at a position of a list.
 fn entry_at(dwarf: &Dwarf, entries: &[usize], place: usize) -> Option<usize>
     requires { All (λ e. e < length dwarf.now.tree.entries) entries.now }
     ensures found { result ≡ slice_get entries.now place }
@@ -118,13 +118,17 @@ fn entry_at(dwarf: &Dwarf, entries: &[usize], place: usize) -> Option<usize>
 // The definitions of a tag and a name in two libraries.
 #[derive(Clone, Copy)]
 pub(crate) struct Kin<'x, 'o, 'n> {
+    /// The debug entries of the old library.
     pub old_dwarf: &'x Dwarf<'o>,
+    /// The debug entries of the new library.
     pub new_dwarf: &'x Dwarf<'n>,
+    /// The positions of the old definitions.
     pub old: &'x [usize],
+    /// The positions of the new definitions.
     pub new: &'x [usize],
 }
 
-// What differs between the definitions at two places.
+// The difference between the definitions at two positions.
 fn change_at(
     alloc: Global,
     kin: &Kin,
@@ -150,8 +154,8 @@ fn change_at(
     }
 }
 
-/// What differs between all old definitions of a tag and a name and all new ones: the first old one whose text no new one has, beside
-/// the first new one whose text no old one has, or the first of all new ones.
+/// The difference between all old definitions of a tag and a name and all new ones: the first old one whose text no new one has,
+/// beside the first new one whose text no old one has, or beside the first new one.
 #[tactic(auto, unfolding(crate::specs::DefinedElsewhere::kin_change))]
 pub(crate) fn kin_change(alloc: Global, kin: &Kin) -> Result<Option<Difference>, NoMemory>
     requires { AreKin kin.now }
@@ -166,7 +170,7 @@ pub(crate) fn kin_change(alloc: Global, kin: &Kin) -> Result<Option<Difference>,
     change_at(alloc, kin, place, other.unwrap_or(0))
 }
 
-/// The definitions of the types of two entries, where one of the entries at least is a declaration.
+/// The definitions of the types of two entries, if at least one of the entries is a declaration.
 #[tactic(auto, unfolding(crate::specs::DefinedElsewhere::definitions_by))]
 pub(crate) fn definitions_by(
     pair: &EntryPair,

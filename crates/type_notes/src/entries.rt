@@ -1,4 +1,4 @@
-// What differs between two entries.
+// The differences between two entries.
 ghost use Rattle.std.specs.Prelude.{◌≡◌, ◌<◌, ◌++◌, IfOk, OnOk};
 ghost use Rattle.type_notes.specs.Entries.{AreThere, changes, changes_in, object_changes, plain};
 ghost use Rattle.type_notes.specs.Entries as spec;
@@ -11,10 +11,12 @@ use dwarf_entries::Dwarf;
 use std::alloc::Global;
 use type_reach::role_of;
 
-/// An entry of an old library, and one of a new library in its place.
+/// An entry of an old library, and the entry of a new library that takes its place.
 #[derive(Clone, Copy)]
 pub struct EntryPair<'x, 'o, 'n> {
+    /// The debug entries of the old library.
     pub old_dwarf: &'x Dwarf<'o>,
+    /// The debug entries of the new library.
     pub new_dwarf: &'x Dwarf<'n>,
     /// The position of the old entry.
     pub old: usize,
@@ -22,7 +24,7 @@ pub struct EntryPair<'x, 'o, 'n> {
     pub new: usize,
 }
 
-// What differs between two entries in an aspect.
+// The difference between two entries in an aspect.
 #[tactic(auto, unfolding(crate::specs::Entries::change))]
 fn change(alloc: Global, aspect: Aspect, pair: &EntryPair) -> Result<Option<Difference>, NoMemory>
     requires { AreThere (plain pair.now) }
@@ -33,7 +35,7 @@ fn change(alloc: Global, aspect: Aspect, pair: &EntryPair) -> Result<Option<Diff
     Ok(differing(kind_of(aspect), was, is))
 }
 
-// Adds what differs between two entries in aspects, in order.
+// Adds the differences between two entries in these aspects, in order.
 fn push_changes_in(
     alloc: Global,
     list: &mut List<Difference>,
@@ -49,8 +51,7 @@ fn push_changes_in(
     Ok(())
 }
 
-/// Adds what differs between two entries that stand for types, in order of aspects: of entries of one role each text that is
-/// said of both and differs.
+/// Adds the differences between two entries that stand for types, in order of aspects. Entries of different roles have none.
 #[tactic(auto, unfolding(crate::specs::Entries::changes))]
 pub fn push_changes(
     alloc: Global,
@@ -65,7 +66,7 @@ pub fn push_changes(
     push_changes_in(alloc, list, pair, aspects_between(old, new))
 }
 
-/// Adds what differs between two entries that stand for objects, in order of aspects: that one alone is `const`, or `volatile`.
+/// Adds the differences between two entries that stand for objects, in order of aspects: `const` or `volatile` on only one of them.
 #[tactic(auto, unfolding(crate::specs::Entries::object_changes))]
 pub(crate) fn push_object_changes(
     alloc: Global,

@@ -1,4 +1,4 @@
-// Texts that are none of others.
+// Texts that a second list lacks.
 ghost use Rattle.std.specs.Prelude.{◌≡◌, ℕ, List, not, position, IfOk};
 ghost use Rattle.type_notes.specs.DefinedElsewhere.{has_text, is_among};
 ghost use Rattle.type_notes.specs.DefinedElsewhere as spec;
@@ -7,7 +7,7 @@ use abi_base::{List, NoMemory};
 use std::alloc::Global;
 use std::collections::HashSet;
 
-// The texts as a set.
+// The set of the texts.
 fn set_of<'t>(alloc: Global, texts: &'t [List<u8>]) -> Result<HashSet<&'t [u8]>, NoMemory>
     ensures { IfOk result (λ set. (q : List ℕ) → has_text set q ≡ is_among texts.now q) }
 {
@@ -34,7 +34,7 @@ fn first_absent(texts: &[List<u8>], set: &HashSet<&[u8]>) -> Option<usize>
         .position(|text| is_absent(set, text.as_slice()))
 }
 
-/// The position of the first text that is none of others.
+/// The position of the first text that is not among the others.
 pub(crate) fn first_lacking(
     alloc: Global,
     texts: &[List<u8>],

@@ -1,6 +1,5 @@
-//! Notes on types: what the debug information of two libraries says differently, of types that are compared, and no rule judges.
-//! Each kind of note has a definition over the pairs of types and their entries, and the list of a kind holds exactly the notes of
-//! that definition.
+//! Notes on types: differences in the debug information of compared types that no rule judges. Each kind of note has a definition
+//! over the pairs of types and their entries, and the notes of a kind are exactly those of its definition.
 #![tactic(auto)]
 
 mod aspect;

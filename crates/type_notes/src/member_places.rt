@@ -1,4 +1,4 @@
-// Where members begin, in bytes or in bits, as texts.
+// The texts of the positions of members, in bytes or in bits.
 ghost use Rattle.std.specs.Prelude.{◌≡◌, ◌<◌, ◌++◌, length, OnOk, string_bytes};
 ghost use Rattle.type_reach.specs.Placement as placement;
 ghost use Rattle.type_notes.specs.MemberPlaces as spec;
@@ -22,7 +22,7 @@ fn byte_of(dwarf: &Dwarf, m: usize) -> u64
     place_of(dwarf, dwarf.attr(m, DW_AT_data_member_location)).unwrap_or(0)
 }
 
-// The size of the type of a member; 0 where that is void.
+// The size of a member's type; 0 for void.
 fn type_size(dwarf: &Dwarf, m: usize) -> u64
     requires { m < length dwarf.now.tree.entries }
     ensures { result ≡ spec.type_size dwarf.now.tree m }
@@ -33,7 +33,7 @@ fn type_size(dwarf: &Dwarf, m: usize) -> u64
     }
 }
 
-// The size of what a bit field is stored in.
+// The size of a bit field's storage unit.
 #[tactic(auto, unfolding(type_reach::specs::Placement::storage_of))]
 fn storage_of(dwarf: &Dwarf, m: usize) -> u64
     requires { m < length dwarf.now.tree.entries }
@@ -46,7 +46,7 @@ fn storage_of(dwarf: &Dwarf, m: usize) -> u64
     }
 }
 
-// The bit at which a member begins, from the begin of its aggregate.
+// The bit at which a member begins, from the beginning of its aggregate.
 #[tactic(auto, unfolding(type_reach::specs::Placement::bit_of))]
 fn first_bit(dwarf: &Dwarf, m: usize) -> i128
     requires { m < length dwarf.now.tree.entries }
@@ -66,7 +66,7 @@ fn first_bit(dwarf: &Dwarf, m: usize) -> i128
     }
 }
 
-// Whether an entry says of a member which bits it has.
+// Whether an entry states the bits of a member.
 fn has_bits(dwarf: &Dwarf, m: usize) -> bool
     requires { m < length dwarf.now.tree.entries }
     ensures { result ≡ spec.has_bits dwarf.now.tree m }
@@ -76,14 +76,14 @@ fn has_bits(dwarf: &Dwarf, m: usize) -> bool
         || is_there(dwarf, m, DW_AT_bit_offset)
 }
 
-// Appends a byte at which a member begins.
+// Appends the byte at which a member begins.
 fn push_byte(text: &mut String, byte: u64) -> Result<(), AllocError>
     ensures { OnOk result (string_bytes text.new ≡ string_bytes text.old ++ spec.byte_words byte) }
 {
     write!(text, " at byte {byte}")
 }
 
-// Appends a bit at which a member begins.
+// Appends the bit at which a member begins.
 fn push_bit(text: &mut String, bit: i128) -> Result<(), AllocError>
     ensures { OnOk result (string_bytes text.new ≡ string_bytes text.old ++ spec.bit_words bit) }
 {
@@ -102,7 +102,7 @@ fn push_begin(text: &mut String, dwarf: &Dwarf, m: usize) -> Result<(), AllocErr
     }
 }
 
-/// Appends where a member stands, and how wide it is where it is a bit field.
+/// Appends the position of a member, and the width of a bit field.
 #[tactic(auto, unfolding(crate::specs::MemberPlaces::place_text))]
 pub(crate) fn push_place(text: &mut String, dwarf: &Dwarf, m: usize) -> Result<(), AllocError>
     requires { m < length dwarf.now.tree.entries }

@@ -13,7 +13,7 @@ use dwarf_entries::Dwarf;
 use std::alloc::{AllocError, Global};
 use type_reach::body_of;
 
-// Appends a name, or that it is missing.
+// Appends a name, or a note that it is missing.
 pub(crate) fn push_name(
     alloc: Global,
     text: &mut String,
@@ -27,7 +27,7 @@ pub(crate) fn push_name(
     }
 }
 
-// Appends the name of a parameter behind what stands between two names.
+// Appends the name of a parameter, with the separator in front.
 fn push_behind(
     alloc: Global,
     text: &mut String,
@@ -41,7 +41,7 @@ fn push_behind(
     push_name(alloc, text, dwarf.name_of(parameter))
 }
 
-// Appends the names of parameters, each behind what stands between two names.
+// Appends the names of parameters, each with the separator in front.
 fn push_all(
     alloc: Global,
     text: &mut String,

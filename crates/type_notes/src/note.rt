@@ -4,31 +4,52 @@ ghost use Rattle.type_notes.specs.Notes.{kind_name};
 
 use abi_base::List;
 
-/// What a note is about.
+/// The subject of a note.
 #[derive(Clone, Copy, Debug, PartialEq, Eq)]
 pub enum NoteKind {
     // ---- two types, or the entries behind them
+    /// The dimensions of an array.
     ArrayDimensions,
+    /// A new member in the padding of the old structure.
     MemberInPadding,
+    /// A union with a size and no members.
     UnionWithoutMembers,
+    /// The tag or the typedefs by which C names a type.
     TagOrName,
+    /// The names of a function's parameters.
     ParameterName,
+    /// The qualifiers of the type to which a pointer points.
     Qualifiers,
+    /// Whether a function is declared with a prototype.
     Prototype,
+    /// The byte order of a base type.
     Endianity,
+    /// The calling convention of a function.
     CallingConvention,
+    /// The address class of a pointer or a function.
     AddressClass,
+    /// Whether a function never returns.
     NoReturn,
+    /// Whether a structure is packed.
     Packing,
+    /// Whether an enumeration is signed.
     EnumeratorSign,
+    /// A type that one unit only declares and another unit defines.
     DefinedElsewhere,
     // ---- exports
+    /// The size of a thread-local object.
     ThreadObject,
+    /// The qualifiers of an object.
     ObjectQualifiers,
+    /// An export that only the new library has.
     ExportAdded,
+    /// A symbol version that only the new library has.
     VersionAdded,
+    /// A new export that is likely to succeed one that is gone.
     Successor,
+    /// An export that leads to two types that break a rule, in addition to the one that their row names.
     AffectedExport,
+    /// A section of the rule file that matches nothing.
     IdleSection,
 }
 
@@ -63,17 +84,17 @@ impl NoteKind {
     }
 }
 
-/// What was seen and not judged, and where. Texts are in their printed form, as those of a row of a report.
+/// A difference that no rule judges, and where it is. Texts are in their printed form, as in a row of a report.
 #[derive(Drop)]
 pub struct Note {
-    /// What it is about.
+    /// The subject of the note.
     pub kind: NoteKind,
-    /// The label of the old export, or of the new one where only that is there; nothing where it is about no export.
+    /// The label of the old export, or of the new one if only that exists; empty if the note is about no export.
     pub export: List<u8>,
-    /// The steps from the type of that export to the types; nothing where the export itself is meant.
+    /// The steps from the type of that export to the types; empty if the note is about the export itself.
     pub path: List<u8>,
-    /// What was there.
+    /// The old state.
     pub was: List<u8>,
-    /// What is there now.
+    /// The new state.
     pub is: List<u8>,
 }

@@ -12,7 +12,7 @@ use abi_types::{Graph, Index, Part};
 use psabi::align;
 use std::alloc::Global;
 
-// Whether a bit is not one at which an object of an alignment may begin.
+// Whether no object with an alignment may begin at a bit.
 fn is_off(bit: u64, align: u64) -> bool
     ensures { result ≡ spec.is_off bit align }
 {
@@ -22,7 +22,7 @@ fn is_off(bit: u64, align: u64) -> bool
     bit as u128 % (8 * align as u128) != 0
 }
 
-// Whether the member at a position is no bit field and does not stand at its natural alignment.
+// Whether the member at a position is not a bit field and does not stand at its natural alignment.
 fn stands_off<Ix: Index>(graph: &Graph<Ix>, ix: Ix, k: usize) -> bool
     requires node { Ix.number_of ix < length graph.now }
     requires part { k < length (view_at graph.now (Ix.number_of ix)).parts }
@@ -41,7 +41,7 @@ fn stands_off<Ix: Index>(graph: &Graph<Ix>, ix: Ix, k: usize) -> bool
     }
 }
 
-// Whether a member of a type does not stand at its natural alignment.
+// Whether some member of a type does not stand at its natural alignment.
 #[tactic(auto, using(crate::proofs::AnyLemmas::any_more, crate::proofs::AnyLemmas::any_all, crate::proofs::AnyLemmas::any_at))]
 fn is_packed<Ix: Index>(graph: &Graph<Ix>, ix: Ix) -> bool
     requires { Ix.number_of ix < length graph.now }
@@ -68,7 +68,7 @@ fn packing_text<Ix: Index>(alloc: Global, graph: &Graph<Ix>, ix: Ix) -> Result<V
     Ok(Vec::from_slice(alloc, word.as_bytes())?)
 }
 
-// What is said of two types of which one is packed.
+// The difference between two types of which only one is packed.
 #[tactic(auto, unfolding(crate::specs::Packing::packing_change))]
 pub(crate) fn packing_change(alloc: Global, pair: &TypePair) -> Result<Option<Difference>, NoMemory>
     requires { AreNodes pair.now }

@@ -1,4 +1,4 @@
-// Members that stand where the old structure had none.
+// New members in places where the old structure has no member.
 ghost use Rattle.std.specs.Prelude.{◌≡◌, ◌<◌, ◌++◌, length, IfOk, OnOk, string_bytes};
 ghost use Rattle.std.specs.List.{flat_map};
 ghost use Rattle.abi_types.specs.Graphs.{part_at, view_at};
@@ -15,21 +15,23 @@ use abi_types::{Graph, Index, Kind, Part, View, push_shown};
 use std::alloc::{AllocError, Global};
 use std::fmt::Write;
 
-/// The bits from `from` on and before `to`.
+/// A range of bits, from `from` up to, but not including, `to`.
 #[derive(Clone, Copy)]
 pub struct Bits {
+    /// The first bit.
     pub from: u128,
+    /// The bit after the last one.
     pub to: u128,
 }
 
-// Whether some bit is one of both.
+// Whether two ranges have a bit in common.
 fn share(one: Bits, other: Bits) -> bool
     ensures { result ≡ spec.share one other }
 {
     one.from.max(other.from) < one.to.min(other.to)
 }
 
-// How many bits a member has: its width where it is a bit field, else those of its type.
+// The number of bits in a member: the width of a bit field, or the size of its type.
 fn width_of<Ix: Index>(graph: &Graph<Ix>, width: u64, to: Ix) -> u128
     requires { Ix.number_of to < length graph.now }
     ensures { result ≡ bits_in graph.now width (Ix.number_of to) }
@@ -60,7 +62,7 @@ fn bits_at<Ix: Index>(graph: &Graph<Ix>, ix: Ix, k: usize) -> Bits
     }
 }
 
-// Whether no member of a structure has one of these bits.
+// Whether no member of a structure has one of the bits.
 #[tactic(auto, using(crate::proofs::AnyLemmas::any_more, crate::proofs::AnyLemmas::any_all, crate::proofs::AnyLemmas::any_at))]
 fn is_free<Ix: Index>(graph: &Graph<Ix>, ix: Ix, bits: Bits) -> bool
     requires { Ix.number_of ix < length graph.now }
@@ -74,14 +76,14 @@ fn is_free<Ix: Index>(graph: &Graph<Ix>, ix: Ix, bits: Bits) -> bool
     true
 }
 
-// Whether there are bits, all below the end of a size in bytes.
+// Whether a range is not empty and ends within a size in bytes.
 fn lies_inside(bits: Bits, size: u64) -> bool
     ensures { result ≡ spec.lies_inside bits size }
 {
     bits.from < bits.to && bits.to <= size as u128 * 8
 }
 
-// Whether the new member at a position is none of the old ones by name, and stands where none of them has a bit.
+// Whether the old structure has no member with the name of the new member at a position, and none where that one stands.
 #[tactic(auto, unfolding(crate::specs::Padding::fills))]
 fn fills(pair: &TypePair, k: usize) -> bool
     requires nodes { AreNodes pair.now }
@@ -113,7 +115,7 @@ fn member_text<Ix: Index>(alloc: Global, part: &Part<Ix>) -> Result<String, Allo
     Ok(text)
 }
 
-// What is said of a member that stands where none was.
+// The difference for a new member in a place where no old one was.
 fn member_change<Ix: Index>(alloc: Global, part: &Part<Ix>) -> Result<Difference, NoMemory>
     ensures { IfOk result (λ found. found ≡ spec.member_change (plain_part Ix.number_of part.now)) }
 {
@@ -123,7 +125,7 @@ fn member_change<Ix: Index>(alloc: Global, part: &Part<Ix>) -> Result<Difference
     Ok(difference_of(NoteKind::MemberInPadding, was, is))
 }
 
-// Adds what is said of the new member at a position.
+// Adds the difference for the new member at a position, if it fills padding.
 fn push_part_changes(
     alloc: Global,
     list: &mut List<Difference>,
@@ -141,7 +143,7 @@ fn push_part_changes(
     list.push(found)
 }
 
-// Adds what is said of all members of the new structure.
+// Adds the differences for all members of the new structure that fill padding.
 fn push_member_changes(
     alloc: Global,
     list: &mut List<Difference>,
@@ -163,7 +165,7 @@ fn is_structure<Ix: Index>(view: &View<Ix>) -> bool
     matches!(view.kind, Kind::Structure)
 }
 
-/// Adds each new member of a structure that stands where the old structure has no member.
+/// Adds a difference for each new member of a structure that stands where the old structure has no member.
 #[tactic(auto, unfolding(crate::specs::Padding::padding_changes))]
 pub(crate) fn push_padding_changes(
     alloc: Global,

@@ -1,4 +1,4 @@
-// What entries say in each aspect, as texts.
+// The text of an entry in each aspect.
 ghost use Rattle.std.specs.Prelude.{◌≡◌, ◌<◌, length, IfOk};
 ghost use Rattle.type_notes.specs.declared.aspect.Aspect.TheVariants as aspect_of;
 ghost use Rattle.type_notes.specs.Chains as chains;
@@ -21,7 +21,7 @@ use dwarf_entries::Dwarf;
 use std::alloc::Global;
 use type_reach::natural_of;
 
-// A word where something holds.
+// A word if a condition holds, else `none`.
 fn word_if(alloc: Global, holds: bool, word: &str) -> Result<Vec<u8>, NoMemory>
     ensures { IfOk result (λ text. text.items ≡ texts_spec.word_if holds word.now) }
 {
@@ -29,7 +29,7 @@ fn word_if(alloc: Global, holds: bool, word: &str) -> Result<Vec<u8>, NoMemory>
     Ok(Vec::from_slice(alloc, word.as_bytes())?)
 }
 
-// A number, or that there is none.
+// A number, or a note that there is none.
 fn number_text(alloc: Global, number: Option<u64>) -> Result<Vec<u8>, NoMemory>
     ensures { IfOk result (λ text. text.items ≡ texts_spec.number_text number) }
 {
@@ -42,7 +42,7 @@ fn number_text(alloc: Global, number: Option<u64>) -> Result<Vec<u8>, NoMemory>
     }
 }
 
-// The constant that an entry has of an attribute.
+// The constant value of an entry's attribute.
 fn constant_text(alloc: Global, dwarf: &Dwarf, e: usize, name: u64) -> Result<Vec<u8>, NoMemory>
     requires { e < length dwarf.now.tree.entries }
     ensures { IfOk result (λ text. text.items ≡ texts_spec.constant_text dwarf.now.tree e name) }
@@ -60,7 +60,7 @@ fn dimensions(alloc: Global, dwarf: &Dwarf, e: usize) -> Result<Vec<u8>, NoMemor
     Ok(text.into_bytes())
 }
 
-// The word for whether numbers have a sign.
+// The word for whether an integer type is signed.
 fn sign_word(sign: bool) -> &'static str
     ensures { result.now ≡ texts_spec.sign_word sign }
 {
@@ -77,7 +77,7 @@ fn sign(alloc: Global, dwarf: &Dwarf, e: usize) -> Result<Vec<u8>, NoMemory>
     Ok(Vec::from_slice(alloc, word.as_bytes())?)
 }
 
-// A qualifier of what a pointer points to or an object is, by its tag.
+// A qualifier, by its tag, of an object or of the type to which a pointer points.
 fn qualifier(
     alloc: Global,
     dwarf: &Dwarf,
@@ -91,7 +91,7 @@ fn qualifier(
     word_if(alloc, has_qualifier(dwarf, e, tag), word)
 }
 
-// What an entry says in an aspect.
+// The text of an entry in an aspect.
 #[tactic(auto, unfolding(crate::specs::Texts::said))]
 pub(crate) fn said(
     alloc: Global,

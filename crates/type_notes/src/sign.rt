@@ -1,4 +1,4 @@
-// Whether enumerations have a sign.
+// Whether enumerations are signed.
 ghost use Rattle.std.specs.Prelude.{◌≡◌, ◌<◌, length, All, IfOk};
 ghost use Rattle.std.specs.List.{list_any};
 ghost use Rattle.abi_base.specs.Dwarf.{dw_at_const_value};
@@ -25,7 +25,7 @@ fn is_negative(value: Option<Value>) -> bool
     }
 }
 
-// Whether numbers of an encoding have a sign.
+// Whether an encoding is that of a signed type.
 pub(crate) fn is_signed_encoding(encoding: u64) -> bool
     ensures { result ≡ spec.is_signed_encoding encoding }
 {
@@ -57,7 +57,7 @@ fn has_negative(alloc: Global, dwarf: &Dwarf, e: usize) -> Result<bool, NoMemory
     Ok(is_some_negative(dwarf, enumerators.as_slice()))
 }
 
-// Whether an enumeration has a sign.
+// Whether an enumeration is signed.
 #[tactic(auto, unfolding(crate::specs::Texts::has_sign))]
 pub(crate) fn has_sign(alloc: Global, dwarf: &Dwarf, e: usize) -> Result<bool, NoMemory>
     requires { e < length dwarf.now.tree.entries }

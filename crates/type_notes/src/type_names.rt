@@ -14,7 +14,7 @@ use abi_base::NoMemory;
 use abi_types::{Label, LabelKind, push_shown};
 use std::alloc::{AllocError, Global};
 
-// What stands before a name of a kind.
+// The keyword in front of a name of a kind.
 fn keyword(kind: LabelKind) -> &'static str
     ensures { result.now ≡ spec.keyword kind }
 {
@@ -27,7 +27,7 @@ fn keyword(kind: LabelKind) -> &'static str
     }
 }
 
-// Appends a name, or that a type has no tag.
+// Appends a name, or a note that the type has no tag.
 fn push_shown_or_none(alloc: Global, text: &mut String, name: &[u8]) -> Result<(), AllocError>
     ensures { OnOk result (string_bytes text.new ≡ string_bytes text.old ++ shown_or_none name.now) }
 {
@@ -37,7 +37,7 @@ fn push_shown_or_none(alloc: Global, text: &mut String, name: &[u8]) -> Result<(
     push_shown(alloc, text, name)
 }
 
-// Appends a name behind what stands between two names.
+// Appends a name, with the separator in front.
 fn push_label(alloc: Global, text: &mut String, label: &Label) -> Result<(), AllocError>
     ensures { OnOk result (string_bytes text.new ≡ string_bytes text.old ++ label_behind (plain_label label.now)) }
 {
@@ -46,7 +46,7 @@ fn push_label(alloc: Global, text: &mut String, label: &Label) -> Result<(), All
     push_shown_or_none(alloc, text, label.name)
 }
 
-// Appends names, each behind what stands between two names.
+// Appends names, each with the separator in front.
 fn push_labels(alloc: Global, text: &mut String, labels: &[Label]) -> Result<(), AllocError>
     ensures { OnOk result (string_bytes text.new ≡ string_bytes text.old ++ flat_map label_behind (map plain_label labels.now)) }
 {
@@ -65,7 +65,7 @@ fn names_text(alloc: Global, labels: &[Label]) -> Result<Vec<u8>, NoMemory>
     Ok(rest_of(alloc, &text, 3)?)
 }
 
-// What is said of the names of two types, where they differ.
+// The difference between the names of two types.
 #[tactic(auto, unfolding(crate::specs::TypeNames::name_change))]
 pub(crate) fn name_change(alloc: Global, pair: &TypePair) -> Result<Option<Difference>, NoMemory>
     requires { AreNodes pair.now }

@@ -1,11 +1,15 @@
 // Two types that are compared.
 use abi_types::{Graph, NewIx, OldIx};
 
-/// A type of an old library, and one of a new library in its place.
+/// A type of an old library, and the type of a new library that takes its place.
 #[derive(Clone, Copy)]
 pub struct TypePair<'x, 'o, 'n> {
+    /// The graph of the old library's types.
     pub old_graph: &'x Graph<'o, OldIx>,
+    /// The graph of the new library's types.
     pub new_graph: &'x Graph<'n, NewIx>,
+    /// The old type.
     pub old: OldIx,
+    /// The new type.
     pub new: NewIx,
 }

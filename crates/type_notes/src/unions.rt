@@ -1,4 +1,4 @@
-// Unions that have a size and no members.
+// Unions with a size and no members.
 ghost use Rattle.std.specs.Prelude.{◌≡◌, IfOk, string_bytes};
 ghost use Rattle.type_notes.specs.Unions as spec;
 
@@ -8,7 +8,7 @@ use abi_base::NoMemory;
 use abi_types::{Index, Kind, NewIx, OldIx, View};
 use std::alloc::{AllocError, Global};
 
-// Whether a type is a union that has a size and no members.
+// Whether a type is a union with a size and no members.
 fn is_hollow<Ix: Index>(view: &View<Ix>) -> bool
     ensures { result ≡ spec.is_hollow view.now }
 {
@@ -18,21 +18,21 @@ fn is_hollow<Ix: Index>(view: &View<Ix>) -> bool
     }
 }
 
-// A size, and how many members there are.
+// The text of a size and a number of members.
 fn counted(alloc: Global, size: u64, members: usize) -> Result<String, AllocError>
     ensures { IfOk result (λ text. string_bytes text ≡ spec.counts_text size members) }
 {
     format!(in alloc; "size {size}, members {members}")
 }
 
-// The size of a type, and how many members it has.
+// The text of a type's size and the number of its members.
 fn union_text<Ix: Index>(alloc: Global, view: &View<Ix>) -> Result<String, AllocError>
     ensures { IfOk result (λ text. string_bytes text ≡ spec.union_text view.now) }
 {
     counted(alloc, view.size, view.parts_len())
 }
 
-// What is said of two types of which one is such a union.
+// The difference between two types, if at least one is such a union.
 pub(crate) fn union_change(
     alloc: Global,
     old: &View<OldIx>,

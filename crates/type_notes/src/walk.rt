@@ -1,4 +1,4 @@
-// The notes on all types that two libraries are compared in.
+// The notes on all types that are compared between two libraries.
 ghost use Rattle.std.specs.Prelude.{◌≡◌, ◌<◌, ◌+◌, ◌++◌, ◌||◌, ℕ, length, map, nat_eq, IfOk, IfSome, OnOk};
 ghost use Rattle.std.specs.HashSet.{contains};
 ghost use Rattle.pair_compare.specs.BoundPair.{IsBinding, sides_of};
@@ -59,7 +59,7 @@ fn note_of(alloc: Global, export: &str, path: &str, found: &Difference) -> Resul
     })
 }
 
-// Adds the notes of differences.
+// Adds the notes on differences.
 fn push_all(
     alloc: Global,
     notes: &mut List<Note>,
@@ -76,7 +76,7 @@ fn push_all(
     Ok(())
 }
 
-// What differs between the types of a visit.
+// The differences between the types of a visit.
 fn differences_at(
     alloc: Global,
     ground: &NotedPair,
@@ -101,7 +101,7 @@ fn differences_at(
     Ok(list)
 }
 
-// The definitions of the types of a visit, where one of them at least is only declared.
+// The definitions of the types of a visit, if at least one of them is only declared.
 fn definitions_of_types(
     ground: &NotedPair,
     definitions: &DefinitionPair,
@@ -136,7 +136,7 @@ fn definitions_of_types(
     }
 }
 
-// Adds the notes of differences at the visit of a number, under the path to it.
+// Adds the notes on differences at a visit, with the path to it.
 fn push_under_path(
     alloc: Global,
     notes: &mut List<Note>,
@@ -156,7 +156,7 @@ fn push_under_path(
     push_all(alloc, notes, export.as_str(), path.as_str(), found)
 }
 
-// What is walked over: the libraries with their definitions, and what was explored.
+// The input of the walk: the libraries with their definitions, and what was explored.
 #[derive(Clone, Copy)]
 struct Walk<'w, 'x, 'o, 'n, 'd, 'e> {
     ground: &'w NotedPair<'x, 'o, 'n, 'd, 'e>,
@@ -164,7 +164,7 @@ struct Walk<'w, 'x, 'o, 'n, 'd, 'e> {
     visits: &'w Visits,
 }
 
-// What differs between all definitions of the tags and names of two definitions.
+// The difference between all definitions of the tags and names of two definitions.
 fn change_of(
     alloc: Global,
     walk: &Walk,
@@ -188,7 +188,7 @@ fn change_of(
     kin_change(alloc, &kin)
 }
 
-// Adds what differs between two definitions, where the old one was not compared before, and keeps that it is.
+// Adds the difference between two definitions, unless the old one was compared before, and records it as compared.
 fn push_definitions(
     alloc: Global,
     list: &mut List<Difference>,
@@ -212,7 +212,7 @@ fn push_definitions(
     push_found(list, change_of(alloc, walk, found)?)
 }
 
-// Adds the notes of the visit of a number.
+// Adds the notes of a visit.
 #[tactic(auto, unfolding(crate::specs::NotedPairs::notes_at, crate::specs::NotedPairs::definitions_at))]
 fn push_visit(
     alloc: Global,
@@ -247,7 +247,7 @@ fn push_visit(
     )
 }
 
-// The notes of all visits, in their order.
+// The notes of all visits, in order.
 fn notes_along(alloc: Global, walk: &Walk) -> Result<List<Note>, NoMemory>
     requires definitions { AreOfBoth walk.now.ground.now.old_dwarf.now walk.now.ground.now.new_dwarf.now walk.now.definitions.now }
     requires readable { AreReadable (sides_of walk.now.ground.now.pair) walk.now.visits.now }
@@ -261,7 +261,7 @@ fn notes_along(alloc: Global, walk: &Walk) -> Result<List<Note>, NoMemory>
     Ok(notes)
 }
 
-// The notes of all visits, in their order, with the definitions of both libraries.
+// The notes of all visits, in order; it first collects the definitions of both libraries.
 fn notes_with_definitions(
     alloc: Global,
     ground: &NotedPair,
@@ -312,8 +312,8 @@ fn counted_notes<L: Ledger>(
     Ok(notes)
 }
 
-/// The notes on the types of two libraries: what differs between each two types that are compared and is not judged, at the first
-/// path to them. A type stands for itself alone, also where others look like it. Types that a rule file marks have no notes.
+/// The notes on the types of two libraries: each difference between two compared types that no rule judges, with the first path to
+/// them. Each type stands for itself, even if others are alike. Types that a rule file marks have no notes.
 pub fn type_notes(alloc: Global, ground: &NotedPair) -> Result<List<Note>, NoMemory>
     requires bound { IsBinding ground.now.pair }
     requires marks { AreMarksOf ground.now.pair.old.now ground.now.pair.marks.now }

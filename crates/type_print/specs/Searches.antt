@@ -1,10 +1,10 @@
--- What a search for the structure of a tag has found so far.
+-- The state of a search for the structure with a tag.
 use Rattle.std.specs.Prelude.{nat_lt, ℕ, if◌then◌else◌, List, Option, Some, None}
 use Rattle.abi_types.specs.Types.{PlainNode}
 use Rattle.abi_types.specs.Graphs.{node_at, view_at}
 use Rattle.type_print.specs.Structures.{has_layout}
 
--- the one of two nodes that stands for the earlier entry, where there are two
+-- the node with the earlier entry, where there are two
 abbrev pub earlier_of : List PlainNode → Option ℕ → ℕ → ℕ
 earlier_of nodes None i = i
 earlier_of nodes (Some other) i = if nat_lt (node_at nodes other).entry (node_at nodes i).entry then other else i

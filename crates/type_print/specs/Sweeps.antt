@@ -1,4 +1,4 @@
--- What the sweeps over members in order keep, from some place on.
+-- The invariants of the sweeps over ordered members, from some index on.
 use Rattle.std.specs.Prelude.{◌≡◌, ◌<◌, ◌≤◌, ◌+◌, ◌-◌, ◌==◌, nat_lt, ℕ, if◌then◌else◌, ◌||◌, List, [], ◌∷◌, ◌++◌, Option, Some, None, unwrap_or, Contains}
 use Rattle.std.specs.List.{AllPairs}
 use Rattle.type_print.specs.declared.extent.Extent.{Extent}
@@ -7,7 +7,7 @@ use Rattle.type_print.specs.declared.row.LayoutRow.TheVariants.{Member, Hole, Pa
 use Rattle.type_print.specs.Members.{end_of, member_at, IsHeld, Precedes}
 use Rattle.type_print.specs.Rows.{AreExactly, IsFittingRow, key_of}
 
--- the row of the member at k, of which `first` is the first member that ends past its first bit
+-- the overlap row, if any, of member k, where `first` is the first member that ends past the first bit of k
 abbrev pub overlap_rows : List Extent → ℕ → ℕ → List LayoutRow
 overlap_rows members k first =
     if first == k || ((member_at members k).width == 0) then [] else Overlap (member_at members k).part (member_at members first).part (member_at members k).bit ∷ []
@@ -17,12 +17,12 @@ outside_rows bits member = if nat_lt bits (end_of member) then Outside member.pa
 
 -- ---- gaps
 
--- the first bit of the first member that holds bits
+-- the first bit of the first member with a width above 0
 abbrev pub next_bit : List Extent → Option ℕ
 next_bit [] = None
 next_bit (member ∷ members) = if nat_lt 0 member.width then Some member.bit else next_bit members
 
--- where the bits that no member holds end
+-- where the free bits end
 abbrev pub gap_end : Option ℕ → ℕ → ℕ
 gap_end next bits = unwrap_or next bits
 
@@ -33,14 +33,14 @@ gap_row held (Some bit) bits = Hole held (bit - held)
 abbrev pub padding_rows : ℕ → ℕ → List LayoutRow
 padding_rows held bits = if nat_lt held bits then gap_row held None bits ∷ [] else []
 
--- ---- the sweep over members that fit
+-- ---- the sweep over members that fit without overlaps
 
--- the second member stands behind the first one, and behind all its bits where it holds some
+-- the second member comes after the first, and after all its bits if it has some itself
 pub record Follows (a b : Extent) : Type 0 where
   pub order : Precedes a b
   pub clear : 0 < a.width → 0 < b.width → a.bit + a.width ≤ b.bit
 
--- the members that are left fit above the bit
+-- the remaining members fit after the bit
 pub record FitsFrom (held : ℕ) (left : List Extent) (bits : ℕ) : Type 0 where
   pub low : held ≤ bits
   pub follow : AllPairs Follows left
@@ -63,7 +63,7 @@ pub record IsPaddingFrom (low : ℕ) (members : List Extent) (bits bit width : �
   pub free : (x : ℕ) → bit ≤ x → IsHeld members x → ⊥
   pub left : (x : ℕ) → low ≤ x → x + 1 ≡ bit → IsHeld members x
 
--- a row of the members that are left, from the bit on
+-- a row of the remaining members, from the bit on
 abbrev pub IsRowFrom : ℕ → List Extent → ℕ → LayoutRow → Type 0
 IsRowFrom held left bits (Member part bit width) = Contains left (record { part = part; bit = bit; width = width })
 IsRowFrom held left bits (Hole bit width) = IsHoleFrom held left bit width
@@ -73,7 +73,7 @@ IsRowFrom held left bits other = ⊥
 abbrev pub AreRowsFrom : List Extent → ℕ → List Extent → ℕ → List LayoutRow → Type 0
 AreRowsFrom all held left bits rows = AreExactly (IsRowFrom held left bits) (key_of all) rows
 
--- the rows so far, with those of the members that are left from the bit on, are those of the whole
+-- the rows so far, with those of the remaining members from the bit on, are those of the whole
 pub record IsSwept (all whole : List Extent) (bits : ℕ) (rows : List LayoutRow) (held : ℕ) (left : List Extent) : Type 0 where
   pub fits : FitsFrom held left bits
   pub leads : (tail : List LayoutRow) → AreRowsFrom all held left bits tail → AreExactly (IsFittingRow whole bits) (key_of all) (rows ++ tail)

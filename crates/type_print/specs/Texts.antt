@@ -1,4 +1,4 @@
--- The lines of a layout.
+-- The text of a layout.
 use Rattle.std.specs.Prelude.{◌<◌, ℕ, ◌+◌, ◌==◌, if◌then◌else◌, List, [], ◌∷◌, ◌++◌, length, flat_map, codes, decimal}
 use Rattle.std.specs.List.{concat, list_any, All}
 use Rattle.abi_types.specs.Types.{PlainView}
@@ -13,15 +13,15 @@ use Rattle.type_print.specs.Rows.{is_clash}
 abbrev pub newline : List ℕ
 newline = 10 ∷ []
 
--- from the second member of a name on, which one it is
+-- the number of a member among those of its name, from the second on
 abbrev pub numbered : ℕ → List ℕ
 numbered before = if before == 0 then [] else concat (codes "#" ∷ decimal (before + 1) ∷ [])
 
--- the name of the member at a position, as paths print it
+-- the name of the member with this index, as paths print it
 unfoldable pub name_at : PlainView → ℕ → List ℕ
 name_at v k = shown (name_of (part_at v k)) ++ numbered (like_before v.parts (part_at v k) k)
 
--- bits from one on
+-- a range of bits
 abbrev pub bits_text : ℕ → ℕ → List ℕ
 bits_text bit width = concat (codes " bit " ∷ decimal bit ∷ codes " width " ∷ decimal width ∷ newline ∷ [])
 
@@ -44,7 +44,7 @@ head_line v rows = concat (codes "layout " ∷ shown v.tag ∷ codes " size " �
 unfoldable pub layout_text : PlainView → List LayoutRow → List ℕ
 layout_text v rows = head_line v rows ++ flat_map (row_line v) rows
 
--- the positions of the row are those of members
+-- the indexes in the row are those of members
 abbrev pub IsInside : PlainView → LayoutRow → Type 0
 IsInside v (Member part bit width) = part < length v.parts
 IsInside v (Overlap part with bit) = (part < length v.parts) × (with < length v.parts)

@@ -1,19 +1,19 @@
-// Where a member of a structure stands.
+// The bits of a structure's member.
 ghost use Rattle.std.specs.Prelude.{◌≡◌, ◌+◌};
 
-/// Where a member of a structure stands.
+/// The bits of a structure's member.
 #[derive(Clone, Copy, Debug, PartialEq, Eq)]
 pub struct Extent {
-    /// The position of the member among those of its structure.
+    /// The index of the member in its structure.
     pub part: usize,
-    /// Its first bit, counted from the first bit of the structure.
+    /// Its offset in the structure, in bits.
     pub bit: u64,
-    /// How many bits it has.
+    /// Its width in bits.
     pub width: u64,
 }
 
 impl Extent {
-    /// The bit behind its last one.
+    /// The bit after its last one.
     pub fn end(&self) -> u128
         ensures { result ≡ self.now.bit + self.now.width }
     {

@@ -1,4 +1,4 @@
-// The structure of a tag.
+// The search for the structure with a tag.
 ghost use Rattle.std.specs.Prelude.{◌≡◌, ◌<◌, ℕ, length, IfSome, IfNone};
 ghost use Rattle.std.specs.Option.{option_map, ForSome};
 ghost use Rattle.type_print.specs.Structures.{IsFirstTagged, IsUntagged};
@@ -16,14 +16,14 @@ fn is_structure(kind: Kind) -> bool
     }
 }
 
-// Whether the type is a structure that is defined, and has this tag.
+// Whether the type is a structure with a definition and this tag.
 fn has_layout<Ix: Index>(view: &View<Ix>, tag: &[u8]) -> bool
     ensures { result ≡ spec.has_layout view.now tag.now }
 {
     is_structure(view.kind) && !view.declared_only && view.tag == tag
 }
 
-// The one of two nodes that stands for the earlier entry, where there are two.
+// The node with the earlier entry, or `ix` where there is only one.
 fn earlier<Ix: Index>(graph: &Graph<Ix>, found: Option<Ix>, ix: Ix) -> Ix
     requires found { ForSome found (λ other. Ix.number_of other < length graph.now) }
     requires inside { Ix.number_of ix < length graph.now }
@@ -41,7 +41,7 @@ fn earlier<Ix: Index>(graph: &Graph<Ix>, found: Option<Ix>, ix: Ix) -> Ix
     }
 }
 
-// The better of what was found so far and a node.
+// The better of the node found so far and another one.
 fn found_with<Ix: Index>(
     graph: &Graph<Ix>,
     tag: &[u8],
@@ -60,8 +60,8 @@ fn found_with<Ix: Index>(
     }
 }
 
-/// The structure of a tag: the node of the earliest entry that is a structure, is defined and has this tag. A typedef, a
-/// qualified form and a variable look like the structure that they stand for, so they are such nodes too. It takes no memory.
+/// The structure with a tag: the node with the earliest entry that is a structure with a definition and this tag. Typedefs,
+/// qualified types and variables have the view of the structure for which they stand, so they count too. Allocates nothing.
 pub fn find_tag<Ix: Index>(graph: &Graph<Ix>, tag: &[u8]) -> Option<Ix>
     ensures found { IfSome result (λ ix. IsFirstTagged graph.now tag.now (Ix.number_of ix)) }
     ensures none { IfNone result (IsUntagged graph.now tag.now) }

@@ -1,4 +1,4 @@
-// Rows of members that do not overlap and end inside: each bit stands in one of them.
+// Rows of members that do not overlap and end inside the structure: each bit is in one row.
 ghost use Rattle.std.specs.Prelude.{◌≡◌, ◌<◌, ◌≤◌, ◌+◌, ◌^◌, ◌++◌, List, IfOk, OnOk, length, drop, max};
 ghost use Rattle.type_print.specs.declared.extent.Extent.{Extent as Stand};
 ghost use Rattle.type_print.specs.Members.{member_at, AreInOrder};
@@ -22,7 +22,7 @@ pub fn row_of(member: &Extent) -> LayoutRow
     }
 }
 
-// The first bit that is held by the members from one on, which stand in order.
+// The first bit that a member has, of the ordered members from index `from` on.
 fn next_held(members: &[Extent], from: usize) -> Option<u64>
     requires { from ≤ length members.now }
     ensures { result ≡ next_bit (drop from members.now) }
@@ -35,7 +35,7 @@ fn next_held(members: &[Extent], from: usize) -> Option<u64>
     None
 }
 
-// The row of the bits from `held` on that no member holds: a hole below the next bit that one holds, or padding.
+// The row of the free bits from `held` on: a hole if a member's bit follows, else padding.
 fn gap(held: u64, next: Option<u64>, bits: u64) -> LayoutRow
     requires { held ≤ gap_end next bits }
     ensures { result ≡ gap_row held next bits }
@@ -52,7 +52,7 @@ fn gap(held: u64, next: Option<u64>, bits: u64) -> LayoutRow
     }
 }
 
-// Adds a gap below the member at k, where it stands behind `held`, and answers where what is said ends.
+// Adds a gap before member k if its first bit is after `held`, and answers where the rows now end.
 fn push_gap(
     rows: &mut Vec<LayoutRow>,
     members: &[Extent],
@@ -73,7 +73,7 @@ fn push_gap(
     Ok(next.unwrap_or(bits))
 }
 
-// Where what is said ends after a member.
+// Where the rows end after a member.
 fn end_after(held: u64, member: &Extent) -> u64
     requires { member.now.bit + member.now.width < 2 ^ 64 }
     ensures { result ≡ max held (member.now.bit + member.now.width) }
@@ -81,7 +81,7 @@ fn end_after(held: u64, member: &Extent) -> u64
     held.max(member.bit + member.width)
 }
 
-// Adds the padding behind all members, where there is some.
+// Adds the padding after all members, if there is any.
 fn push_padding(rows: &mut Vec<LayoutRow>, held: u64, bits: u64) -> Result<(), NoMemory>
     ensures { OnOk result (rows.new.items ≡ rows.old.items ++ padding_rows held bits) }
 {
@@ -91,7 +91,7 @@ fn push_padding(rows: &mut Vec<LayoutRow>, held: u64, bits: u64) -> Result<(), N
     Ok(())
 }
 
-/// The rows of members in order that do not overlap and do not end past the size in bits: one sweep.
+/// The rows of ordered members that do not overlap and do not end past the size in bits, in one sweep.
 pub fn fitting_rows(
     alloc: Global,
     members: &[Extent],

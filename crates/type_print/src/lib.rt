@@ -1,4 +1,4 @@
-//! The layout of a structure: the rows of its members, holes, padding and overlaps, and their lines.
+//! The layout of a structure: the rows of its members, holes, padding and overlaps, and the text of these rows.
 #![tactic(auto)]
 
 mod extent;

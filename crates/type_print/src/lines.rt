@@ -1,4 +1,4 @@
-// The lines of a layout.
+// The text of a layout.
 ghost use Rattle.std.specs.Prelude.{◌≡◌, ◌<◌, ◌++◌, length, IfOk, OnOk, flat_map, string_bytes};
 ghost use Rattle.std.specs.List.{list_any};
 ghost use Rattle.abi_types.specs.Parts.{plain_part};
@@ -12,7 +12,7 @@ use abi_types::{Index, Part, View, push_shown};
 use std::alloc::{AllocError, Global};
 use std::fmt::Write;
 
-// The name of a part, or nothing.
+// The name of a part, or an empty one.
 fn name_of<'a, Ix: Index>(part: &Part<'a, Ix>) -> &'a [u8]
     ensures { result.now ≡ sorts.name_of (plain_part Ix.number_of part.now) }
 {
@@ -23,7 +23,7 @@ fn name_of<'a, Ix: Index>(part: &Part<'a, Ix>) -> &'a [u8]
     }
 }
 
-// Appends which member of its name it is, from the second on.
+// Appends the number of a member among those of its name, from the second on.
 fn push_number(text: &mut String, before: usize) -> Result<(), AllocError>
     ensures { OnOk result (string_bytes text.new ≡ string_bytes text.old ++ numbered before) }
 {
@@ -34,7 +34,7 @@ fn push_number(text: &mut String, before: usize) -> Result<(), AllocError>
     write!(text, "#{number}")
 }
 
-// Appends the name of the member at a position.
+// Appends the name of the member with this index.
 #[tactic(auto, unfolding(crate::specs::Texts::name_at))]
 fn push_name<Ix: Index>(
     alloc: Global,
@@ -49,7 +49,7 @@ fn push_name<Ix: Index>(
     push_number(text, view.parts.like_before(k))
 }
 
-// Appends bits, and ends the line.
+// Appends a range of bits, and ends the line.
 fn push_bits(text: &mut String, bit: u64, width: u64) -> Result<(), AllocError>
     ensures { OnOk result (string_bytes text.new ≡ string_bytes text.old ++ bits_text bit width) }
 {
@@ -96,7 +96,7 @@ fn push_row<Ix: Index>(
     }
 }
 
-// Whether the row says that members overlap, or that one ends outside.
+// Whether the row is an overlap or a member that ends outside.
 fn is_clash(row: &LayoutRow) -> bool
     ensures { result ≡ rows_spec.is_clash row.now }
 {
@@ -107,14 +107,14 @@ fn is_clash(row: &LayoutRow) -> bool
     }
 }
 
-// Whether a row says so.
+// Whether one of the rows is an overlap or a member that ends outside.
 fn has_clash(rows: &[LayoutRow]) -> bool
     ensures { result ≡ list_any rows_spec.is_clash rows.now }
 {
     rows.iter().any(|row| is_clash(row))
 }
 
-// Appends the mark of rows of which one says so.
+// Appends the mark of a layout with such a row.
 fn push_mark(text: &mut String, rows: &[LayoutRow]) -> Result<(), AllocError>
     ensures { OnOk result (string_bytes text.new ≡ string_bytes text.old ++ marked rows.now) }
 {
@@ -159,8 +159,8 @@ fn push_rows<Ix: Index>(
     Ok(())
 }
 
-/// The lines of a layout: the tag and the size in bytes of the structure, marked where members overlap or end outside, and then
-/// each row. Names are printed as in the paths of reports. It fails only when memory runs out.
+/// The lines of a layout: first the tag and the size in bytes of the structure, marked if members overlap or end outside; then each
+/// row. Names are printed as in the paths of reports. Fails only where memory runs out.
 #[tactic(auto, unfolding(crate::specs::Texts::layout_text))]
 pub fn layout_lines<Ix: Index>(
     alloc: Global,

@@ -1,4 +1,4 @@
-// Members that share bits with earlier ones, and members that end past the size.
+// Members that share bits with earlier ones, and members that end past the size of the structure.
 ghost use Rattle.std.specs.Prelude.{◌≡◌, ◌<◌, ◌≤◌, ◌++◌, ℕ, List, IfOk, OnOk, length};
 ghost use Rattle.type_print.specs.declared.extent.Extent.{Extent as Stand};
 ghost use Rattle.type_print.specs.Members.{end_of, member_at, AreInOrder, NamesAll};
@@ -10,7 +10,7 @@ use crate::row::LayoutRow;
 use abi_base::NoMemory;
 use std::alloc::Global;
 
-// The first member that ends past the bit, from one member on and before another, or else the latter.
+// The first member, from one index up to another, that ends past the bit, or the latter index where none does.
 fn first_past(members: &[Extent], from: usize, below: usize, bit: u64) -> usize
     requires from { from ≤ below }
     requires inside { below ≤ length members.now }
@@ -27,7 +27,7 @@ fn first_past(members: &[Extent], from: usize, below: usize, bit: u64) -> usize
     below
 }
 
-// Adds the row of a member of which `first` is the first member that ends past its first bit.
+// Adds the overlap row of a member, if it has one, given the first member that ends past its first bit.
 fn push_overlap(
     rows: &mut Vec<LayoutRow>,
     members: &[Extent],
@@ -51,8 +51,8 @@ fn push_overlap(
     Ok(())
 }
 
-/// A row for each member that shares bits with an earlier one, of members in order.
-// What ends before a member ends before all later ones too, so the search for the first one goes on where it stood.
+/// A row for each of the ordered members that shares bits with an earlier one.
+// The search never goes back: an extent that ends before a member ends before all later members too.
 pub fn overlaps(alloc: Global, members: &[Extent]) -> Result<Vec<LayoutRow>, NoMemory>
     requires { AreInOrder members.now }
     ensures { IfOk result (λ rows. (all : List Stand) → NamesAll all members.now → AreExactly (IsOverlapRow members.now) (key_of all) rows.items) }
@@ -66,7 +66,7 @@ pub fn overlaps(alloc: Global, members: &[Extent]) -> Result<Vec<LayoutRow>, NoM
     Ok(rows)
 }
 
-// Adds the row of a member that ends past the size.
+// Adds a row for a member if it ends past the size.
 fn push_outside(rows: &mut Vec<LayoutRow>, member: &Extent, bits: u64) -> Result<(), NoMemory>
     ensures { OnOk result (rows.new.items ≡ rows.old.items ++ outside_rows bits member.now) }
 {
@@ -76,7 +76,7 @@ fn push_outside(rows: &mut Vec<LayoutRow>, member: &Extent, bits: u64) -> Result
     Ok(())
 }
 
-/// A row for each member that ends past the size in bits, of members in order.
+/// A row for each of the ordered members that ends past the size in bits.
 pub fn outsides(alloc: Global, members: &[Extent], bits: u64) -> Result<Vec<LayoutRow>, NoMemory>
     requires { AreInOrder members.now }
     ensures { IfOk result (λ rows. (all : List Stand) → NamesAll all members.now → AreExactly (IsOutsideRow members.now bits) (key_of all) rows.items) }

@@ -13,7 +13,7 @@ use crate::row::LayoutRow;
 use abi_base::NoMemory;
 use std::alloc::Global;
 
-// Puts members in order: by their first bits, those of no width before others, and then by position.
+// Orders members by offset. At one offset, those of width 0 come first; then the index decides.
 fn sort(members: &mut Vec<Extent>)
     ensures moved { IsPermutation members.old.items members.new.items }
     ensures sorted { IsSorted extent_cmp members.new.items }
@@ -21,7 +21,7 @@ fn sort(members: &mut Vec<Extent>)
     members.sort_unstable_by_key(|member| (member.bit, member.width > 0, member.part));
 }
 
-// The rows of the members alone, and then these overlaps and these members that end outside.
+// The rows of the members, then these overlaps and these members that end outside.
 fn clashing_rows(
     alloc: Global,
     members: &[Extent],
@@ -46,7 +46,7 @@ fn are_none(overlaps: &[LayoutRow], outsides: &[LayoutRow]) -> bool
     overlaps.is_empty() && outsides.is_empty()
 }
 
-// The rows of members in order.
+// The rows of ordered members.
 fn sorted_rows(alloc: Global, sorted: &[Extent], bits: u64) -> Result<Vec<LayoutRow>, NoMemory>
     requires order { AreInOrder sorted.now }
     requires named { AreNamed sorted.now }
@@ -62,7 +62,7 @@ fn sorted_rows(alloc: Global, sorted: &[Extent], bits: u64) -> Result<Vec<Layout
     Ok(rows)
 }
 
-/// The rows of members that stand under their positions, in a structure of so many bits.
+/// The rows of members, each of which has its own index as `part`, in a structure of this many bits.
 pub fn rows_of(
     alloc: Global,
     mut members: Vec<Extent>,

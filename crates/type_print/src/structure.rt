@@ -1,4 +1,4 @@
-// The members of a structure of a graph, and its layout.
+// The members and the layout of a structure in a graph.
 ghost use Rattle.std.specs.Prelude.{◌≡◌, ◌<◌, ◌≤◌, ◌^◌, ℕ, length, IfOk, IfSome, Some};
 ghost use Rattle.abi_types.specs.Graphs.{part_at, to_of, view_at};
 ghost use Rattle.abi_types.specs.Parts.{plain_part};
@@ -22,7 +22,7 @@ fn bits_of<Ix: Index>(view: &View<Ix>) -> u64
     8 * view.size
 }
 
-// The width of a member in bits: that of a bit field, or else that of its type.
+// The width of a member in bits: that of a bit field, else that of its type.
 fn width_of<Ix: Index>(graph: &Graph<Ix>, width: u64, to: Ix) -> u64
     requires { Ix.number_of to < length graph.now }
     ensures { result ≡ width_in graph.now width (Ix.number_of to) }
@@ -35,7 +35,7 @@ fn width_of<Ix: Index>(graph: &Graph<Ix>, width: u64, to: Ix) -> u64
     bits_of(view)
 }
 
-// Where a member stands.
+// The bits of a member.
 fn extent_of<Ix: Index>(graph: &Graph<Ix>, position: usize, part: &Part<Ix>) -> Extent
     requires { IfSome (to_of (plain_part Ix.number_of part.now)) (λ to. to < length graph.now) }
     ensures { result ≡ extent_in graph.now position (plain_part Ix.number_of part.now) }
@@ -54,7 +54,7 @@ fn extent_of<Ix: Index>(graph: &Graph<Ix>, position: usize, part: &Part<Ix>) -> 
     }
 }
 
-// Where the members of a structure stand.
+// The bits of each member of a structure.
 fn members_of<Ix: Index>(
     alloc: Global,
     graph: &Graph<Ix>,
@@ -70,9 +70,9 @@ fn members_of<Ix: Index>(
     Ok(members)
 }
 
-/// The layout of a structure that is defined: its members in order, and where none overlap and none ends outside, the holes
-/// between them and the padding behind them; else the overlaps and the members that end outside after them. A position of a row
-/// is that of a part of the structure's view, so `layout_lines` prints the rows. It fails only when memory runs out.
+/// The layout of a structure with a definition: its members in order and, if none overlap and none ends outside, the holes between
+/// them and the padding after them; otherwise the overlaps and the members that end outside, after the members. An index in a row
+/// is that of a part of the structure's view, so `layout_lines` can print the rows. Fails only where memory runs out.
 pub fn layout<Ix: Index>(
     alloc: Global,
     graph: &Graph<Ix>,

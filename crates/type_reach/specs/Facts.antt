@@ -1,5 +1,5 @@
--- What is made of a type from the same of the types that it holds by value: its depth, size, weight, core, explicit alignment,
--- and what the limits of types ask. Numbers that may grow beyond 64 bits stop at 2^64 - 1, which is above every limit.
+-- The facts of a type, from those of the types that it holds by value: its depth, size, weight, core, explicit alignment, and what
+-- the limits of types need. Numbers that may exceed 64 bits saturate at 2^64 - 1, which exceeds every limit.
 use Rattle.std.specs.Prelude.{length, Contains, ◌<◌, ◌≡◌, ◌+◌, ◌-◌, ◌*◌, ◌^◌, ◌&&◌, ◌||◌, ℕ, ℤ, Bool, true, false, if◌then◌else◌, min, max, List, [], ◌∷◌, map, zip, drop, slice_index_or, slice_get, Option, Some, None, IfSome, ◌+ℤ◌}
 use Rattle.std.specs.List.{list_any}
 use Rattle.std.specs.Int.{int_min, int_max}
@@ -18,33 +18,33 @@ use Rattle.type_reach.specs.References.{Type_, tagged_children, role_of, members
 use Rattle.type_reach.specs.Placement.{bit_of, is_out_of_range, is_nameless, IsNear}
 use Rattle.type_reach.specs.ByValue.{by_value, IsTooDeep}
 
--- a number that stops at the end of 64 bits
+-- a number that saturates at the end of 64 bits
 abbrev pub cut : ℕ → ℕ
 cut n = min n (2 ^ 64 - 1)
 
--- the number above all of these
+-- the least number above all of these
 unfoldable pub above : List ℕ → ℕ
 above [] = 0
 above (n ∷ ns) = max (n + 1) (above ns)
 
--- all of these together
+-- the sum of these
 unfoldable pub total : List ℕ → ℕ
 total [] = 0
 total (n ∷ ns) = cut (n + total ns)
 
--- all of these times one another; one of 0 makes it 0, wherever it stands
+-- the product of these; it is 0 if one of them is, even where an earlier product saturates
 unfoldable pub product : List ℕ → ℕ
 product [] = 1
 product (n ∷ ns) = cut (n * product ns)
 
--- ---- how many elements an array has (DWARF 5, sections 5.5 "Array Type Entries" and 5.13 "Subrange Type Entries")
+-- ---- the number of elements of an array (DWARF 5, sections 5.5 "Array Type Entries" and 5.13 "Subrange Type Entries")
 
 abbrev pub count_by : Option ℕ → Option ℕ → ℕ
 count_by (Some count) counted = count
 count_by None (Some counted) = counted
 count_by None None = 0
 
--- its count, else one more than its upper bound, modulo 2^64; without either it is open and counts 0
+-- its count, or one more than its upper bound, modulo 2^64; without either it is open and has 0
 unfoldable pub subrange_count : PlainTree → ℕ → ℕ
 subrange_count t s = count_by (natural_of (attribute_along t s dw_at_count)) (counted_to (attribute_along t s dw_at_upper_bound))
 
@@ -65,11 +65,11 @@ nothing = record { rank = 0; size = 0; count = 0; weight = 0; align = 0; rooms =
 abbrev pub void_facts : Facts
 void_facts = record nothing { weight = 1 }
 
--- those of the type of what is passed, or of the elements of an array
+-- the facts of the type for which an entry stands, or of the elements of an array
 abbrev pub first_of : List Facts → Facts
 first_of facts = slice_index_or facts 0 nothing
 
--- the size that an entry says (DWARF 5, section 2.21 "Byte and Bit Sizes"), which a declaration does not have (section 2.13.1)
+-- the size that an entry gives (DWARF 5, section 2.21 "Byte and Bit Sizes"); a declaration has none (section 2.13.1)
 unfoldable pub own_size : PlainTree → ℕ → ℕ
 own_size t e = if is_declared_only t e then 0 else number_at t e dw_at_byte_size
 
@@ -86,7 +86,7 @@ size_for role.Aggregate t e facts = own_size t e
 size_for role.Array t e facts = cut (array_count t e * (first_of facts).size)
 size_for _ t e facts = 0
 
--- how many elements the core has, where it is an array
+-- the number of elements of the core, if it is an array
 abbrev pub count_for : Role → PlainTree → ℕ → List Facts → ℕ
 count_for role.Wrapper t e facts = (first_of facts).count
 count_for role.Array t e facts = array_count t e
@@ -95,7 +95,7 @@ count_for _ t e facts = 0
 abbrev pub weight_in : Facts → ℕ
 weight_in x = x.weight
 
--- One more than the weights of all types that are held by value, each step for itself: an array has one step, whatever its
+-- One more than the sum of the weights of all types held by value, counted once for each step: an array has one step, whatever its
 -- count. A function weighs 1.
 abbrev pub weight_for : Role → List Facts → ℕ
 weight_for role.Function facts = 1
@@ -111,23 +111,23 @@ aggregate_for role.Wrapper facts = (first_of facts).aggregate
 aggregate_for role.Aggregate facts = true
 aggregate_for _ facts = false
 
--- ---- what a function asks of its callers: for each parameter its size, and room for its alignment
+-- ---- the stack space of a function's parameters: for each its size, and room for its alignment
 
 abbrev pub room_of : Facts → ℕ
 room_of x = x.size + align_room
 
--- the parameters of the core, where it is a function; the first step from one leads to its result
+-- the stack space of the core's parameters, if it is a function; its first step leads to its result
 abbrev pub rooms_for : Role → List Facts → ℕ
 rooms_for role.Wrapper facts = (first_of facts).rooms
 rooms_for role.Function facts = total (map room_of (drop 1 facts))
 rooms_for _ facts = 0
 
--- ---- members, each beside the facts of its type
+-- ---- members, each paired with the facts of its type
 
 abbrev pub members_with : PlainTree → ℕ → List Facts → List (ℕ × Facts)
 members_with t e facts = zip (members_of t e) facts
 
--- a member without a name, of a structure or a union, is replaced by the members of that
+-- a nameless member with a structure or union type is replaced by the members of that
 unfoldable pub is_replaced : PlainDwarf → ℕ × Facts → Bool
 is_replaced d member = is_nameless d member.0 && member.1.aggregate
 
@@ -141,7 +141,7 @@ unfoldable pub most : List ℕ → ℕ
 most [] = 0
 most (n ∷ ns) = max n (most ns)
 
--- a member's own, and that of its type where it is replaced
+-- a member's own, and that of its type if the member is replaced
 unfoldable pub member_align : PlainDwarf → ℕ × Facts → ℕ
 member_align d member = if is_replaced d member then max (own_align d.tree member.0) member.1.align else own_align d.tree member.0
 
@@ -149,11 +149,11 @@ abbrev pub passed_align : Role → List Facts → ℕ
 passed_align role.Wrapper facts = (first_of facts).align
 passed_align _ facts = 0
 
--- the greatest of its own, of that of the type that it stands for, and of those of its members
+-- the greatest of its own, that of the type that it stands for, and those of its members
 unfoldable pub align_from : PlainDwarf → ℕ → List Facts → ℕ
 align_from d e facts = max (own_align d.tree e) (max (passed_align (role_of d.tree e) facts) (most (map (member_align d) (members_with d.tree e facts))))
 
--- ---- the least and the greatest bit at which a flat member of the core begins
+-- ---- the least and the greatest offset of the core's flat members, in bits
 
 abbrev pub moved_span : ℤ → Option Span → Option Span
 moved_span by None = None
@@ -171,7 +171,7 @@ spread (s ∷ ss) = joined s (spread ss)
 abbrev pub bit_span : ℤ → Option Span
 bit_span bit = Some (record { low = bit; high = bit })
 
--- where a member begins, or the members that replace it; a nameless member of another type is passed over
+-- the offset of a member, or those of the members that replace it; nameless members of other types do not count
 unfoldable pub member_span : PlainDwarf → ℕ × Facts → Option Span
 member_span d member =
     if is_nameless d member.0
@@ -181,7 +181,7 @@ member_span d member =
 unfoldable pub own_span : PlainDwarf → ℕ → List Facts → Option Span
 own_span d e facts = spread (map (member_span d) (members_with d.tree e facts))
 
--- what stands for its type has the span of that, and any other type its own
+-- a type that stands for another has the span of that, any other type its own
 abbrev pub span_in : Role → List Facts → Option Span → Option Span
 span_in role.Wrapper facts own = (first_of facts).span
 span_in _ facts own = own
@@ -200,11 +200,11 @@ abbrev pub beyond_in : Role → List Facts → Bool → Bool
 beyond_in role.Wrapper facts own = (first_of facts).beyond
 beyond_in _ facts own = own
 
--- a member of the core begins at a bit out of range, as it stands or as a flat member
+-- a member of the core is out of range, as declared or as a flat member
 abbrev pub beyond_for : Role → PlainDwarf → ℕ → List Facts → Bool
 beyond_for k d e facts = beyond_in k facts (list_any (member_beyond d) (members_with d.tree e facts) || span_out_of_range (own_span d e facts))
 
--- ---- all of them
+-- ---- all facts
 
 abbrev pub rank_in : Facts → ℕ
 rank_in x = x.rank
@@ -224,30 +224,30 @@ facts_from d (Some e) facts = record {
   aggregate = aggregate_for (role_of d.tree e) facts;
 }
 
--- The facts of a type from which no more steps by value than the limit lead on.
+-- The facts of a type that is not too deep.
 unfoldable pub facts_of : PlainDwarf → Type_ → Facts
 facts_of d r = by_value d.tree (facts_from d) nothing r
 
--- ---- facts that are known
+-- ---- known facts
 
--- what is held by value moves bits by no more than its depth allows
+-- types held by value move offsets no further than the depth allows
 pub record IsSpanNear (x : Facts) : Type 0 where
   pub low : IfSome x.span (λ s. IsNear (x.rank + 1) s.low)
   pub high : IfSome x.span (λ s. IsNear (x.rank + 1) s.high)
 
--- what is known of types: by the numbers of their entries
+-- the known facts of types, by the numbers of their entries
 pub record AreFacts (d : PlainDwarf) (found : List ℕ) (known : List (Option Facts)) : Type 0 where
   pub each : (i e : ℕ) (x : Facts) → slice_get found i ≡ Some e → slice_get known i ≡ Some (Some x) → x ≡ facts_of d (Some e)
   pub shallow : (i e : ℕ) (x : Facts) → slice_get found i ≡ Some e → slice_get known i ≡ Some (Some x) → IsTooDeep d.tree (Some e) → ⊥
   pub near : (i : ℕ) (x : Facts) → slice_get known i ≡ Some (Some x) → IsSpanNear x
 
--- the facts of all entries that were found, from none of which too many steps lead on
+-- the facts of all found entries, none of which is too deep
 pub record AreAllFacts (d : PlainDwarf) (found : List ℕ) (facts : List Facts) : Type 0 where
   pub count : length facts ≡ length found
   pub each : (i e : ℕ) → slice_get found i ≡ Some e → slice_get facts i ≡ Some (facts_of d (Some e))
   pub shallow : (e : ℕ) → Contains found e → IsTooDeep d.tree (Some e) → ⊥
 
--- the first entry, in order of offset, from which too many steps lead on
+-- the first entry, by offset, that is too deep
 pub record IsFirstTooDeep (t : PlainTree) (found : List ℕ) (e : ℕ) : Type 0 where
   pub there : Contains found e
   pub deep : IsTooDeep t (Some e)

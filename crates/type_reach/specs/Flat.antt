@@ -1,4 +1,4 @@
--- Labels and flat members of types: each is made from what is made of the types that a type holds by value.
+-- Labels and flat members of types. Each follows from the same for the types that a type holds by value.
 use Rattle.std.specs.Prelude.{◌==◌, ◌+ℤ◌, ℕ, ℤ, if◌then◌else◌, List, [], ◌∷◌, ◌++◌, map, flat_map, zip, slice_index_or, Option, Some, None}
 use Rattle.abi_base.specs.Dwarf.{dw_tag_structure_type, dw_tag_union_type, dw_tag_enumeration_type, dw_tag_base_type, dw_tag_typedef}
 use Rattle.dwarf_entries.specs.Addresses.{tag_at}
@@ -24,7 +24,7 @@ abbrev pub text_or_empty : Option (List ℕ) → List ℕ
 text_or_empty None = []
 text_or_empty (Some text) = text
 
--- the kind of name that an entry of a tag has
+-- the kind of name that an entry with a tag has
 unfoldable pub label_kind : ℕ → Option LabelKind
 label_kind tag =
     if tag == dw_tag_typedef then Some label.Typedef
@@ -37,7 +37,7 @@ abbrev pub label_under : PlainDwarf → ℕ → Option LabelKind → List PlainL
 label_under d e None = []
 label_under d e (Some kind) = record { kind = kind; name = text_or_empty (name_of d e) } ∷ []
 
--- an entry that stands for the type of a type unit gives no name
+-- an entry that stands for the type of a type unit contributes no name
 unfoldable pub own_label : PlainDwarf → ℕ → List PlainLabel
 own_label d e = if is_signed d.tree e then [] else label_under d e (label_kind (tag_at d.tree e))
 
@@ -55,7 +55,7 @@ labels_of d r = by_value d.tree (labels_made d) [] r
 
 -- ---- flat members
 
--- a member, where it begins in bits, how wide it is as a bit field, and its type
+-- a member with its offset in bits, its width in bits if it is a bit field, and its type
 pub record Flat : Type 0 where
   pub name : List ℕ
   pub bit : ℤ
@@ -65,11 +65,11 @@ pub record Flat : Type 0 where
 abbrev pub moved : ℤ → Flat → Flat
 moved by m = record m { bit = by +ℤ m.bit }
 
--- where a member stands as it is declared
+-- the offset of a member as declared
 abbrev pub declared_bit : PlainDwarf → ℕ → ℤ
 declared_bit d m = bit_of d m (facts_of d (type_of d.tree m)).size
 
--- What a member gives: itself, where it has a name; else the members of its type, moved, where that is a structure or a union.
+-- The contribution of a member: itself if it has a name; else, if its type is a structure or a union, the members of that, moved.
 abbrev pub given_by : PlainDwarf → ℕ → Option (List ℕ) → List Flat → List Flat
 given_by d m (Some name) inner = record { name = name; bit = declared_bit d m; width = width_of d m; to = type_of d.tree m } ∷ []
 given_by d m None inner = if (facts_of d (type_of d.tree m)).aggregate then map (moved (declared_bit d m)) inner else []
@@ -77,8 +77,8 @@ given_by d m None inner = if (facts_of d (type_of d.tree m)).aggregate then map 
 abbrev pub given : PlainDwarf → ℕ × List Flat → List Flat
 given d member = given_by d member.0 (name_of d member.0) member.1
 
--- The steps from an aggregate are those to the types of its members, in their order: so each member stands beside what was
--- made of its type.
+-- The steps from an aggregate lead to the types of its members, in order. Each member is thus paired with the flat members of its
+-- type.
 abbrev pub flat_for : Role → PlainDwarf → ℕ → List (List Flat) → List Flat
 flat_for role.Wrapper d e flats = slice_index_or flats 0 []
 flat_for _ d e flats = flat_map (given d) (zip (members_of d.tree e) flats)
@@ -87,10 +87,10 @@ abbrev pub flat_made : PlainDwarf → Type_ → List (List Flat) → List Flat
 flat_made d None flats = []
 flat_made d (Some e) flats = flat_for (role_of d.tree e) d e flats
 
--- the members of the core, in their order, each nameless structure or union replaced by its own
+-- the members of the core in order, each nameless structure or union replaced by its own members
 unfoldable pub flat_of : PlainDwarf → Type_ → List Flat
 flat_of d r = by_value d.tree (flat_made d) [] r
 
--- what a member gives, with the flat members of its type
+-- the contribution of a member, from the flat members of its type
 abbrev pub member_gives : PlainDwarf → ℕ → List Flat
 member_gives d m = given d (m, flat_of d (type_of d.tree m))

@@ -8,7 +8,7 @@ use Rattle.type_reach.specs.ByValue.{IsTooDeep}
 use Rattle.type_reach.specs.Facts.{facts_of}
 use Rattle.type_reach.specs.Flat.{Flat, flat_of}
 
--- the facts of the core, which a type has too
+-- the facts that a type shares with its core
 pub record SharePeeledCore (a b : Facts) : Type 0 where
   pub size : a.size ≡ b.size
   pub count : a.count ≡ b.count
@@ -18,11 +18,11 @@ pub record SharePeeledCore (a b : Facts) : Type 0 where
   pub core : a.core ≡ b.core
   pub aggregate : a.aggregate ≡ b.aggregate
 
--- the entry stands for no type
+-- whether the entry stands for no other type
 abbrev pub StandsForNone : PlainDwarf → ℕ → Type 0
 StandsForNone d e = role_of d.tree e ≡ role.Wrapper → ⊥
 
--- what holds of the core of a type: no typedef, qualifier or variable is one
+-- the properties of a type's core, which is not a typedef, qualifier or variable
 pub record IsPeeledCore (d : PlainDwarf) (r c : Type_) : Type 0 where
   pub last : IfSome c (StandsForNone d)
   pub shallow : IsTooDeep d.tree c → ⊥
@@ -30,11 +30,11 @@ pub record IsPeeledCore (d : PlainDwarf) (r c : Type_) : Type 0 where
   pub same : SharePeeledCore (facts_of d r) (facts_of d c)
   pub flat : flat_of d r ≡ flat_of d c
 
--- a type is void, or was found
+-- a type is void or was found
 abbrev pub IsFound : List ℕ → Type_ → Type 0
 IsFound found r = IfSome r (λ e. Contains found e)
 
--- a flat member's type was found, and is lower than the type whose member it is
+-- a flat member's type was found, and has a lower rank than the type with the member
 pub record IsLower (d : PlainDwarf) (found : List ℕ) (r : Type_) (m : Flat) : Type 0 where
   pub there : IsFound found m.to
   pub low : (facts_of d m.to).rank < (facts_of d r).rank

@@ -1,4 +1,4 @@
--- What makes a type too large.
+-- The conditions under which a type is too large.
 use Rattle.std.specs.Prelude.{ℕ, ◌||◌, Bool, false, nat_lt, Some, None}
 use Rattle.std.specs.List.{list_any}
 use Rattle.abi_base.specs.Limits.{weight_limit}
@@ -12,12 +12,12 @@ use Rattle.type_reach.specs.Flat.{Flat, core_of, declared_bit, flat_of}
 abbrev pub begins_beyond : Flat → Bool
 begins_beyond m = is_out_of_range m.bit
 
--- a member of the core begins at a bit out of range, as it stands on the member
+-- a member of the core is out of range, as declared
 abbrev pub has_member_beyond : PlainDwarf → Type_ → Bool
 has_member_beyond d None = false
 has_member_beyond d (Some c) = list_any (λ m. is_out_of_range (declared_bit d m)) (members_of d.tree c)
 
--- a size, a count, a weight, an alignment, the parameters of a function or the bits of members pass the limits
+-- a size, a count, a weight, an alignment, the parameters of a function or the offsets of members exceed the limits
 unfoldable pub is_too_large : PlainDwarf → ℕ → Bool
 is_too_large d e =
     nat_lt size_limit (facts_of d (Some e)).size

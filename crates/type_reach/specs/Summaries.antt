@@ -1,4 +1,4 @@
--- The facts that stay in memory once all types were judged.
+-- The facts that remain in memory after all types are judged.
 use Rattle.std.specs.Prelude.{◌≡◌, ℕ, List, length, slice_get, Contains, Some}
 use Rattle.dwarf_entries.specs.Debug.{PlainDwarf}
 use Rattle.type_reach.specs.declared.facts.Facts.{Facts}
@@ -9,7 +9,7 @@ use Rattle.type_reach.specs.Facts.{facts_of}
 abbrev pub summary_of : Facts → Summary
 summary_of x = record { rank = x.rank; aggregate = x.aggregate; size = x.size; count = x.count; align = x.align; core = x.core }
 
--- the summaries of all entries that were found, from none of which too many steps lead on
+-- the summaries of all found entries, none of which is too deep
 pub record AreSummaries (d : PlainDwarf) (found : List ℕ) (summaries : List Summary) : Type 0 where
   pub count : length summaries ≡ length found
   pub each : (i e : ℕ) → slice_get found i ≡ Some e → slice_get summaries i ≡ Some (summary_of (facts_of d (Some e)))

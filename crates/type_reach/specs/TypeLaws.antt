@@ -1,4 +1,4 @@
--- What holds of all types of debug information, for crates above: each of these is a law of its own, too.
+-- The laws about all types of debug information, for crates above. Each of these is a law of its own, too.
 use Rattle.std.specs.Prelude.{◌≡◌, ◌<◌, ◌≤◌, ◌*◌, ◌||◌, ℕ, List, [], ◌++◌, map, flat_map, Contains, Some, None}
 use Rattle.std.specs.List.{list_any}
 use Rattle.abi_base.specs.Limits.{depth_limit}
@@ -12,7 +12,7 @@ use Rattle.type_reach.specs.Flat.{Flat, core_of, own_label, labels_made, labels_
 use Rattle.type_reach.specs.PeeledCores.{StandsForNone, IsPeeledCore, IsFound, IsLower}
 use Rattle.type_reach.specs.Sizes.{begins_beyond, has_member_beyond}
 
--- no more steps by value than the limit lead on
+-- no chain of steps by value exceeds the limit
 abbrev pub IsShallow : PlainDwarf → Type_ → Type 0
 IsShallow d r = IsTooDeep d.tree r → ⊥
 

@@ -1,10 +1,10 @@
--- What the entries that were found lead to.
+-- The types to which found entries lead.
 use Rattle.std.specs.Prelude.{◌≡◌, ◌<◌, ℕ, List, length, map, All, Contains}
 use Rattle.dwarf_tree.specs.Trees.{PlainTree}
 use Rattle.type_reach.specs.declared.type_references.TypeReferences.{TypeReferences}
 use Rattle.type_reach.specs.References.{parts_of, types_of}
 
--- the parts and the types of all that was found, by number
+-- the parts and the types of all found entries, by number
 pub record AreTypeReferences (t : PlainTree) (found : List ℕ) (leads : TypeReferences) : Type 0 where
   pub parts : leads.parts ≡ map (parts_of t) found
   pub types : leads.types ≡ map (types_of t) found

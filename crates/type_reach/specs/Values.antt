@@ -1,4 +1,4 @@
--- What attributes say as numbers (DWARF 5, section 7.5.5 "Classes and Forms", class constant).
+-- Attribute values as numbers (DWARF 5, section 7.5.5 "Classes and Forms", class constant).
 use Rattle.std.specs.Prelude.{ℕ, ◌^◌, ◌==◌, nat_lt, Bool, true, false, if◌then◌else◌, is_some, List, length, slice_index_or, Option, Some, None}
 use Rattle.std.specs.Option.{unwrap_or}
 use Rattle.abi_base.specs.Dwarf.{dw_op_plus_uconst}
@@ -9,7 +9,7 @@ use Rattle.dwarf_tree.specs.Trees.{PlainTree}
 use Rattle.dwarf_entries.specs.Chains.{attribute_along}
 use Rattle.dwarf_entries.specs.FlagsAndBlocks.{block_of}
 
--- a constant that is not negative
+-- a nonnegative constant
 abbrev pub natural_of : Option Value → Option ℕ
 natural_of None = None
 natural_of (Some v) = number_of v
@@ -19,17 +19,17 @@ abbrev pub wrapped_of : Option Value → Option ℕ
 wrapped_of None = None
 wrapped_of (Some v) = word_of v
 
--- how many numbers there are from 0 up to a constant, modulo 2^64
+-- how many numbers there are from 0 through a constant, modulo 2^64
 abbrev pub counted_to : Option Value → Option ℕ
 counted_to None = None
 counted_to (Some v) = count_up_to_of v
 
--- the operand, where the expression ends behind it
+-- the operand, if the expression ends after it
 abbrev pub whole_operand : Option (ℕ × ℕ) → ℕ → Option ℕ
 whole_operand None end = None
 whole_operand (Some (n, after)) end = if after == end then Some n else None
 
--- what an expression adds, which is one operation alone (DWARF 5, section 2.5.1.4 "Arithmetic and Logical Operations")
+-- the addend of an expression that is a single operation (DWARF 5, section 2.5.1.4 "Arithmetic and Logical Operations")
 abbrev pub added_by : List ℕ → Option ℕ
 added_by bytes = if slice_index_or bytes 0 0 == dw_op_plus_uconst then whole_operand (uleb_at bytes 1) (length bytes) else None
 
@@ -37,26 +37,26 @@ abbrev pub place_by : Option (List ℕ) → Option ℕ → Option ℕ
 place_by (Some bytes) constant = added_by bytes
 place_by None constant = constant
 
--- a place in bytes: a constant, or an expression that adds one
+-- an offset in bytes: a constant, or the addend of an expression
 abbrev pub place_of : List ℕ → Option Value → Option ℕ
 place_of info None = None
 place_of info (Some v) = place_by (block_of info v) (number_of v)
 
--- the value that an entry has, itself or along its chain, is there
+-- whether an entry has an attribute, its own or inherited
 unfoldable pub is_there : PlainTree → ℕ → ℕ → Bool
 is_there t e name = is_some (attribute_along t e name)
 
--- the number that an entry has of an attribute, itself or along its chain; 0 where it has none
+-- the number in an attribute of an entry, its own or inherited, or 0 where it has none
 unfoldable pub number_at : PlainTree → ℕ → ℕ → ℕ
 number_at t e name = unwrap_or (natural_of (attribute_along t e name)) 0
 
--- ---- numbers that are used must be small: from 0 to 2^63 - 1
+-- ---- numbers in use must be small: from 0 to 2^63 - 1
 
 abbrev pub is_small : Option ℕ → Bool
 is_small None = false
 is_small (Some n) = nat_lt n (2 ^ 63)
 
--- an attribute that is not there, or is such a number
+-- an attribute is missing, or is such a number
 abbrev pub is_small_if_there : (Option Value → Option ℕ) → Option Value → Bool
 is_small_if_there read None = true
 is_small_if_there read (Some v) = is_small (read (Some v))

@@ -1,4 +1,4 @@
--- What a type looks like. Parts name types by whatever a name is: the offset of an entry, or the number of a node.
+-- The views of types. Parts refer to types by a number of the caller's choice: the offset of an entry, or the number of a node.
 use Rattle.std.specs.Prelude.{ℕ, ℤ, ◌==◌, ◌&&◌, ◌||◌, not, Bool, true, false, if◌then◌else◌, List, [], ◌∷◌, map, Option, Some, None, pos, negsuc, codes}
 use Rattle.std.specs.Option.{unwrap_or}
 use Rattle.std.specs.Str.{bytes_eq}
@@ -23,14 +23,14 @@ use Rattle.type_reach.specs.Shapes.{encoding_group}
 use Rattle.type_reach.specs.Facts.{facts_of}
 use Rattle.type_reach.specs.Flat.{Flat, text_or_empty, core_of, flat_of}
 
--- the offset of an entry; void is 0, where a header stands and no entry
+-- the offset of an entry; void has 0, which is the offset of a unit header and so of no entry
 abbrev pub offset_of : PlainTree → Type_ → ℕ
 offset_of t None = 0
 offset_of t (Some e) = (entry_at t e).offset
 
 -- ---- the kind of a core
 
--- a vector of the machine says so by a flag of GNU's
+-- a vector type has a flag that is a GNU extension
 unfoldable pub is_vector : PlainTree → ℕ → Bool
 is_vector t e = flag_value_along t e dw_at_gnu_vector
 
@@ -64,7 +64,7 @@ group_of d c = group_from (encoding_group d.tree c) (facts_of d (Some c)).size (
 
 -- ---- parts
 
--- a bit that is not negative
+-- a nonnegative bit offset
 abbrev pub bit_number : ℤ → ℕ
 bit_number (pos bit) = bit
 bit_number (negsuc bit) = 0
@@ -72,7 +72,7 @@ bit_number (negsuc bit) = 0
 abbrev pub member_part : (Type_ → ℕ) → Flat → PlainPart
 member_part name m = Member m.name (bit_number m.bit) m.width (name m.to)
 
--- an enumerator and its value, modulo 2^64
+-- an enumerator with its value modulo 2^64
 abbrev pub enumerator_part : PlainDwarf → ℕ → PlainPart
 enumerator_part d c = Enumerator (text_or_empty (name_of d c)) (unwrap_or (wrapped_of (attribute_along d.tree c dw_at_const_value)) 0)
 
@@ -96,7 +96,7 @@ abbrev pub is_empty : List ℕ → Bool
 is_empty [] = true
 is_empty (x ∷ xs) = false
 
--- a function with an open end of parameters
+-- a function that takes variable arguments
 abbrev pub variadic_for : Role → PlainTree → ℕ → Bool
 variadic_for role.Function t c = not (is_empty (tagged_children t (body_of t c) dw_tag_unspecified_parameters))
 variadic_for _ t c = false
@@ -125,6 +125,6 @@ core_view name d align (Some c) = record {
 unfoldable pub view_by : (Type_ → ℕ) → PlainDwarf → Type_ → PlainView
 view_by name d r = core_view name d (facts_of d r).align (core_of d r)
 
--- THE VIEW: its parts name the offsets of entries
+-- THE VIEW, in which parts refer to types by the offsets of entries
 abbrev pub view_of : PlainDwarf → Type_ → PlainView
 view_of d r = view_by (offset_of d.tree) d r

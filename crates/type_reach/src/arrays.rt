@@ -1,4 +1,4 @@
-// How many elements arrays have.
+// The number of elements of an array.
 ghost use Rattle.std.specs.Prelude.{◌≡◌, ◌<◌, length, map, All, IfOk};
 ghost use Rattle.type_reach.specs.Facts as spec;
 
@@ -8,7 +8,7 @@ use abi_base::dwarf::{DW_AT_count, DW_AT_upper_bound, DW_TAG_subrange_type};
 use dwarf_entries::Dwarf;
 use std::alloc::Global;
 
-// How many elements a dimension has.
+// The number of elements of a dimension.
 #[tactic(auto, unfolding(crate::specs::Facts::subrange_count))]
 fn subrange_count(dwarf: &Dwarf, subrange: usize) -> u64
     requires { subrange < length dwarf.now.tree.entries }
@@ -20,7 +20,7 @@ fn subrange_count(dwarf: &Dwarf, subrange: usize) -> u64
     }
 }
 
-// How many elements dimensions have together.
+// The product of the dimensions' numbers of elements.
 fn product(dwarf: &Dwarf, subranges: &[usize]) -> u64
     requires { All (λ s. s < length dwarf.now.tree.entries) subranges.now }
     ensures { result ≡ spec.product (map (spec.subrange_count dwarf.now.tree) subranges.now) }
@@ -35,7 +35,7 @@ fn product(dwarf: &Dwarf, subranges: &[usize]) -> u64
     all
 }
 
-/// How many elements an array has, at most 2^64 - 1; without a dimension it has none.
+/// The number of elements of an array, at most 2^64 - 1. An array without a dimension has none.
 #[tactic(auto, unfolding(crate::specs::Facts::array_count, crate::specs::References::tagged_children))]
 pub(crate) fn array_count(alloc: Global, dwarf: &Dwarf, e: usize) -> Result<u64, NoMemory>
     requires { e < length dwarf.now.tree.entries }

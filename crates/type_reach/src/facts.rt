@@ -1,4 +1,4 @@
-// What is made of a type from the same of the types that it holds by value.
+// The facts of a type, computed from those of the types that it holds by value.
 ghost use Rattle.std.specs.Prelude.{◌≡◌, ◌<◌, ◌≤◌, ◌+◌, length, map, drop, All, Some, IfOk, IfSome};
 ghost use Rattle.abi_base.specs.Limits.{depth_limit};
 ghost use Rattle.type_reach.specs.References as references_spec;
@@ -16,38 +16,38 @@ use abi_base::dwarf::DW_AT_byte_size;
 use dwarf_entries::Dwarf;
 use std::alloc::Global;
 
-/// The least and the greatest bit at which something begins.
+/// The least and the greatest offset of something, in bits.
 #[derive(Clone, Copy, Debug, PartialEq, Eq)]
 pub struct Span {
-    /// The least one.
+    /// The least offset.
     pub low: i128,
-    /// The greatest one.
+    /// The greatest offset.
     pub high: i128,
 }
 
-/// What is known of a type. Numbers stop at 2^64 - 1, which is above every limit.
+/// The facts of a type. Numbers saturate at 2^64 - 1, which exceeds every limit.
 #[derive(Clone, Copy, Debug, PartialEq, Eq)]
 pub struct Facts {
-    // The order of the fields only saves memory: the small ones stand together.
-    /// The most steps by value that lead on from it.
+    // The order of the fields saves memory: the small ones are adjacent.
+    /// The length of the longest chain of steps by value from it.
     pub rank: u32,
-    /// A member of its core begins at a bit out of range, as it stands or as a flat member.
+    /// A member of its core has an offset out of range, as declared or as a flat member.
     pub beyond: bool,
     /// Its core is a structure or a union.
     pub aggregate: bool,
-    /// In bytes.
+    /// Its size in bytes.
     pub size: u64,
-    /// How many elements its core has, where that is an array.
+    /// The number of elements of its core, if that is an array.
     pub count: u64,
-    /// One more than the weights of all that it holds by value; a function weighs 1.
+    /// One more than the sum of the weights of all types that it holds by value. A function weighs 1.
     pub weight: u64,
-    /// The explicit alignment in bytes; 0 where there is none.
+    /// The explicit alignment in bytes, or 0.
     pub align: u64,
-    /// What the parameters of its core ask for, where that is a function: for each its size, and room for its alignment.
+    /// The stack space of the core's parameters, if that is a function: for each its size, and room for its alignment.
     pub rooms: u64,
-    /// Where the flat members of its core begin; none where it has none.
+    /// The offsets of the core's flat members, or None where it has none.
     pub span: Option<Span>,
-    /// The entry of its core, none for void.
+    /// The entry of its core, or None for void.
     pub core: Option<usize>,
 }
 
@@ -65,7 +65,7 @@ pub const VOID: Facts = Facts {
     aggregate: false,
 };
 
-// The number above all ranks.
+// The least number above all ranks.
 fn above(facts: &[Facts]) -> u32
     requires { All (λ x. x.rank < depth_limit) facts.now }
     ensures above { result ≡ facts_spec.above (map rank_in facts.now) }
@@ -84,7 +84,7 @@ fn above(facts: &[Facts]) -> u32
     most
 }
 
-// All weights together.
+// The sum of all weights.
 fn all_weights(facts: &[Facts]) -> u64
     ensures { result ≡ facts_spec.total (map weight_in facts.now) }
 {
@@ -98,7 +98,7 @@ fn all_weights(facts: &[Facts]) -> u64
     all
 }
 
-// The sizes of parameters together, with room for their alignments.
+// The stack space of parameters: the sum of their sizes, with room for their alignments.
 fn all_rooms(params: &[Facts]) -> u64
     ensures { result ≡ facts_spec.total (map facts_spec.room_of params.now) }
 {
@@ -112,7 +112,7 @@ fn all_rooms(params: &[Facts]) -> u64
     all
 }
 
-// The first one, if any.
+// The first facts, or those of void.
 fn first(facts: &[Facts]) -> Facts
     ensures { result ≡ first_of facts.now }
 {
@@ -133,7 +133,7 @@ fn first(facts: &[Facts]) -> Facts
     }
 }
 
-// The size that an entry says, which a declaration does not have.
+// The size that an entry gives. A declaration has none.
 #[tactic(auto, unfolding(crate::specs::Facts::own_size))]
 fn own_size(dwarf: &Dwarf, e: usize) -> u64
     requires { e < length dwarf.now.tree.entries }
@@ -146,7 +146,7 @@ fn own_size(dwarf: &Dwarf, e: usize) -> u64
     }
 }
 
-// The size of a type. Where its core is an array, `count` is how many elements that has.
+// The size of a type. If its core is an array, `count` is the number of its elements.
 fn size(dwarf: &Dwarf, e: usize, role: Role, facts: &[Facts], count: u64) -> u64
     requires inside { e < length dwarf.now.tree.entries }
     requires count { count ≡ count_for role dwarf.now.tree e facts.now }
@@ -164,7 +164,7 @@ fn size(dwarf: &Dwarf, e: usize, role: Role, facts: &[Facts], count: u64) -> u64
     }
 }
 
-// How many elements the core has.
+// The number of elements of the core.
 fn count(
     alloc: Global,
     dwarf: &Dwarf,
@@ -193,7 +193,7 @@ fn weight(role: Role, facts: &[Facts]) -> u64
     }
 }
 
-// What the parameters of the core ask for.
+// The stack space of the core's parameters.
 fn rooms(role: Role, facts: &[Facts]) -> u64
     ensures { result ≡ rooms_for role facts.now }
 {
@@ -247,7 +247,7 @@ fn align(dwarf: &Dwarf, e: usize, role: Role, facts: &[Facts], held: u64) -> u64
     own_align(dwarf, e).max(passed.max(held))
 }
 
-// Where the flat members of the core begin; `own` is where those of the entry itself begin.
+// The offsets of the core's flat members; `own` has those of the entry's own flat members.
 fn flat_span(role: Role, facts: &[Facts], own: Option<Span>) -> Option<Span>
     ensures { result ≡ span_in role facts.now own }
 {
@@ -258,7 +258,7 @@ fn flat_span(role: Role, facts: &[Facts], own: Option<Span>) -> Option<Span>
     }
 }
 
-// Whether a member of the core begins out of range; `own` is whether one of the entry itself does.
+// Whether a member of the core is out of range; `own` tells whether one of the entry's own members is.
 fn beyond(role: Role, facts: &[Facts], own: bool) -> bool
     ensures { result ≡ beyond_in role facts.now own }
 {
@@ -269,7 +269,7 @@ fn beyond(role: Role, facts: &[Facts], own: bool) -> bool
     }
 }
 
-// The facts of an entry from those of the types that it holds by value.
+// The facts of an entry, from those of the types that it holds by value.
 #[tactic(auto, unfolding(crate::specs::Facts::facts_from, crate::specs::Facts::own_span))]
 pub(crate) fn combine(
     alloc: Global,

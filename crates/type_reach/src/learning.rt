@@ -1,4 +1,4 @@
-// The facts of all entries that were found, each learned once, after those of the types that it holds by value.
+// Computes the facts of all found entries, each once, after those of the types that it holds by value.
 ghost use Rattle.std.specs.Prelude.{◌≡◌, ◌<◌, ◌≤◌, ◌+◌, ℕ, List, Some, length, slice_get, All, Contains, IfOk, IfSome, IfNone, OnOk, IsPermutation};
 ghost use Rattle.std.specs.List.Sorted.{IsNonDecreasing};
 ghost use Rattle.abi_base.specs.Limits.{depth_limit};
@@ -19,7 +19,7 @@ use abi_base::{Fault, FaultKind, NoMemory, Refusal};
 use dwarf_entries::Dwarf;
 use std::alloc::Global;
 
-// Debug information, the entries of it that were found, and what these lead to.
+// Debug information, the found entries, and the types to which they lead.
 #[derive(Clone, Copy)]
 struct FoundTypes<'t, 'a> {
     dwarf: &'t Dwarf<'a>,
@@ -27,7 +27,7 @@ struct FoundTypes<'t, 'a> {
     leads: &'t TypeReferences,
 }
 
-// The facts of a type, or none where more steps by value than the budget lead on from it.
+// The facts of a type, or None where a chain of more steps by value than the budget begins at it.
 fn learn(
     alloc: Global,
     types: &FoundTypes<'_, '_>,
@@ -84,7 +84,7 @@ fn learn(
     Ok(Some(made))
 }
 
-/// The entries that were found, in order of offset.
+/// The found entries, by offset.
 pub fn in_order(alloc: Global, found: &ReachedEntries) -> Result<Vec<usize>, NoMemory>
     ensures same { IfOk result (λ order. IsPermutation found.now order.items) }
     ensures order { IfOk result (λ order. IsNonDecreasing order.items) }
@@ -97,7 +97,7 @@ pub fn in_order(alloc: Global, found: &ReachedEntries) -> Result<Vec<usize>, NoM
     Ok(order)
 }
 
-// The first entry from which too many steps lead on, if any.
+// The first entry that is too deep, if any.
 fn find_deep(
     alloc: Global,
     types: &FoundTypes<'_, '_>,
@@ -122,7 +122,7 @@ fn find_deep(
     Ok(None)
 }
 
-// The facts of all that was found, by number, none of which has too many steps.
+// The facts of all found entries by number. None of them is too deep.
 fn collect(
     alloc: Global,
     types: &FoundTypes<'_, '_>,
@@ -146,8 +146,8 @@ fn collect(
     Ok(facts)
 }
 
-/// The facts of all that a walk found, by number. The fault is that more steps by value than the limit lead on from an entry,
-/// and stands at the first such entry in order of offset.
+/// The facts of all entries that a walk found, by number. Err is a fault at the first entry, by offset, from which a chain of more
+/// steps by value than the limit begins.
 pub fn learn_all(
     alloc: Global,
     dwarf: &Dwarf,
@@ -177,7 +177,7 @@ pub fn learn_all(
     Ok(collect(alloc, &types, &mut known)?)
 }
 
-/// The facts of a type that was found.
+/// The facts of a found type.
 pub fn facts_at(dwarf: &Dwarf, found: &ReachedEntries, facts: &[Facts], ty: Option<usize>) -> Facts
     requires facts { AreAllFacts dwarf.now found.now facts.now }
     requires there { IfSome ty (λ e. Contains found.now e) }
@@ -193,7 +193,7 @@ pub fn facts_at(dwarf: &Dwarf, found: &ReachedEntries, facts: &[Facts], ty: Opti
     }
 }
 
-/// The facts of an entry that was found, by its number.
+/// The facts of the found entry with this number.
 pub fn facts_by_number(
     dwarf: &Dwarf,
     found: &ReachedEntries,

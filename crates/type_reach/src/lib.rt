@@ -1,5 +1,5 @@
-//! Debugging information entries as types: which are reached from functions and variables, and what is made of a type from
-//! the types that it holds by value. Contracts speak of entries by their positions in the plain tree, and of no graph.
+//! Debugging information entries as types: which types functions and variables reach, and the properties that follow from the types
+//! held by value. Contracts refer to entries by their positions in the plain tree, and do not mention graphs.
 #![tactic(auto)]
 
 mod arrays;

@@ -1,4 +1,4 @@
-// Totals over the members of an aggregate, each member beside the facts of its type.
+// Totals over the members of an aggregate, each paired with the facts of its type.
 ghost use Rattle.std.specs.Prelude.{◌≡◌, ◌<◌, ◌≤◌, ◌+◌, ◌||◌, length, map, zip, All, IfSome, ◌+ℤ◌};
 ghost use Rattle.std.specs.List.{list_any};
 ghost use Rattle.abi_base.specs.Limits.{depth_limit};
@@ -13,7 +13,7 @@ use crate::values::number_at;
 use abi_base::dwarf::DW_AT_alignment;
 use dwarf_entries::Dwarf;
 
-// The explicit alignment that an entry states itself.
+// The explicit alignment that an entry itself gives.
 #[tactic(auto, unfolding(crate::specs::Facts::own_align))]
 pub(crate) fn own_align(dwarf: &Dwarf, e: usize) -> u64
     requires { e < length dwarf.now.tree.entries }
@@ -22,7 +22,7 @@ pub(crate) fn own_align(dwarf: &Dwarf, e: usize) -> u64
     number_at(dwarf, e, DW_AT_alignment)
 }
 
-// The explicit alignment that a member adds: its own, and where it is nameless that of its structure or union.
+// The explicit alignment that a member contributes: its own and, if it is nameless, that of its structure or union.
 #[tactic(auto, unfolding(crate::specs::Facts::member_align, crate::specs::Facts::is_replaced))]
 fn member_align(dwarf: &Dwarf, m: usize, of_type: &Facts, nameless: bool) -> u64
     requires inside { m < length dwarf.now.tree.entries }
@@ -37,7 +37,7 @@ fn member_align(dwarf: &Dwarf, m: usize, of_type: &Facts, nameless: bool) -> u64
     }
 }
 
-// The bit that stands `by` bits later.
+// An offset in bits, moved by `by` bits.
 fn later(by: i128, bit: i128, rank: u32) -> i128
     requires by { IsNear 1 by }
     requires bit { IsNear (rank + 1) bit }
@@ -48,7 +48,7 @@ fn later(by: i128, bit: i128, rank: u32) -> i128
     by + bit
 }
 
-// The span that stands `by` bits later.
+// A span, moved by `by` bits.
 fn moved_span(by: i128, span: Option<Span>, rank: u32) -> Option<Span>
     requires by { IsNear 1 by }
     requires low { IfSome span (λ s. IsNear (rank + 1) s.low) }
@@ -67,7 +67,7 @@ fn moved_span(by: i128, span: Option<Span>, rank: u32) -> Option<Span>
     }
 }
 
-// The span that covers both.
+// The least span that covers both.
 fn joined(a: Option<Span>, b: Option<Span>) -> Option<Span>
     ensures { result ≡ facts_spec.joined a b }
 {
@@ -83,7 +83,7 @@ fn joined(a: Option<Span>, b: Option<Span>) -> Option<Span>
     }
 }
 
-// Where a member at `bit` begins, or where the members begin that replace it.
+// The offset of a member at `bit`, or those of the members that replace it.
 #[tactic(auto, unfolding(crate::specs::Facts::member_span))]
 fn member_span(dwarf: &Dwarf, m: usize, of_type: &Facts, bit: i128, nameless: bool) -> Option<Span>
     requires bit { bit ≡ placement_spec.bit_of dwarf.now m of_type.now.size }
@@ -108,7 +108,7 @@ fn member_span(dwarf: &Dwarf, m: usize, of_type: &Facts, bit: i128, nameless: bo
     }
 }
 
-// Whether bits are out of range.
+// Whether a span is out of range.
 pub(crate) fn span_out_of_range(span: Option<Span>) -> bool
     ensures { result ≡ facts_spec.span_out_of_range span }
 {
@@ -118,7 +118,7 @@ pub(crate) fn span_out_of_range(span: Option<Span>) -> bool
     }
 }
 
-// Whether a member at `bit` begins out of range, or another member does.
+// Whether a member at `bit` is out of range, or another member is.
 #[tactic(auto, unfolding(crate::specs::Facts::member_beyond))]
 fn either_out_of_range(dwarf: &Dwarf, m: usize, of_type: &Facts, bit: i128, other: bool) -> bool
     requires { bit ≡ placement_spec.bit_of dwarf.now m of_type.now.size }
@@ -130,15 +130,15 @@ fn either_out_of_range(dwarf: &Dwarf, m: usize, of_type: &Facts, bit: i128, othe
 /// Totals over members.
 #[derive(Drop)]
 pub(crate) struct MemberTotals {
-    /// The greatest explicit alignment that they add.
+    /// The greatest explicit alignment that they contribute.
     pub(crate) align: u64,
-    /// Where they begin, or those that replace them.
+    /// Their offsets, or those of the members that replace them.
     pub(crate) span: Option<Span>,
-    /// One begins out of range, as it stands.
+    /// One of them is out of range, as declared.
     pub(crate) beyond: bool,
 }
 
-/// The totals over members, each beside the facts of its type.
+/// The totals over members, each paired with the facts of its type.
 pub(crate) fn member_totals_of(
     dwarf: &Dwarf,
     members: &[u32],

@@ -1,4 +1,4 @@
-// Where members stand in their aggregates.
+// The offsets and widths of members in their aggregates.
 ghost use Rattle.std.specs.Prelude.{◌≡◌, ◌<◌, length};
 ghost use Rattle.type_reach.specs.Placement.{IsNear};
 ghost use Rattle.type_reach.specs.Placement as spec;
@@ -11,7 +11,7 @@ use abi_base::dwarf::{
 };
 use dwarf_entries::Dwarf;
 
-// The byte at which a member begins.
+// The offset of a member in bytes.
 #[tactic(auto, unfolding(crate::specs::Placement::byte_of))]
 fn byte_of(dwarf: &Dwarf, m: usize) -> u64
     requires { m < length dwarf.now.tree.entries }
@@ -20,7 +20,7 @@ fn byte_of(dwarf: &Dwarf, m: usize) -> u64
     place_of(dwarf, dwarf.attr(m, DW_AT_data_member_location)).unwrap_or(0)
 }
 
-// The size of what a bit field is stored in, where its type has a size.
+// The size of a bit field's storage, if its type has a size.
 #[tactic(auto, unfolding(crate::specs::Placement::storage_of))]
 fn storage_of(dwarf: &Dwarf, m: usize, size: u64) -> u64
     requires { m < length dwarf.now.tree.entries }
@@ -33,7 +33,7 @@ fn storage_of(dwarf: &Dwarf, m: usize, size: u64) -> u64
     }
 }
 
-/// How wide a member is as a bit field, in bits; 0 where it is none.
+/// The width of a member in bits if it is a bit field, else 0.
 #[tactic(auto, unfolding(crate::specs::Placement::width_of))]
 pub fn width_of(dwarf: &Dwarf, m: usize) -> u64
     requires { m < length dwarf.now.tree.entries }
@@ -42,8 +42,8 @@ pub fn width_of(dwarf: &Dwarf, m: usize) -> u64
     number_at(dwarf, m, DW_AT_bit_size)
 }
 
-// The bit at which a member begins, from the begin of its aggregate, where its type has a size in bytes. It is near 0, so that sums
-// of such bits do not overflow.
+// The offset of a member in bits, from the start of its aggregate, if its type has a size in bytes. It is near 0, so that sums of
+// such offsets do not overflow.
 #[tactic(auto, unfolding(crate::specs::Placement::bit_of))]
 pub(crate) fn bit_of(dwarf: &Dwarf, m: usize, size: u64) -> i128
     requires { m < length dwarf.now.tree.entries }
@@ -64,14 +64,14 @@ pub(crate) fn bit_of(dwarf: &Dwarf, m: usize, size: u64) -> i128
     }
 }
 
-/// Whether a bit is not from 0 to 2^63 - 1.
+/// Whether a bit offset is not from 0 to 2^63 - 1.
 pub fn is_out_of_range(bit: i128) -> bool
     ensures { result ≡ spec.is_out_of_range bit }
 {
     bit < 0 || BIT_LIMIT <= bit
 }
 
-/// Whether a member has no name, itself or along its chain.
+/// Whether a member has no name, its own or inherited.
 #[tactic(auto, unfolding(crate::specs::Placement::is_nameless))]
 pub fn is_nameless(dwarf: &Dwarf, m: usize) -> bool
     requires { m < length dwarf.now.tree.entries }

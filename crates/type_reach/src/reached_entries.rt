@@ -1,4 +1,4 @@
-// Entries that were found, numbered in order of offset.
+// Found entries, numbered by offset.
 ghost use Rattle.std.specs.Prelude.{◌≡◌, ◌<◌, ◌^◌, length, nat_eq, position, slice_get, Contains, Some, IfOk, IfSome, IfNone};
 ghost use Rattle.std.specs.List.{IsDistinct};
 ghost use Rattle.type_reach.specs.VisitedEntries.{marked_places};
@@ -8,13 +8,13 @@ use abi_base::NoMemory;
 use std::alloc::Global;
 use std::marker::Model;
 
-/// Entries, each once, in order of offset. Contracts see the list of their positions.
+/// Entries, each once, by offset. Contracts see the list of their positions.
 #[derive(Drop)]
 pub struct ReachedEntries {
     // Positions take 32 bits, since there are fewer than 2^32 entries.
     entries: Vec<u32>,
-    // For each so many entries of the tree, how many that were found stand before them. They only save time: whatever they are, the
-    // same is found.
+    // For each block of entries of the tree, the number of found entries before it. Hints only save time: the result is the same
+    // whatever they are.
     hints: Vec<u32>,
 }
 
@@ -30,7 +30,7 @@ impl Model for ReachedEntries {
 }
 
 impl ReachedEntries {
-    // The entries that are marked. The room only saves time: more or fewer may be marked.
+    // The marked entries. The capacity only saves time: more or fewer may be marked.
     pub(crate) fn marked(
         alloc: Global,
         marks: &[bool],
@@ -52,14 +52,14 @@ impl ReachedEntries {
         Ok(ReachedEntries { entries, hints })
     }
 
-    /// How many there are.
+    /// The number of entries.
     pub fn len(&self) -> usize
         ensures { result ≡ length self.now }
     {
         self.entries.len()
     }
 
-    /// The entry of a number.
+    /// The entry with this number.
     pub fn at(&self, number: usize) -> usize
         requires { number < length self.now }
         ensures { slice_get self.now number ≡ Some result }
@@ -67,7 +67,7 @@ impl ReachedEntries {
         self.entries[number] as usize
     }
 
-    // Where an entry stands.
+    // The number of an entry.
     fn place(&self, e: usize) -> Option<usize>
         ensures place { result ≡ position (nat_eq e) self.now }
         ensures inside { IfSome result (λ i. i < length self.now) }
@@ -86,7 +86,7 @@ impl ReachedEntries {
         self.place(e)
     }
 
-    /// The number of an entry that was found.
+    /// The number of a found entry.
     pub fn number_of(&self, e: usize) -> usize
         requires { Contains self.now e }
         ensures { slice_get self.now result ≡ Some e }
@@ -97,7 +97,7 @@ impl ReachedEntries {
         }
     }
 
-    /// No entry stands twice.
+    /// The list has no duplicates. Does nothing.
     pub fn known(&self)
         ensures { IsDistinct nat_eq self.now }
     {

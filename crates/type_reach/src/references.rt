@@ -10,7 +10,7 @@ use abi_base::dwarf::{
 use dwarf_entries::Dwarf;
 use std::alloc::Global;
 
-/// The type that an entry has, itself or along its chain; none for void.
+/// The type of an entry, its own or inherited, or None for void.
 #[tactic(auto, unfolding(crate::specs::References::type_of))]
 pub fn type_of(dwarf: &Dwarf, e: usize) -> Option<usize>
     requires { e < length dwarf.now.tree.entries }
@@ -25,7 +25,7 @@ pub fn type_of(dwarf: &Dwarf, e: usize) -> Option<usize>
     dwarf.attr_target(e, name)
 }
 
-/// The entry whose children are the parameters of a function: of a subprogram the last of its chain.
+/// The entry whose children are the parameters of a function: for a subprogram, the last entry of its chain.
 #[tactic(auto, unfolding(crate::specs::References::body_of))]
 pub fn body_of(dwarf: &Dwarf, e: usize) -> usize
     requires { e < length dwarf.now.tree.entries }
@@ -39,7 +39,7 @@ pub fn body_of(dwarf: &Dwarf, e: usize) -> usize
     }
 }
 
-/// The members of a structure or a union, those of a declaration too, or the parameters of a function, in their order.
+/// The members of a structure or a union, even of a declaration, or the parameters of a function, in order.
 #[tactic(auto, unfolding(crate::specs::References::parts_of, crate::specs::References::tagged_children))]
 pub(crate) fn parts_of(alloc: Global, dwarf: &Dwarf, e: usize) -> Result<Vec<usize>, NoMemory>
     requires { e < length dwarf.now.tree.entries }
@@ -53,7 +53,7 @@ pub(crate) fn parts_of(alloc: Global, dwarf: &Dwarf, e: usize) -> Result<Vec<usi
     }
 }
 
-/// The members among an entry's parts; a declaration has none.
+/// The members among an entry's parts. A declaration has none.
 #[tactic(auto, unfolding(crate::specs::References::members_of))]
 pub fn members_among<'p>(dwarf: &Dwarf, e: usize, role: Role, parts: &'p [u32]) -> &'p [u32]
     requires inside { e < length dwarf.now.tree.entries }
@@ -69,7 +69,7 @@ pub fn members_among<'p>(dwarf: &Dwarf, e: usize, role: Role, parts: &'p [u32]) 
     }
 }
 
-/// The types that an entry holds by value, among the types to which it leads.
+/// The types that an entry holds by value, among those to which it leads.
 #[tactic(auto, unfolding(crate::specs::References::steps_of))]
 pub(crate) fn steps_among<'l>(
     dwarf: &Dwarf,
@@ -84,7 +84,7 @@ pub(crate) fn steps_among<'l>(
     if holds_none(role) { &[] } else { types }
 }
 
-/// Whether an entry of a role has a type itself.
+/// Whether an entry with this role has a type itself.
 pub(crate) fn has_type(role: Role) -> bool
     ensures { result ≡ spec.has_type role }
 {
@@ -94,7 +94,7 @@ pub(crate) fn has_type(role: Role) -> bool
     )
 }
 
-/// Whether an entry of a role holds none of its types by value.
+/// Whether an entry with this role holds no type by value.
 pub(crate) fn holds_none(role: Role) -> bool
     ensures { result ≡ spec.holds_none role }
 {

@@ -1,4 +1,4 @@
-// What entries are among types.
+// The roles of entries as types.
 ghost use Rattle.std.specs.Prelude.{◌≡◌, ◌<◌, length};
 ghost use Rattle.type_reach.specs.References as spec;
 
@@ -11,26 +11,26 @@ use abi_base::dwarf::{
 use dwarf_entries::Dwarf;
 use dwarf_forms::Value;
 
-/// What an entry is among types.
+/// The role of an entry as a type.
 #[derive(Clone, Copy, Debug, PartialEq, Eq)]
 pub enum Role {
-    /// It stands for its type: a typedef, a qualified type, a variable, or a type that stands in a type unit.
+    /// It stands for another type: a typedef, a qualified type, a variable, or a reference to a type in a type unit.
     Wrapper,
     /// A structure or a union.
     Aggregate,
     /// A function or the type of one.
     Function,
-    /// A member or a parameter, which is no type itself.
+    /// A member or a parameter, which is not a type itself.
     Part,
-    /// An address of something.
+    /// A pointer.
     Pointer,
-    /// An array, or a vector of the machine.
+    /// An array, or a vector type of the machine.
     Array,
     /// An enumeration.
     Enumeration,
-    /// A base type: an integer, a character, a truth value or a floating-point number.
+    /// A base type: an integer, a character, a Boolean or a floating-point number.
     Base,
-    /// None of these; no type refers to it.
+    /// Any other entry. No type refers to it.
     Unknown,
 }
 
@@ -44,7 +44,7 @@ fn may_be_signed(tag: u64) -> bool
     )
 }
 
-// The role of an entry by its tag, where no signature says that its type stands in a type unit.
+// The role of an entry by its tag, unless a signature refers it to a type unit.
 #[inline]
 #[tactic(auto, unfolding(crate::specs::References::tag_role, crate::specs::References::is_passed_tag, crate::specs::References::is_aggregate_tag, crate::specs::References::is_function_tag, crate::specs::References::is_part_tag))]
 fn tag_role(tag: u64) -> Role
@@ -77,7 +77,7 @@ fn is_signature(value: Option<Value>) -> bool
     }
 }
 
-/// Whether an entry says by a signature that its type stands in a type unit.
+/// Whether an entry refers by a signature to the definition of its type in a type unit.
 #[tactic(auto, unfolding(crate::specs::References::is_signed))]
 pub fn is_signed(dwarf: &Dwarf, e: usize) -> bool
     requires { e < length dwarf.now.tree.entries }
@@ -90,7 +90,7 @@ pub fn is_signed(dwarf: &Dwarf, e: usize) -> bool
     }
 }
 
-/// What an entry is among types. A structure, a union or an enumeration with a signature stands for the type of that type unit.
+/// The role of an entry. A structure, a union or an enumeration with a signature stands for the type of that type unit.
 #[tactic(auto, unfolding(crate::specs::References::role_of))]
 pub fn role_of(dwarf: &Dwarf, e: usize) -> Role
     requires { e < length dwarf.now.tree.entries }

@@ -1,15 +1,15 @@
-// Rows of items, kept one after the other in one list.
+// Rows of items, stored one after the other in one list.
 ghost use Rattle.std.specs.Prelude.{◌≡◌, ◌<◌, ◌≤◌, [], ◌∷◌, ◌++◌, length, slice_get, slice_index_or, Some, IfOk, OnOk};
 
 use abi_base::NoMemory;
 use std::alloc::Global;
 use std::marker::Model;
 
-/// Rows of items. Contracts see the list of the rows.
+/// Rows of items. Contracts see them as a list of rows.
 #[derive(Drop)]
 pub(crate) struct Rows<T> {
     items: Vec<T>,
-    // Where each row ends, which is where the next one begins.
+    // The end of each row, where the next one begins.
     ends: Vec<usize>,
 }
 
@@ -24,7 +24,7 @@ impl<T> Model for Rows<T> {
     ghost invariant = { λ rows. EndInOrder 0 rows.ends.items (length rows.items.items) };
 }
 
-// Where a row begins.
+// The start of a row.
 fn begin(ends: &[usize], number: usize) -> usize
     requires { number ≤ length ends.now }
     ensures { result ≡ slice_index_or (0 ∷ ends.now) number 0 }
@@ -33,7 +33,7 @@ fn begin(ends: &[usize], number: usize) -> usize
 }
 
 impl<T> Rows<T> {
-    /// No row. The room to note the ends of so many only saves time.
+    /// No rows. The capacity for this many ends only saves time.
     pub fn with_capacity(alloc: Global, rows: usize) -> Result<Rows<T>, NoMemory>
         ensures { IfOk result (λ rows. rows ≡ []) }
     {
@@ -44,7 +44,7 @@ impl<T> Rows<T> {
         })
     }
 
-    /// Puts a row last.
+    /// Appends a row.
     pub fn push(&mut self, row: &[T]) -> Result<(), NoMemory>
     where
         T: Copy,
@@ -61,7 +61,7 @@ impl<T> Rows<T> {
         }
     }
 
-    /// The row of a number.
+    /// The row with this number.
     pub fn row(&self, number: usize) -> &[T]
         requires { number < length self.now }
         ensures { slice_get self.now number ≡ Some result.now }
@@ -74,7 +74,7 @@ impl<T> Rows<T> {
         }
     }
 
-    /// Gives back the room that is not used. It only saves memory: the rows stay the same.
+    /// Frees unused capacity. The rows are unchanged.
     pub fn shrink_to_fit(&mut self)
         ensures { self.new ≡ self.old }
     {

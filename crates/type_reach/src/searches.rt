@@ -1,12 +1,11 @@
-// Where an entry stands among entries in order. Hints only save time: what is found does not depend on them, so no clause speaks
-// of them.
+// Searches for an entry in an ordered list. Hints only save time: the result does not depend on them, so no clause mentions them.
 ghost use Rattle.std.specs.Prelude.{◌≡◌, ◌<◌, length, nat_eq, position, Some, IfSome};
 ghost use Rattle.std.specs.List.Sorted.{IsStrictlyIncreasing};
 
-// How many entries of the tree share a hint. The number says nothing but how much time a search takes.
+// How many entries of the tree share a hint. The number affects only the time of a search.
 pub(crate) const BETWEEN_HINTS: usize = 16;
 
-// The hint for an entry: where it stands, or up to so many places before. It promises nothing, and only saves time.
+// The hint for an entry: its position, or up to that many before. It promises nothing, and only saves time.
 #[inline]
 pub(crate) fn hint_for(hints: &[u32], e: usize) -> usize {
     match hints.get(e / BETWEEN_HINTS) {
@@ -15,7 +14,7 @@ pub(crate) fn hint_for(hints: &[u32], e: usize) -> usize {
     }
 }
 
-// Where an entry stands, by binary search.
+// The position of an entry, by binary search.
 fn searched(entries: &[u32], e: usize) -> Option<usize>
     requires { IsStrictlyIncreasing entries.now }
     ensures { result ≡ position (nat_eq e) entries.now }
@@ -26,7 +25,7 @@ fn searched(entries: &[u32], e: usize) -> Option<usize>
     }
 }
 
-// Where an entry stands, if not far behind a hint. None says nothing.
+// The position of an entry, if it is a little after the hint. None means nothing.
 fn hinted(entries: &[u32], e: usize, hint: usize) -> Option<usize>
     requires { IsStrictlyIncreasing entries.now }
     ensures { IfSome result (λ place. position (nat_eq e) entries.now ≡ Some place) }
@@ -44,7 +43,7 @@ fn hinted(entries: &[u32], e: usize, hint: usize) -> Option<usize>
     None
 }
 
-// Where an entry stands.
+// The position of an entry.
 pub(crate) fn place_near(entries: &[u32], e: usize, hint: usize) -> Option<usize>
     requires { IsStrictlyIncreasing entries.now }
     ensures place { result ≡ position (nat_eq e) entries.now }

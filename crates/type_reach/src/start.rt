@@ -1,4 +1,4 @@
-// Where a member begins in the structures around it.
+// The offset of a member in the aggregates around it.
 ghost use Rattle.std.specs.Prelude.{◌≡◌, ◌<◌, ◌+◌, ◌+ℤ◌, pos, length};
 ghost use Rattle.abi_base.specs.Limits.{depth_limit};
 ghost use Rattle.type_reach.specs.Placement.{IsNear};
@@ -7,19 +7,19 @@ ghost use Rattle.type_reach.specs.Placement as spec;
 use crate::placement::bit_of;
 use dwarf_entries::Dwarf;
 
-/// Where something begins, in bits from the begin of the outermost type around it, and how many types stand around it.
+/// An offset in bits from the start of the outermost type, and the number of types around it.
 #[derive(Clone, Copy, Debug)]
 pub struct Start {
-    /// The bit.
+    /// The offset in bits.
     pub bit: i128,
-    /// How many types stand around it, one in another.
+    /// The number of nested types around it.
     pub depth: u32,
-    // So no sum of bits overflows: each type around it moves it by a bounded number of bits.
+    // Rules out overflow of sums: each type around it moves the offset by a bounded number of bits.
     ghost near: { IsNear depth bit },
 }
 
 impl Start {
-    /// Where the outermost type begins.
+    /// The start of the outermost type.
     pub fn outermost() -> Start
         ensures bit { result.bit ≡ pos 0 }
         ensures depth { result.depth ≡ 0 }
@@ -27,7 +27,7 @@ impl Start {
         Start { bit: 0, depth: 0 }
     }
 
-    /// Where a member begins of the type that begins here. The member's type has a size in bytes.
+    /// The offset of a member of the type that begins here. The member's type has a size in bytes.
     pub fn later(&self, dwarf: &Dwarf, m: usize, size: u64) -> Start
         requires inside { m < length dwarf.now.tree.entries }
         requires depth { self.now.depth < depth_limit }

@@ -1,4 +1,4 @@
-// The facts that stay in memory once all types were judged.
+// The facts that remain in memory after all types are judged.
 ghost use Rattle.std.specs.Prelude.{◌≡◌, Contains, Some, slice_get, IfOk, IfSome};
 ghost use Rattle.type_reach.specs.Facts.{AreAllFacts, facts_of};
 ghost use Rattle.type_reach.specs.Summaries.{AreSummaries};
@@ -10,24 +10,24 @@ use abi_base::NoMemory;
 use dwarf_entries::Dwarf;
 use std::alloc::Global;
 
-/// The facts of a type that its view is made of. They take less than half of the memory of all its facts.
+/// The facts of a type that its view needs. They take less than half of the memory of all its facts.
 #[derive(Clone, Copy, Debug, PartialEq, Eq)]
 pub struct Summary {
-    /// The most steps by value that lead on from it.
+    /// The length of the longest chain of steps by value from it.
     pub rank: u32,
     /// Its core is a structure or a union.
     pub aggregate: bool,
-    /// In bytes.
+    /// Its size in bytes.
     pub size: u64,
-    /// How many elements its core has, where that is an array.
+    /// The number of elements of its core, if that is an array.
     pub count: u64,
-    /// The explicit alignment in bytes; 0 where there is none.
+    /// The explicit alignment in bytes, or 0.
     pub align: u64,
-    /// The entry of its core, none for void.
+    /// The entry of its core, or None for void.
     pub core: Option<usize>,
 }
 
-// The summary of a type, from its facts.
+// The summary of a type's facts.
 fn summary_of(facts: &Facts) -> Summary
     ensures { result ≡ spec.summary_of facts.now }
 {
@@ -41,7 +41,7 @@ fn summary_of(facts: &Facts) -> Summary
     }
 }
 
-/// The summaries of all entries that were found, by number.
+/// The summaries of all found entries, by number.
 pub fn summaries_of(
     alloc: Global,
     dwarf: &Dwarf,
@@ -58,7 +58,7 @@ pub fn summaries_of(
     Ok(summaries)
 }
 
-/// The summary of an entry that was found, by its number.
+/// The summary of the found entry with this number.
 pub fn summary_by_number(
     dwarf: &Dwarf,
     found: &ReachedEntries,
@@ -73,7 +73,7 @@ pub fn summary_by_number(
     summaries[number]
 }
 
-/// The summary of a type that was found.
+/// The summary of a found type.
 pub fn summary_at(
     dwarf: &Dwarf,
     found: &ReachedEntries,

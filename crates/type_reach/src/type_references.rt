@@ -1,4 +1,4 @@
-// What the entries that were found lead to, kept once.
+// The types to which found entries lead, stored once.
 ghost use Rattle.std.specs.Prelude.{◌≡◌, ◌<◌, ◌+◌, ◌++◌, ◌^◌, true, length, slice_get, slice_index_or, All, Some, IfOk, OnOk, IfSome};
 ghost use Rattle.type_reach.specs.References.{own_types};
 ghost use Rattle.type_reach.specs.References as spec;
@@ -13,8 +13,8 @@ use abi_base::NoMemory;
 use dwarf_entries::Dwarf;
 use std::alloc::Global;
 
-/// What the entries that were found lead to: for each its parts and its types, in the order of the numbers. Positions take 32
-/// bits, since there are fewer than 2^32 entries.
+/// For each found entry its parts and the types to which it leads, by number. Positions take 32 bits, since there are fewer than
+/// 2^32 entries.
 #[derive(Drop)]
 pub struct TypeReferences {
     parts: Rows<u32>,
@@ -34,7 +34,7 @@ fn narrowed(dwarf: &Dwarf, ty: Option<usize>) -> Option<u32>
     }
 }
 
-/// A type that was kept in 32 bits.
+/// A type that was stored in 32 bits.
 #[inline]
 pub fn widened(ty: Option<u32>) -> Option<usize>
     ensures { result ≡ ty }
@@ -45,7 +45,7 @@ pub fn widened(ty: Option<u32>) -> Option<usize>
     }
 }
 
-// Makes a list hold the parts of an entry.
+// Fills a list with the parts of an entry.
 fn fill_parts(alloc: Global, dwarf: &Dwarf, list: &mut Vec<u32>, e: usize) -> Result<(), NoMemory>
     requires { e < length dwarf.now.tree.entries }
     ensures parts { OnOk result (list.new.items ≡ spec.parts_of dwarf.now.tree e) }
@@ -60,7 +60,7 @@ fn fill_parts(alloc: Global, dwarf: &Dwarf, list: &mut Vec<u32>, e: usize) -> Re
     Ok(())
 }
 
-// Appends the type that an entry has itself, if any.
+// Appends the entry's own type, if any.
 #[tactic(auto, unfolding(crate::specs::References::own_types))]
 fn push_own(dwarf: &Dwarf, types: &mut Vec<Option<u32>>, e: usize) -> Result<(), NoMemory>
     requires { e < length dwarf.now.tree.entries }
@@ -72,7 +72,7 @@ fn push_own(dwarf: &Dwarf, types: &mut Vec<Option<u32>>, e: usize) -> Result<(),
     Ok(())
 }
 
-// Makes a list hold the types to which an entry leads.
+// Fills a list with the types to which an entry leads.
 #[tactic(auto, unfolding(crate::specs::References::types_of))]
 fn fill_types(
     dwarf: &Dwarf,
@@ -93,7 +93,7 @@ fn fill_types(
     Ok(())
 }
 
-// What is left of a number of parts, less so many. It fails where fewer are left.
+// Subtracts from a number of parts. Fails where fewer are left.
 fn taken(left: usize, many: usize) -> Result<usize, NoMemory>
     ensures { IfOk result (λ rest. rest + many ≡ left) }
 {
@@ -103,8 +103,8 @@ fn taken(left: usize, many: usize) -> Result<usize, NoMemory>
     Ok(left - many)
 }
 
-/// What the entries that were found lead to. It fails where they have more parts in all than `most_parts`: functions may share the
-/// parameters of one origin, so that a small file can ask for very many.
+/// The parts and types of all found entries. Fails where they have more than `most_parts` parts in all: functions can share the
+/// parameters of one origin, so a small file can demand very many.
 pub fn type_references_of(
     alloc: Global,
     dwarf: &Dwarf,
@@ -132,8 +132,8 @@ pub fn type_references_of(
     Ok(TypeReferences { parts, types })
 }
 
-/// The parts of an entry that was found, by its number: the members of a structure or a union, those of a declaration too, or
-/// the parameters of a function, in their order.
+/// The parts of the found entry with this number: the members of a structure or a union, even of a declaration, or the parameters
+/// of a function, in order.
 pub fn parts_at<'l>(
     dwarf: &Dwarf,
     found: &ReachedEntries,
@@ -149,7 +149,7 @@ pub fn parts_at<'l>(
     leads.parts.row(number)
 }
 
-/// The types to which an entry leads that was found, by its number: its own, and those of its parts.
+/// The types to which the found entry with this number leads: its own, and those of its parts.
 pub fn types_at<'l>(
     dwarf: &Dwarf,
     found: &ReachedEntries,
@@ -165,7 +165,7 @@ pub fn types_at<'l>(
     leads.types.row(number)
 }
 
-/// The type that an entry has itself, from the types to which it leads.
+/// An entry's own type, from the types to which it leads.
 pub fn own_type(dwarf: &Dwarf, e: usize, types: &[Option<u32>]) -> Option<usize>
     requires types { types.now ≡ spec.types_of dwarf.now.tree e }
     requires own { spec.has_type (spec.role_of dwarf.now.tree e) ≡ true }
@@ -191,7 +191,7 @@ pub fn part_type(
     widened(types[own + k])
 }
 
-/// The type of a member, from the types to which its entry leads: a structure or a union has no type itself.
+/// The type of a member, from the types to which its aggregate leads. A structure or a union has no type of its own.
 pub fn member_type(
     dwarf: &Dwarf,
     e: usize,

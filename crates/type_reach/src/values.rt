@@ -1,4 +1,4 @@
-// What attributes say as numbers.
+// Attribute values as numbers.
 ghost use Rattle.std.specs.Prelude.{◌≡◌, ◌<◌, length};
 ghost use Rattle.type_reach.specs.Values as spec;
 
@@ -7,7 +7,7 @@ use abi_base::uleb;
 use dwarf_entries::Dwarf;
 use dwarf_forms::Value;
 
-/// A constant that is not negative (DWARF 5, section 7.5.5 "Classes and Forms", class constant); none where there is no such value.
+/// A nonnegative constant (DWARF 5, section 7.5.5 "Classes and Forms", class constant), or None for any other value.
 pub fn natural_of(value: Option<Value>) -> Option<u64>
     ensures { result ≡ spec.natural_of value }
 {
@@ -17,7 +17,7 @@ pub fn natural_of(value: Option<Value>) -> Option<u64>
     }
 }
 
-/// A constant, with a sign or without, modulo 2^64; none where there is no such value.
+/// A signed or unsigned constant modulo 2^64, or None for any other value.
 pub fn wrapped_of(value: Option<Value>) -> Option<u64>
     ensures { result ≡ spec.wrapped_of value }
 {
@@ -27,7 +27,7 @@ pub fn wrapped_of(value: Option<Value>) -> Option<u64>
     }
 }
 
-/// How many numbers there are from 0 up to a constant and with it, modulo 2^64; none where there is no such value.
+/// How many numbers there are from 0 through a constant, modulo 2^64, or None for any other value.
 pub fn counted_to(value: Option<Value>) -> Option<u64>
     ensures { result ≡ spec.counted_to value }
 {
@@ -37,7 +37,7 @@ pub fn counted_to(value: Option<Value>) -> Option<u64>
     }
 }
 
-// What an expression adds, which is one operation alone.
+// The addend of an expression that is a single operation.
 fn added_by(bytes: &[u8]) -> Option<u64>
     ensures { result ≡ spec.added_by bytes.now }
 {
@@ -57,7 +57,7 @@ fn added_by(bytes: &[u8]) -> Option<u64>
     }
 }
 
-/// A place in bytes: a constant, or an expression that is one operation and adds one; none where there is no such value.
+/// An offset in bytes: a constant, or the addend of an expression of one operation. None for any other value.
 pub fn place_of(dwarf: &Dwarf, value: Option<Value>) -> Option<u64>
     ensures { result ≡ spec.place_of dwarf.now.sections.info value }
 {
@@ -70,7 +70,7 @@ pub fn place_of(dwarf: &Dwarf, value: Option<Value>) -> Option<u64>
     }
 }
 
-/// Whether an entry has a value of an attribute, itself or along its chain.
+/// Whether an entry has an attribute, its own or inherited.
 #[tactic(auto, unfolding(crate::specs::Values::is_there))]
 pub fn is_there(dwarf: &Dwarf, e: usize, name: u64) -> bool
     requires { e < length dwarf.now.tree.entries }
@@ -79,7 +79,7 @@ pub fn is_there(dwarf: &Dwarf, e: usize, name: u64) -> bool
     dwarf.attr(e, name).is_some()
 }
 
-/// The number that an entry has of an attribute, itself or along its chain; 0 where it has none.
+/// The number in an attribute of an entry, its own or inherited, or 0 where it has none.
 #[tactic(auto, unfolding(crate::specs::Values::number_at))]
 pub fn number_at(dwarf: &Dwarf, e: usize, name: u64) -> u64
     requires { e < length dwarf.now.tree.entries }

@@ -1,4 +1,4 @@
-// The entries that a walk met.
+// The entries that a walk has met.
 ghost use Rattle.std.specs.Prelude.{◌≡◌, ◌<◌, ◌^◌, [], length, nat_eq, slice_get, Some, IfOk, IfSome, OnOk};
 ghost use Rattle.std.specs.List.{IsDistinct};
 ghost use Rattle.type_reach.specs.Reached.{with_entry, with_type};
@@ -9,10 +9,10 @@ use abi_base::NoMemory;
 use std::alloc::Global;
 use std::marker::Model;
 
-/// The entries that a walk met so far, each once. Contracts see them in order of discovery, beside how many entries there are.
+/// The entries that a walk has met, each once. Contracts see them in order of discovery, with the number of entries of the tree.
 #[derive(Drop)]
 pub(crate) struct VisitedEntries {
-    // A mark for each entry of the tree: whether it was met.
+    // For each entry of the tree, whether it was met.
     marks: Vec<bool>,
     entries: Vec<u32>,
 }
@@ -29,7 +29,7 @@ impl Model for VisitedEntries {
 }
 
 impl VisitedEntries {
-    /// None yet, of so many.
+    /// No entries yet, of a tree with this many.
     pub fn new(alloc: Global, count: usize) -> Result<VisitedEntries, NoMemory>
         requires { count < 2 ^ 32 }
         ensures { IfOk result (λ met. met ≡ record { entries = []; room = count }) }
@@ -41,14 +41,14 @@ impl VisitedEntries {
         })
     }
 
-    /// How many were met.
+    /// The number of entries met.
     pub fn len(&self) -> usize
         ensures { result ≡ length self.now.entries }
     {
         self.entries.len()
     }
 
-    /// The entry that was met after so many others.
+    /// The entry with this number in order of discovery.
     pub fn at(&self, number: usize) -> usize
         requires { number < length self.now.entries }
         ensures { slice_get self.now.entries number ≡ Some result }
@@ -56,14 +56,14 @@ impl VisitedEntries {
         self.entries[number] as usize
     }
 
-    /// No entry stands twice.
+    /// The list has no duplicates. Does nothing.
     pub fn known(&self)
         ensures { IsDistinct nat_eq self.now.entries }
     {
         let _ = &self.entries;
     }
 
-    /// Notes an entry, where it is new.
+    /// Adds an entry if it is new.
     pub fn add(&mut self, e: usize) -> Result<(), NoMemory>
         requires { e < self.old.room }
         ensures entries { OnOk result (self.new.entries ≡ with_entry self.old.entries e) }
@@ -76,7 +76,7 @@ impl VisitedEntries {
         Ok(())
     }
 
-    /// Notes the entry of a type, where there is one and it is new.
+    /// Adds the entry of a type, if there is one and it is new.
     pub fn add_type(&mut self, ty: Option<usize>) -> Result<(), NoMemory>
         requires { IfSome ty (λ e. e < self.old.room) }
         ensures entries { OnOk result (self.new.entries ≡ with_type self.old.entries ty) }
@@ -88,7 +88,7 @@ impl VisitedEntries {
         }
     }
 
-    /// The entries that were met, in order of offset.
+    /// The entries met, by offset.
     pub fn by_offset(&self, alloc: Global) -> Result<ReachedEntries, NoMemory>
         ensures { IfOk result (λ found. found ≡ by_offset self.now.entries self.now.room) }
     {

@@ -1,4 +1,4 @@
-// The walk over all that is reached.
+// The walk to everything that roots reach.
 ghost use Rattle.std.specs.Prelude.{◌≡◌, ◌<◌, length, map, All, Some, IfOk, OnOk};
 ghost use Rattle.type_reach.specs.References.{own_types};
 ghost use Rattle.type_reach.specs.References as spec;
@@ -15,7 +15,7 @@ use abi_base::NoMemory;
 use dwarf_entries::Dwarf;
 use std::alloc::Global;
 
-// Adds the type that an entry has itself.
+// Adds an entry's own type.
 #[tactic(auto, unfolding(crate::specs::References::own_types, crate::specs::Reached::with_types))]
 fn add_own(dwarf: &Dwarf, met: &mut VisitedEntries, e: usize) -> Result<(), NoMemory>
     requires inside { e < length dwarf.now.tree.entries }
@@ -29,7 +29,7 @@ fn add_own(dwarf: &Dwarf, met: &mut VisitedEntries, e: usize) -> Result<(), NoMe
     Ok(())
 }
 
-// Adds all to which an entry leads.
+// Adds all types to which an entry leads.
 fn expand(alloc: Global, dwarf: &Dwarf, met: &mut VisitedEntries, e: usize) -> Result<(), NoMemory>
     requires inside { e < length dwarf.now.tree.entries }
     requires room { met.old.room ≡ length dwarf.now.tree.entries }
@@ -56,7 +56,7 @@ fn add_roots(met: &mut VisitedEntries, roots: &[usize]) -> Result<(), NoMemory>
     Ok(())
 }
 
-// Exactly the entries that are reached from the roots, in order of discovery.
+// Exactly the entries that the roots reach, in order of discovery.
 fn walk(alloc: Global, dwarf: &Dwarf, roots: &[usize]) -> Result<VisitedEntries, NoMemory>
     requires { All (λ root. root < length dwarf.now.tree.entries) roots.now }
     ensures walk { IfOk result (λ met. IsWalk dwarf.now.tree roots.now met.entries) }
@@ -76,7 +76,7 @@ fn walk(alloc: Global, dwarf: &Dwarf, roots: &[usize]) -> Result<VisitedEntries,
     Ok(met)
 }
 
-/// Exactly the entries that are reached from the roots, in order of offset.
+/// Exactly the entries that the roots reach, by offset.
 pub fn reached(alloc: Global, dwarf: &Dwarf, roots: &[usize]) -> Result<ReachedEntries, NoMemory>
     requires { All (λ root. root < length dwarf.now.tree.entries) roots.now }
     ensures list { IfOk result (λ found. found ≡ reached_of dwarf.now.tree roots.now) }

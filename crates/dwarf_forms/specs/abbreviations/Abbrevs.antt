@@ -13,31 +13,31 @@ use Rattle.abi_base.specs.Leb.{uleb_at, sleb_at}
 use Rattle.abi_base.specs.Outcome.{◌>>=◌, or_end}
 use Rattle.abi_base.specs.Runs.{Run, run}
 
--- the value after a form: a signed LEB128 number after DW_FORM_implicit_const, and nothing after any other form
+-- the constant after a form: a signed LEB128 number after DW_FORM_implicit_const, nothing after any other form
 abbrev pub implicit_at : List ℕ → ℕ → ℕ → Option (ℤ × ℕ)
 implicit_at bytes form at = if form == dw_form_implicit_const then sleb_at bytes at else Some (pos 0, at)
 
--- a pair of attribute and form with no value after it
+-- an attribute specification without a constant
 abbrev pub plain_pair : ℕ → ℕ → Spec
 plain_pair attribute form = record { attribute = attribute; form = form; implicit = pos 0 }
 
--- a byte that is a number by itself, and not 0 (DWARF 5, section 7.6 "Variable Length Data")
+-- a byte that is a whole LEB128 number other than 0 (DWARF 5, section 7.6 "Variable Length Data")
 abbrev pub short_number_of : Option ℕ → Option ℕ
 short_number_of None = None
 short_number_of (Some byte) = if nat_lt 0 byte && nat_lt byte 128 then Some byte else None
 
--- two such numbers, the second the form of values that the entry holds
+-- two such numbers, the second a form without a constant
 abbrev pub short_pair_of : Option ℕ → Option ℕ → Option (ℕ × ℕ)
 short_pair_of None form = None
 short_pair_of (Some attribute) None = None
 short_pair_of (Some attribute) (Some form) = if form == dw_form_implicit_const then None else Some (attribute, form)
 
--- a pair in two bytes
+-- an attribute specification in two bytes
 abbrev pub short_pair_at : List ℕ → ℕ → Option (ℕ × ℕ)
 short_pair_at bytes at = short_pair_of (short_number_of (slice_get bytes at)) (short_number_of (slice_get bytes (at + 1)))
 
--- A pair of attribute and form, and the place after it. The list ends at the pair 0 0, with the place after it,
--- and where none can be read or only one is 0, with no place.
+-- An attribute specification, and the offset after it. The list ends with the pair 0 0, which gives the offset after it, or,
+-- without an offset, where no pair can be read or only one number is 0.
 unfoldable pub spec_step : List ℕ → ℕ → Result (Spec × ℕ) (Option ℕ)
 spec_step bytes at = do
   attribute ← or_end (uleb_at bytes at) None
@@ -49,7 +49,7 @@ spec_step bytes at = do
       else (or_end (implicit_at bytes form.0 form.1) None
       >>= λ implicit. Ok (record { attribute = attribute.0; form = form.0; implicit = implicit.0 }, implicit.1)))
 
--- the pairs from a place on, and the place after them
+-- the attribute specifications from an offset on, and the offset after them
 unfoldable pub specs_run : List ℕ → ℕ → Run Spec (Option ℕ)
 specs_run bytes at = run (spec_step bytes) None (suc (length bytes)) at
 
@@ -61,7 +61,7 @@ abbrev pub children_of : Option ℕ → Option Bool
 children_of None = None
 children_of (Some b) = if b == dw_children_no then Some false else (if b == dw_children_yes then Some true else None)
 
--- The abbreviation at a place, after the earlier ones, and the state after it. Code 0 ends the table.
+-- The abbreviation at an offset, after the earlier ones, and the state after it. Code 0 ends the table.
 unfoldable pub abbrev_step : List ℕ → ℕ × List Abbrev → Result (Abbrev × (ℕ × List Abbrev)) (Option Fault)
 abbrev_step bytes s =
     let fault : Option Fault = Some (record { kind = kind.Abbrev; at = s.0 }) in do
@@ -77,17 +77,17 @@ abbrev_step bytes s =
             let made : Abbrev = record { code = code.0; tag = tag.0; children = children; specs_from = tag.1 + 1; specs = specs.0 } in
                 Ok (made, (specs.1, s.1 ++ made ∷ []))))
 
--- all abbreviations of the table at a place, and its fault, if it has one
+-- all abbreviations of the table at an offset, and its fault, if it has one
 unfoldable pub table_run : List ℕ → ℕ → Run Abbrev (Option Fault)
 table_run bytes at = run (abbrev_step bytes) None (suc (length bytes)) (at, [])
 
--- what a reader of one abbreviation returns, after the earlier ones
+-- what the reader of one abbreviation answers, after the earlier ones
 abbrev pub ReadsAbbrev : List ℕ → ℕ → List Abbrev → Result (Option (Abbrev × ℕ)) Refusal → Type 0
 ReadsAbbrev bytes at seen (Ok (Some a)) = abbrev_step bytes (at, seen) ≡ Ok (a.0, (a.1, seen ++ a.0 ∷ []))
 ReadsAbbrev bytes at seen (Ok None) = abbrev_step bytes (at, seen) ≡ Err None
 ReadsAbbrev bytes at seen (Err (refusal.Fault f)) = abbrev_step bytes (at, seen) ≡ Err (Some f)
 ReadsAbbrev bytes at seen (Err refusal.NoMemory) = Unit {0}
 
--- the abbreviation of a code
+-- the abbreviation with a code
 abbrev pub abbrev_of : List Abbrev → ℕ → Option Abbrev
 abbrev_of abbrevs code = find (λ a. a.code == code) abbrevs

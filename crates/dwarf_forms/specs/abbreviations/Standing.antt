@@ -1,4 +1,4 @@
--- The contents of `.debug_abbrev`, as a relation between bytes and abbreviations that says nothing of how they are read (DWARF 5,
+-- The contents of `.debug_abbrev` as a relation between bytes and abbreviations, independent of any reader (DWARF 5,
 -- section 7.5.3 "Abbreviations Tables").
 use Rattle.std.specs.Prelude.{◌≡◌, ◌≢◌, ◌<◌, ℕ, ◌+◌, length, List, [], ◌∷◌, slice_get, Some, AllPairs}
 use Rattle.dwarf_forms.specs.declared.abbreviations.abbrev.Spec.{Spec}
@@ -6,7 +6,7 @@ use Rattle.dwarf_forms.specs.declared.abbreviations.abbrev.Abbrev.{Abbrev}
 use Rattle.abi_base.specs.Leb.{uleb_at}
 use Rattle.dwarf_forms.specs.abbreviations.Abbrevs.{implicit_at, children_of, specs_run}
 
--- The bytes from a place on are a pair of attribute and form, with a value after a form that has one.
+-- The bytes at an offset are an attribute specification, with a constant where the form has one.
 pub record PairAt (bytes : List ℕ) (at : ℕ) (pair : Spec) (after : ℕ) : Type 0 where
   pub form_at : ℕ
   pub value_at : ℕ
@@ -16,18 +16,18 @@ pub record PairAt (bytes : List ℕ) (at : ℕ) (pair : Spec) (after : ℕ) : Ty
   pub has_form : pair.form ≢ 0
   pub value : implicit_at bytes pair.form value_at ≡ Some (pair.implicit, after)
 
--- the pair 0 0, which ends the pairs of an abbreviation
+-- the pair 0 0, which ends the attribute specifications of an abbreviation
 pub record NoPairAt (bytes : List ℕ) (at after : ℕ) : Type 0 where
   pub form_at : ℕ
   pub attribute : uleb_at bytes at ≡ Some (0, form_at)
   pub form : uleb_at bytes form_at ≡ Some (0, after)
 
--- pairs one after the other, and then 0 0
+-- attribute specifications one after the other, then 0 0
 abbrev pub PairsAt : List ℕ → ℕ → List Spec → ℕ → Type 0
 PairsAt bytes at [] after = NoPairAt bytes at after
 PairsAt bytes at (pair ∷ others) after = (next : ℕ) × PairAt bytes at pair next × PairsAt bytes next others after
 
--- an abbreviation: its code, its tag, a byte for its children, and after that byte its pairs
+-- an abbreviation: its code, its tag, the byte for children, then its attribute specifications
 pub record AbbrevAt (bytes : List ℕ) (at : ℕ) (made : Abbrev) (after : ℕ) : Type 0 where
   pub tag_at : ℕ
   pub children_at : ℕ
@@ -38,16 +38,16 @@ pub record AbbrevAt (bytes : List ℕ) (at : ℕ) (made : Abbrev) (after : ℕ) 
   pub place : made.specs_from ≡ children_at + 1
   pub pairs : PairsAt bytes made.specs_from made.specs after
 
--- abbreviations one after the other, up to a place
+-- abbreviations one after the other, up to an offset
 abbrev pub FollowAt : List ℕ → ℕ → List Abbrev → ℕ → Type 0
 FollowAt bytes at [] after = at ≡ after
 FollowAt bytes at (made ∷ others) after = (next : ℕ) × AbbrevAt bytes at made next × FollowAt bytes next others after
 
--- no two abbreviations have the same code
+-- no two abbreviations share a code
 abbrev pub CodesApart : List Abbrev → Type 0
 CodesApart abbrevs = AllPairs (λ a b. a.code ≢ b.code) abbrevs
 
--- a whole table: abbreviations with different codes, and then a code 0
+-- a whole table: abbreviations with distinct codes, then a code 0
 pub record TableAt (bytes : List ℕ) (at : ℕ) (abbrevs : List Abbrev) : Type 0 where
   pub end_at : ℕ
   pub after : ℕ
@@ -55,7 +55,7 @@ pub record TableAt (bytes : List ℕ) (at : ℕ) (abbrevs : List Abbrev) : Type 
   pub end : uleb_at bytes end_at ≡ Some (0, after)
   pub apart : CodesApart abbrevs
 
--- The pairs of an abbreviation are where it says, inside the section.
+-- The attribute specifications of an abbreviation are at the offset that it gives, inside the section.
 pub record HasPairs (bytes : List ℕ) (made : Abbrev) : Type 0 where
   pub inside : made.specs_from < length bytes
   pub pairs : (specs_run bytes made.specs_from).items ≡ made.specs

@@ -1,5 +1,10 @@
+<<<<<<< HEAD
 // The abbreviations of a unit, by their codes.
 ghost use Rattle.std.specs.Prelude.{◌≡◌, ◌-◌, ◌^◌, [], ◌∷◌, ◌++◌, min, None, OnOk};
+=======
+// The abbreviations of a unit, by code.
+ghost use Rattle.std.specs.Prelude.{◌≡◌, ◌-◌, [], ◌∷◌, ◌++◌, None, OnOk};
+>>>>>>> 2825b4367d36919bd6f503536fd8f90e3dd827d9
 ghost use Rattle.std.specs.Option.{option_copied};
 ghost use Rattle.dwarf_forms.specs.abbreviations.Abbrevs.{abbrev_of};
 ghost use Rattle.dwarf_forms.specs.abbreviations.LeastBytes.{least_bytes_in, least_bytes_of};
@@ -12,21 +17,21 @@ use std::alloc::Global;
 use std::collections::HashMap;
 use std::marker::Model;
 
-/// An abbreviation table. Contracts see it as the list of its abbreviations, in the order of the bytes.
+/// An abbreviation table. Contracts see it as the list of its abbreviations, in section order.
 #[derive(Drop)]
 pub struct Table {
     abbrevs: List<Abbrev>,
-    // The places of the abbreviations whose code is not that of their place, by their codes. Producers number from 1 on,
-    // so it mostly stays empty and takes no memory.
+    // The positions of the abbreviations whose code is not their position plus 1, by code. Producers number codes from 1, so it
+    // usually stays empty and allocates nothing.
     elsewhere: HashMap<u64, usize>,
-    // How many bytes of the section the abbreviations have at least.
+    // A lower bound of the size of the abbreviations in the section.
     bytes: usize,
 }
 
-// The bytes of an abbreviation without pairs are at least its code, its tag, the byte for children, and two that end the pairs.
+// An abbreviation without attributes has at least a code, a tag, the byte for children, and two bytes that end its list.
 const LEAST_BYTES: usize = 5;
 
-// The bytes of a pair are at least those of its two numbers.
+// An attribute specification has at least one byte for each of its two numbers.
 const PAIR_BYTES: usize = 2;
 
 impl Model for Table {
@@ -43,14 +48,14 @@ impl Model for Table {
     ghost invariant = { λ t. Placed t.abbrevs t.elsewhere × (t.bytes ≡ least_bytes_of t.abbrevs) };
 }
 
-// The place of a code where the codes of a table are 1, 2, 3, ..
+// The position of a code in a table with the codes 1, 2, 3, ..
 fn own_place(code: u64) -> usize
     ensures { result ≡ code - 1 }
 {
     code.saturating_sub(1) as usize
 }
 
-// The abbreviation of a code, where it is at the place of the code.
+// The abbreviation with a code, if it is at the position of the code.
 fn at_own_place(abbrevs: &[Abbrev], code: u64) -> Option<&Abbrev>
     ensures { option_copied result ≡ spec.at_own_place abbrevs.now code }
 {
@@ -60,7 +65,7 @@ fn at_own_place(abbrevs: &[Abbrev], code: u64) -> Option<&Abbrev>
     }
 }
 
-// The abbreviation of a code at the place that the map has for it.
+// The abbreviation with a code, if it is at the position that the map has for it.
 #[inline(never)]
 fn at_kept_place<'a>(
     abbrevs: &'a [Abbrev],
@@ -75,24 +80,35 @@ fn at_kept_place<'a>(
     }
 }
 
+<<<<<<< HEAD
 // How many bytes of the section an abbreviation has at least.
 fn least_bytes(made: &Abbrev) -> usize
     ensures { result ≡ min (least_bytes_in made.now) (2 ^ 64 - 1) }
 {
+=======
+// A lower bound of the size of an abbreviation in the section.
+fn least_bytes(made: &Abbrev) -> usize {
+>>>>>>> 2825b4367d36919bd6f503536fd8f90e3dd827d9
     let pairs = made.specs.as_slice().len().saturating_mul(PAIR_BYTES);
     pairs.saturating_add(LEAST_BYTES)
 }
 
 impl Table {
+<<<<<<< HEAD
     /// How many bytes of `.debug_abbrev` the abbreviations have at least: five each, and two for each pair. They take memory in
     /// proportion.
     pub fn least_bytes(&self) -> usize
         ensures { result ≡ least_bytes_of self.now }
     {
+=======
+    /// A lower bound of the size of the abbreviations in `.debug_abbrev`: five bytes each, and two for each attribute
+    /// specification. The memory that they take is proportional to it.
+    pub fn least_bytes(&self) -> usize {
+>>>>>>> 2825b4367d36919bd6f503536fd8f90e3dd827d9
         self.bytes
     }
 
-    // The table without abbreviations, which takes no memory yet.
+    // The empty table. Allocates nothing.
     pub(crate) fn new(alloc: Global) -> Table
         ensures { result ≡ [] }
     {
@@ -103,7 +119,7 @@ impl Table {
         }
     }
 
-    // Appends an abbreviation whose code is new in the table. After `NoMemory` the table is of no use.
+    // Appends an abbreviation with a new code. After `NoMemory` the table is useless.
     pub(crate) fn push(&mut self, alloc: Global, made: Abbrev) -> Result<(), NoMemory>
         requires { abbrev_of self.old made.code ≡ None }
         ensures { OnOk result (self.new ≡ self.old ++ made ∷ []) }
@@ -119,14 +135,14 @@ impl Table {
                 Ok(())
             }
             Err(refused) => {
-                // The map may lead to the place of the abbreviation that did not fit.
+                // The map may refer to the abbreviation that could not be appended.
                 *self = Table::new(alloc);
                 Err(refused)
             }
         }
     }
 
-    /// The abbreviation of a code, or none exactly where the table has no such code. It looks at two places at most.
+    /// The abbreviation with a code, or None exactly where the table has none. Looks at two positions at most.
     #[inline]
     pub fn find(&self, code: u64) -> Option<&Abbrev>
         ensures { option_copied result ≡ abbrev_of self.now code }

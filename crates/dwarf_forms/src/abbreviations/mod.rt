@@ -1,4 +1,4 @@
-//! Abbreviation tables of `.debug_abbrev`: what the entries of a unit look like, by their codes.
+//! Abbreviation tables of `.debug_abbrev`: the tag and the attributes of a unit's entries, by code.
 
 mod abbrev;
 mod kept;

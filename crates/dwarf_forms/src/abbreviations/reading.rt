@@ -1,4 +1,4 @@
-// Reading the table at a place.
+// Reads the abbreviation table at an offset.
 ghost use Rattle.std.specs.Prelude.{◌≡◌, ◌≤◌, ◌<◌, ◌+◌, [], length, IfOk, IfSome, IfNone, Ok, Some, slice_get, ◌==◌};
 ghost use Rattle.std.specs.List.{list_any};
 ghost use Rattle.std.specs.Option.{option_map};
@@ -13,13 +13,13 @@ use abi_base::dwarf::{DW_CHILDREN_no, DW_CHILDREN_yes, DW_FORM_implicit_const};
 use abi_base::{Fault, FaultKind, List, NoMemory, Refusal, sleb, uleb};
 use std::alloc::Global;
 
-// A byte from this one on has another one of its number after it.
+// A byte of this value or more continues a LEB128 number.
 const MORE: u8 = 0x80;
 
-// Few abbreviations have more pairs.
+// A capacity that suffices for most abbreviations.
 const USUAL_PAIRS: usize = 8;
 
-// The value after a form in an abbreviation, and the place after it.
+// The constant after a form in an abbreviation, and the offset after it.
 fn implicit_in(bytes: &[u8], form: u64, at: usize) -> Option<(i64, usize)>
     requires { at ≤ length bytes.now }
     ensures found { result ≡ implicit_at bytes.now form at }
@@ -33,7 +33,7 @@ fn implicit_in(bytes: &[u8], form: u64, at: usize) -> Option<(i64, usize)>
     }
 }
 
-// The next pair of attribute and form whatever its length, or the end of the list.
+// The next attribute specification of any length, or the end of the list.
 #[inline(never)]
 #[tactic(auto, unfolding(crate::specs::abbreviations::Abbrevs::spec_step))]
 fn spec_of_any_length(bytes: &[u8], at: usize) -> Result<(Spec, usize), Option<usize>>
@@ -66,7 +66,7 @@ fn spec_of_any_length(bytes: &[u8], at: usize) -> Result<(Spec, usize), Option<u
     ))
 }
 
-// The number at a place, where it has one byte and is not 0.
+// The number at an offset, if it has one byte and is not 0.
 #[inline(always)]
 fn short_number(bytes: &[u8], at: usize) -> Option<u8>
     ensures exact { result ≡ short_number_of (slice_get bytes.now at) }
@@ -80,9 +80,9 @@ fn short_number(bytes: &[u8], at: usize) -> Option<u8>
     }
 }
 
-/// The pair of attribute and form at a place of `.debug_abbrev`, where each of its numbers has one byte and no value follows
-/// them. The next pair begins two bytes on. None where the numbers are longer, a value follows, or there is no pair:
-/// `next_spec` reads each of these.
+/// The attribute specification at an offset in `.debug_abbrev`, if it has two bytes: one for each number, and no constant. The
+/// next one begins two bytes on. None for longer ones, for one with a constant, and at the end of the list; `next_spec` reads
+/// each of these.
 #[inline(always)]
 pub fn short_pair(bytes: &[u8], at: usize) -> Option<ShortPair>
     ensures exact { option_map (λ p. (p.attribute, p.form)) result ≡ short_pair_at bytes.now at }
@@ -102,14 +102,14 @@ pub fn short_pair(bytes: &[u8], at: usize) -> Option<ShortPair>
     Some(ShortPair { attribute, form })
 }
 
-// The next pair of attribute and form, or the end of the list.
+// The next attribute specification, or the end of the list.
 #[inline(always)]
 fn spec_in(bytes: &[u8], at: usize) -> Result<(Spec, usize), Option<usize>>
     ensures found { result ≡ spec_step bytes.now at }
     ensures after { IfOk result (λ r. at < r.1) }
     ensures inside { IfOk result (λ r. r.1 ≤ length bytes.now) }
 {
-    // Most pairs have two bytes.
+    // A fast path, since most specifications have two bytes.
     match short_pair(bytes, at) {
         Some(pair) => Ok((
             Spec {
@@ -123,8 +123,8 @@ fn spec_in(bytes: &[u8], at: usize) -> Result<(Spec, usize), Option<usize>>
     }
 }
 
-/// The pair of attribute and form at a place of `.debug_abbrev`, and the place after it. None where the pairs end there, or
-/// none can be read.
+/// The attribute specification at an offset in `.debug_abbrev`, and the offset after it. None at the end of the list, and
+/// where it cannot be read.
 #[tactic(auto, using(crate::proofs::abbreviations_lemmas::AbbrevsLemmas::specs_front, crate::proofs::abbreviations_lemmas::AbbrevsLemmas::specs_over))]
 pub fn next_spec(bytes: &[u8], at: usize) -> Option<(Spec, usize)>
     ensures found { IfSome result (λ r. specs_run bytes.now at ≡ put_front r.0 (specs_run bytes.now r.1)) }
@@ -138,7 +138,7 @@ pub fn next_spec(bytes: &[u8], at: usize) -> Option<(Spec, usize)>
     }
 }
 
-// The pairs of an abbreviation and the place after them, or none where they cannot be read.
+// The attribute specifications of an abbreviation and the offset after them, or None where they cannot be read.
 #[tactic(auto, using(crate::proofs::abbreviations_lemmas::AbbrevsLemmas::specs_more, crate::proofs::abbreviations_lemmas::AbbrevsLemmas::specs_end))]
 fn specs_in(alloc: Global, bytes: &[u8], at: usize) -> Result<Option<(List<Spec>, usize)>, NoMemory>
     ensures { IfOk result (λ r. r ≡ specs_at bytes.now at) }
@@ -175,7 +175,7 @@ fn has_code(seen: &Table, code: u64) -> bool
     seen.find(code).is_some()
 }
 
-// The next abbreviation and the place after it, or none at the table's end.
+// The next abbreviation and the offset after it, or None at the table's end.
 #[tactic(auto, unfolding(crate::specs::abbreviations::Abbrevs::abbrev_step))]
 fn next_abbrev(
     alloc: Global,
@@ -220,12 +220,12 @@ fn next_abbrev(
     )))
 }
 
-/// The table at a place of `.debug_abbrev`: its abbreviations up to the code 0 that ends them (DWARF 5, section 7.5.3
+/// The abbreviation table at an offset in `.debug_abbrev`: its abbreviations up to the code 0 (DWARF 5, section 7.5.3
 /// "Abbreviations Tables").
 ///
-/// It has a fault, `FaultKind::Abbrev` at the byte where an abbreviation begins, where the bytes there are no whole
-/// abbreviation: a number or a byte is cut off or too large, the byte for children is neither 0 nor 1, only one number of a
-/// pair is 0, or an earlier abbreviation has the code.
+/// The fault `FaultKind::Abbrev` is at the first byte of the first abbreviation that is not whole: a number or a byte is cut off or
+/// too large, the byte for children is neither 0 nor 1, only one number of a specification is 0, or an earlier abbreviation has its
+/// code.
 #[tactic(auto, using(crate::proofs::abbreviations_lemmas::AbbrevsLemmas::table_more, crate::proofs::abbreviations_lemmas::AbbrevsLemmas::table_end, crate::proofs::abbreviations_lemmas::AbbrevsLemmas::abbrev_after, crate::proofs::abbreviations_lemmas::AbbrevsLemmas::abbrev_is_new), unfolding(crate::specs::abbreviations::Abbrevs::table_run))]
 pub fn table(alloc: Global, bytes: &[u8], at: u64) -> Result<Table, Refusal>
     ensures judged { Judges result (table_run bytes.now at).end }

@@ -1,4 +1,4 @@
--- What readers of entries return, as steps.
+-- The answers of the readers of entries, as steps.
 use Rattle.std.specs.Prelude.{Option, Some, None, Result, Ok, Err}
 use Rattle.abi_base.specs.declared.fault.Fault.{Fault}
 use Rattle.dwarf_text.specs.declared.ranges.entry.Entry.{Entry as EntryRead}

@@ -1,6 +1,6 @@
-// The numbers of range lists, under their standard names.
+// The constants of range lists, under their standard names.
 
-// The kinds of entries (DWARF 5, section 7.25 "Non-Contiguous Address Ranges").
+// Range list entry kinds (DWARF 5, section 7.25 "Non-Contiguous Address Ranges").
 
 pub(crate) const DW_RLE_end_of_list: u64 = 0x00;
 
@@ -18,5 +18,5 @@ pub(crate) const DW_RLE_start_end: u64 = 0x06;
 
 pub(crate) const DW_RLE_start_length: u64 = 0x07;
 
-// The largest address, which opens a pair that selects a base (DWARF 4, section 2.17.3 "Non-Contiguous Address Ranges").
+// The largest address, which marks a base address selection entry (DWARF 4, section 2.17.3 "Non-Contiguous Address Ranges").
 pub(crate) const BASE_SELECTION: u64 = 0xffff_ffff_ffff_ffff;

@@ -1,4 +1,4 @@
-// The entries of lists, one by one.
+// The entries of range lists, one by one.
 ghost use Rattle.std.specs.Prelude.{◌≡◌, ◌+◌, ◌<◌, ◌≤◌, length, IfOk, IfSome};
 ghost use Rattle.abi_base.specs.declared.fault.FaultKind.TheVariants as kind;
 ghost use Rattle.dwarf_forms.specs.Values.{fault};
@@ -11,25 +11,25 @@ use crate::ranges::constants::{BASE_SELECTION, DW_RLE_end_of_list};
 use crate::ranges::layout::{Field, Layout, Role, layout_by_kind};
 use abi_base::{Fault, FaultKind, table_address, u64_at, uint_at, uleb};
 
-// The sizes of the kind of an entry and of an address.
+// The sizes in bytes of an entry kind and of an address.
 const KIND_SIZE: usize = 1;
 
 const ADDRESS_SIZE: usize = 8;
 
-// The bytes that lists of ranges are read from.
+// The bytes of range lists and of the addresses that they use.
 #[derive(Clone, Copy)]
 pub(crate) struct Source<'a> {
     // `.debug_rnglists`, or `.debug_ranges`
     pub(crate) bytes: &'a [u8],
     // `.debug_addr`
     pub(crate) addr: &'a [u8],
-    // where the unit's part of it begins
+    // the base of the unit's part of it
     pub(crate) addr_base: Option<u64>,
-    // where the debugging information entry with the list begins
+    // the offset of the debugging information entry with the list
     pub(crate) entry: u64,
 }
 
-// An entry of a list: where its range begins, or none where it selects a base, with the base and the place after it.
+// An entry of a list: the start of its range, or None where it selects a base; then the base and the offset after it.
 #[derive(Clone, Copy)]
 pub(crate) struct Entry {
     pub(crate) start: Option<u64>,
@@ -37,7 +37,7 @@ pub(crate) struct Entry {
     pub(crate) after: usize,
 }
 
-// What an entry means by its first field.
+// The meaning of an entry's first field.
 fn meant(role: Role, base: u64, number: u64) -> (Option<u64>, u64)
     ensures { result ≡ spec.meant role base number }
 {
@@ -58,7 +58,7 @@ impl<'a> Source<'a> {
         }
     }
 
-    // The address of an index of variable length.
+    // The address with an index, which is an unsigned LEB128.
     fn indexed(&self, at: usize) -> Result<(u64, usize), Fault>
         ensures read { result ≡ field_at self.now.addr.now self.now.addr_base self.now.entry self.now.bytes.now the_field.Index at }
         ensures after { IfOk result (λ r. at ≤ r.1) }
@@ -76,7 +76,7 @@ impl<'a> Source<'a> {
         }
     }
 
-    // The number that a field gives.
+    // The number of a field.
     fn field(&self, field: Field, at: usize) -> Result<(u64, usize), Fault>
         requires { at ≤ length self.now.bytes.now }
         ensures read { result ≡ field_at self.now.addr.now self.now.addr_base self.now.entry self.now.bytes.now field at }
@@ -97,7 +97,7 @@ impl<'a> Source<'a> {
         }
     }
 
-    // The entry whose kind is the byte before a place.
+    // The entry whose kind is the byte before `at`.
     fn fields(&self, layout: Layout, at: usize, base: u64) -> Result<Entry, Fault>
         requires { at ≤ length self.now.bytes.now }
         ensures read { seen_entry result ≡ fields_step self.now.addr.now self.now.addr_base self.now.entry self.now.bytes.now layout (at, base) }
@@ -110,7 +110,7 @@ impl<'a> Source<'a> {
         Ok(Entry { start, base, after })
     }
 
-    // The entry of this kind, whose fields begin at a place, or none where the list ends.
+    // The entry with this kind, whose fields begin at `at`, or None where the list ends.
     #[tactic(auto, unfolding(crate::specs::ranges::RangeLists::kind_step))]
     fn entry_of_kind(&self, kind: u64, at: usize, base: u64) -> Result<Option<Entry>, Fault>
         requires { at ≤ length self.now.bytes.now }
@@ -130,7 +130,7 @@ impl<'a> Source<'a> {
         }
     }
 
-    // The entry at a place of `.debug_rnglists`, or none where the list ends.
+    // The entry at an offset in `.debug_rnglists`, or None where the list ends.
     #[tactic(auto, unfolding(crate::specs::ranges::RangeLists::list_step))]
     pub(crate) fn list_entry(&self, at: usize, base: u64) -> Result<Option<Entry>, Fault>
         ensures read { seen_step result ≡ list_step self.now.addr.now self.now.addr_base self.now.entry self.now.bytes.now (at, base) }
@@ -143,7 +143,7 @@ impl<'a> Source<'a> {
         }
     }
 
-    // The pair at a place of `.debug_ranges`, or none where the list ends.
+    // The pair at an offset in `.debug_ranges`, or None where the list ends.
     #[tactic(auto, unfolding(crate::specs::ranges::RangeLists::pair_step))]
     pub(crate) fn pair_entry(&self, at: usize, base: u64) -> Result<Option<Entry>, Fault>
         ensures read { seen_step result ≡ pair_step self.now.entry self.now.bytes.now (at, base) }

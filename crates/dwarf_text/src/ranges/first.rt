@@ -1,4 +1,4 @@
-// Where the first range of a list begins.
+// The start of the first range of a list.
 ghost use Rattle.std.specs.Prelude.{◌≡◌};
 ghost use Rattle.abi_base.specs.declared.fault.FaultKind.TheVariants as kind;
 ghost use Rattle.dwarf_text.specs.ranges.RangeLists.{first_start, list_run, pair_run, place_of_list, first_address_of};
@@ -9,7 +9,7 @@ use crate::ranges::lists::ListAt;
 use abi_base::{Effort, Fault, FaultKind, NoMemory, table_offset};
 use dwarf_forms::Sections;
 
-// The place of the list of a number. It counts from the start of the unit's part.
+// The offset of the list with this index: the entry of the unit's offset table, plus the unit's base.
 fn place_of(rnglists: &[u8], base: Option<u64>, index: u64) -> Option<u64>
     ensures { result ≡ place_of_list rnglists.now base index }
 {
@@ -22,7 +22,7 @@ fn place_of(rnglists: &[u8], base: Option<u64>, index: u64) -> Option<u64>
     }
 }
 
-// Where the first range begins of the list at a place of `.debug_rnglists`.
+// The start of the first range of the list at an offset in `.debug_rnglists`.
 #[tactic(auto, using(crate::proofs::ranges_lemmas::ListLemmas::list_passes, crate::proofs::ranges_lemmas::ListLemmas::list_gives, crate::proofs::ranges_lemmas::ListLemmas::list_ends))]
 fn first_in_list(source: &Source, place: u64, low: u64) -> Result<Option<u64>, Fault>
     ensures { result ≡ first_start (list_run source.now.addr.now source.now.addr_base source.now.entry source.now.bytes.now (place, low)) }
@@ -44,7 +44,7 @@ fn first_in_list(source: &Source, place: u64, low: u64) -> Result<Option<u64>, F
     }
 }
 
-// Where the first range begins of the pairs from a place of `.debug_ranges` on.
+// The start of the first range of the pairs at an offset in `.debug_ranges`.
 #[tactic(auto, using(crate::proofs::ranges_lemmas::ListLemmas::pair_passes, crate::proofs::ranges_lemmas::ListLemmas::pair_gives, crate::proofs::ranges_lemmas::ListLemmas::pair_ends))]
 fn first_in_pairs(source: &Source, place: u64, low: u64) -> Result<Option<u64>, Fault>
     ensures { result ≡ first_start (pair_run source.now.entry source.now.bytes.now (place, low)) }
@@ -66,13 +66,12 @@ fn first_in_pairs(source: &Source, place: u64, low: u64) -> Result<Option<u64>, 
     }
 }
 
-/// Where the first range of a list begins, an empty range too, and none exactly where the list has no range (DWARF 5, sections
-/// 2.17.3 "Non-Contiguous Address Ranges" and 7.25; for pairs DWARF 4, section 2.17.3). `bases` are where the unit's parts of
-/// `.debug_rnglists` and `.debug_addr` begin, with the first base of its ranges. Sums of addresses are modulo 2^64.
-/// The call reads nothing after the first range. Up to its end, the fault is `Ranges` where the list is not inside its section,
-/// or has a number that does not fit 64 bits or an entry of an unknown kind, and `Index` where the number of the list or of an
-/// address has no base or is outside its section. Both are at the entry, and the fault is the first one in the order of the
-/// fields.
+/// The start of the first range of a list, even of an empty range, or None exactly where the list has no range (DWARF 5, sections
+/// 2.17.3 "Non-Contiguous Address Ranges" and 7.25; for pairs DWARF 4, section 2.17.3). `bases` are those of the unit's parts of
+/// `.debug_rnglists` and `.debug_addr`, and the first base of its ranges. Sums of addresses are modulo 2^64.
+/// Nothing after the first range is read. Up to its end, the fault is `Ranges` where the list is not inside its section, or has a
+/// number that does not fit 64 bits or an entry of an unknown kind, and `Index` where the index of the list or of an address has no
+/// base or leads outside its section. Both are at the entry. The first fault in the order of the fields counts.
 pub fn first_address(
     list: ListAt,
     bases: &Bases,
@@ -107,7 +106,7 @@ pub fn first_address(
     }
 }
 
-// Takes the effort for the entries from a place on up to the first range, of pairs or of a list.
+// Spends the budget for the entries from an offset up to the first range, of pairs or of a list.
 fn spend_entries(
     source: &Source,
     of_pairs: bool,
@@ -134,8 +133,8 @@ fn spend_entries(
     }
 }
 
-/// Takes the effort for the bytes of a list that `first_address` reads: those of its entries up to the first range. It fails where
-/// less is left. A list with a fault takes the effort for the entries before the fault.
+/// Spends the budget for the bytes of a list that `first_address` reads: those of its entries up to the first range, or of a faulty
+/// list those of the entries before the fault. Fails where the budget is smaller.
 pub fn spend_first(
     list: ListAt,
     bases: &Bases,

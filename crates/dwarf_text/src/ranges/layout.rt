@@ -1,4 +1,4 @@
-// What the kinds of entries of a range list consist of.
+// The layout of range list entries, by kind.
 ghost use Rattle.std.specs.Prelude.{◌≡◌};
 ghost use Rattle.dwarf_text.specs.ranges.RangeLists.{layout_of};
 
@@ -7,27 +7,27 @@ use crate::ranges::constants::{
     DW_RLE_start_length, DW_RLE_startx_endx, DW_RLE_startx_length,
 };
 
-// A field after the byte of an entry's kind.
+// A field after an entry's kind.
 #[derive(Clone, Copy)]
 pub(crate) enum Field {
-    // the number of an address in the unit's part of `.debug_addr`, of variable length
+    // an index into the unit's part of `.debug_addr`, as an unsigned LEB128
     Index,
     // eight bytes
     Address,
-    // a number of variable length
+    // a number, as an unsigned LEB128
     Number,
     // no bytes
     Absent,
 }
 
-// What the first field of an entry is.
+// The role of an entry's first field.
 #[derive(Clone, Copy)]
 pub(crate) enum Role {
     // the base of the entries after it
     Base,
-    // where a range begins, counted from the base
+    // the start of a range, relative to the base
     Offset,
-    // where a range begins
+    // the start of a range
     Start,
 }
 
@@ -38,7 +38,7 @@ pub(crate) struct Layout {
     pub(crate) second: Field,
 }
 
-// What an entry of a kind consists of. The end of a list is none of these.
+// The layout of an entry with this kind. The end of a list has none.
 #[tactic(auto, unfolding(crate::specs::ranges::RangeLists::layout_of, crate::specs::ranges::RangeLists::kinds))]
 pub(crate) fn layout_by_kind(kind: u64) -> Option<Layout>
     ensures { result ≡ layout_of kind }

@@ -1,12 +1,12 @@
-// The places of lists of ranges.
+// References to range lists.
 
-/// The place of a list of ranges of addresses.
+/// The location of a range list.
 #[derive(Clone, Copy, Debug, PartialEq, Eq)]
 pub enum ListAt {
-    /// At a place of `.debug_rnglists`.
+    /// An offset in `.debug_rnglists`.
     Offset(u64),
-    /// The list of this number in the unit's part of `.debug_rnglists`.
+    /// An index into the offsets of the unit's part of `.debug_rnglists`.
     Index(u64),
-    /// Pairs of addresses, from a place of `.debug_ranges` on (DWARF 4).
+    /// The offset in `.debug_ranges` of a list of address pairs (DWARF 4).
     Pairs(u64),
 }

@@ -1,4 +1,4 @@
-//! Ranges of addresses: where the first range of a list begins.
+//! Range lists: the start of the first address range of a list.
 
 mod constants;
 mod entry;

@@ -1,4 +1,4 @@
--- The fields of a file that was read.
+-- A file that was read, field by field.
 use Rattle.std.specs.Prelude.{◌≡◌, ◌≤◌, ℕ, List, length, None}
 use Rattle.abi_base.specs.Limits.{input_limit}
 use Rattle.elf.specs.declared.file.records.SectionTable.{SectionTable}
@@ -13,6 +13,6 @@ pub record IsOpen (f : List ℕ) (sections : SectionTable) (names : List ℕ) : 
   pub has : HasTable f
   pub ranges : HasRanges f
 
--- a section of the code, without the place of its bytes in memory
+-- a section of the code, without the address of its bytes in memory
 abbrev pub viewed : Section → SectionView
 viewed s = record { index = s.index; bytes = s.bytes.now; link = s.link; info = s.info; entsize = s.entsize }

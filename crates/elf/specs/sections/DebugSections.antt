@@ -1,11 +1,11 @@
--- The sections of debug information of a file, by their names (DWARF 5, section 7.3 "Executable Objects and Shared Objects";
--- `.debug_ranges` is of DWARF 4).
+-- The debug sections of a file, by name (DWARF 5, section 7.3 "Executable Objects and Shared Objects"; `.debug_ranges` is
+-- from DWARF 4).
 use Rattle.std.specs.Prelude.{◌≡◌, List, ℕ, [], codes}
 use Rattle.std.specs.Option.{unwrap_or}
 use Rattle.dwarf_forms.specs.declared.sections.Sections.{Sections}
 use Rattle.elf.specs.file.Elf.{section_named}
 
--- the contents of the first section of a name, and no bytes where there is none
+-- the contents of the first section with this name, empty where there is none
 abbrev pub section_or_none : List ℕ → List ℕ → List ℕ
 section_or_none f name = unwrap_or (section_named f name) []
 

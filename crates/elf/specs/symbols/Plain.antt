@@ -1,4 +1,4 @@
--- A symbol of the code, without the place of its name in memory.
+-- A symbol of the code, without the address of its name in memory.
 use Rattle.std.specs.Prelude.{List, map}
 use Rattle.elf.specs.declared.symbols.symbol.Symbol.{Symbol}
 use Rattle.elf.specs.symbols.Symbols.{PlainSymbol}

@@ -1,5 +1,5 @@
--- The version definitions of a file, and their first fault. They are in the first section of type GNU verdef: as many as its
--- header's info says, each with the place of the next one, and their names are in the string table that the header's link names.
+-- The version definitions of a file, and their first fault. They are a chain in the first section of type GNU verdef: the
+-- section header's info counts them, each has the offset of the next, and the section header's link is their string table.
 use Rattle.std.specs.Prelude.{ℕ, zero, suc, ◌+◌, ◌%◌, ◌==◌, nat_lt, Bool, false, not, ◌||◌, ◌&&◌, is_none, List, [], ◌∷◌, length, map, find, Option, unwrap_or, option_and_then}
 use Rattle.std.specs.List.{range_with_len, list_any}
 use Rattle.std.specs.Option.{option_map_or}
@@ -14,30 +14,30 @@ use Rattle.abi_base.specs.GnuVersions.{sht_gnu_verdef, versym_hidden, verdef_siz
 
 -- ---- one definition, by its number, in the contents of the section
 
--- where the definition of a number begins: the first one at the beginning, and each other one at the place that the one before
--- it gives
+-- the offset of the definition with this number: the first is at the start, and each other one at the offset that its predecessor
+-- gives
 unfoldable pub place_of : List ℕ → ℕ → ℕ
 place_of table zero = 0
 place_of table (suc k) = place_of table k + number 4 table (place_of table k + vd_next)
 
--- its index, without the bit for hidden
+-- its index, without the hidden bit
 unfoldable pub index_of : List ℕ → ℕ → ℕ
 index_of table k = number 2 table (place_of table k + vd_ndx) % versym_hidden
 
--- where its first auxiliary entry begins
+-- the offset of its first auxiliary entry
 unfoldable pub auxiliary_of : List ℕ → ℕ → ℕ
 auxiliary_of table k = place_of table k + number 4 table (place_of table k + vd_aux)
 
--- the name of its version, which its first auxiliary entry names
+-- the name of its version, from its first auxiliary entry
 unfoldable pub name_of : List ℕ → List ℕ → ℕ → Option (List ℕ)
 name_of table strings k = text_at strings (number 4 table (auxiliary_of table k + vda_name))
 
--- an index is that of an earlier definition
+-- whether an index is that of an earlier definition
 abbrev pub stood_before : List ℕ → ℕ → Bool
 stood_before table k = list_any (λ j. index_of table j == index_of table k) (range_with_len 0 k)
 
--- The definition or its first auxiliary entry is outside the section, or it is of another version, has no auxiliary entry or no
--- index, has a name that does not end in the strings, or is not the last one and gives no next one.
+-- The definition or its first auxiliary entry is not inside the section, or the definition has another format version, no auxiliary
+-- entry or no index, or a name without an end in the string table, or is not the last and has no next.
 unfoldable pub is_malformed : List ℕ → List ℕ → ℕ → ℕ → Bool
 is_malformed table strings count k =
     let at = place_of table k in
@@ -49,7 +49,7 @@ is_malformed table strings count k =
     || (is_none (name_of table strings k)
     || (nat_lt (k + 1) count && number 4 table (at + vd_next) == 0))))))
 
--- It is malformed by itself, or has the index of an earlier one.
+-- It is malformed by itself, or shares the index of an earlier one.
 unfoldable pub is_bad : List ℕ → List ℕ → ℕ → ℕ → Bool
 is_bad table strings count k = is_malformed table strings count k || stood_before table k
 
@@ -61,13 +61,14 @@ definition_fault table strings count k = fault_if (is_bad table strings count k)
 abbrev pub bad_definition_at : ℕ → Refusal
 bad_definition_at k = refusal.Fault (record { kind = kind.VersionDefinition; at = k })
 
--- the number of the first definition with an index
+-- the number of the first definition with this index
 abbrev pub definition_with : List ℕ → ℕ → ℕ → Option ℕ
 definition_with table count index = find (λ k. index_of table k == index) (range_with_len 0 count)
 
 -- ---- of a file
 
--- the contents of the section of definitions and its string table, and the number of definitions; no bytes where there is none
+-- the contents of the section of definitions and of its string table, and the number of definitions; empty and 0 where there is
+-- none
 abbrev pub definition_table : List ℕ → List ℕ
 definition_table f = option_map_or (λ s. s.bytes) (section_of_kind f sht_gnu_verdef) []
 
@@ -77,16 +78,16 @@ definition_strings f = unwrap_or (option_and_then (λ s. strings_of f s.link) (s
 abbrev pub definition_count : List ℕ → ℕ
 definition_count f = option_map_or (λ s. s.info) (section_of_kind f sht_gnu_verdef) 0
 
--- the name of the version with an index, where a definition has that index
+-- the name of the version with this index, if a definition has the index
 unfoldable pub version_name : List ℕ → ℕ → Option (List ℕ)
 version_name f index =
     option_and_then (name_of (definition_table f) (definition_strings f)) (definition_with (definition_table f) (definition_count f) index)
 
--- The definitions have a string table.
+-- the fault of definitions without a string table
 abbrev pub strings_fault : List ℕ → Option Fault
 strings_fault f = fault_if (option_map_or (λ s. is_none (strings_of f s.link)) (section_of_kind f sht_gnu_verdef) false) kind.VersionDefinition 0
 
--- the string table; then the definitions, one by one
+-- the string table, then the definitions one by one
 abbrev pub definition_faults : List ℕ → List (Option Fault)
 definition_faults f =
     strings_fault f

@@ -1,4 +1,4 @@
--- The names of versions by their indexes, as the reader of versions keeps them.
+-- The names of versions by index, as the reader stores them.
 use Rattle.std.specs.Prelude.{◌≡◌, ℕ, nat_eq, List, Option}
 use Rattle.std.specs.Borrow.{Bor}
 use Rattle.std.specs.Option.{option_copied}
@@ -14,6 +14,6 @@ Names = HashMap ℕ (Bor (List ℕ)) (BuildHasherDefault FoldHasher)
 abbrev pub name_under : Names → ℕ → Option (List ℕ)
 name_under names index = option_copied (get nat_eq names index)
 
--- the map has under each index the name of that index, and nothing where there is none
+-- the map has the name of each index, and no other entry
 abbrev pub IsNames : Names → (ℕ → Option (List ℕ)) → Type 0
 IsNames names name_with = (index : ℕ) → name_under names index ≡ name_with index

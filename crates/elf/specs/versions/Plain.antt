@@ -1,4 +1,4 @@
--- A version of the code, without the place of its name in memory.
+-- A version of the code, without the address of its name in memory.
 use Rattle.std.specs.Option.{option_copied}
 use Rattle.elf.specs.declared.versions.version.Version.{Version}
 use Rattle.elf.specs.versions.Versions.{PlainVersion}

@@ -36,9 +36,8 @@ impl<'a> Model for ElfFile<'a> {
     ghost invariant = { λ file. IsOpen file.bytes.now file.sections file.names.now };
 }
 
-/// Reads the header and the section table of a file. The fault is the first one of `ShortFile` to `Compressed`, kind by
-/// kind: that of an earlier kind comes first, at whatever place, and of one kind that of the least section. It allocates
-/// nothing. The result borrows the bytes, and its look-ups read them.
+/// Reads the header and the section header table of a file. Err is the first fault, ordered by kind from `ShortFile` to
+/// `Compressed` and then by section number. Allocates nothing. The result borrows the bytes, and its look-ups read them.
 #[tactic(auto, using(crate::proofs::file_lemmas::ElfLemmas::elf_fault_is))]
 pub fn read_elf<'a>(bytes: &'a [u8]) -> Result<ElfFile<'a>, Refusal>
     requires { length bytes.now ≤ input_limit }
@@ -72,7 +71,7 @@ pub fn read_elf<'a>(bytes: &'a [u8]) -> Result<ElfFile<'a>, Refusal>
 }
 
 impl<'a> ElfFile<'a> {
-    /// The contents of the first section of a name, or none exactly where there is no such section.
+    /// The contents of the first section with this name, or None exactly where there is no such section.
     pub fn section(&self, name: &[u8]) -> Option<&'a [u8]>
         ensures found { option_copied result ≡ section_named self.now name.now }
         ensures small { IfSome result (λ bytes. length bytes.now ≤ input_limit) }
@@ -83,7 +82,7 @@ impl<'a> ElfFile<'a> {
         }
     }
 
-    /// The number of the first section of a name, or none exactly where there is no such section.
+    /// The number of the first section with this name, or None exactly where there is no such section.
     #[tactic(auto, using(abi_base::proofs::lemmas::Places::find_more, abi_base::proofs::lemmas::Places::find_here, abi_base::proofs::lemmas::Places::find_none))]
     pub fn section_number(&self, name: &[u8]) -> Option<u32>
         ensures found { result ≡ spec.section_number self.now name.now }
@@ -97,7 +96,7 @@ impl<'a> ElfFile<'a> {
         None
     }
 
-    /// The first section of a type, or none exactly where there is no such section. Types are those of the gABI, as
+    /// The first section of this type, or None exactly where there is no such section. Types are those of the gABI, such as
     /// `SHT_DYNSYM`.
     #[tactic(auto, using(abi_base::proofs::lemmas::Places::find_more, abi_base::proofs::lemmas::Places::find_here, abi_base::proofs::lemmas::Places::find_none))]
     pub fn section_of_kind(&self, kind: u32) -> Option<Section<'a>>
@@ -120,7 +119,7 @@ impl<'a> ElfFile<'a> {
         None
     }
 
-    /// The contents of the section of a number, or none exactly where there is no such section or it is no string table.
+    /// The contents of the section with this number, or None exactly where there is no such section or it is not a string table.
     pub fn strings(&self, index: u32) -> Option<&'a [u8]>
         ensures held { option_copied result ≡ strings_of self.now index }
         ensures small { IfSome result (λ bytes. length bytes.now ≤ input_limit) }
@@ -136,7 +135,7 @@ impl<'a> ElfFile<'a> {
         }
     }
 
-    /// The name of the section of a number, or none exactly where there is no such section.
+    /// The name of the section with this number, or None exactly where there is no such section.
     pub fn section_name(&self, index: u32) -> Option<&'a [u8]>
         ensures named { option_copied result ≡ name_of_section self.now index }
         ensures outside { IfNone result ((table self.now).count ≤ index) }

@@ -1,4 +1,4 @@
-// The file's header and the section headers, and the faults of the header.
+// The file header and the section headers, and the faults of the file header.
 ghost use Rattle.std.specs.Prelude.{◌≡◌, ◌+◌, ◌*◌, ◌<◌, ◌≤◌, Some, length, IfNone};
 ghost use Rattle.abi_base.specs.Outcome.{first};
 ghost use Rattle.elf.specs.file.Elf.{header_at, table, section, header_faults, HasTable};
@@ -14,7 +14,7 @@ use crate::constants::{
 use crate::file::records::{SectionHeader, SectionTable};
 use abi_base::{Fault, FaultKind, u16_in, u32_in, u64_in};
 
-// The section header at a place inside the file.
+// The section header at an offset in the file.
 #[tactic(auto, unfolding(crate::specs::file::Elf::header_at))]
 fn header_in(bytes: &[u8], at: usize) -> SectionHeader
     requires { at + shdr_size ≤ length bytes.now }
@@ -32,8 +32,9 @@ fn header_in(bytes: &[u8], at: usize) -> SectionHeader
     }
 }
 
-/// The place of the section table, the number of its headers, and the number of the section of names, where section 0 is in
-/// the file. For a count of 0 the size of section 0 is the count, and for an index of `SHN_XINDEX` its link is the index.
+/// The offset of the section header table, the number of its headers, and the index of the section name string table. Requires that
+/// section 0 is in the file: its size is the count where the file header has 0, and its link is the index where that has
+/// `SHN_XINDEX`.
 #[tactic(auto, unfolding(crate::specs::file::Elf::table))]
 pub fn table_in(bytes: &[u8]) -> SectionTable
     requires header { ehdr_size ≤ length bytes.now }
@@ -59,7 +60,7 @@ pub fn table_in(bytes: &[u8]) -> SectionTable
     }
 }
 
-/// The header of the section of a number.
+/// The header of the section with this number.
 #[tactic(auto, unfolding(crate::specs::file::Elf::section))]
 pub fn section_in(bytes: &[u8], sections: SectionTable, number: u64) -> SectionHeader
     requires table { sections ≡ table bytes.now }
@@ -70,8 +71,8 @@ pub fn section_in(bytes: &[u8], sections: SectionTable, number: u64) -> SectionH
     header_in(bytes, (sections.at + SHDR_SIZE as u64 * number) as usize)
 }
 
-// Whether there is no section table, or it is not inside the file, or none of its sections is the string table of the
-// names. It compares sizes with the remaining room, since a sum could overflow.
+// Whether there is no section header table, or it is not inside the file, or the section of names is missing or is not a string
+// table. Compares sizes with the remaining room, since a sum could overflow.
 #[tactic(auto, unfolding(crate::specs::file::Elf::table, crate::specs::file::Elf::section))]
 fn is_table_bad(bytes: &[u8]) -> bool
     requires { ehdr_size ≤ length bytes.now }
@@ -92,7 +93,7 @@ fn is_table_bad(bytes: &[u8]) -> bool
     names.kind != SHT_STRTAB
 }
 
-// A fault of the header, at a byte of it.
+// A fault of the file header, at an offset in it.
 fn fault(kind: FaultKind, at: usize) -> Option<Fault>
     ensures { result ≡ Some (record { kind = kind; at = at }) }
 {
@@ -102,7 +103,7 @@ fn fault(kind: FaultKind, at: usize) -> Option<Fault>
     })
 }
 
-/// The first fault of the header, `ShortFile` to `SectionTable` in this order (gABI, "ELF Header").
+/// The first fault of the file header, from `ShortFile` to `SectionTable` in this order (gABI, "ELF Header").
 #[tactic(auto, unfolding(crate::specs::file::Elf::header_faults))]
 pub fn header_fault(bytes: &[u8]) -> Option<Fault>
     ensures fault { result ≡ first (header_faults bytes.now) }

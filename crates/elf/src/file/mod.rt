@@ -1,5 +1,5 @@
-//! An ELF-64 x86-64 shared object: its section table, the contents of its sections, and the first fault of its header and
-//! its sections (System V gABI, "ELF Header", "Sections", "String Table").
+//! ELF-64 x86-64 shared objects: the section header table, the contents of sections, and the first fault of header and
+//! sections (System V gABI, "ELF Header", "Sections", "String Table").
 
 mod file;
 mod header;

@@ -1,4 +1,4 @@
-// The contents and names of sections, and their faults, place by place.
+// The contents and names of sections, and the faults of each section.
 ghost use Rattle.std.specs.Prelude.{◌≡◌, ◌<◌, ◌≤◌, IfNone, IfSome, Some, drop, false, length, map, slice_get, ◌+◌};
 ghost use Rattle.std.specs.Option.{option_copied, option_map_or};
 ghost use Rattle.std.specs.Str.{bytes_eq};
@@ -12,14 +12,14 @@ use crate::file::header::section_in;
 use crate::file::records::{SectionHeader, SectionTable};
 use abi_base::{Fault, FaultKind, text_at};
 
-// Whether a section holds bytes in the file: section 0 and those of type NULL and NOBITS do not.
+// Whether a section has bytes in the file. Section 0 and those of type NULL and NOBITS have none.
 fn has_bytes(number: u64, header: SectionHeader) -> bool
     ensures { result ≡ holds_bytes number header }
 {
     !(number == 0 || header.kind == SHT_NULL || header.kind == SHT_NOBITS)
 }
 
-// The fault of a section that is not inside the file. It compares the size with the remaining room, since the sum of
+// The fault of a section that is not inside the file. Compares the size with the remaining room, since the sum of
 // offset and size could overflow.
 #[tactic(auto, unfolding(crate::specs::file::Elf::range_fault))]
 fn range_fault_at(bytes: &[u8], sections: SectionTable, number: u64) -> Option<Fault>
@@ -56,7 +56,7 @@ pub fn range_fault_in(bytes: &[u8], sections: SectionTable) -> Option<Fault>
     None
 }
 
-/// The contents of the section of a number.
+/// The contents of the section with this number.
 #[tactic(auto, unfolding(crate::specs::file::Elf::contents, crate::specs::file::Elf::range_fault))]
 pub fn contents_in<'a>(bytes: &'a [u8], sections: SectionTable, number: u64) -> &'a [u8]
     requires table { sections ≡ table bytes.now }
@@ -75,7 +75,7 @@ pub fn contents_in<'a>(bytes: &'a [u8], sections: SectionTable, number: u64) -> 
     }
 }
 
-/// The name of the section of a number, in the contents of the section of names (gABI, "String Table").
+/// The name of the section with this number, from the section name string table (gABI, "String Table").
 #[tactic(auto, unfolding(crate::specs::file::Elf::section_name))]
 pub fn name_in<'a>(
     bytes: &[u8],
@@ -103,7 +103,7 @@ fn is_name(found: Option<&[u8]>, name: &[u8]) -> bool
     }
 }
 
-// Whether a 0 byte stands at a place in the section of names.
+// Whether the byte at an offset in the section of names is 0.
 fn is_end(names: &[u8], place: usize) -> bool
     ensures { result ≡ option_map_or is_zero (slice_get names.now place) false }
 {
@@ -113,8 +113,8 @@ fn is_end(names: &[u8], place: usize) -> bool
     }
 }
 
-/// Whether the section of a number has this name. The end of its name is looked for only where a 0 byte stands behind as many
-/// bytes as this name has, since many sections may share a long name.
+/// Whether the section has this name. Searches for the end of its name only where a 0 byte follows after as many bytes as this name
+/// has: many sections may share one long name, and a search in each would take too long.
 #[tactic(auto, using(crate::proofs::file_lemmas::NameLemmas::ends_behind), unfolding(crate::specs::file::Elf::section_name))]
 pub fn has_name_in(
     bytes: &[u8],
@@ -133,7 +133,7 @@ pub fn has_name_in(
     is_end(names, at + name.len()) && is_name(name_in(bytes, sections, names, number), name)
 }
 
-// The place of the last 0 byte of a section of names: each name that begins up to there ends there or before.
+// The offset of the last 0 byte in a section of names. A name that begins there or before has its end there or before.
 #[tactic(auto, using(crate::proofs::file_lemmas::NameLemmas::zero_at))]
 fn last_zero(names: &[u8]) -> Option<usize>
     ensures { IfSome result (λ k. slice_get names.now k ≡ Some 0) }
@@ -148,8 +148,8 @@ fn last_zero(names: &[u8]) -> Option<usize>
     None
 }
 
-// The fault of a section whose name does not end in the contents of the section of names. Only the end of a name behind the
-// last 0 byte is looked for, since many sections may share a long name.
+// The fault of a section whose name has no end in the section of names. Searches only behind the last 0 byte: many
+// sections may share one long name, and a search in each would take too long.
 #[tactic(auto, using(crate::proofs::file_lemmas::NameLemmas::ends_before), unfolding(crate::specs::file::Elf::name_fault, crate::specs::file::Elf::section_name))]
 fn name_fault_at(
     bytes: &[u8],
@@ -179,7 +179,7 @@ fn name_fault_at(
     }
 }
 
-/// The fault of the first section whose name does not end in the contents of the section of names.
+/// The fault of the first section whose name has no end in the section of names.
 pub fn name_fault_in(bytes: &[u8], sections: SectionTable, names: &[u8]) -> Option<Fault>
     requires table { sections ≡ table bytes.now }
     requires has { HasTable bytes.now }
@@ -196,25 +196,25 @@ pub fn name_fault_in(bytes: &[u8], sections: SectionTable, names: &[u8]) -> Opti
     None
 }
 
-// Whether a section of this name and these flags is a compressed debug section (gABI, "Section Compression"; the names with
-// a z are of an older form).
+// Whether a section with this name and these flags is a compressed debug section (gABI, "Section Compression"; names with a
+// z are those of the older GNU style).
 fn is_compressed(name: &[u8], flags: u64) -> bool
     ensures { result ≡ spec.is_compressed name.now flags }
 {
-    // The flag is one bit: the lowest one of the quotient by its value.
+    // Tests the flag, a single bit, without a bitwise operation: the quotient by its value is odd.
     let has_flag = (flags / SHF_COMPRESSED) % 2 == 1;
     (name.starts_with(&DEBUG_PREFIX) && has_flag) || name.starts_with(&ZDEBUG_PREFIX)
 }
 
-// The bytes of the section of names from a place on.
+// The bytes of the section of names from an offset on.
 fn names_from(names: &[u8], at: usize) -> &[u8]
     ensures { result.now ≡ drop at names.now }
 {
     if at < names.len() { &names[at..] } else { &[] }
 }
 
-// The fault of a compressed debug section. A section without a name has none here: that is another fault. The end of a name is
-// looked for only where the bytes before it are those of a compressed section, since many sections may share a long name.
+// The fault of a compressed debug section. A section without a name has another fault, not this one. Searches for the end of a name
+// only where the name begins like that of a compressed section: many sections may share one long name.
 #[tactic(auto, unfolding(crate::specs::file::Elf::compressed_fault, crate::specs::file::Elf::section_name))]
 fn compressed_fault_at(
     bytes: &[u8],

@@ -1,4 +1,4 @@
-//! The sections of debug information of an ELF file.
+//! The debug sections of an ELF file.
 
 ghost use Rattle.std.specs.Prelude.{◌≡◌, ◌≤◌, length};
 ghost use Rattle.abi_base.specs.Limits.{input_limit};
@@ -7,7 +7,7 @@ ghost use Rattle.elf.specs.sections.DebugSections.{section_or_none, AreSectionsO
 use crate::file::ElfFile;
 use dwarf_forms::Sections;
 
-// The contents of the first section of a name, and no bytes where there is none.
+// The contents of the first section with this name, empty where there is none.
 fn section_in<'a>(file: &ElfFile<'a>, name: &[u8]) -> &'a [u8]
     ensures holds { result.now ≡ section_or_none file.now name.now }
     ensures small { length result.now ≤ input_limit }
@@ -18,7 +18,7 @@ fn section_in<'a>(file: &ElfFile<'a>, name: &[u8]) -> &'a [u8]
     }
 }
 
-/// The sections of debug information of a file, each the first one of its name; a missing one is empty (DWARF 5, section 7.3
+/// The debug sections of a file. Each is the first one of its name, and is empty where it is missing (DWARF 5, section 7.3
 /// "Executable Objects and Shared Objects").
 pub fn debug_sections<'a>(file: &ElfFile<'a>) -> Sections<'a>
     ensures { AreSectionsOf file.now result }

@@ -10,7 +10,7 @@ use crate::file::ElfFile;
 use crate::symbols::strings::strings_for;
 use abi_base::{Fault, FaultKind, INPUT_LIMIT, text_at, u64_in};
 
-// The tag of the entry of a number.
+// The tag of the entry with this number.
 #[tactic(auto, unfolding(crate::specs::symbols::Dynamic::tag_in))]
 fn tag_at(table: &[u8], number: usize) -> u64
     requires { dyn_size * (number + 1) ≤ length table.now }
@@ -19,7 +19,7 @@ fn tag_at(table: &[u8], number: usize) -> u64
     u64_in(table, DYN_SIZE * number + D_TAG)
 }
 
-// The number of the entry with the soname.
+// The number of the entry with tag SONAME.
 fn soname_entry_in(table: &[u8]) -> Option<usize>
     ensures entry { result ≡ soname_entry table.now }
     ensures inside { IfSome result (λ i. dyn_size * (i + 1) ≤ length table.now) }
@@ -36,8 +36,8 @@ fn soname_entry_in(table: &[u8]) -> Option<usize>
     None
 }
 
-/// The soname of a file, or none where it has no dynamic table or the table names none. The fault is the first one of
-/// `DynamicTable`. It allocates nothing.
+/// The soname of a file, or None where it has no dynamic table or the table has no soname. Err is the first fault of kind
+/// `DynamicTable`. Allocates nothing.
 #[tactic(auto, unfolding(crate::specs::symbols::Dynamic::dynamic_fault, crate::specs::symbols::Dynamic::soname_of))]
 pub fn soname<'a>(file: &ElfFile<'a>) -> Result<Option<&'a [u8]>, Fault>
     ensures judged { Settles result (dynamic_fault file.now) }
@@ -55,7 +55,7 @@ pub fn soname<'a>(file: &ElfFile<'a>) -> Result<Option<&'a [u8]>, Fault>
     }
 }
 
-// The soname that a dynamic table names in its strings, or its fault.
+// The soname in a dynamic table, or the fault of its offset in the string table.
 #[tactic(auto, unfolding(crate::specs::symbols::Dynamic::soname_fault, crate::specs::symbols::Dynamic::value_in))]
 fn soname_in<'a>(table: &[u8], strings: &'a [u8]) -> Result<Option<&'a [u8]>, Fault>
     ensures judged { Settles result (option_and_then (soname_fault table.now strings.now) (soname_entry table.now)) }

@@ -1,4 +1,4 @@
-//! What follows from the definitions of symbols and of the soname. Each law is the contract of a function that does nothing.
+//! Laws about symbols and the soname, as the contracts of functions with empty bodies.
 ghost use Rattle.std.specs.Prelude.{◌≡◌, ◌*◌, ◌<◌, ℕ, List, length, map, Some, None};
 ghost use Rattle.std.specs.List.{range_with_len};
 ghost use Rattle.elf.specs.symbols.Symbols.{symbol_fault, symbol_table, symbol_strings, symbols_of, symbol_in, name_in};
@@ -10,7 +10,7 @@ use crate::constants::{
     STT_NOTYPE, STT_OBJECT, STT_TLS, STV_DEFAULT, STV_PROTECTED,
 };
 
-/// The constants for symbols have their numbers of the System V gABI, "Symbol Table", and those of GNU have theirs.
+/// The constants for symbols have their numbers of the System V gABI, "Symbol Table", and those of GNU that of GNU.
 pub fn symbols_have_their_numbers()
     ensures bindings { (STB_LOCAL ≡ stb_local)
         × (STB_GLOBAL ≡ stb_global)
@@ -26,16 +26,16 @@ pub fn symbols_have_their_numbers()
     ensures sections { SHN_ABS ≡ shn_abs }
 {}
 
-/// The number of a symbol is its place. Without a fault the symbols fill the symbol table, and each has the name in the string
-/// table that its record gives.
+/// A symbol's number is its index. Without a fault the symbols fill the symbol table, and each has the name to which its record
+/// refers in the string table.
 pub fn symbols_fill_their_table()
     ensures numbered { (f : List ℕ) → map (λ s. s.number) (symbols_of f) ≡ range_with_len 0 (length (symbols_of f)) }
     ensures whole { (f : List ℕ) → symbol_fault f ≡ None → sym_size * length (symbols_of f) ≡ length (symbol_table f) }
     ensures named { (f : List ℕ) (i : ℕ) → symbol_fault f ≡ None → i < length (symbols_of f) → name_in (symbol_table f) (symbol_strings f) i ≡ Some (symbol_in (symbol_table f) (symbol_strings f) i).name }
 {}
 
-/// The first entry of tag SONAME before the end of the table names the soname, and a file without a fault has none only where
-/// there is no such entry.
+/// The soname comes from the first entry with tag SONAME before the end of the table. A file without a fault has no soname only
+/// where there is no such entry.
 pub fn the_soname_is_the_first_before_the_end()
     ensures found { (table : List ℕ) (i : ℕ) → soname_entry table ≡ Some i → IsFirstSoname table i }
     ensures missing { (f : List ℕ) → dynamic_fault f ≡ None → soname_of f ≡ None → soname_entry (dynamic_table f) ≡ None }

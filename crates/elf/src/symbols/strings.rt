@@ -1,4 +1,4 @@
-// The string table of a table.
+// The string table that a table is linked to.
 ghost use Rattle.std.specs.Prelude.{◌≡◌, ◌<◌, Some, IfSome, is_none};
 ghost use Rattle.elf.specs.file.Elf.{strings_of};
 ghost use Rattle.elf.specs.file.File.{viewed};
@@ -6,8 +6,8 @@ ghost use Rattle.elf.specs.symbols.Tables.{is_table_bad};
 
 use crate::file::{ElfFile, Section};
 
-/// The string table of a table whose entries have a size. None exactly where the table is malformed: its entries have another
-/// size, it is no whole number of them, or it has no string table.
+/// The string table of a table with entries of `size` bytes. None exactly where the table is malformed: its `sh_entsize` differs,
+/// its size is not a multiple of that, or it has no string table.
 pub fn strings_for<'a>(file: &ElfFile<'a>, section: Section<'a>, size: usize) -> Option<&'a [u8]>
     requires { 0 < size }
     ensures bad { is_none result ≡ is_table_bad size file.now (viewed section.entry) }

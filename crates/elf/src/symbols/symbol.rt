@@ -6,22 +6,22 @@ use crate::constants::{
     STT_NOTYPE, STT_OBJECT, STT_TLS, STV_DEFAULT, STV_PROTECTED,
 };
 
-/// A dynamic symbol, by its record in the symbol table (`Elf64_Sym`).
+/// A dynamic symbol, from its record in the symbol table (`Elf64_Sym`).
 #[derive(Clone, Copy, Debug)]
 pub struct Symbol<'a> {
-    /// Its place in the table, counted from 0, which is the reserved symbol.
+    /// Its index in the table. Symbol 0 is the reserved one.
     pub number: u32,
-    /// Its name, without the 0 byte that ends it. The reserved symbol mostly has the empty name.
+    /// Its name, without the terminating 0 byte. The reserved symbol usually has an empty name.
     pub name: &'a [u8],
-    /// Its binding, as `STB_GLOBAL`.
+    /// Its binding, such as `STB_GLOBAL`.
     pub binding: u8,
-    /// Its type, as `STT_FUNC`.
+    /// Its type, such as `STT_FUNC`.
     pub kind: u8,
-    /// Its visibility, as `STV_DEFAULT`.
+    /// Its visibility, such as `STV_DEFAULT`.
     pub visibility: u8,
-    /// The number of its section, or `SHN_UNDEF` or another special one.
+    /// The index of its section, or a special one such as `SHN_UNDEF`.
     pub section: u16,
-    /// Its value, mostly an address.
+    /// Its value, usually an address.
     pub value: u64,
     /// Its size in bytes, or 0.
     pub size: u64,
@@ -31,7 +31,7 @@ impl Symbol<'_> {
     ghost use Rattle.elf.specs.symbols.Plain.{plain_symbol};
     ghost use Rattle.elf.specs.symbols.Symbols as spec;
 
-    /// Whether other files may bind to the symbol by its own record: all conditions of an export except those of its version.
+    /// Whether other files may bind to the symbol, judged by its record alone: all conditions of an export except the version.
     pub fn is_exported(&self) -> bool
         ensures { result ≡ spec.is_exported (plain_symbol self.now) }
     {

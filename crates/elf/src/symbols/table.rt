@@ -18,7 +18,7 @@ use crate::symbols::symbol::Symbol;
 use abi_base::{Effort, Fault, FaultKind, INPUT_LIMIT, Refusal, text_at, u16_in, u32_in, u64_in};
 use std::alloc::Global;
 
-// The symbol of a number, or the fault of its name.
+// The symbol with this number, or the fault of its name.
 #[tactic(auto, unfolding(crate::specs::symbols::Symbols::symbol_in, crate::specs::symbols::Symbols::name_in, crate::specs::symbols::Symbols::symbol_name_fault))]
 fn symbol_in<'a>(table: &[u8], strings: &'a [u8], number: u32) -> Result<Symbol<'a>, Fault>
     requires { sym_size * (number + 1) ≤ length table.now }
@@ -26,8 +26,8 @@ fn symbol_in<'a>(table: &[u8], strings: &'a [u8], number: u32) -> Result<Symbol<
     ensures read { IfOk result (λ s. plain_symbol s ≡ spec.symbol_in table.now strings.now number) }
 {
     let at = SYM_SIZE * number as usize;
-    // A byte holds two numbers: ELF64_ST_BIND and ELF64_ST_TYPE take them apart, and ELF64_ST_VISIBILITY leaves the two
-    // lowest bits of the other byte.
+    // `st_info` holds the binding in its high four bits and the type in the low four (ELF64_ST_BIND, ELF64_ST_TYPE); the two lowest
+    // bits of `st_other` are the visibility (ELF64_ST_VISIBILITY).
     let info = table[at + ST_INFO];
     match text_at(strings, u64::from(u32_in(table, at + ST_NAME))) {
         Some(name) => Ok(Symbol {
@@ -47,7 +47,7 @@ fn symbol_in<'a>(table: &[u8], strings: &'a [u8], number: u32) -> Result<Symbol<
     }
 }
 
-// All symbols of a table, or the first fault of their names.
+// All symbols of a table, or the first fault of a name.
 #[tactic(auto, using(crate::proofs::symbols_lemmas::Numbered::numbered))]
 fn symbols_in<'a>(
     alloc: Global,
@@ -75,8 +75,8 @@ fn symbols_in<'a>(
     Ok(symbols)
 }
 
-/// All dynamic symbols of a file, in order, the reserved one included: the symbol at place i has the number i. The fault is
-/// the first one of `NoDynamicSymbols` and `SymbolTable`.
+/// All dynamic symbols of a file in order, including the reserved one: symbol i is at index i. Err is the first fault of
+/// `NoDynamicSymbols` and `SymbolTable`.
 #[tactic(auto, unfolding(crate::specs::symbols::Symbols::symbol_fault, crate::specs::symbols::Symbols::symbols_of))]
 pub fn symbols<'a>(alloc: Global, file: &ElfFile<'a>) -> Result<Vec<Symbol<'a>>, Refusal>
     ensures judged { Judges result (symbol_fault file.now) }

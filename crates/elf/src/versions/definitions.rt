@@ -16,7 +16,7 @@ use abi_base::{Effort, Fault, FaultKind, INPUT_LIMIT, Refusal, text_at, u16_in, 
 use std::alloc::Global;
 use std::collections::HashMap;
 
-// A definition: its index, the name of its version, and where the next one begins.
+// A version definition: its index, the name of its version, and the offset of the next one.
 #[derive(Clone, Copy)]
 struct Definition<'a> {
     index: u16,
@@ -24,14 +24,14 @@ struct Definition<'a> {
     next: usize,
 }
 
-// Whether some of a number of bytes from a place on are outside.
+// Whether the bytes from `at` to `at + size` are not all inside the table.
 fn is_outside(table: &[u8], at: usize, size: usize) -> bool
     ensures { result ≡ nat_lt (length table.now) (at + size) }
 {
     at > table.len() || table.len() - at < size
 }
 
-// The definition of a number, which begins at this place. None exactly where it is malformed by itself.
+// The definition with this number, at this offset. None exactly where it is malformed by itself.
 #[tactic(auto, unfolding(crate::specs::versions::Definitions::place_of, crate::specs::versions::Definitions::index_of, crate::specs::versions::Definitions::auxiliary_of, crate::specs::versions::Definitions::name_of, crate::specs::versions::Definitions::is_malformed))]
 fn definition_in<'a>(
     table: &[u8],
@@ -71,7 +71,7 @@ fn definition_in<'a>(
     }
 }
 
-// The refusal of the definition of a number.
+// The refusal of the definition with this number.
 fn bad_definition(number: u32) -> Refusal
     ensures { result ≡ bad_definition_at number }
 {
@@ -81,8 +81,8 @@ fn bad_definition(number: u32) -> Refusal
     })
 }
 
-// The names of the versions of a table by their indexes, or the fault of the first bad definition. The table may have any
-// count: indexes have 15 bits and may not repeat, so a bad one comes soon enough.
+// The names of a table's versions by index, or the fault of the first bad definition. The table's count needs no limit: indexes
+// have 15 bits and may not repeat, so a table with too many soon has a bad one.
 fn names_in<'a>(
     alloc: Global,
     table: &[u8],
@@ -112,8 +112,7 @@ fn names_in<'a>(
     Ok(names)
 }
 
-/// The names of the versions of a file by their indexes, none where it has no definitions. The fault is the first one of
-/// `VersionDefinition`.
+/// The names of a file's versions by index; empty where the file has no definitions. Err is the first fault of `VersionDefinition`.
 #[tactic(auto, unfolding(crate::specs::versions::Definitions::version_name))]
 pub fn names_of<'a>(alloc: Global, file: &ElfFile<'a>) -> Result<HashMap<u16, &'a [u8]>, Refusal>
     ensures judged { Judges result (first (definition_faults file.now)) }

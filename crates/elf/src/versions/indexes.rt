@@ -1,4 +1,4 @@
-// The version indexes of the symbols.
+// The version indexes of symbols.
 ghost use Rattle.std.specs.Prelude.{◌≡◌, ◌≤◌, ◌<◌, ◌+◌, ◌*◌, ◌/◌, ◌%◌, ◌==◌, Some, length, map, IfOk, IfSome};
 ghost use Rattle.std.specs.List.{range_with_len};
 ghost use Rattle.std.specs.Option.{option_copied, option_map, option_map_or};
@@ -17,7 +17,7 @@ use abi_base::{Fault, FaultKind, NoMemory, u16_in};
 use std::alloc::Global;
 use std::collections::HashMap;
 
-/// The table of the indexes of the symbols, where the file has one. The fault is that of `VersionTable`.
+/// The table of the symbols' version indexes, if the file has one. Err is the fault `VersionTable`.
 pub fn indexes_of<'a>(file: &ElfFile<'a>, symbols: usize) -> Result<Option<&'a [u8]>, Fault>
     ensures judged { Settles result (table_fault file.now symbols) }
     ensures table { IfOk result (λ table. option_copied table ≡ index_table file.now) }
@@ -39,7 +39,7 @@ pub fn indexes_of<'a>(file: &ElfFile<'a>, symbols: usize) -> Result<Option<&'a [
     }
 }
 
-// The index of a symbol with its bit 15, with a table of indexes or without one.
+// The version index of a symbol including bit 15, with or without a table of indexes.
 fn index_at(table: Option<&[u8]>, symbol: usize) -> u16
     requires { IfSome table (λ t. versym_size * (symbol + 1) ≤ length t.now) }
     ensures { result ≡ index_in (option_copied table.entry) symbol }
@@ -50,7 +50,7 @@ fn index_at(table: Option<&[u8]>, symbol: usize) -> u16
     }
 }
 
-// The version with an index, where the index means no version or has a name.
+// The version with an index, if the index means no version or has a name.
 fn version_with<'a>(names: &HashMap<u16, &'a [u8]>, index: u16, hidden: bool) -> Option<Version<'a>>
     ensures { option_map plain_version result ≡ version_by (name_under names.now) index hidden }
 {
@@ -71,7 +71,7 @@ fn version_with<'a>(names: &HashMap<u16, &'a [u8]>, index: u16, hidden: bool) ->
     }
 }
 
-/// The versions of the symbols, in order, by the names of versions and the table of indexes.
+/// The versions of the symbols in order, from the versions' names and the table of indexes.
 pub fn versions_in<'a>(
     alloc: Global,
     names: &HashMap<u16, &'a [u8]>,

@@ -1,4 +1,4 @@
-// The versions of the dynamic symbols of a file, as the code keeps them.
+// The versions of a file's dynamic symbols.
 ghost use Rattle.std.specs.Prelude.{◌≡◌, map};
 ghost use Rattle.std.specs.Option.{option_map};
 ghost use Rattle.elf.specs.versions.Plain.{plain_version};
@@ -7,8 +7,8 @@ ghost use Rattle.elf.specs.versions.Versions.{version_in};
 use crate::versions::version::Version;
 use std::marker::Model;
 
-/// The versions of the dynamic symbols of a file. Contracts see the list of them, by the symbols' numbers: none at a
-/// symbol whose index no definition has.
+/// The versions of a file's dynamic symbols. Contracts see them as a list by symbol number, with None for a symbol whose index
+/// has no definition.
 #[derive(Drop)]
 pub struct Versions<'a> {
     all: Vec<Option<Version<'a>>>,
@@ -27,15 +27,15 @@ impl<'a> Model for Versions<'a> {
 }
 
 impl<'a> Versions<'a> {
-    /// These versions, by the numbers of the symbols.
+    /// These versions, by symbol number.
     pub(crate) fn of(all: Vec<Option<Version<'a>>>) -> Versions<'a>
         ensures { result ≡ map (option_map plain_version) all.entry.items }
     {
         Versions { all }
     }
 
-    /// The version of the symbol of a number. None exactly where there is no symbol of this number, or the symbol's index is
-    /// that of no definition and neither `VER_NDX_LOCAL` nor `VER_NDX_GLOBAL`. It allocates nothing.
+    /// The version of the symbol with this number. None exactly where there is no such symbol, or its index has no definition and
+    /// is neither `VER_NDX_LOCAL` nor `VER_NDX_GLOBAL`. Allocates nothing.
     pub fn version_of(&self, symbol: usize) -> Option<Version<'a>>
         ensures { option_map plain_version result ≡ version_in self.now symbol }
     {

@@ -1,4 +1,4 @@
-//! What follows from the definitions of versions. Each law is the contract of a function that does nothing.
+//! Laws about versions, as the contracts of functions with empty bodies.
 ghost use Rattle.std.specs.Prelude.{◌≡◌, ◌≢◌, ◌+◌, ◌<◌, ◌≤◌, ℕ, false, List, length, Some, None};
 ghost use Rattle.elf.specs.file.Elf.{section_of_kind};
 ghost use Rattle.abi_base.specs.GnuVersions.{sht_gnu_versym, ver_ndx_local, ver_ndx_global, verdef_size};
@@ -12,14 +12,14 @@ pub fn indexes_have_their_numbers()
     ensures { (VER_NDX_LOCAL ≡ ver_ndx_local) × (VER_NDX_GLOBAL ≡ ver_ndx_global) }
 {}
 
-/// The list of the versions of all symbols has at each number the version of that symbol, and nothing from the number of
-/// symbols on. Where the file has no table of indexes, that version is the one of global symbols without a version.
+/// The list of all symbols' versions has the version of symbol i at i, and ends with the last symbol. Where the file has no table
+/// of indexes, each symbol has the version of global symbols without a version.
 pub fn each_symbol_has_its_version()
     ensures kept { (f : List ℕ) (symbols : ℕ) (i : ℕ) → version_in (versions_of f symbols) i ≡ version_at f symbols i }
     ensures unversioned { (f : List ℕ) (symbols : ℕ) (i : ℕ) → section_of_kind f sht_gnu_versym ≡ None → i < symbols → version_at f symbols i ≡ Some (record { name = None; index = ver_ndx_global; hidden = false }) }
 {}
 
-/// Without a fault each definition is inside its section and has a name, no two have the same index, and each index gives the
+/// Without a fault each definition lies inside its section and has a name, no two share an index, and each index gives the
 /// name of its own definition.
 pub fn each_definition_names_its_index()
     ensures inside { (f : List ℕ) (symbols : ℕ) (k : ℕ) → version_fault f symbols ≡ None → k < definition_count f → place_of (definition_table f) k + verdef_size ≤ length (definition_table f) }

@@ -1,5 +1,5 @@
-//! The symbol versions of a shared object: the definitions of its versions, and the version of each of its dynamic
-//! symbols (GNU symbol versioning: Linux Standard Base, "Symbol Versioning").
+//! The symbol versions of a shared object: its version definitions, and the version of each dynamic symbol (GNU symbol
+//! versioning: Linux Standard Base, "Symbol Versioning").
 
 mod definitions;
 mod indexes;

@@ -1,4 +1,4 @@
-// Reads the versions of the dynamic symbols of a file.
+// Reads the versions of a file's dynamic symbols.
 ghost use Rattle.std.specs.Prelude.{◌≡◌, IfOk};
 ghost use Rattle.abi_base.specs.Outcome.{Judges};
 ghost use Rattle.elf.specs.versions.Versions.{version_fault, versions_of};
@@ -10,7 +10,7 @@ use crate::versions::kept::Versions;
 use abi_base::Refusal;
 use std::alloc::Global;
 
-/// The versions of the dynamic symbols of a file with `symbols` symbols. The fault is the first one of `VersionTable` and
+/// The versions of a file's dynamic symbols, of which there are `symbols`. Err is the first fault of `VersionTable` and
 /// `VersionDefinition`.
 #[tactic(auto, unfolding(crate::specs::versions::Versions::version_fault))]
 pub fn versions<'a>(

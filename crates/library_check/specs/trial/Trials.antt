@@ -1,4 +1,4 @@
--- What a trial of n functions prints: what `check` says of the two libraries that are made of them, with an empty rule file.
+-- What a trial of n functions prints: what `check` says about the two libraries made of them, with an empty rule file.
 use Rattle.std.specs.Prelude.{◌≡◌, ◌⊎◌, ℕ, List, [], length, codes}
 use Rattle.trial_libraries.specs.declared.making.Side.TheVariants.{Old, New}
 use Rattle.trial_libraries.specs.Libraries.{library}
@@ -8,40 +8,40 @@ use Rattle.library_check.specs.declared.checking.Unchecked.{Unchecked}
 use Rattle.library_check.specs.Checks.{AreReadable, Compatible, IsCertificateText, IsReportText, IsUnchecked}
 use Rattle.library_check.specs.trial.Summaries.{summary_of}
 
--- the libraries that are tried
+-- the libraries of the trial
 abbrev pub old_library : ℕ → List ℕ
 old_library n = library n Old
 
 abbrev pub new_library : ℕ → List ℕ
 new_library n = library n New
 
--- how many exports the old library has
+-- the number of exports of the old library
 abbrev pub export_count : ℕ → ℕ
 export_count n = length (library_of (old_library n)).exports
 
--- a yes: the lines sum up the certificate that `check` prints
+-- a yes: the lines summarize the certificate that `check` prints
 pub record IsYesText (n : ℕ) (lines : List ℕ) : Type 0 where
   pub certificate : List ℕ
   pub compatible : Compatible (old_library n) (new_library n) []
   pub printed : IsCertificateText (old_library n) (new_library n) [] certificate
   pub is : lines ≡ summary_of n (codes "yes") (export_count n) certificate
 
--- a no: the lines sum up the report that `check` prints, where listeners of these voices, in this order, hear the rows
+-- a no: the lines summarize the report that `check` prints, with listeners of these voices, in this order
 pub record IsNoText (voices : List Voice) (n : ℕ) (lines : List ℕ) : Type 0 where
   pub report : List ℕ
   pub incompatible : Compatible (old_library n) (new_library n) [] → ⊥
   pub printed : IsReportText voices (old_library n) (new_library n) [] report
   pub is : lines ≡ summary_of n (codes "no") (export_count n) report
 
--- what is said of the two libraries
+-- what is said about the two libraries
 abbrev pub IsSaid : List Voice → ℕ → List ℕ → Type 0
 IsSaid voices n lines = IsYesText n lines ⊎ IsNoText voices n lines
 
--- the lines of a trial with listeners of these voices, whose libraries are readable
+-- the libraries of the trial are readable, and these are its lines, with listeners of these voices
 pub record IsTrialText (voices : List Voice) (n : ℕ) (lines : List ℕ) : Type 0 where
   pub readable : AreReadable (old_library n) (new_library n) []
   pub said : IsSaid voices n lines
 
--- why a trial says nothing: as `check` of the two libraries
+-- why a trial gives no verdict: the same as `check` of the two libraries
 abbrev pub IsUntried : ℕ → Unchecked → Type 0
 IsUntried n unchecked = IsUnchecked (old_library n) (new_library n) [] unchecked

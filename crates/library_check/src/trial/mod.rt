@@ -1,5 +1,5 @@
-//! What `abi trial` says: two libraries of so many functions are made and checked, and the answer is summed up in two lines. What
-//! it promises stands in `specs/trial/Trials.antt`.
+//! What `abi trial` says: it makes two libraries with this many functions, checks them, and summarizes the answer in two lines. Its
+//! promises are in `specs/trial/Trials.antt`.
 
 pub mod laws;
 mod summary;

@@ -8,14 +8,14 @@ use std::alloc::{AllocError, Global};
 
 const LINE_FEED: u8 = b'\n';
 
-// How many lines a text has.
+// The number of lines in a text.
 fn count_lines(text: &[u8]) -> usize
     ensures { result ≡ line_count text.now }
 {
     text.iter().filter(|byte| **byte == LINE_FEED).count()
 }
 
-// The line of the answer and of the counts.
+// The line with the answer and the counts.
 #[tactic(auto, unfolding(crate::specs::trial::Summaries::count_line))]
 fn make_count_line(
     alloc: Global,
@@ -29,7 +29,7 @@ fn make_count_line(
     format!(in alloc; "trial {n} {answer} exports {exports} lines {lines}\n")
 }
 
-// The line of a text's SHA-256.
+// The line with the SHA-256 of a text.
 #[tactic(auto, unfolding(crate::specs::trial::Summaries::digest_line))]
 fn make_digest_line(alloc: Global, text: &[u8]) -> Result<String, AllocError>
     ensures { IfOk result (λ line. string_bytes line ≡ digest_line (sha256 text.now)) }
@@ -39,8 +39,8 @@ fn make_digest_line(alloc: Global, text: &[u8]) -> Result<String, AllocError>
     format!(in alloc; "digest {digits}\n")
 }
 
-// The lines of a trial of n functions, whose old library has so many exports, and of whose libraries `check` prints a text. It
-// fails only when memory runs out.
+// The lines of a trial of n functions, given the number of exports of the old library and the text that `check` prints. It fails
+// only if memory runs out.
 #[tactic(auto, unfolding(crate::specs::trial::Summaries::summary_of))]
 pub(crate) fn summarize(
     alloc: Global,

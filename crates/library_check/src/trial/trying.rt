@@ -1,4 +1,4 @@
-// Two made libraries, and what is said of them.
+// Two generated libraries, and what is said about them.
 ghost use Rattle.std.specs.Prelude.{◌≡◌, ◌<◌, ◌≤◌, ℕ, List, [], None, length, map, All, OnOk, IfOk, IfErr};
 ghost use Rattle.abi_base.specs.Limits.{input_limit};
 ghost use Rattle.trial_libraries.specs.Libraries.{library};
@@ -18,7 +18,7 @@ use report::Listener;
 use std::alloc::Global;
 use trial_libraries::{GenRefusal, Side, make};
 
-// The made library of a side. It fails only when memory runs out.
+// Generates the library of one side. It fails only if memory runs out.
 fn make_one(alloc: Global, n: u32, side: Side) -> Result<Vec<u8>, NoMemory>
     requires some { 0 < n }
     requires few { n ≤ most_functions }
@@ -32,7 +32,7 @@ fn make_one(alloc: Global, n: u32, side: Side) -> Result<Vec<u8>, NoMemory>
     }
 }
 
-// The lines of a trial of n functions, whose libraries are these.
+// The lines of a trial of n functions, given its libraries.
 fn try_read(
     alloc: Global,
     n: u32,
@@ -53,7 +53,7 @@ fn try_read(
     }
 }
 
-// The lines of a trial of n functions, whose libraries have these bytes.
+// The lines of a trial of n functions, given the bytes of its libraries.
 fn try_bytes(
     alloc: Global,
     n: u32,
@@ -80,10 +80,10 @@ fn try_bytes(
     }
 }
 
-/// The two lines of a trial of n functions, of which there are some and no more than a made library may have: what `check` says
-/// of the old and the new library that are made of them, with an empty rule file, how many exports the old one has, and how many
-/// lines the whole text of `check` has; then the SHA-256 of that text. On no the text is that of these listeners, in their order.
-/// A fault of a made library, of the old one first, stops it as it stops `check`.
+/// The two lines of a trial of n functions, where n is at least 1 and at most the limit of a generated library. The first line has
+/// what `check` says about the old and the new library that are made of them, with an empty rule file, the number of exports of the
+/// old one, and the number of lines that `check` prints; the second has the SHA-256 of that text. On no, the text is that of these
+/// listeners, in order. A fault of a generated library, of the old one first, stops the trial as it stops `check`.
 pub fn try_both(
     alloc: Global,
     n: u32,

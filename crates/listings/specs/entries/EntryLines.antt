@@ -1,4 +1,4 @@
--- What `abi entries` prints of a library, and its first fault.
+-- The output of `abi entries` for a library, and its first fault.
 use Rattle.std.specs.Prelude.{ℕ, false, List, [], ◌∷◌, flat_map, Option, codes, decimal}
 use Rattle.std.specs.Fmt.{digits}
 use Rattle.std.specs.List.{concat}
@@ -9,7 +9,7 @@ use Rattle.dwarf_units.specs.Sequence.{all_entries, entries_fault}
 use Rattle.elf.specs.sections.DebugSections.{debug_info, debug_abbrev}
 use Rattle.elf.specs.file.Elf.{elf_fault}
 
--- the first fault of a library whose entries are printed: of its header and sections, then of its units and entries
+-- the first fault of a library whose entries are printed: of its file header and sections, or else of its units and entries
 unfoldable pub listing_fault : List ℕ → Option Fault
 listing_fault f = first (elf_fault f ∷ entries_fault (debug_info f) (debug_abbrev f) ∷ [])
 
@@ -24,6 +24,6 @@ line_of offset depth tag = concat (decimal offset ∷ codes " " ∷ decimal dept
 abbrev pub entry_line : Entry → List ℕ
 entry_line e = line_of e.offset e.depth e.tag
 
--- the lines of all entries, in order of offset
+-- the lines of all entries, by offset
 unfoldable pub listing_of : List ℕ → List ℕ
 listing_of f = flat_map entry_line (all_entries (debug_info f) (debug_abbrev f))

@@ -1,4 +1,4 @@
--- What `abi exports` prints of a library: a line for each export, with the places of a function's arguments and result.
+-- The output of `abi exports` for a library: a line for each export, with the places of a function's arguments and result.
 use Rattle.std.specs.Prelude.{ℕ, ◌==◌, if◌then◌else◌, List, [], ◌∷◌, ◌++◌, flat_map, Option, Some, None, codes, decimal}
 use Rattle.std.specs.List.{concat}
 use Rattle.abi_types.specs.declared.place.Place.{Place}
@@ -23,11 +23,11 @@ abbrev pub places_text : List Place → List ℕ
 places_text [] = codes "-"
 places_text (place ∷ places) = place_text place ++ flat_map place_behind places
 
--- where a call puts its arguments and its result
+-- where a call passes its arguments and its result
 abbrev pub call_text : CallShape → List ℕ
 call_text call = concat (codes " params " ∷ places_text call.params ∷ codes " result " ∷ place_text call.outcome ∷ [])
 
--- the words on a type: the places of a function, and the kind of any other
+-- the description of a type: the places of a function, and the kind of any other type
 unfoldable pub type_text : PlainView → List ℕ
 type_text v = if is_function v.kind then call_text v.call else codes " is " ++ kind_of_type v.kind
 
@@ -35,7 +35,7 @@ abbrev pub node_text : List PlainNode → Option ℕ → List ℕ
 node_text nodes None = codes " untyped"
 node_text nodes (Some i) = type_text (view_at nodes i)
 
--- the words on the type of an entry, where 0 stands for none
+-- the description of an entry's type, where 0 means that there is none
 unfoldable pub entry_text : List PlainNode → ℕ → List ℕ
 entry_text nodes entry = if entry == 0 then codes " untyped" else node_text nodes (node_of nodes entry)
 
@@ -44,6 +44,6 @@ unfoldable pub export_line : List PlainNode → PlainExport → List ℕ
 export_line nodes e =
     concat (decimal e.symbol ∷ codes " " ∷ label e ∷ codes " " ∷ kind_word e.kind ∷ codes " " ∷ decimal e.size ∷ entry_text nodes e.entry ∷ newline ∷ [])
 
--- the lines of all exports, in order of their symbols
+-- the lines of all exports, in the order of their symbols
 unfoldable pub exports_text : PlainLibrary → List ℕ
 exports_text library = flat_map (export_line library.graph) library.exports

@@ -15,7 +15,7 @@ use elf::sections::debug_sections;
 use std::alloc::{AllocError, Global};
 use std::fmt::Write;
 
-// Appends a line of an entry's offset and depth, and of its tag in hexadecimal.
+// Appends the line of an entry: its offset, its depth, and its tag in hexadecimal.
 fn push_line(text: &mut String, offset: u64, depth: u32, tag: u64) -> Result<(), AllocError>
     ensures { OnOk result (string_bytes text.new ≡ string_bytes text.old ++ line_of offset depth tag) }
 {
@@ -57,8 +57,8 @@ fn lines_of(alloc: Global, sections: &Sections<'_>) -> Result<String, Refusal>
     }
 }
 
-/// A line for each debugging information entry of a library, in order of offset: its offset, its depth, and its tag in
-/// hexadecimal. The fault is the first one of its header and its sections, and then of its units and entries; no other is looked for.
+/// A line for each debugging information entry of a library, by offset: its offset, its depth, and its tag in hexadecimal. Err is
+/// the first fault of the file header and the sections, or else of the units and entries. No other fault is checked.
 #[tactic(auto, unfolding(crate::specs::entries::EntryLines::listing_fault, crate::specs::entries::EntryLines::listing_of))]
 pub fn entry_lines(alloc: Global, library: &[u8]) -> Result<String, Refusal>
     requires { length library.now ≤ input_limit }

@@ -1,4 +1,4 @@
-//! The lines that `abi entries` prints: each debugging information entry of a library with its offset, its depth and its tag.
+//! The output of `abi entries`: each debugging information entry of a library with its offset, its depth and its tag.
 
 mod lines;
 

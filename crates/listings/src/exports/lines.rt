@@ -9,10 +9,10 @@ use report::{kind_word, push_place};
 use std::alloc::{AllocError, Global};
 use std::fmt::Write;
 
-// How many bytes the lines may have for each byte of the file.
+// How many bytes the output may have for each byte of the file.
 const BYTES_A_BYTE: usize = 8;
 
-// How many more they may have, however small the file is.
+// How many more bytes it may have, however small the file is.
 const BYTES_AT_LEAST: usize = 1_048_576;
 
 // Appends a comma and a place.
@@ -24,7 +24,7 @@ fn push_next(text: &mut String, place: &Place) -> Result<(), AllocError>
     push_place(text, place)
 }
 
-// Appends each place behind a comma.
+// Appends each place after a comma.
 fn push_behind(text: &mut String, places: &[Place]) -> Result<(), AllocError>
     ensures { OnOk result (string_bytes text.new ≡ string_bytes text.old ++ flat_map place_behind places.now) }
 {
@@ -47,7 +47,7 @@ fn push_places(text: &mut String, places: &[Place]) -> Result<(), AllocError>
     }
 }
 
-// Appends where a call puts its arguments and its result.
+// Appends where a call passes its arguments and its result.
 fn push_call(text: &mut String, call: &Call) -> Result<(), AllocError>
     ensures { OnOk result (string_bytes text.new ≡ string_bytes text.old ++ call_text call.now) }
 {
@@ -57,7 +57,7 @@ fn push_call(text: &mut String, call: &Call) -> Result<(), AllocError>
     push_place(text, &call.outcome())
 }
 
-// Appends the words on a type.
+// Appends the description of a type.
 #[tactic(auto, unfolding(crate::specs::exports::ExportLines::type_text))]
 fn push_type<Ix: Index>(text: &mut String, view: &View<Ix>) -> Result<(), AllocError>
     ensures { OnOk result (string_bytes text.new ≡ string_bytes text.old ++ type_text view.now) }
@@ -70,7 +70,7 @@ fn push_type<Ix: Index>(text: &mut String, view: &View<Ix>) -> Result<(), AllocE
     }
 }
 
-// Appends the words on the type of an entry.
+// Appends the description of an entry's type.
 #[tactic(auto, unfolding(crate::specs::exports::ExportLines::entry_text))]
 fn push_entry<Ix: Index>(text: &mut String, graph: &Graph<Ix>, entry: u64) -> Result<(), AllocError>
     ensures { OnOk result (string_bytes text.new ≡ string_bytes text.old ++ entry_text graph.now entry) }
@@ -104,7 +104,7 @@ fn push_line<Ix: Index>(
     text.push_str("\n")
 }
 
-// Appends the lines of exports. It fails where the text grows longer than so many bytes.
+// Appends the lines of exports. Fails where the text becomes longer than the limit.
 fn push_lines<Ix: Index>(
     alloc: Global,
     text: &mut String,
@@ -123,16 +123,17 @@ fn push_lines<Ix: Index>(
     Ok(())
 }
 
-// How many bytes the lines of a library may have.
+// The most bytes that the lines of a library may have.
 fn most_bytes(file: &[u8]) -> usize {
     file.len()
         .saturating_mul(BYTES_A_BYTE)
         .saturating_add(BYTES_AT_LEAST)
 }
 
-/// The line of each export of a library, in order of their symbols: the number of its symbol, its label, its kind, its size in
-/// bytes, and then the places of its arguments and of its result where its type is a function, the kind of any other type, or
-/// that it has none. Exports may share the parameters of one function: past the limit of bytes the answer is that memory ran out.
+/// The line of each export of a library, in the order of their symbols: the number of its symbol, its label, its kind, its size in
+/// bytes, and a description of its type: for a function the places of its arguments and of its result, for any other type its kind,
+/// or `untyped` where it has none. Exports can share the parameters of one function, so the lines can be far longer than the file:
+/// past the limit of bytes the answer is `NoMemory`.
 #[tactic(auto, unfolding(crate::specs::exports::ExportLines::exports_text))]
 pub fn export_lines<Ix: Index>(alloc: Global, library: &Library<Ix>) -> Result<String, NoMemory>
     ensures { IfOk result (λ text. string_bytes text ≡ exports_text library.now) }

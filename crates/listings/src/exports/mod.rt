@@ -1,4 +1,4 @@
-//! The lines that `abi exports` prints: each export of a library with its label, its kind, its size, and where a call of it puts
+//! The output of `abi exports`: each export of a library with its label, its kind, its size, and where a call of it passes
 //! its arguments and its result.
 
 mod lines;

@@ -9,8 +9,8 @@ use Rattle.cert_text.specs.Certs.{PlainCert}
 use Rattle.cert_check.specs.Compatible.{Sides, task_of}
 use Rattle.pair_compare.specs.certificates.Lines.{bind_lines, AreAlikeLines, ArePairLines}
 
--- It names the two libraries and the rules, says what each export that is compared binds to, which entries are alike, and
--- which types are reached in the place of which.
+-- It names the two libraries and the rule file, and lists what each compared export binds to, which entries are alike, and which
+-- types are reached in place of which.
 pub record IsCertificateOf (s : Sides) (c : PlainCert) : Type 0 where
   pub old_digest : c.old_digest ≡ s.old.digest
   pub new_digest : c.new_digest ≡ s.new.digest
@@ -20,7 +20,7 @@ pub record IsCertificateOf (s : Sides) (c : PlainCert) : Type 0 where
   pub alike_new : AreAlikeLines s.new.graph c.alike_new
   pub pairs : ArePairLines (task_of s) c.pairs
 
--- what the types of libraries and of graphs keep
+-- what the types of libraries and of graphs guarantee
 pub record AreLibraries (s : Sides) : Type 0 where
   pub old : IsLibrary s.old.exports s.old.graph
   pub new : IsLibrary s.new.exports s.new.graph

@@ -25,6 +25,6 @@ alike_below c n = filter_map (alike_line c) (range_with_len 0 n)
 abbrev pub pair_line : List PlainNode → List PlainNode → Visit → PairLine
 pair_line old new v = ((node_at old v.old).entry, (node_at new v.new).entry, v.way)
 
--- visits are of nodes
+-- the nodes of the visits are in the graphs
 abbrev pub AreInside : List PlainNode → List PlainNode → List Visit → Type 0
 AreInside old new visits = (n : ℕ) (v : Visit) → slice_get visits n ≡ Some v → (v.old < length old) × (v.new < length new)

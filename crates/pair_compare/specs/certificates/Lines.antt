@@ -30,7 +30,7 @@ bind_lines s = filter_map (bind_line s) (range_with_len 0 (length s.old.exports)
 
 -- ---- alike lines
 
--- the entry of a node, and the least of the entries of nodes that are alike to it, which is another
+-- the entry of a node, and the least entry of the nodes alike to it, which is a different one
 pub record IsAlikeEntry (nodes : List PlainNode) (line : ℕ × ℕ) : Type 0 where
   pub node : ℕ
   pub inside : node < length nodes
@@ -38,14 +38,14 @@ pub record IsAlikeEntry (nodes : List PlainNode) (line : ℕ × ℕ) : Type 0 wh
   pub least : IsLeastEntry nodes line.1 node
   pub other : line.0 ≢ line.1
 
--- in strictly ascending order, exactly the lines of all entries that are not the least of those alike to them
+-- in strictly ascending order, exactly the lines of all entries that are not the least among those alike to them
 pub record AreAlikeLines (nodes : List PlainNode) (lines : List (ℕ × ℕ)) : Type 0 where
   pub ascending : Ascend first_cmp lines
   pub exact : (line : ℕ × ℕ) → Contains lines line ↔ IsAlikeEntry nodes line
 
 -- ---- pair lines
 
--- the least entries of nodes that are alike to those of a reachable triple, with its way
+-- the least entries of nodes alike to those of a reachable triple, with its way
 pub record IsReachedPair (t : Task) (line : PairLine) : Type 0 where
   pub triple : Triple
   pub reachable : IsReachable t triple

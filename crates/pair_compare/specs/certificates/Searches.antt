@@ -13,7 +13,7 @@ use Rattle.cert_check.specs.Compatible.{Sides, IsCompared, IsBound, task_of}
 abbrev pub scope_of : Sides → PlainClasses → PlainClasses → Scope
 scope_of s old new = record { task = task_of s; old = old; new = new }
 
--- the sonames agree, and each old export that is compared binds and keeps the rules of exports
+-- the sonames agree, and each compared old export binds and keeps the rules of exports
 pub record AreBound (s : Sides) : Type 0 where
   pub sonames : s.old.soname ≡ s.new.soname
   pub exports : (k : ℕ) (e : PlainExport) → IsCompared s k e → IsBound s e
@@ -25,7 +25,7 @@ pub record IsUnbroken (s : Sides) (old new : PlainClasses) (visits : List Visit)
   pub new_coarsest : AreCoarsest new
   pub exploration : IsExploration (scope_of s old new) visits []
 
--- the classes are what their types keep, and the nodes are those of graphs
+-- what the type of classes guarantees, for classes of the nodes of both graphs
 pub record AreClassesOf (s : Sides) (old new : PlainClasses) : Type 0 where
   pub old_sound : AreSound old
   pub new_sound : AreSound new

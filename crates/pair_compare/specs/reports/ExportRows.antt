@@ -14,7 +14,7 @@ use Rattle.report.specs.declared.row.Row.{Row}
 use Rattle.report.specs.declared.value.Value.{Value}
 use Rattle.report.specs.Values.{export_is, export_was, soname_value}
 
--- a row that tells of no types
+-- a row about no types
 abbrev pub plain_row : Rule → List ℕ → List ℕ → Value → Value → Row
 plain_row rule of detail was is =
     record { rule = rule; export = of; path = []; detail = detail; part = []; was = was; is = is; old_entry = 0; new_entry = 0 }
@@ -33,11 +33,11 @@ export_row rule e f = plain_row rule (label e) (export_detail rule e f) (export_
 abbrev pub row_if : Bool → Row → List Row
 row_if broken row = if broken then row ∷ [] else []
 
--- X3 or X2, where an export is gone and a new one has its name or none has; no new export stands beside it
+-- X3 if a new export has the name, else X2, for an export that is gone; there is no new export to compare with
 unfoldable pub gone_rows : Bool → PlainExport → List Row
 gone_rows named e = (if named then export_row ExportVersion e e else export_row ExportPresence e e) ∷ []
 
--- X4 to X6, which of them are broken
+-- those of X4 to X6 that are broken
 unfoldable pub changed_rows : PlainExport → PlainExport → List Row
 changed_rows e f = row_if (breaks_kind e f) (export_row ExportKind e f) ++ (row_if (breaks_size e f) (export_row ExportSize e f) ++ row_if (breaks_type e f) (export_row ExportType e f))
 
@@ -59,14 +59,14 @@ abbrev pub rows_from : Sides → ℕ → Option PlainExport → List Row
 rows_from s k None = []
 rows_from s k (Some e) = if slice_index_or s.marks.exports k false then [] else rows_for s e
 
--- the rows of the old export at a position, where it is compared
+-- the rows of the old export at a position, if it is compared
 unfoldable pub rows_at : Sides → ℕ → List Row
 rows_at s k = rows_from s k (slice_get s.old.exports k)
 
--- those of the first exports, in their order
+-- the rows of the first exports, in order
 unfoldable pub rows_upto : Sides → ℕ → List Row
 rows_upto s count = flat_map (rows_at s) (range_with_len 0 count)
 
--- the row on sonames, and those on exports, by export and rule
+-- the row on sonames, and then those on exports, by export and rule
 unfoldable pub export_rows : Sides → List Row
 export_rows s = soname_rows s.old.soname s.new.soname ++ rows_upto s (length s.old.exports)

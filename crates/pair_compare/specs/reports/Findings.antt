@@ -1,4 +1,4 @@
--- What rows on types tell.
+-- What rows on types report.
 use Rattle.std.specs.Prelude.{ℕ, List}
 use Rattle.abi_types.specs.Graphs.{view_at}
 use Rattle.pair_rules.specs.declared.rules.Broken.{Broken}
@@ -6,7 +6,7 @@ use Rattle.pair_rules.specs.Steps.{Task}
 use Rattle.pair_rules.specs.Paths.{Path, From, Then}
 use Rattle.report.specs.Details.{type_detail}
 
--- what one row on types tells: a path, the nodes whose entries it names, and a broken rule with its part
+-- what one row on types reports: a path, the nodes whose entries it names, and a broken rule with its part
 pub record Finding : Type 0 where
   pub path : Path
   pub old : ℕ

@@ -1,4 +1,4 @@
--- What tells rows on types apart, as keys of a set.
+-- What distinguishes rows on types, as keys of a set.
 use Rattle.std.specs.Prelude.{ℕ, ◌==◌, Bool, ◌&&◌, List, Vec}
 use Rattle.std.specs.Str.{bytes_eq}
 use Rattle.std.specs.declared.alloc.Global.{Global}
@@ -6,7 +6,7 @@ use Rattle.abi_types.specs.Rules.{rule_place}
 use Rattle.pair_rules.specs.Steps.{Task}
 use Rattle.pair_compare.specs.reports.Findings.{Finding, detail_at}
 
--- the place of a rule, an old node and a new one, and a detail
+-- the number of a rule, an old node and a new one, and a detail
 abbrev pub PlainKey : Type 0
 PlainKey = ℕ × ℕ × ℕ × List ℕ
 

@@ -21,12 +21,12 @@ type_of l export = unwrap_or (option_and_then (λ (e : PlainExport). node_of l.g
 abbrev pub next_from : PlainLibrary → ℕ → ℕ → ℕ
 next_from l node part = unwrap_or (to_of (part_at (view_at l.graph node) part)) 0
 
--- the node at which a path ends: it goes from the type of its export to what a part of it names, and so on
+-- the node at which a path ends: from the type of its export it follows each part in turn
 unfoldable pub end_of : PlainLibrary → Path → ℕ
 end_of l (From export) = type_of l export
 end_of l (Then path part) = next_from l (end_of l path) part
 
--- its steps, each of a type and the position of a part of it
+-- the steps of a path, each a type and the position of a part of it
 unfoldable pub steps_of : PlainLibrary → Path → List (PlainView × ℕ)
 steps_of l (From export) = []
 steps_of l (Then path part) = steps_of l path ++ (view_at l.graph (end_of l path), part) ∷ []
@@ -35,11 +35,11 @@ steps_of l (Then path part) = steps_of l path ++ (view_at l.graph (end_of l path
 abbrev pub steps_text : PlainLibrary → Path → List ℕ
 steps_text l path = path_text (steps_of l path)
 
--- the sign in front of a step with so many before it
+-- the separator in front of a step that has so many before it
 abbrev pub between : ℕ → List ℕ
 between before = if before == 0 then [] else codes " / "
 
--- the path goes over nodes that are there, by parts that are
+-- all nodes and parts along the path exist
 abbrev pub IsWalk : PlainLibrary → Path → Type 0
 IsWalk l (From export) = type_of l export < length l.graph
 IsWalk l (Then path part) = IsWalk l path × (part < length (view_at l.graph (end_of l path)).parts) × (end_of l (Then path part) < length l.graph)

@@ -1,4 +1,4 @@
--- What is there to be read for a row.
+-- What must exist so that a row can be made.
 use Rattle.std.specs.Prelude.{◌≡◌, ◌<◌, ℕ, List, Some, Contains, length, slice_get}
 use Rattle.abi_types.specs.Graphs.{view_at}
 use Rattle.pair_rules.specs.declared.rules.Broken.{Broken}
@@ -9,7 +9,7 @@ use Rattle.cert_check.specs.Compatible.{Sides}
 use Rattle.report.specs.Details.{IsInside}
 use Rattle.pair_compare.specs.reports.PathTexts.{IsWalk}
 
--- the visit of the break is there, and so are its nodes, the part that the rule speaks of, and the path to it
+-- the visit of the break exists, and so do its nodes, the part that the rule speaks of, and the path to it
 pub record IsReadable (s : Sides) (visits : List Visit) (p : ℕ × Broken) : Type 0 where
   pub visit : Visit
   pub at : slice_get visits p.0 ≡ Some visit
@@ -18,7 +18,7 @@ pub record IsReadable (s : Sides) (visits : List Visit) (p : ℕ × Broken) : Ty
   pub part : IsInside (view_at s.old.graph visit.old) p.1
   pub walk : IsWalk s.old (path_at visits p.0)
 
--- all this of each of the breaks, and what led to a visit stands before it
+-- this holds for each of the breaks, and what led to a visit stands before it
 pub record AreReadable (s : Sides) (visits : List Visit) (broken : List (ℕ × Broken)) : Type 0 where
   pub earlier : AreEarlier visits
   pub each : (p : ℕ × Broken) → Contains broken p → IsReadable s visits p

@@ -16,27 +16,27 @@ use Rattle.pair_compare.specs.reports.Findings.{Finding, export_of, detail_at}
 use Rattle.pair_compare.specs.reports.PathTexts.{label_at, steps_text}
 use Rattle.pair_compare.specs.reports.ExportRows.{export_rows}
 
--- ---- what a row tells
+-- ---- what a row reports
 
--- the nodes of the triple are alike to these
+-- the nodes of the triple are alike to a and b
 pub record IsAlikeTo (t : Task) (x : Triple) (a b : ℕ) : Type 0 where
   pub old : AreAlike t.old x.old a
   pub new : AreAlike t.new x.new b
 
--- the path leads to the triple, whose old node is unmarked at its way, and whose nodes are alike to these
+-- the path leads to the triple, whose old node is unmarked at its way and whose nodes are alike to a and b
 pub record LeadsTo (t : Task) (path : Path) (x : Triple) (a b : ℕ) : Type 0 where
   pub leads : PathLeadsTo t path x
   pub unmarked : is_marked t x.old x.way ≡ false
   pub alike : IsAlikeTo t x a b
 
--- the path leads to such a triple, and the rule and the detail are those of a break of it
+-- the path leads to a triple with alike nodes, and the rule and the detail are those of a break of it
 pub record IsTrueBreak (t : Task) (f : Finding) : Type 0 where
   pub triple : Triple
   pub leads : LeadsTo t f.path triple f.old f.new
   pub breaks : Contains (breaks_of t triple) f.broken
   pub detail : detail_at t triple.old triple.new f.broken ≡ detail_at t f.old f.new f.broken
 
--- one of the findings tells of the rule and the detail of a break of the triple, at alike nodes
+-- one of the findings reports the rule and the detail of a break of the triple, at alike nodes
 pub record IsFound (t : Task) (findings : List Finding) (x : Triple) (b : Broken) : Type 0 where
   pub finding : Finding
   pub among : Contains findings finding
@@ -44,29 +44,29 @@ pub record IsFound (t : Task) (findings : List Finding) (x : Triple) (b : Broken
   pub rule : finding.broken.rule ≡ b.rule
   pub detail : detail_at t finding.old finding.new finding.broken ≡ detail_at t x.old x.new b
 
--- it is a node, and no node that is alike to it has an earlier entry
+-- i is a node, and no node alike to it has an earlier entry
 abbrev pub IsOwn : List PlainNode → ℕ → Type 0
 IsOwn nodes i = (i < length nodes) × IsLeast nodes i
 
--- by an earlier path, or by the same path an earlier break
+-- the path comes before, or the paths are equal and the break comes before
 abbrev pub IsFoundBefore : Finding → Finding → Type 0
 IsFoundBefore f g = IsBefore f.path g.path ⊎ ((f.path ≡ g.path) × IsBrokenBefore f.broken g.broken)
 
 -- ---- right findings
 
 pub record AreRight (t : Task) (findings : List Finding) : Type 0 where
-  -- each tells of a true break, at the end of its path
+  -- each reports a true break, at the end of its path
   pub true_breaks : (f : Finding) → Contains findings f → IsTrueBreak t f
   -- each break of each reachable triple whose old node is unmarked at its way has a row
   pub all_breaks : (x : Triple) (b : Broken) → IsReachable t x → is_marked t x.old x.way ≡ false → Contains (breaks_of t x) b → IsFound t findings x b
-  -- the path of each is the first that leads to such a triple with alike nodes, by whichever way
+  -- the path of each is the first that leads to a triple with alike nodes, by whichever way
   pub first_paths : (f : Finding) → Contains findings f → (other : Path) (x : Triple) → LeadsTo t other x f.old f.new → IsNotAfter f.path other
   -- they stand in order of paths, and then of rules and parts
   pub ascending : (m n : ℕ) (f g : Finding) → m < n → slice_get findings m ≡ Some f → slice_get findings n ≡ Some g → IsFoundBefore f g
   -- among the breaks of one pair with one rule and one detail, the one at the least part has the row
   pub least_parts : (f : Finding) → Contains findings f → (b : Broken) → Contains (breaks_of t (record { old = f.old; new = f.new; way = Direct })) b
       → b.rule ≡ f.broken.rule → detail_at t f.old f.new b ≡ detail_at t f.old f.new f.broken → f.broken.part ≤ b.part
-  -- the entries of each are the least of alike ones
+  -- the entries of each are the least among alike ones
   pub least_entries : (f : Finding) → Contains findings f → IsOwn t.old f.old × IsOwn t.new f.new
 
 -- ---- right rows
@@ -93,7 +93,7 @@ pub record AreOneRow (a b : Row) : Type 0 where
   pub old_entry : a.old_entry ≡ b.old_entry
   pub new_entry : a.new_entry ≡ b.new_entry
 
--- The rows on types, where one path can be named for each so that all this holds.
+-- The rows on types: for each there is a path such that all this holds.
 pub record AreRightRows (s : Sides) (rows : List Row) : Type 0 where
   pub findings : List Finding
   pub are : rows ≡ map (row_of s) findings
@@ -101,7 +101,7 @@ pub record AreRightRows (s : Sides) (rows : List Row) : Type 0 where
   -- no two rows are equal in rule, detail and entries
   pub once : (m n : ℕ) (a b : Row) → slice_get rows m ≡ Some a → slice_get rows n ≡ Some b → AreOneRow a b → m ≡ n
 
--- The rows on sonames and exports, and then right rows on types.
+-- The rows on sonames and exports, followed by right rows on types.
 pub record IsRightReport (s : Sides) (rows : List Row) : Type 0 where
   pub type_rows : List Row
   pub are : rows ≡ export_rows s ++ type_rows

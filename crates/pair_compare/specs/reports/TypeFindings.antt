@@ -17,7 +17,7 @@ use Rattle.cert_check.specs.Compatible.{Sides, task_of}
 use Rattle.pair_compare.specs.reports.Findings.{Finding, detail_at}
 use Rattle.pair_compare.specs.reports.Reports.{row_of}
 
--- two graphs, and their nodes are of one class exactly where they are alike
+-- two graphs, where nodes are of one class exactly if they are alike
 pub record IsCoarse (s : Scope) : Type 0 where
   pub sound : IsSound s
   pub graphs : AreGraphs s
@@ -37,7 +37,7 @@ abbrev pub found_of : Path → Broken → Option Visit → Finding
 found_of path b None = record { path = path; old = 0; new = 0; broken = b }
 found_of path b (Some v) = record { path = path; old = v.old; new = v.new; broken = b }
 
--- what a break at the visit of a number tells
+-- the finding of a break at visit number n
 unfoldable pub finding_of : List Visit → ℕ × Broken → Finding
 finding_of visits p = found_of (path_at visits p.0) p.1 (slice_get visits p.0)
 
@@ -50,14 +50,14 @@ same_row t f g =
 abbrev pub same_told : Task → List Visit → ℕ × Broken → ℕ × Broken → Bool
 same_told t visits p q = same_row t (finding_of visits p) (finding_of visits q)
 
--- the breaks that have a row: those whose row no earlier break has
+-- the breaks that get a row: those whose row no earlier break has
 abbrev pub told_breaks : Task → List Visit → List (ℕ × Broken) → List (ℕ × Broken)
 told_breaks t visits broken = firsts (same_told t visits) broken
 
--- what they tell
+-- their findings
 abbrev pub findings_of : Task → List Visit → List (ℕ × Broken) → List Finding
 findings_of t visits broken = map (finding_of visits) (told_breaks t visits broken)
 
--- and their rows
+-- their rows
 unfoldable pub type_rows : Sides → List Visit → List (ℕ × Broken) → List Row
 type_rows s visits broken = map (row_of s) (findings_of (task_of s) visits broken)

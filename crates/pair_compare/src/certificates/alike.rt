@@ -1,4 +1,4 @@
-// The lines that say which entries are alike.
+// The alike lines of a certificate.
 ghost use Rattle.std.specs.Prelude.{◌≡◌, ◌<◌, ◌^◌, length, All, IfOk, IfSome};
 ghost use Rattle.std.specs.List.Sorted.{IsPermutation, IsSorted};
 ghost use Rattle.type_classes.specs.Classes.{AreCoarsest};
@@ -15,7 +15,7 @@ use std::alloc::Global;
 use type_classes::Classes;
 use type_classes::laws::classes_stand_by_their_least_entries;
 
-// The line of the node of a number, where it does not stand for its class.
+// The line of a node, unless it stands for its class.
 fn alike_line<Ix: Index>(
     graph: &Graph<Ix>,
     classes: &Classes<Ix>,
@@ -60,7 +60,7 @@ fn sort(lines: &mut Vec<(u64, u64)>)
     lines.sort_unstable_by_key(|line| line.0);
 }
 
-/// The entries that are not the least of those alike to them, each with that least entry.
+/// Each entry that is not the least of those alike to it, with that least entry. The lines are in strictly ascending order.
 pub fn alike_lines<Ix: Index>(
     alloc: Global,
     graph: &Graph<Ix>,

@@ -1,4 +1,4 @@
-// The lines that say what exports bind to.
+// The bind lines of a certificate.
 ghost use Rattle.std.specs.Prelude.{◌≡◌, ◌<◌, false, length, option_and_then, IfOk, MatchOption, None, Some, slice_get, slice_index_or};
 ghost use Rattle.abi_types.specs.Plain.{plain_export};
 ghost use Rattle.elf_bind.specs.Binding.{bind_to};
@@ -12,7 +12,7 @@ use cert_check::laws::lines_stand_in_the_order_of_their_numbers;
 use elf_bind::bind_in;
 use std::alloc::Global;
 
-// Whether the old export at a position is not compared.
+// Whether the old export at a position is excluded from the comparison.
 fn is_dropped(marks: &Marks, k: usize) -> bool
     ensures { result ≡ slice_index_or marks.now.exports k false }
 {
@@ -22,7 +22,7 @@ fn is_dropped(marks: &Marks, k: usize) -> bool
     }
 }
 
-// How many exports a library has.
+// The number of exports of a library.
 fn export_count<Ix: Index>(library: &Library<Ix>) -> usize
     ensures { result ≡ length library.now.exports }
 {
@@ -59,7 +59,7 @@ fn bound_to<'x, 'n>(export: &Export, new: &'x Library<'n, NewIx>) -> Option<&'x 
     }
 }
 
-// The line of the old export at a position, where it is compared and binds.
+// The line of the old export at a position, if it is compared and binds.
 fn bind_line(
     old: &Library<OldIx>,
     new: &Library<NewIx>,
@@ -79,7 +79,7 @@ fn bind_line(
     }
 }
 
-/// The symbol of each old export that is compared and binds, with that of the new export to which it binds.
+/// The symbol of each old export that is compared and binds, with the symbol of the new export to which it binds.
 pub fn bind_lines(
     alloc: Global,
     old: &Library<OldIx>,

@@ -1,5 +1,4 @@
-//! What the certificate of two libraries is. Each law is the contract of a function that does nothing but bring in the laws
-//! below it.
+//! What the certificate of two libraries is. Each law is the contract of a function that only cites the laws below it.
 ghost use Rattle.std.specs.Prelude.{◌≡◌};
 ghost use Rattle.cert_text.specs.Certs.{PlainCert};
 ghost use Rattle.cert_check.specs.Compatible.{Sides, IsCompatible, task_of};
@@ -21,13 +20,12 @@ use type_classes::laws::{
     alike_is_an_equivalence, alike_nodes_break_the_same_rules, alike_nodes_look_the_same,
 };
 
-/// Two libraries have one certificate.
+/// Two libraries have at most one certificate.
 pub fn a_certificate_is_one()
     ensures { (s : Sides) (one other : PlainCert) → IsCertificateOf s one → IsCertificateOf s other → one ≡ other }
 {}
 
-/// Where the new library may replace the old one, and nodes that are alike are marked alike, the certificate of
-/// the two is accepted: it is a proof that can be checked.
+/// Where the new library may replace the old one, and alike nodes are marked alike, the checker accepts the certificate of the two.
 pub fn the_certificate_of_the_compatible_is_accepted()
     ensures { (s : Sides) (c : PlainCert) → AreLibraries s → AreMarkedAlike (task_of s) → IsCompatible s → IsCertificateOf s c
         → IsAccepted (record { sides = s; cert = c }) }
@@ -46,8 +44,7 @@ pub fn the_certificate_of_the_compatible_is_accepted()
     parts_see_no_nodes();
 }
 
-/// The typed pairs of two libraries, with the classes of alike nodes, may be explored, where nodes with equal labels are marked
-/// alike.
+/// The typed pairs of two libraries, with the classes of alike nodes, may be explored if nodes with equal labels are marked alike.
 pub fn typed_pairs_may_be_explored()
     ensures { (s : Sides) (old new : PlainClasses) → old.nodes ≡ s.old.graph → new.nodes ≡ s.new.graph → AreSound old → AreCoarsest old → AreMarksOf s
         → IsScope (scope_of s old new) }

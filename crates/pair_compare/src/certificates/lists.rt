@@ -1,9 +1,9 @@
-// Lists that gain an item, where there is one.
+// Lists that may gain an item.
 ghost use Rattle.std.specs.Prelude.{◌≡◌, ◌++◌, option_to_list, OnOk};
 
 use abi_base::{List, NoMemory};
 
-/// Puts an item last, where there is one.
+/// Appends the item of an option, if it has one.
 pub fn push_some<T: Drop>(list: &mut List<T>, item: Option<T>) -> Result<(), NoMemory>
     ensures { OnOk result (list.new ≡ list.old ++ option_to_list item) }
 {

@@ -21,7 +21,7 @@ use pair_explorer::laws::no_break_is_compatible;
 use std::alloc::Global;
 use type_classes::Classes;
 
-// A SHA-256 is one.
+// Returns its argument. The contract adds that a SHA-256 is a digest of a certificate.
 fn is_digest(digest: [u8; 32]) -> [u8; 32]
     ensures value { result ≡ digest }
     ensures is { IsDigest digest }
@@ -29,7 +29,7 @@ fn is_digest(digest: [u8; 32]) -> [u8; 32]
     digest
 }
 
-// The lines that fit in memory have numbers.
+// Lines that fit in memory are few enough for a certificate to number them. The function does nothing.
 fn lines_have_numbers(
     binds: &[(u32, u32)],
     alike_old: &[(u64, u64)],
@@ -44,7 +44,7 @@ fn lines_have_numbers(
     let _ = pairs;
 }
 
-/// The certificate of two libraries of which a search found no break. It is accepted.
+/// The certificate of two libraries, from a search that found no break. The checker accepts it.
 pub fn make_cert(
     alloc: Global,
     pair: &BoundPair,

@@ -1,4 +1,4 @@
-// The lines that say which types are reached in the place of which.
+// The pair lines of a certificate: which types are reached in place of which.
 ghost use Rattle.std.specs.Prelude.{◌≡◌, ◌^◌, List as Sequence, map, All, IfOk};
 ghost use Rattle.std.specs.List.Sorted.{IsPermutation, IsSorted};
 ghost use Rattle.type_classes.specs.Classes.{PlainClasses};
@@ -55,7 +55,7 @@ fn sort(lines: &mut Vec<(u64, u64, Way)>)
     lines.sort_unstable_by_key(|line| (line.0, line.1, is_pointer(line.2)));
 }
 
-/// The line of each visit, in the order of a certificate.
+/// The line of each visit, in the order that a certificate requires.
 pub fn pair_lines(
     alloc: Global,
     old: &Graph<OldIx>,
@@ -72,8 +72,8 @@ pub fn pair_lines(
     Ok(List::of(lines))
 }
 
-/// The lines of all that a search without a break visited, in the order of a certificate, are the pair lines of the certificate.
-/// The function does nothing.
+/// For a search without a break, the lines of its visits, in the order that a certificate requires, are the pair lines of the
+/// certificate. The function does nothing.
 pub fn visits_are_pair_lines()
     ensures { (s : Sides) (old new : PlainClasses) (visits : Sequence Visit) (lines : Sequence PairLine) → AreClassesOf s old new → IsUnbroken s old new visits
         → IsPermutation (map (pair_line s.old.graph s.new.graph) visits) lines → IsSorted pair_cmp lines → ArePairLines (task_of s) lines }

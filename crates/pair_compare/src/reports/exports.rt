@@ -18,7 +18,7 @@ use pair_rules::export_breaks;
 use report::{Row, export_row, soname_row};
 use std::alloc::Global;
 
-// Adds the row on sonames, where they differ.
+// Adds the row on sonames, if they differ.
 #[tactic(auto, unfolding(crate::specs::reports::ExportRows::soname_rows))]
 fn push_soname_rows(
     alloc: Global,
@@ -57,7 +57,7 @@ fn push_gone(
     rows.push(row)
 }
 
-// Adds the row of a rule, where it is broken.
+// Adds the row of a rule, if it is broken.
 fn push_if(
     alloc: Global,
     rows: &mut List<Row>,
@@ -98,7 +98,7 @@ fn is_named(library: &Library<NewIx>, name: &[u8]) -> bool
     !library.exports_named(name).is_empty()
 }
 
-// Adds the rows of an old export, by the place of the new one that it binds to.
+// Adds the rows of an old export, given the position of the new one to which it binds.
 fn push_bound(
     alloc: Global,
     rows: &mut List<Row>,
@@ -137,8 +137,8 @@ fn push_at(
     }
 }
 
-/// Adds the row on sonames, where they differ, and the rows of each old export that is compared, by what it binds to. It takes
-/// the time of two binary searches for an export that is gone.
+/// Adds the row on sonames, if they differ, and then the rows of each compared old export. An export that is gone costs two binary
+/// searches.
 pub fn push_export_rows(
     alloc: Global,
     rows: &mut List<Row>,

@@ -1,5 +1,5 @@
-//! What rows that are made from an exploration tell, and that nothing of them is left open. Each law is the contract of a function
-//! that does nothing but bring in the laws below it.
+//! What rows made from an exploration report, and that they are complete and unique. Each law is the contract of a function that
+//! only cites the laws below it.
 ghost use Rattle.std.specs.Prelude.{◌≡◌, ◌↔◌, ◌++◌, [], ℕ, List};
 ghost use Rattle.abi_types.specs.Graphs.{IsGraph};
 ghost use Rattle.abi_types.specs.Types.{PlainNode};
@@ -29,8 +29,8 @@ use pair_rules::laws::{
 use report::laws::texts_see_no_nodes;
 use type_classes::laws::{alike_is_an_equivalence, alike_nodes_break_the_same_rules};
 
-/// The breaks of an exploration over the classes of alike nodes, less those that repeat an earlier one about the same types,
-/// are right findings: true, all of them, by the first paths, in order.
+/// The breaks of an exploration over the classes of alike nodes, without those that repeat an earlier one about the same types, are
+/// right findings: they are true, complete, by the first paths, and in order.
 pub fn told_breaks_are_right()
     ensures { (s : Scope) (visits : List Visit) (broken : List (ℕ × Broken)) → IsCoarse s → IsExploration s visits broken →
         AreRight s.task (findings_of s.task visits broken) }
@@ -57,7 +57,7 @@ pub fn told_rows_are_right()
     paths_lead_to_nodes();
 }
 
-/// There is no row at all exactly where the new library may replace the old one.
+/// The report has no row exactly where the new library may replace the old one.
 pub fn no_row_is_compatible()
     ensures { (s : Sides) (visits : List Visit) (broken : List (ℕ × Broken)) → IsExplored (task_of s) visits broken →
         (export_rows s ++ type_rows s visits broken ≡ []) ↔ IsCompatible s }
@@ -66,8 +66,8 @@ pub fn no_row_is_compatible()
     no_break_is_compatible();
 }
 
-/// A path that leads from the typed pairs to two types ends at the old one of them, where it is followed in the old library alone,
-/// and all that it goes by is there.
+/// A path that leads from the typed pairs to two types ends, followed in the old library alone, at the old one of them, and all
+/// nodes and parts along it exist.
 pub fn paths_end_where_they_lead()
     ensures ends { (s : Sides) (path : Path) (x : Triple) → PathLeadsTo (task_of s) path x → end_of s.old path ≡ x.old }
     ensures walks { (s : Sides) (path : Path) (x : Triple) → IsGraph s.old.graph → IsGraph s.new.graph → PathLeadsTo (task_of s) path x → IsWalk s.old path }
@@ -76,7 +76,7 @@ pub fn paths_end_where_they_lead()
     paths_lead_to_nodes();
 }
 
-/// All that the rows of an exploration's breaks are made of is there.
+/// Everything from which the rows of an exploration's breaks are made exists.
 pub fn rows_can_be_read()
     ensures { (s : Sides) (visits : List Visit) (broken : List (ℕ × Broken)) → IsExplored (task_of s) visits broken → AreReadable s visits broken }
 {
@@ -86,7 +86,7 @@ pub fn rows_can_be_read()
     breaks_are_where_their_rules_say();
 }
 
-/// Two libraries and marks have one right report: their bytes fix the printed text.
+/// Two libraries and marks have at most one right report: their bytes determine the printed text.
 pub fn a_right_report_is_one()
     ensures { (s : Sides) (first other : List Row) → IsGraph s.old.graph → IsGraph s.new.graph → IsRightReport s first → IsRightReport s other → first ≡ other }
 {
@@ -96,7 +96,7 @@ pub fn a_right_report_is_one()
     paths_lead_to_nodes();
 }
 
-/// An exploration from the types of the exports that are compared, over the classes of alike nodes, is one of the two libraries.
+/// An exploration from the types of the compared exports, over the classes of alike nodes, is an exploration of the two libraries.
 pub fn alike_types_are_explored()
     ensures { (s : Sides) (old_nodes new_nodes : List PlainNode) (roots : List PlainRoot) (old new : PlainClasses) (visits : List Visit) (broken : List (ℕ × Broken))
         → old_nodes ≡ s.old.graph → new_nodes ≡ s.new.graph → roots ≡ typed_roots s → IsGraph old_nodes → IsGraph new_nodes

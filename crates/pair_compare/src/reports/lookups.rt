@@ -1,10 +1,10 @@
-// What stands at positions in libraries and marks.
+// Lookups by position in libraries and marks.
 ghost use Rattle.std.specs.Prelude.{◌≡◌, not, false, slice_get, slice_index_or, option_and_then, Some, None, MatchOption};
 ghost use Rattle.abi_types.specs.Plain.{plain_export};
 
 use abi_types::{Export, Index, Library, Marks, NewIx};
 
-/// The export at a position, where there is one.
+/// The export at a position, or `None` past the end.
 pub fn export_at<'x, 'a, Ix: Index>(
     library: &'x Library<'a, Ix>,
     place: usize,
@@ -14,7 +14,7 @@ pub fn export_at<'x, 'a, Ix: Index>(
     library.exports().get(place)
 }
 
-/// The new export at a place, where there is one.
+/// The new export at a position, or `None` where there is no position or nothing at it.
 pub fn partner<'x, 'n>(
     library: &'x Library<'n, NewIx>,
     place: Option<usize>,
@@ -27,7 +27,7 @@ pub fn partner<'x, 'n>(
     }
 }
 
-/// Whether the old export at a position is compared: no rule drops it.
+/// Whether the old export at a position is compared, that is, no suppression drops it.
 pub fn is_compared(marks: &Marks, k: usize) -> bool
     ensures { result ≡ not (slice_index_or marks.now.exports k false) }
 {

@@ -1,5 +1,4 @@
-//! The rows of a report on two libraries, made from what their old exports bind to and from what an exploration of their types
-//! found.
+//! The rows of a report on two libraries, made from the bindings of the old exports and from an exploration of the types.
 
 mod exports;
 pub mod laws;

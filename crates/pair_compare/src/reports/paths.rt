@@ -47,7 +47,7 @@ fn type_of(library: &Library<OldIx>, export: u32) -> OldIx
     }
 }
 
-// What a part names; void where it names nothing.
+// The type that a part names; void where it names none.
 fn next_node(view: &View<OldIx>, part: usize) -> OldIx
     requires { part < length view.now.parts }
     ensures { result ≡ unwrap_or (to_of (part_at view.now part)) 0 }
@@ -58,7 +58,7 @@ fn next_node(view: &View<OldIx>, part: usize) -> OldIx
     }
 }
 
-// Appends the sign in front of a step with so many before it.
+// Appends the separator in front of a step that has so many before it.
 fn push_between(text: &mut String, before: usize) -> Result<(), AllocError>
     ensures { OnOk result (string_bytes text.new ≡ string_bytes text.old ++ between before) }
 {
@@ -68,7 +68,7 @@ fn push_between(text: &mut String, before: usize) -> Result<(), AllocError>
     text.push_str(" / ")
 }
 
-// Appends a step with so many before it.
+// Appends a step that has so many before it.
 fn push_one(
     alloc: Global,
     text: &mut String,
@@ -83,7 +83,7 @@ fn push_one(
     push_step(alloc, text, view, part)
 }
 
-/// The text of the steps of a path in the old library. It goes over them once.
+/// The text of the steps of a path in the old library. It takes one pass over them.
 pub fn steps_text(
     alloc: Global,
     library: &Library<OldIx>,

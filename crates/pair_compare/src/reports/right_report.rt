@@ -14,8 +14,8 @@ use pair_explorer::Explored;
 use report::Row;
 use std::alloc::Global;
 
-/// The rows of all breaks between two libraries, of whose types `explored` says what an exploration over the classes of alike
-/// ones found. There is one right report, and none has a row exactly where the new library may replace the old one.
+/// The rows of all breaks between two libraries. `explored` is the result of an exploration of their types over the classes of
+/// alike ones. This is the only right report, and it has no row exactly where the new library may replace the old one.
 pub fn report_rows(
     alloc: Global,
     pair: &BoundPair,

@@ -24,7 +24,7 @@ use pair_rules::Broken;
 use report::{Row, Trail, type_detail, type_row};
 use std::alloc::Global;
 
-// What a row says of a break of two types.
+// The detail of the row about a break of two types.
 fn detail_of(
     alloc: Global,
     broken: &Broken,
@@ -38,7 +38,7 @@ fn detail_of(
     Ok(text.into_bytes())
 }
 
-// What tells the row of a break at the visit of a number apart.
+// The key that distinguishes the row of a break.
 fn key_at(
     alloc: Global,
     ground: &BoundPair,
@@ -57,7 +57,7 @@ fn key_at(
     Ok((place, visit.old.number(), visit.new.number(), text))
 }
 
-// The breaks of an exploration without those whose row an earlier one has.
+// The breaks of an exploration, without those whose row an earlier one has.
 fn told(
     alloc: Global,
     ground: &BoundPair,
@@ -79,7 +79,7 @@ fn told(
     Ok(told)
 }
 
-// The row of a break at the visit of a number.
+// The row of a break at a visit.
 fn row_at(
     alloc: Global,
     ground: &BoundPair,
@@ -107,8 +107,8 @@ fn row_at(
     )
 }
 
-/// Adds the rows on types: of the breaks that tell the same at the same types the first has one. A row's path is spelled only
-/// once its row is known to stand.
+/// Adds the rows on types. Of the breaks with one rule and one detail at the same types only the first gets a row. The path of a
+/// row is spelled only once the row is known to be needed.
 pub fn push_type_rows(
     alloc: Global,
     rows: &mut List<Row>,

@@ -1,4 +1,4 @@
-//! Which report the caller wants, and the listeners that hear it. `specs/styles/Wanted.antt` defines what is promised.
+//! Which report the caller wants, and the listeners that hear it. `specs/styles/Wanted.antt` has the definitions.
 
 mod report_option;
 

@@ -14,11 +14,11 @@ pub enum ReportStyle {
     Text,
     /// A line for each row, in columns.
     Table,
-    /// How many rows there are of each rule.
+    /// The number of rows of each rule.
     Counts,
-    /// The first rows alone.
+    /// Only the first rows.
     First,
-    /// What a listener of its own style likes.
+    /// A style that a listener itself defines.
     Own,
 }
 
@@ -36,14 +36,14 @@ fn is_wanted(wanted: ReportStyle, style: Style) -> bool
     }
 }
 
-// The method's call, with its clause at a box.
+// Calls the method, with its clause stated for a box.
 fn style(listener: &Box<dyn Listener>) -> Style
     ensures { result ≡ (voice listener.now).style }
 {
     listener.style()
 }
 
-/// The listeners of the wanted style, in their order. The others are dropped. It fails only when memory runs out.
+/// The listeners of the wanted style, in order. The others are dropped. It fails only if memory runs out.
 pub fn wanted_listeners(
     alloc: Global,
     listeners: Vec<Box<dyn Listener>>,
