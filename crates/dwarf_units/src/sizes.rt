@@ -82,15 +82,10 @@ impl SizedTable {
         Ok(SizedTable { table, sizes })
     }
 
-<<<<<<< HEAD
-    /// How many bytes of `.debug_abbrev` the table has at least.
+    /// A lower bound of the table's size in `.debug_abbrev`, in bytes.
     pub fn least_bytes(&self) -> usize
         ensures { result ≡ least_bytes_of self.now }
     {
-=======
-    /// A lower bound of the table's size in `.debug_abbrev`, in bytes.
-    pub fn least_bytes(&self) -> usize {
->>>>>>> 2825b4367d36919bd6f503536fd8f90e3dd827d9
         self.table.least_bytes()
     }
 

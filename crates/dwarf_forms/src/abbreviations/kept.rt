@@ -1,10 +1,5 @@
-<<<<<<< HEAD
-// The abbreviations of a unit, by their codes.
-ghost use Rattle.std.specs.Prelude.{◌≡◌, ◌-◌, ◌^◌, [], ◌∷◌, ◌++◌, min, None, OnOk};
-=======
 // The abbreviations of a unit, by code.
-ghost use Rattle.std.specs.Prelude.{◌≡◌, ◌-◌, [], ◌∷◌, ◌++◌, None, OnOk};
->>>>>>> 2825b4367d36919bd6f503536fd8f90e3dd827d9
+ghost use Rattle.std.specs.Prelude.{◌≡◌, ◌-◌, ◌^◌, [], ◌∷◌, ◌++◌, min, None, OnOk};
 ghost use Rattle.std.specs.Option.{option_copied};
 ghost use Rattle.dwarf_forms.specs.abbreviations.Abbrevs.{abbrev_of};
 ghost use Rattle.dwarf_forms.specs.abbreviations.LeastBytes.{least_bytes_in, least_bytes_of};
@@ -80,31 +75,20 @@ fn at_kept_place<'a>(
     }
 }
 
-<<<<<<< HEAD
-// How many bytes of the section an abbreviation has at least.
+// A lower bound of the size of an abbreviation in the section.
 fn least_bytes(made: &Abbrev) -> usize
     ensures { result ≡ min (least_bytes_in made.now) (2 ^ 64 - 1) }
 {
-=======
-// A lower bound of the size of an abbreviation in the section.
-fn least_bytes(made: &Abbrev) -> usize {
->>>>>>> 2825b4367d36919bd6f503536fd8f90e3dd827d9
     let pairs = made.specs.as_slice().len().saturating_mul(PAIR_BYTES);
     pairs.saturating_add(LEAST_BYTES)
 }
 
 impl Table {
-<<<<<<< HEAD
-    /// How many bytes of `.debug_abbrev` the abbreviations have at least: five each, and two for each pair. They take memory in
-    /// proportion.
+    /// A lower bound of the size of the abbreviations in `.debug_abbrev`: five bytes each, and two for each attribute
+    /// specification. The memory that they take is proportional to it.
     pub fn least_bytes(&self) -> usize
         ensures { result ≡ least_bytes_of self.now }
     {
-=======
-    /// A lower bound of the size of the abbreviations in `.debug_abbrev`: five bytes each, and two for each attribute
-    /// specification. The memory that they take is proportional to it.
-    pub fn least_bytes(&self) -> usize {
->>>>>>> 2825b4367d36919bd6f503536fd8f90e3dd827d9
         self.bytes
     }
 
