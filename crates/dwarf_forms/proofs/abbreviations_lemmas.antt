@@ -1,4 +1,5 @@
 pub mod AbbrevsLemmas
 pub mod Cases
+pub mod LeastBytesLemmas
 pub mod PlacesLemmas
 pub mod StandingLemmas

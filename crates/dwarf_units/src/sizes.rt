@@ -2,6 +2,7 @@
 ghost use Rattle.std.specs.Prelude.{◌≡◌, IfOk, IfSome};
 ghost use Rattle.std.specs.Option.{option_copied};
 ghost use Rattle.dwarf_forms.specs.abbreviations.Abbrevs.{abbrev_of};
+ghost use Rattle.dwarf_forms.specs.abbreviations.LeastBytes.{least_bytes_of};
 ghost use Rattle.dwarf_units.specs.Sizes.{AreSizes, EndBehind, IsSizeIn};
 
 use abi_base::NoMemory;
@@ -82,7 +83,9 @@ impl SizedTable {
     }
 
     /// A lower bound of the table's size in `.debug_abbrev`, in bytes.
-    pub fn least_bytes(&self) -> usize {
+    pub fn least_bytes(&self) -> usize
+        ensures { result ≡ least_bytes_of self.now }
+    {
         self.table.least_bytes()
     }
 

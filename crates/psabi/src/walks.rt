@@ -1,6 +1,6 @@
 // A budget for the walks to the leaves of objects. Types can contain one another many times over, so a few of them can have far
 // more leaves than the file has bytes. Steps are therefore counted before they are taken.
-ghost use Rattle.std.specs.Prelude.{◌≡◌, ◌<◌, length};
+ghost use Rattle.std.specs.Prelude.{◌≡◌, ◌<◌, ◌≤◌, ◌+◌, ◌-◌, ◌*◌, ◌^◌, ℕ, min, length, IfOk};
 ghost use Rattle.psabi.specs.Found.{IsRight};
 
 use crate::found::{Found, found_at};
@@ -10,6 +10,7 @@ use crate::sizes::OBJECT_LIMIT;
 use abi_base::NoMemory;
 use abi_types::{Graph, Index, Kind, View};
 use std::alloc::Global;
+use std::marker::Model;
 
 /// How many steps the walks of a library may take for each of its nodes. An object in registers has at most 64 bytes, so few
 /// types have more leaves, and few types are passed by value at all.
@@ -18,12 +19,20 @@ const STEPS_A_NODE: u64 = 64;
 /// How many more steps they may take, however few nodes there are.
 const STEPS_AT_LEAST: u64 = 65_536;
 
-/// The steps that walks need, and the steps that remain.
+/// The steps that walks need, and the steps that remain. Contracts see the number of the latter.
 #[derive(Drop)]
 pub struct Walks {
     // For each node the number of steps of the walk over its object, or 0 where it is not known yet.
     steps: Vec<u64>,
     left: u64,
+}
+
+impl Model for Walks {
+    ghost use Rattle.std.specs.Prelude.{ℕ};
+
+    ghost Value = { ℕ };
+
+    ghost view = { λ walks. walks.left };
 }
 
 // The number of steps of the walk over the node's object, or 0 if it is not known yet.
@@ -81,7 +90,9 @@ fn steps_of<Ix: Index>(graph: &Graph<Ix>, ix: Ix, steps: &mut [u64]) -> u64
 
 impl Walks {
     /// The walks over the objects of a graph, before the first one.
-    pub fn over<Ix: Index>(alloc: Global, graph: &Graph<Ix>) -> Result<Walks, NoMemory> {
+    pub fn over<Ix: Index>(alloc: Global, graph: &Graph<Ix>) -> Result<Walks, NoMemory>
+        ensures { IfOk result (λ walks. walks ≡ min (64 * length graph.now + 65536) (2 ^ 64 - 1)) }
+    {
         let steps = Vec::from_elem(alloc, 0, graph.len())?;
         let most = (graph.len() as u64).saturating_mul(STEPS_A_NODE);
         Ok(Walks {
@@ -101,6 +112,7 @@ impl Walks {
         requires inside { Ix.number_of ix < length graph.now }
         requires right { IsRight graph.now found.now }
         ensures right { IsRight graph.now found.new }
+        ensures falls { self.new ≤ self.old }
     {
         let view = graph.view(ix);
         if view.size > OBJECT_LIMIT || !is_aggregate(view.kind) {
@@ -130,6 +142,7 @@ impl Walks {
         requires inside { Ix.number_of ix < length graph.now }
         requires right { IsRight graph.now found.now }
         ensures right { IsRight graph.now found.new }
+        ensures falls { self.new ≤ self.old }
     {
         graph.known();
         let view = graph.view(ix);

@@ -1,7 +1,8 @@
 // The abbreviations of a unit, by code.
-ghost use Rattle.std.specs.Prelude.{◌≡◌, ◌-◌, [], ◌∷◌, ◌++◌, None, OnOk};
+ghost use Rattle.std.specs.Prelude.{◌≡◌, ◌-◌, ◌^◌, [], ◌∷◌, ◌++◌, min, None, OnOk};
 ghost use Rattle.std.specs.Option.{option_copied};
 ghost use Rattle.dwarf_forms.specs.abbreviations.Abbrevs.{abbrev_of};
+ghost use Rattle.dwarf_forms.specs.abbreviations.LeastBytes.{least_bytes_in, least_bytes_of};
 ghost use Rattle.dwarf_forms.specs.abbreviations.Places.{Placed};
 ghost use Rattle.dwarf_forms.specs.abbreviations.Places as spec;
 
@@ -31,13 +32,15 @@ const PAIR_BYTES: usize = 2;
 impl Model for Table {
     ghost use Rattle.std.specs.Prelude.{List};
     ghost use Rattle.dwarf_forms.specs.declared.abbreviations.abbrev.Abbrev.{Abbrev};
+    ghost use Rattle.std.specs.Prelude.{◌≡◌};
+    ghost use Rattle.dwarf_forms.specs.abbreviations.LeastBytes.{least_bytes_of};
     ghost use Rattle.dwarf_forms.specs.abbreviations.Places.{Placed};
 
     ghost Value = { List Abbrev };
 
     ghost view = { λ t. t.abbrevs };
 
-    ghost invariant = { λ t. Placed t.abbrevs t.elsewhere };
+    ghost invariant = { λ t. Placed t.abbrevs t.elsewhere × (t.bytes ≡ least_bytes_of t.abbrevs) };
 }
 
 // The position of a code in a table with the codes 1, 2, 3, ..
@@ -73,7 +76,9 @@ fn at_kept_place<'a>(
 }
 
 // A lower bound of the size of an abbreviation in the section.
-fn least_bytes(made: &Abbrev) -> usize {
+fn least_bytes(made: &Abbrev) -> usize
+    ensures { result ≡ min (least_bytes_in made.now) (2 ^ 64 - 1) }
+{
     let pairs = made.specs.as_slice().len().saturating_mul(PAIR_BYTES);
     pairs.saturating_add(LEAST_BYTES)
 }
@@ -81,7 +86,9 @@ fn least_bytes(made: &Abbrev) -> usize {
 impl Table {
     /// A lower bound of the size of the abbreviations in `.debug_abbrev`: five bytes each, and two for each attribute
     /// specification. The memory that they take is proportional to it.
-    pub fn least_bytes(&self) -> usize {
+    pub fn least_bytes(&self) -> usize
+        ensures { result ≡ least_bytes_of self.now }
+    {
         self.bytes
     }
 
