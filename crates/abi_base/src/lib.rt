@@ -32,6 +32,3 @@ pub use take::Take;
 
 /// The most bytes that an input may have. A longer one is `FaultKind::TooLong`.
 pub const INPUT_LIMIT: usize = 268_435_456;
-
-#[cfg(test)]
-mod tests;
