@@ -32,6 +32,3 @@ pub use take::Take;
 
 /// The largest allowed size of an input in bytes. A larger one is refused with `FaultKind::TooLong`.
 pub const INPUT_LIMIT: usize = 268_435_456;
-
-#[cfg(test)]
-mod tests;

@@ -16,7 +16,7 @@ const TRIES: u64 = u64::MAX;
 
 // One read. A read that a signal interrupts gives nothing and is made again.
 #[tactic(auto, using(crate::proofs::Loops::kept))]
-pub(crate) fn read_some<F: Read>(file: &mut F, into: &mut [u8]) -> Result<usize, Failed>
+fn read_some<F: Read>(file: &mut F, into: &mut [u8]) -> Result<usize, Failed>
     ensures bound { ReadsAtMost result into.new }
     ensures bytes { ReadConsumes (F.remaining file.old) (F.remaining file.new) result into.new }
 {

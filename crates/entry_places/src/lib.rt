@@ -6,8 +6,6 @@ pub mod laws;
 mod place;
 mod places;
 mod roots;
-#[cfg(test)]
-mod tests;
 mod values;
 
 pub use place::DeclarationPlace;

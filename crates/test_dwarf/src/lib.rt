@@ -8,6 +8,8 @@ mod entries;
 #[cfg(test)]
 mod forms;
 #[cfg(test)]
+mod places;
+#[cfg(test)]
 mod ranges;
 #[cfg(test)]
 mod texts;
