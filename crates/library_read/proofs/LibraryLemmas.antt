@@ -115,6 +115,10 @@ unfolding typed_exports_of
 typed-are f file before after held read is =
     is ∙ ap (map (typed (debug_of file))) read ∙ ap (λ (x : List ℕ). map (typed (debug_of x)) (untyped_exports_of x)) held
 
+pub nodes-are : (f file : List ℕ) (before : List PlainExport) (nodes : List PlainNode) → file ≡ f → before ≡ untyped_exports_of file → nodes ≡ nodes_of (debug_of file) (roots_among (debug_of file) before) → nodes ≡ uncalled_graph_of f
+nodes-are f file before nodes held read is =
+    is ∙ ap (λ (es : List PlainExport). nodes_of (debug_of file) (roots_among (debug_of file) es)) read ∙ ap uncalled_graph_of held
+
 pub library-is : (f : List ℕ) (soname : Option (Bor (List ℕ))) (exports : List Export) (nodes : List PlainNode) → option_copied soname ≡ soname_of f → plain_exports exports ≡ typed_exports_of f → nodes ≡ graph_of f
     → plain_library (sha256 f) soname exports nodes ≡ library_of f
 unfolding library_of

@@ -8,4 +8,4 @@ mod listing;
 mod room;
 mod typing;
 
-pub use library::read_library;
+pub use library::{WithDebug, read_library, read_with_debug};

@@ -5,6 +5,7 @@ ghost use Rattle.abi_base.specs.Limits.{input_limit};
 ghost use Rattle.abi_base.specs.Outcome.{Judges};
 ghost use Rattle.abi_types.specs.Plain.{plain_exports};
 ghost use Rattle.elf.specs.symbols.Dynamic.{soname_of};
+ghost use Rattle.library_read.specs.Debug.{debug_of};
 ghost use Rattle.library_read.specs.Exports.{typed_exports_of};
 ghost use Rattle.library_read.specs.Faults.{library_fault};
 ghost use Rattle.library_read.specs.Libraries.{library_of, uncalled_graph_of};
@@ -15,10 +16,47 @@ use crate::room::ask_room;
 use crate::typing::{Typed, with_types};
 use abi_base::{Effort, NoMemory, Refusal};
 use abi_types::{Index, Library};
+use dwarf_entries::Dwarf;
 use elf::file::read_elf;
 use psabi::call_shapes;
 use std::alloc::Global;
 use type_graph::GraphLimits;
+
+// What was read of a file.
+#[derive(Drop)]
+struct Parts<'a, Ix: Index> {
+    // The soname, where there is one.
+    soname: Option<&'a [u8]>,
+    // The exports, and the types that they reach.
+    typed: Typed<'a, Ix>,
+    // The debug information.
+    dwarf: Dwarf<'a>,
+}
+
+// The parts of the library that a file is, and its debug information. The fault is the first one of all groups, since they are read
+// in their order.
+fn read_parts<'a, Ix: Index>(alloc: Global, bytes: &'a [u8]) -> Result<Parts<'a, Ix>, Refusal>
+    requires { length bytes.now ≤ input_limit }
+    ensures judged { Judges result (library_fault bytes.now) }
+    ensures soname { IfOk result (λ parts. option_copied parts.soname ≡ soname_of bytes.now) }
+    ensures exports { IfOk result (λ parts. plain_exports parts.typed.exports ≡ typed_exports_of bytes.now) }
+    ensures graph { IfOk result (λ parts. parts.typed.graph ≡ uncalled_graph_of bytes.now) }
+    ensures debug { IfOk result (λ parts. parts.dwarf ≡ debug_of bytes.now) }
+{
+    let file = read_elf(bytes)?;
+    let Listing { soname, exports } = read_listing(alloc, &file)?;
+    let limits = GraphLimits::for_file(bytes.len());
+    let letters = Effort::for_bytes(bytes.len());
+    let (typed, dwarf) = match with_types(alloc, &file, exports, letters, limits) {
+        Ok(read) => read,
+        Err(refused) => return Err(refused),
+    };
+    Ok(Parts {
+        soname,
+        typed,
+        dwarf,
+    })
+}
 
 // The library of a readable file, by what was read of it. Its functions get the places of their calls.
 fn library_with<'a, Ix: Index>(
@@ -54,14 +92,48 @@ pub fn read_library<'a, Ix: Index>(
     ensures judged { Judges result (library_fault bytes.now) }
     ensures library { IfOk result (λ library. library ≡ library_of bytes.now) }
 {
-    let file = read_elf(bytes)?;
-    let Listing { soname, exports } = read_listing(alloc, &file)?;
-    let limits = GraphLimits::for_file(bytes.len());
-    let letters = Effort::for_bytes(bytes.len());
-    let typed = match with_types(alloc, &file, exports, letters, limits) {
-        Ok(typed) => typed,
+    let Parts {
+        soname,
+        typed,
+        dwarf,
+    } = match read_parts(alloc, bytes) {
+        Ok(parts) => parts,
+        Err(refused) => return Err(refused),
+    };
+    // Call places take memory of their own: the debug information is freed first.
+    drop(dwarf);
+    let library = library_with(alloc, bytes, soname, typed)?;
+    Ok(library)
+}
+
+/// A library, and the debug information that it was read from.
+#[derive(Drop)]
+pub struct WithDebug<'a, Ix: Index> {
+    /// The library.
+    pub library: Library<'a, Ix>,
+    /// The debug information of its file.
+    pub dwarf: Dwarf<'a>,
+}
+
+/// The library that a file is, and the debug information that it was read from: for callers that need both, which then read the
+/// file once. Faults and limits are those of `read_library`.
+pub fn read_with_debug<'a, Ix: Index>(
+    alloc: Global,
+    bytes: &'a [u8],
+) -> Result<WithDebug<'a, Ix>, Refusal>
+    requires { length bytes.now ≤ input_limit }
+    ensures judged { Judges result (library_fault bytes.now) }
+    ensures library { IfOk result (λ r. r.library ≡ library_of bytes.now) }
+    ensures debug { IfOk result (λ r. r.dwarf ≡ debug_of bytes.now) }
+{
+    let Parts {
+        soname,
+        typed,
+        dwarf,
+    } = match read_parts(alloc, bytes) {
+        Ok(parts) => parts,
         Err(refused) => return Err(refused),
     };
     let library = library_with(alloc, bytes, soname, typed)?;
-    Ok(library)
+    Ok(WithDebug { library, dwarf })
 }

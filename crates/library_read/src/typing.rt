@@ -3,6 +3,7 @@ ghost use Rattle.std.specs.Prelude.{◌≡◌, ◌<◌, length, map, All, IfOk, 
 ghost use Rattle.abi_base.specs.Outcome.{Judges};
 ghost use Rattle.abi_types.specs.Plain.{plain_export, plain_exports};
 ghost use Rattle.dwarf_entries.specs.Pass.{dwarf_fault};
+ghost use Rattle.type_reach.specs.Faults.{types_fault};
 ghost use Rattle.type_reach.specs.Views as views;
 ghost use Rattle.type_graph.specs.Nodes.{nodes_of};
 ghost use Rattle.library_read.specs.Debug.{debug_of, sections_in};
@@ -128,9 +129,32 @@ fn debug_information<'a>(alloc: Global, file: &ElfFile<'a>) -> Result<Dwarf<'a>,
     tree(alloc, debug_sections(file))
 }
 
-/// The exports of a file with their types. The fault is the first one of its units and entries, and then of the types that the
-/// exports reach. Nothing of the debug information is kept but the types, and names where they stand in the file. Past a limit, or
-/// where the names under which exports are declared take more than `letters`, the answer is that memory ran out.
+// The exports with their types, by the debug information of their file. Past a limit, or where the names under which exports are
+// declared take more than `letters`, the answer is that memory ran out.
+fn types_in<'a, Ix: Index>(
+    alloc: Global,
+    dwarf: &Dwarf<'a>,
+    exports: Vec<Export<'a>>,
+    letters: Effort,
+    limits: GraphLimits,
+) -> Result<Typed<'a, Ix>, Refusal>
+    ensures judged { Judges result (types_fault dwarf.now (exports_spec.roots_among dwarf.now (plain_exports exports.entry.items))) }
+    ensures exports { IfOk result (λ typed. plain_exports typed.exports ≡ map (exports_spec.typed dwarf.now) (plain_exports exports.entry.items)) }
+    ensures graph { IfOk result (λ typed. typed.graph ≡ nodes_of dwarf.now (exports_spec.roots_among dwarf.now (plain_exports exports.entry.items))) }
+{
+    let roots = roots_among(alloc, dwarf, exports.as_slice())?;
+    let graph = match raw_graph(alloc, dwarf, roots.as_slice(), limits) {
+        Ok(graph) => graph,
+        Err(refused) => return Err(refused),
+    };
+    let exports = typed_exports(dwarf, exports, letters)?;
+    Ok(Typed { exports, graph })
+}
+
+/// The exports of a file with their types, beside its debug information. The fault is the first one of its units and entries, and
+/// then of the types that the exports reach. The types and names stand on their own: the debug information may be freed before
+/// them. Past a limit, or where the names under which exports are declared take more than `letters`, the answer is that memory ran
+/// out.
 #[tactic(auto, unfolding(crate::specs::Faults::debug_fault))]
 pub(crate) fn with_types<'a, Ix: Index>(
     alloc: Global,
@@ -138,20 +162,19 @@ pub(crate) fn with_types<'a, Ix: Index>(
     exports: Vec<Export<'a>>,
     letters: Effort,
     limits: GraphLimits,
-) -> Result<Typed<'a, Ix>, Refusal>
+) -> Result<(Typed<'a, Ix>, Dwarf<'a>), Refusal>
     ensures judged { Judges result (debug_fault file.now (plain_exports exports.entry.items)) }
-    ensures exports { IfOk result (λ typed. plain_exports typed.exports ≡ map (exports_spec.typed (debug_of file.now)) (plain_exports exports.entry.items)) }
-    ensures graph { IfOk result (λ typed. typed.graph ≡ nodes_of (debug_of file.now) (exports_spec.roots_among (debug_of file.now) (plain_exports exports.entry.items))) }
+    ensures exports { IfOk result (λ read. plain_exports read.0.exports ≡ map (exports_spec.typed (debug_of file.now)) (plain_exports exports.entry.items)) }
+    ensures graph { IfOk result (λ read. read.0.graph ≡ nodes_of (debug_of file.now) (exports_spec.roots_among (debug_of file.now) (plain_exports exports.entry.items))) }
+    ensures debug { IfOk result (λ read. read.1 ≡ debug_of file.now) }
 {
     let dwarf = match debug_information(alloc, file) {
         Ok(dwarf) => dwarf,
         Err(refused) => return Err(refused),
     };
-    let roots = roots_among(alloc, &dwarf, exports.as_slice())?;
-    let graph = match raw_graph(alloc, &dwarf, roots.as_slice(), limits) {
-        Ok(graph) => graph,
+    let typed = match types_in(alloc, &dwarf, exports, letters, limits) {
+        Ok(typed) => typed,
         Err(refused) => return Err(refused),
     };
-    let exports = typed_exports(&dwarf, exports, letters)?;
-    Ok(Typed { exports, graph })
+    Ok((typed, dwarf))
 }

@@ -6,8 +6,8 @@ use Rattle.abi_types.specs.Plain.{plain_exports}
 use Rattle.library_read.specs.Exports.{untyped_exports_of}
 use Rattle.library_read.specs.Faults.{debug_fault, listing_fault}
 use Rattle.library_read.proofs.FaultLemmas.{by_file, by_listing, by_debug, by_none}
-use Rattle.library_read.proofs.LibraryLemmas.{typed-are}
-use Rattle.library_read.proofs.library.read_library.Goals as goal
+use Rattle.library_read.proofs.LibraryLemmas.{nodes-are, typed-are}
+use Rattle.library_read.proofs.library.read_parts.Goals as goal
 
 pub returns-in_err-file-clause-judged : goal.returns-in_err-file-clause-judged
 returns-in_err-file-clause-judged g c =
@@ -31,19 +31,6 @@ returns-in-Err-clause-judged g c =
     let debug = subst (λ (f : List ℕ). Refuses refused (debug_fault f exports)) held c.in-Err.ensures.judged in
     by_debug c.args.bytes.now exports refused c.in_ok-file.ensures.judged listing read debug
 
-pub library_with-requires-clause-readable : goal.library_with-requires-clause-readable
-library_with-requires-clause-readable g c =
-    let exports = plain_exports c.in_ok-soname.field-0.exports.items in
-    let held = c.in_ok-file.ensures.held in
-    let listing = subst (λ (f : List ℕ). listing_fault f ≡ None) held c.in_ok-soname.ensures.judged in
-    let read = subst (λ (f : List ℕ). exports ≡ untyped_exports_of f) held c.in_ok-soname.ensures.exports in
-    let debug = subst (λ (f : List ℕ). debug_fault f exports ≡ None) held c.in-Ok.ensures.judged in
-    by_none c.args.bytes.now exports c.in_ok-file.ensures.judged listing read debug
-
-pub library_with-requires-clause-exports : goal.library_with-requires-clause-exports
-library_with-requires-clause-exports g c =
-    typed-are c.args.bytes.now c.in_ok-file.file (plain_exports c.in_ok-soname.field-0.exports.items) (plain_exports c.in-Ok.typed.exports) c.in_ok-file.ensures.held c.in_ok-soname.ensures.exports c.in-Ok.ensures.exports
-
 pub returns-clause-judged : goal.returns-clause-judged
 returns-clause-judged g c =
     let exports = plain_exports c.in_ok-soname.field-0.exports.items in
@@ -52,3 +39,11 @@ returns-clause-judged g c =
     let read = subst (λ (f : List ℕ). exports ≡ untyped_exports_of f) held c.in_ok-soname.ensures.exports in
     let debug = subst (λ (f : List ℕ). debug_fault f exports ≡ None) held c.in-Ok.ensures.judged in
     by_none c.args.bytes.now exports c.in_ok-file.ensures.judged listing read debug
+
+pub returns-clause-exports : goal.returns-clause-exports
+returns-clause-exports g c =
+    typed-are c.args.bytes.now c.in_ok-file.file (plain_exports c.in_ok-soname.field-0.exports.items) (plain_exports c.in-Ok.read.0.exports) c.in_ok-file.ensures.held c.in_ok-soname.ensures.exports c.in-Ok.ensures.exports
+
+pub returns-clause-graph : goal.returns-clause-graph
+returns-clause-graph g c =
+    nodes-are c.args.bytes.now c.in_ok-file.file (plain_exports c.in_ok-soname.field-0.exports.items) c.in-Ok.read.0.graph c.in_ok-file.ensures.held c.in_ok-soname.ensures.exports c.in-Ok.ensures.graph
