@@ -1,5 +1,5 @@
 // The start of the first range of a list.
-ghost use Rattle.std.specs.Prelude.{◌≡◌};
+ghost use Rattle.std.specs.Prelude.{◌≡◌, ◌≤◌};
 ghost use Rattle.abi_base.specs.declared.fault.FaultKind.TheVariants as kind;
 ghost use Rattle.dwarf_text.specs.ranges.RangeLists.{first_start, list_run, pair_run, place_of_list, first_address_of};
 
@@ -112,7 +112,9 @@ fn spend_entries(
     of_pairs: bool,
     place: u64,
     effort: &mut Effort,
-) -> Result<(), NoMemory> {
+) -> Result<(), NoMemory>
+    ensures { effort.new ≤ effort.old }
+{
     let mut at = place as usize;
     'walk: loop {
         let read = if of_pairs {
@@ -140,7 +142,9 @@ pub fn spend_first(
     bases: &Bases,
     sections: &Sections,
     effort: &mut Effort,
-) -> Result<(), NoMemory> {
+) -> Result<(), NoMemory>
+    ensures { effort.new ≤ effort.old }
+{
     let lists = Source {
         bytes: sections.rnglists,
         addr: sections.addr,
