@@ -1,17 +1,15 @@
 -- How many flat members each member gives.
-use Rattle.std.proofs.Common.{◌≡◌, ◌<◌, ◌≤◌, ◌+◌, ◌-◌, ℕ, true, false, List, length, take, get_or, Option, Some, None, refl, sym, ◌∙◌, ap, arith}
+use Rattle.std.proofs.Common.{◌≡◌, ◌<◌, ◌≤◌, ◌+◌, ◌-◌, ℕ, List, length, take, get_or, Some, None, sym, ◌∙◌, ap, arith}
 use Rattle.std.specs.Prelude.{sum_by, pos}
-use Rattle.std.specs.Option.{is_none}
 use Rattle.std.proofs.lemmas.List.{length-map, take_all}
 use Rattle.std.proofs.lemmas.List.Concat.{length-flat_map}
 use Rattle.std.proofs.lemmas.List.Sums.{sum_by_more}
 use Rattle.dwarf_entries.specs.Chains.{name_of}
 use Rattle.dwarf_entries.specs.Debug.{PlainDwarf}
 use Rattle.type_reach.specs.References.{type_of, members_of}
-use Rattle.type_reach.specs.Placement.{is_nameless}
 use Rattle.type_reach.specs.Facts.{facts_of}
 use Rattle.type_reach.specs.Summaries.{summary_of}
-use Rattle.type_reach.specs.Flat.{Flat, moved, given_by, flat_of, member_gives}
+use Rattle.type_reach.specs.Flat.{moved, flat_of, member_gives}
 use Rattle.type_reach.specs.PeeledCores.{StandsForNone}
 use Rattle.type_reach.specs.TypeLaws.{IsShallow, TypeLaws}
 use Rattle.type_graph.specs.Placed.{replacing}
@@ -20,31 +18,15 @@ use Rattle.type_graph.proofs.FlattenLemmas.{gives-nested, gives-nothing}
 abbrev pub many_given : PlainDwarf → ℕ → ℕ
 many_given d m = length (member_gives d m)
 
-given-one : (d : PlainDwarf) (m : ℕ) (name : Option (List ℕ)) (inner : List Flat) → is_none name ≡ false → length (given_by d m name inner) ≡ 1
-given-one d m None inner isnt = cc
-given-one d m (Some name) inner isnt = refl
-
-pub named-gives : (d : PlainDwarf) (m : ℕ) → is_nameless d m ≡ false → many_given d m ≡ 1
-unfolding is_nameless
-named-gives d m isnt = given-one d m (name_of d m) (flat_of d (type_of d.tree m)) isnt
-
-no-name : (name : Option (List ℕ)) → is_none name ≡ true → name ≡ None
-no-name None is = refl
-no-name (Some name) is = cc
-
-nameless : (d : PlainDwarf) (m : ℕ) → is_nameless d m ≡ true → name_of d m ≡ None
-unfolding is_nameless
-nameless d m is = no-name (name_of d m) is
-
-pub nested-gives : (d : PlainDwarf) → TypeLaws d → (m inner : ℕ) → IsShallow d (type_of d.tree m) → is_nameless d m ≡ true → replacing (summary_of (facts_of d (type_of d.tree m))) ≡ Some inner → many_given d m ≡ length (flat_of d (Some inner))
-nested-gives d laws m inner shallow is replaced =
+pub nested-gives : (d : PlainDwarf) → TypeLaws d → (m inner : ℕ) → IsShallow d (type_of d.tree m) → name_of d m ≡ None → replacing (summary_of (facts_of d (type_of d.tree m))) ≡ Some inner → many_given d m ≡ length (flat_of d (Some inner))
+nested-gives d laws m inner shallow none replaced =
     sym (length-map (member_gives d m) (moved (pos 0)))
-    ∙ ap length (gives-nested d laws m inner (pos 0) shallow (nameless d m is) replaced)
+    ∙ ap length (gives-nested d laws m inner (pos 0) shallow none replaced)
     ∙ length-map (flat_of d (Some inner)) (moved _)
 
-pub nothing-gives : (d : PlainDwarf) → TypeLaws d → (m : ℕ) → IsShallow d (type_of d.tree m) → is_nameless d m ≡ true → replacing (summary_of (facts_of d (type_of d.tree m))) ≡ None → many_given d m ≡ 0
-nothing-gives d laws m shallow is replaced =
-    sym (length-map (member_gives d m) (moved (pos 0))) ∙ ap length (gives-nothing d laws m (pos 0) shallow (nameless d m is) replaced)
+pub nothing-gives : (d : PlainDwarf) → TypeLaws d → (m : ℕ) → IsShallow d (type_of d.tree m) → name_of d m ≡ None → replacing (summary_of (facts_of d (type_of d.tree m))) ≡ None → many_given d m ≡ 0
+nothing-gives d laws m shallow none replaced =
+    sym (length-map (member_gives d m) (moved (pos 0))) ∙ ap length (gives-nothing d laws m (pos 0) shallow none replaced)
 
 -- one member more: the number that is left falls by what the member gives, less the one that was taken before
 pub taken-more : (f : ℕ → ℕ) (xs : List ℕ) (k rest next left : ℕ) → k < length xs → next + f (get_or xs k 0) ≤ rest + 1

@@ -1,8 +1,12 @@
 -- From what is passed to its type, and from a core to the end.
-use Rattle.std.proofs.Common.{◌≡◌, ◌<◌, ◌++◌, ℕ, suc, Some, None, refl, sym, ◌∙◌, ap, subst, arith, inl, inr, ◌⊎◌}
+use Rattle.std.proofs.Common.{◌≡◌, ◌<◌, ◌+◌, ◌++◌, ℕ, suc, List, [], map, length, Some, None, refl, sym, ◌∙◌, ap, subst, arith, inl, inr, ◌⊎◌}
 use Rattle.std.specs.Option.{option_map_or}
 use Rattle.std.proofs.lemmas.List.{append-nil}
+use Rattle.std.proofs.lemmas.List.Sums.{sum_by-append}
 use Rattle.dwarf_entries.specs.Debug.{PlainDwarf}
+use Rattle.abi_types.specs.declared.view.Label.{Label}
+use Rattle.abi_types.specs.Plain.{plain_label}
+use Rattle.abi_types.specs.Types.{PlainLabel}
 use Rattle.type_reach.specs.declared.role.Role.{Role}
 use Rattle.type_reach.specs.declared.role.Role.TheVariants as role
 use Rattle.type_reach.specs.References.{Type_, role_of, type_of}
@@ -10,6 +14,7 @@ use Rattle.type_reach.specs.Facts.{facts_of}
 use Rattle.type_reach.specs.Flat.{own_label, labels_of}
 use Rattle.type_reach.specs.PeeledCores.{StandsForNone}
 use Rattle.type_reach.specs.TypeLaws.{IsShallow, TypeLaws}
+use Rattle.type_graph.specs.Counts.{label_letters}
 
 passed-or-not : (k : Role) → (k ≡ role.Wrapper) ⊎ (k ≡ role.Wrapper → ⊥)
 passed-or-not role.Wrapper = inl refl
@@ -53,3 +58,15 @@ is-next d laws e next shallow passed last =
         fewer = omega arith;
       })
     ]
+
+-- ---- letters
+
+pub labels-start : (labels : List Label) (letters : ℕ) → labels ≡ [] → letters + label_letters (map plain_label labels) ≡ letters
+labels-start labels letters none =
+    let no : label_letters (map plain_label labels) ≡ 0 = ap (λ (xs : List Label). label_letters (map plain_label xs)) none in
+    omega (arith, no)
+
+pub labels-more : (before own after : List PlainLabel) (letters next all : ℕ) → after ≡ before ++ own → next + label_letters own ≡ letters → letters + label_letters before ≡ all → next + label_letters after ≡ all
+labels-more before own after letters next all grown less was =
+    let sums = ap label_letters grown ∙ sum_by-append (λ (l : PlainLabel). length l.name) before own in
+    omega (arith, sums, less, was)

@@ -4,6 +4,7 @@ mod FormLemmas
 mod GraphLemmas
 mod JudgeLemmas
 mod LabelLemmas
+mod LetterLemmas
 mod LimitLemmas
 mod ListLemmas
 mod NodeLemmas

@@ -1,10 +1,13 @@
--- How many flat members and parameters a library has in all.
-use Rattle.std.specs.Prelude.{ℕ, List, length, sum_by, Some, None}
+-- How many flat members, parameters and enumerators a library has in all, and how many letters their names have.
+use Rattle.std.specs.Prelude.{◌+◌, ℕ, List, length, sum_by, Some, None}
+use Rattle.dwarf_entries.specs.Chains.{name_of}
 use Rattle.dwarf_entries.specs.Debug.{PlainDwarf}
+use Rattle.abi_types.specs.Types.{PlainLabel, PlainNode}
 use Rattle.type_reach.specs.declared.role.Role.{Role}
 use Rattle.type_reach.specs.declared.role.Role.TheVariants as role
 use Rattle.type_reach.specs.References.{Type_, role_of, parts_of}
-use Rattle.type_reach.specs.Flat.{core_of, flat_of}
+use Rattle.type_reach.specs.Flat.{Flat, text_or_empty, core_of, flat_of}
+use Rattle.type_reach.specs.Views.{enumerators_of}
 
 abbrev pub params_for : Role → PlainDwarf → ℕ → ℕ
 params_for role.Function d c = length (parts_of d.tree c)
@@ -29,3 +32,61 @@ parts_held d e = parts_for (role_of d.tree e) d e
 -- those of all entries that were found
 abbrev pub parts_in_all : PlainDwarf → List ℕ → ℕ
 parts_in_all d found = sum_by (parts_held d) found
+
+-- ---- letters of members
+
+-- the letters of the names of flat members
+abbrev pub member_letters : List Flat → ℕ
+member_letters = sum_by (λ (m : Flat). length m.name)
+
+abbrev pub member_letters_for : Role → PlainDwarf → ℕ → ℕ
+member_letters_for role.Aggregate d e = member_letters (flat_of d (Some e))
+member_letters_for _ d e = 0
+
+-- the letters of the names of an entry's flat members
+abbrev pub member_letters_held : PlainDwarf → ℕ → ℕ
+member_letters_held d e = member_letters_for (role_of d.tree e) d e
+
+-- those of all entries that were found
+abbrev pub member_letters_in_all : PlainDwarf → List ℕ → ℕ
+member_letters_in_all d found = sum_by (member_letters_held d) found
+
+-- ---- enumerators and their letters
+
+abbrev pub enumerators_for : Role → PlainDwarf → ℕ → ℕ
+enumerators_for role.Enumeration d e = length (enumerators_of d.tree e)
+enumerators_for _ d e = 0
+
+-- how many enumerators an entry has
+abbrev pub enumerators_held : PlainDwarf → ℕ → ℕ
+enumerators_held d e = enumerators_for (role_of d.tree e) d e
+
+-- those of all entries that were found
+abbrev pub enumerators_in_all : PlainDwarf → List ℕ → ℕ
+enumerators_in_all d found = sum_by (enumerators_held d) found
+
+-- the letters of the name of an entry; none where it has no name
+abbrev pub letters_of : PlainDwarf → ℕ → ℕ
+letters_of d e = length (text_or_empty (name_of d e))
+
+abbrev pub enumerator_letters_for : Role → PlainDwarf → ℕ → ℕ
+enumerator_letters_for role.Enumeration d e = sum_by (letters_of d) (enumerators_of d.tree e)
+enumerator_letters_for _ d e = 0
+
+-- the letters of the names of an entry's enumerators
+abbrev pub enumerator_letters_held : PlainDwarf → ℕ → ℕ
+enumerator_letters_held d e = enumerator_letters_for (role_of d.tree e) d e
+
+-- those of all entries that were found
+abbrev pub enumerator_letters_in_all : PlainDwarf → List ℕ → ℕ
+enumerator_letters_in_all d found = sum_by (enumerator_letters_held d) found
+
+-- ---- letters of the names of types
+
+-- the letters of names of a type
+abbrev pub label_letters : List PlainLabel → ℕ
+label_letters = sum_by (λ (l : PlainLabel). length l.name)
+
+-- the letters of the tag of a node and of the names of its type
+abbrev pub type_letters : PlainNode → ℕ
+type_letters n = length n.view.tag + label_letters n.labels

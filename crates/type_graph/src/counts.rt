@@ -1,22 +1,36 @@
-// How many parts the types of a library have in all, counted before they are made. A small file may ask for very many: the members
-// of a nameless structure are members of each structure that holds it, functions may share the parameters of one origin, and each
-// typedef of a type of functions has places of its own for the parameters.
-ghost use Rattle.std.specs.Prelude.{◌≡◌, ◌≤◌, ◌+◌, length, slice_get, Contains, Some, IfOk, IfSome, OnOk};
+// How many parts the types of a library have in all, and how many letters their names, counted before they are made. A small file
+// may ask for very many: the members of a nameless structure are members of each structure that holds it, functions may share the
+// parameters of one origin, each typedef of a type of functions has places of its own for the parameters, and names may share their
+// bytes.
+ghost use Rattle.std.specs.Prelude.{◌≡◌, ◌<◌, ◌≤◌, ◌+◌, length, slice_get, sum_by, All, Contains, Some, IfOk, IfSome, OnOk};
 ghost use Rattle.type_reach.specs.ByValue.{IsClosed};
 ghost use Rattle.type_reach.specs.TypeReferences.{AreTypeReferences};
 ghost use Rattle.type_reach.specs.Summaries.{AreSummaries};
 ghost use Rattle.type_reach.specs.PeeledCores.{StandsForNone};
 ghost use Rattle.type_reach.specs.Flat.{flat_of};
-ghost use Rattle.type_graph.specs.Counts.{params_of, parts_held, parts_in_all};
+ghost use Rattle.type_graph.specs.Counts.{params_of, parts_held, parts_in_all, member_letters, member_letters_held, member_letters_in_all};
+ghost use Rattle.type_graph.specs.Counts.{letters_of, enumerators_held, enumerators_in_all, enumerator_letters_held, enumerator_letters_in_all};
 
 use crate::flatten::replacing;
 use crate::judged::JudgedTypes;
+use crate::labels::name_or_empty;
+use crate::limits::GraphLimits;
+use crate::parts::enumerators_of;
 use abi_base::NoMemory;
+use dwarf_entries::Dwarf;
+use std::alloc::Global;
 use type_reach::laws::laws_of_types;
 use type_reach::{
-    Role, is_nameless, member_type, members_among, parts_at, role_of, summary_at,
+    ReachedEntries, Role, member_type, members_among, parts_at, role_of, summary_at,
     summary_by_number, types_at,
 };
+
+/// How many parts types may have in all, and how many letters the names of these parts.
+#[derive(Clone, Copy)]
+pub(crate) struct Room {
+    pub(crate) parts: usize,
+    pub(crate) letters: usize,
+}
 
 /// What is left of a number, less `many`.
 pub(crate) fn taken(left: usize, many: usize) -> Result<usize, NoMemory>
@@ -28,14 +42,51 @@ pub(crate) fn taken(left: usize, many: usize) -> Result<usize, NoMemory>
     Ok(left - many)
 }
 
-// What is left of a number, less one for each member of a structure or a union and for each member that replaces a nameless one.
-fn after_members(types: &JudgedTypes<'_, '_>, c: usize, left: usize) -> Result<usize, NoMemory>
+impl Room {
+    /// The room within limits.
+    pub(crate) fn within(limits: GraphLimits) -> Room
+        ensures parts { result.parts ≡ limits.parts }
+        ensures letters { result.letters ≡ limits.letters }
+    {
+        Room {
+            parts: limits.parts,
+            letters: limits.letters,
+        }
+    }
+
+    // What is left of the room, less so many parts.
+    fn without_parts(self, many: usize) -> Result<Room, NoMemory>
+        ensures parts { IfOk result (λ rest. rest.parts + many ≡ self.parts) }
+        ensures letters { IfOk result (λ rest. rest.letters ≡ self.letters) }
+    {
+        Ok(Room {
+            parts: taken(self.parts, many)?,
+            letters: self.letters,
+        })
+    }
+
+    // What is left of the room, less so many letters.
+    fn without_letters(self, many: usize) -> Result<Room, NoMemory>
+        ensures parts { IfOk result (λ rest. rest.parts ≡ self.parts) }
+        ensures letters { IfOk result (λ rest. rest.letters + many ≡ self.letters) }
+    {
+        Ok(Room {
+            parts: self.parts,
+            letters: taken(self.letters, many)?,
+        })
+    }
+}
+
+// What is left of the room, less one part for each member of a structure or a union and for each member that replaces a nameless one,
+// and less the letters of their names.
+fn after_members(types: &JudgedTypes<'_, '_>, c: usize, left: Room) -> Result<Room, NoMemory>
     requires closed { IsClosed types.now.dwarf.now.tree types.now.found.now }
     requires leads { AreTypeReferences types.now.dwarf.now.tree types.now.found.now types.now.leads.now }
     requires summaries { AreSummaries types.now.dwarf.now types.now.found.now types.now.summaries.now }
     requires there { Contains types.now.found.now c }
     requires last { StandsForNone types.now.dwarf.now c }
-    ensures { IfOk result (λ rest. rest + length (flat_of types.now.dwarf.now (Some c)) ≤ left) }
+    ensures parts { IfOk result (λ rest. rest.parts + length (flat_of types.now.dwarf.now (Some c)) ≤ left.parts) }
+    ensures letters { IfOk result (λ rest. rest.letters + member_letters (flat_of types.now.dwarf.now (Some c)) ≤ left.letters) }
 {
     laws_of_types();
     let dwarf = types.dwarf;
@@ -43,9 +94,10 @@ fn after_members(types: &JudgedTypes<'_, '_>, c: usize, left: usize) -> Result<u
     let parts = parts_at(dwarf, types.found, types.leads, number, c);
     let leads_to = types_at(dwarf, types.found, types.leads, number, c);
     let members = members_among(dwarf, c, role_of(dwarf, c), parts);
-    let mut rest = taken(left, members.len())?;
+    let mut rest = left.without_parts(members.len())?;
     'members: for k in 0..members.len() {
-        if !is_nameless(dwarf, members[k] as usize) {
+        if let Some(name) = dwarf.name_of(members[k] as usize) {
+            rest = rest.without_letters(name.len())?;
             continue;
         }
         let to = member_type(dwarf, c, members, leads_to, k);
@@ -57,16 +109,17 @@ fn after_members(types: &JudgedTypes<'_, '_>, c: usize, left: usize) -> Result<u
     Ok(rest)
 }
 
-// What is left of a number, less one for each parameter of a core that is a function.
+// What is left of the room, less one part for each parameter of a core that is a function.
 fn after_params(
     types: &JudgedTypes<'_, '_>,
     core: Option<usize>,
-    left: usize,
-) -> Result<usize, NoMemory>
+    left: Room,
+) -> Result<Room, NoMemory>
     requires closed { IsClosed types.now.dwarf.now.tree types.now.found.now }
     requires leads { AreTypeReferences types.now.dwarf.now.tree types.now.found.now types.now.leads.now }
     requires there { IfSome core (λ c. Contains types.now.found.now c) }
-    ensures { IfOk result (λ rest. rest + params_of types.now.dwarf.now core ≤ left) }
+    ensures parts { IfOk result (λ rest. rest.parts + params_of types.now.dwarf.now core ≤ left.parts) }
+    ensures letters { IfOk result (λ rest. rest.letters ≡ left.letters) }
 {
     let c = match core {
         None => return Ok(left),
@@ -76,24 +129,25 @@ fn after_params(
         Role::Function => {
             let number = types.found.number_of(c);
             let params = parts_at(types.dwarf, types.found, types.leads, number, c);
-            taken(left, params.len())
+            left.without_parts(params.len())
         }
         _ => Ok(left),
     }
 }
 
-// What is left of a number, less one for each flat member or parameter of an entry.
+// What is left of the room, less one part for each flat member or parameter of an entry, and less the letters of their names.
 fn after_parts(
     types: &JudgedTypes<'_, '_>,
     number: usize,
     e: usize,
-    left: usize,
-) -> Result<usize, NoMemory>
+    left: Room,
+) -> Result<Room, NoMemory>
     requires closed { IsClosed types.now.dwarf.now.tree types.now.found.now }
     requires leads { AreTypeReferences types.now.dwarf.now.tree types.now.found.now types.now.leads.now }
     requires summaries { AreSummaries types.now.dwarf.now types.now.found.now types.now.summaries.now }
     requires at { slice_get types.now.found.now number ≡ Some e }
-    ensures { IfOk result (λ rest. rest + parts_held types.now.dwarf.now e ≤ left) }
+    ensures parts { IfOk result (λ rest. rest.parts + parts_held types.now.dwarf.now e ≤ left.parts) }
+    ensures letters { IfOk result (λ rest. rest.letters + member_letters_held types.now.dwarf.now e ≤ left.letters) }
 {
     laws_of_types();
     let own = summary_by_number(types.dwarf, types.found, types.summaries, number, e);
@@ -115,17 +169,70 @@ pub(crate) fn ask_types(types: usize, most: usize) -> Result<(), NoMemory>
     Ok(())
 }
 
-/// Fails where the entries that were found have more flat members and parameters in all than so many.
-pub(crate) fn ask_parts(types: &JudgedTypes<'_, '_>, most: usize) -> Result<(), NoMemory>
+/// Fails where the entries that were found have more flat members and parameters in all than there is room for, or where the names
+/// of these have more letters.
+pub(crate) fn ask_parts(types: &JudgedTypes<'_, '_>, most: Room) -> Result<(), NoMemory>
     requires closed { IsClosed types.now.dwarf.now.tree types.now.found.now }
     requires leads { AreTypeReferences types.now.dwarf.now.tree types.now.found.now types.now.leads.now }
     requires summaries { AreSummaries types.now.dwarf.now types.now.found.now types.now.summaries.now }
-    ensures { OnOk result (parts_in_all types.now.dwarf.now types.now.found.now ≤ most) }
+    ensures parts { OnOk result (parts_in_all types.now.dwarf.now types.now.found.now ≤ most.parts) }
+    ensures letters { OnOk result (member_letters_in_all types.now.dwarf.now types.now.found.now ≤ most.letters) }
 {
     let mut left = most;
     'found: for number in 0..types.found.len() {
         let e = types.found.at(number);
         left = after_parts(types, number, e, left)?;
+    }
+    Ok(())
+}
+
+// What is left of a number, less the letters of the names of entries.
+fn after_names(dwarf: &Dwarf, entries: &[usize], left: usize) -> Result<usize, NoMemory>
+    requires { All (λ e. e < length dwarf.now.tree.entries) entries.now }
+    ensures { IfOk result (λ rest. rest + sum_by (letters_of dwarf.now) entries.now ≡ left) }
+{
+    let mut rest = left;
+    'entries: for k in 0..entries.len() {
+        rest = taken(rest, name_or_empty(dwarf, entries[k]).len())?;
+    }
+    Ok(rest)
+}
+
+// What is left of the room, less one part for each enumerator of an entry, and less the letters of their names.
+fn after_enumerators(alloc: Global, dwarf: &Dwarf, e: usize, left: Room) -> Result<Room, NoMemory>
+    requires { e < length dwarf.now.tree.entries }
+    ensures parts { IfOk result (λ rest. rest.parts + enumerators_held dwarf.now e ≡ left.parts) }
+    ensures letters { IfOk result (λ rest. rest.letters + enumerator_letters_held dwarf.now e ≡ left.letters) }
+{
+    match role_of(dwarf, e) {
+        Role::Enumeration => {
+            let enumerators = enumerators_of(alloc, dwarf, e)?;
+            let rest = left.without_parts(enumerators.len())?;
+            Ok(Room {
+                parts: rest.parts,
+                letters: after_names(dwarf, enumerators.as_slice(), rest.letters)?,
+            })
+        }
+        _ => Ok(left),
+    }
+}
+
+/// Fails where the entries that were found have more enumerators in all than there is room for, or where the names of these have more
+/// letters.
+pub(crate) fn ask_enumerators(
+    alloc: Global,
+    dwarf: &Dwarf,
+    found: &ReachedEntries,
+    most: Room,
+) -> Result<(), NoMemory>
+    requires { IsClosed dwarf.now.tree found.now }
+    ensures parts { OnOk result (enumerators_in_all dwarf.now found.now ≤ most.parts) }
+    ensures letters { OnOk result (enumerator_letters_in_all dwarf.now found.now ≤ most.letters) }
+{
+    let mut left = most;
+    'found: for number in 0..found.len() {
+        let e = found.at(number);
+        left = after_enumerators(alloc, dwarf, e, left)?;
     }
     Ok(())
 }

@@ -4,7 +4,7 @@ ghost use Rattle.abi_base.specs.Outcome.{Judges};
 ghost use Rattle.type_reach.specs.Faults.{types_fault};
 ghost use Rattle.type_graph.specs.Nodes.{made_nodes, nodes_of};
 
-use crate::counts::{ask_parts, ask_types};
+use crate::counts::{Room, ask_enumerators, ask_parts, ask_types};
 use crate::judged::JudgedTypes;
 use crate::judging::{ask_shapes, ask_sizes};
 use crate::laws::the_nodes_are_a_graph;
@@ -29,6 +29,8 @@ fn reached_nodes<'a, Ix: Index>(
 {
     let found = reached(alloc, dwarf, roots)?;
     ask_types(found.len(), limits.types)?;
+    let room = Room::within(limits);
+    ask_enumerators(alloc, dwarf, &found, room)?;
     let leads = type_references_of(alloc, dwarf, &found, limits.parts)?;
     match ask_shapes(alloc, dwarf, &found, &leads) {
         Ok(()) => {}
@@ -50,8 +52,8 @@ fn reached_nodes<'a, Ix: Index>(
         leads: &leads,
         summaries: summaries.as_slice(),
     };
-    ask_parts(&types, limits.parts)?;
-    let nodes = nodes(alloc, &types, limits.parts)?;
+    ask_parts(&types, room)?;
+    let nodes = nodes(alloc, &types, limits.letters)?;
     Ok(nodes)
 }
 

@@ -1,5 +1,5 @@
 // The names of types.
-ghost use Rattle.std.specs.Prelude.{◌≡◌, ◌<◌, ◌++◌, length, map, IfOk, OnOk, IfSome, None};
+ghost use Rattle.std.specs.Prelude.{◌≡◌, ◌<◌, ◌+◌, ◌++◌, length, map, IfOk, OnOk, IfSome, None};
 ghost use Rattle.abi_types.specs.Plain.{plain_label};
 ghost use Rattle.dwarf_entries.specs.Chains.{name_of};
 ghost use Rattle.type_reach.specs.declared.role.Role.TheVariants as role;
@@ -8,7 +8,9 @@ ghost use Rattle.type_reach.specs.PeeledCores.{StandsForNone};
 ghost use Rattle.type_reach.specs.TypeLaws.{IsShallow};
 ghost use Rattle.type_reach.specs.Flat.{text_or_empty, own_label};
 ghost use Rattle.type_reach.specs.Flat as flat;
+ghost use Rattle.type_graph.specs.Counts.{label_letters};
 
+use crate::counts::taken;
 use abi_base::dwarf::{
     DW_TAG_base_type, DW_TAG_enumeration_type, DW_TAG_structure_type, DW_TAG_typedef,
     DW_TAG_union_type,
@@ -46,11 +48,17 @@ fn label_kind(tag: u64) -> Option<LabelKind>
     }
 }
 
-// Appends the name that an entry gives itself, if any.
+// Appends the name that an entry gives itself, if any, and takes its letters from those that are left.
 #[tactic(auto, unfolding(type_reach::specs::Flat::own_label))]
-fn push_label<'a>(dwarf: &Dwarf<'a>, labels: &mut Vec<Label<'a>>, e: usize) -> Result<(), NoMemory>
+fn push_label<'a>(
+    dwarf: &Dwarf<'a>,
+    labels: &mut Vec<Label<'a>>,
+    e: usize,
+    letters: &mut usize,
+) -> Result<(), NoMemory>
     requires { e < length dwarf.now.tree.entries }
-    ensures { OnOk result (map plain_label labels.new.items ≡ map plain_label labels.old.items ++ own_label dwarf.now e) }
+    ensures label { OnOk result (map plain_label labels.new.items ≡ map plain_label labels.old.items ++ own_label dwarf.now e) }
+    ensures letters { OnOk result (letters.new + label_letters (own_label dwarf.now e) ≡ letters.old) }
 {
     if is_signed(dwarf, e) {
         return Ok(());
@@ -58,6 +66,7 @@ fn push_label<'a>(dwarf: &Dwarf<'a>, labels: &mut Vec<Label<'a>>, e: usize) -> R
     match label_kind(dwarf.tag(e)) {
         Some(kind) => {
             let name = name_or_empty(dwarf, e);
+            *letters = taken(*letters, name.len())?;
             // Most types have one name or none.
             labels.reserve_exact(1)?;
             labels.push(Label { kind, name })?;
@@ -80,21 +89,24 @@ fn passed_to(dwarf: &Dwarf, e: usize) -> Option<usize>
     }
 }
 
-/// The names of the typedefs from a type to its core, then the core's own.
+/// The names of the typedefs from a type to its core, then the core's own. It takes their letters from those that are left, and fails
+/// where there are more.
 pub(crate) fn labels_of<'a>(
     alloc: Global,
     dwarf: &Dwarf<'a>,
     ty: Option<usize>,
+    letters: &mut usize,
 ) -> Result<List<Label<'a>>, NoMemory>
     requires shallow { IsShallow dwarf.now ty }
     requires inside { IfSome ty (λ e. e < length dwarf.now.tree.entries) }
-    ensures { IfOk result (λ labels. map plain_label labels ≡ flat.labels_of dwarf.now ty) }
+    ensures labels { IfOk result (λ labels. map plain_label labels ≡ flat.labels_of dwarf.now ty) }
+    ensures letters { OnOk result (letters.new + label_letters (flat.labels_of dwarf.now ty) ≡ letters.old) }
 {
     laws_of_types();
     let mut labels = Vec::new(alloc);
     let mut next = ty;
     'passed: while let Some(e) = next {
-        push_label(dwarf, &mut labels, e)?;
+        push_label(dwarf, &mut labels, e, letters)?;
         next = passed_to(dwarf, e);
     }
     Ok(List::of(labels))

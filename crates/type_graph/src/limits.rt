@@ -1,5 +1,5 @@
 // The limits of types.
-ghost use Rattle.std.specs.Prelude.{◌≡◌, ◌+◌, ◌/◌};
+ghost use Rattle.std.specs.Prelude.{◌≡◌, ◌+◌, ◌-◌, ◌*◌, ◌/◌, ◌^◌, min};
 
 /// The number that no size, place or alignment reaches.
 pub(crate) const VALUE_LIMIT: u64 = 0x8000_0000_0000_0000;
@@ -29,14 +29,24 @@ const TYPES_AT_LEAST: usize = 16_384;
 
 const PARTS_AT_LEAST: usize = 16_384;
 
-/// How many types a library may reach, and how many parts these may have in all. A type or a part may take one byte of the file, and
-/// takes hundreds of bytes of memory; compilers write some hundred bytes for each.
+// How many letters the names of types and parts may have, for each byte of a file.
+const LETTERS_A_BYTE: usize = 32;
+
+// How many more they may have, however small the file is.
+const LETTERS_AT_LEAST: usize = 1_048_576;
+
+/// How many types a library may reach, how many parts these may have in all, and how many letters their names. A type or a part may
+/// take one byte of the file, and takes hundreds of bytes of memory; compilers write some hundred bytes for each. Names may share
+/// their bytes, so that a small file may have very long ones.
 #[derive(Clone, Copy, Debug, PartialEq, Eq)]
 pub struct GraphLimits {
     /// The most types.
     pub types: usize,
     /// The most members and parameters, and the most enumerators.
     pub parts: usize,
+    /// The most letters of the names of members, of those of enumerators, and of those of types, where each type counts its tag and
+    /// all its names.
+    pub letters: usize,
 }
 
 impl GraphLimits {
@@ -44,10 +54,14 @@ impl GraphLimits {
     pub fn for_file(bytes: usize) -> GraphLimits
         ensures types { result.types ≡ bytes / 16 + 16384 }
         ensures parts { result.parts ≡ bytes / 8 + 16384 }
+        ensures letters { result.letters ≡ min (32 * bytes + 1048576) (2 ^ 64 - 1) }
     {
         GraphLimits {
             types: bytes / BYTES_A_TYPE + TYPES_AT_LEAST,
             parts: bytes / BYTES_A_PART + PARTS_AT_LEAST,
+            letters: bytes
+                .saturating_mul(LETTERS_A_BYTE)
+                .saturating_add(LETTERS_AT_LEAST),
         }
     }
 }

@@ -1,10 +1,11 @@
 // The nodes of types.
-ghost use Rattle.std.specs.Prelude.{◌≡◌, ◌<◌, ℕ, false, length, Contains, IfOk, IfSome};
+ghost use Rattle.std.specs.Prelude.{◌≡◌, ◌<◌, ◌≤◌, ◌+◌, ℕ, false, length, sum_by, Contains, IfOk, IfSome};
 ghost use Rattle.type_reach.specs.ByValue.{IsClosed};
 ghost use Rattle.type_reach.specs.TypeReferences.{AreTypeReferences};
 ghost use Rattle.type_reach.specs.Summaries.{AreSummaries};
 ghost use Rattle.type_reach.specs.Sizes.{is_too_large};
 ghost use Rattle.type_reach.specs.Views as views_spec;
+ghost use Rattle.type_graph.specs.Counts.{type_letters};
 ghost use Rattle.type_graph.specs.Nodes.{made_nodes};
 ghost use Rattle.type_graph.specs.Sharing.{first_node};
 ghost use Rattle.type_graph.specs.Sharing as sharing_spec;
@@ -16,7 +17,7 @@ use crate::limits::{LABELS_A_TYPE, LABELS_AT_LEAST};
 use crate::sharing::share_parts;
 use crate::views::view;
 use abi_base::{List, NoMemory};
-use abi_types::{Index, Kind, Node};
+use abi_types::{Index, Node};
 use dwarf_entries::Dwarf;
 use std::alloc::Global;
 use type_reach::laws::laws_of_types;
@@ -33,24 +34,28 @@ fn offset_of(dwarf: &Dwarf, ty: Option<usize>) -> u64
     }
 }
 
-// The node of a type. It has no parts yet where its core is another entry.
+// The node of a type. It has no parts yet where its core is another entry. It takes the letters of its tag and of its names from those
+// that are left, and fails where there are more.
 fn node<'a, Ix: Index>(
     alloc: Global,
     types: &JudgedTypes<'_, 'a>,
     ty: Option<usize>,
+    letters: &mut usize,
 ) -> Result<Node<'a, Ix>, NoMemory>
     requires closed { IsClosed types.now.dwarf.now.tree types.now.found.now }
     requires leads { AreTypeReferences types.now.dwarf.now.tree types.now.found.now types.now.leads.now }
     requires summaries { AreSummaries types.now.dwarf.now types.now.found.now types.now.summaries.now }
     requires there { IfSome ty (λ e. Contains types.now.found.now e) }
     requires fits { (e : ℕ) → Contains types.now.found.now e → is_too_large types.now.dwarf.now e ≡ false }
-    ensures { IfOk result (λ node. node ≡ first_node types.now.dwarf.now types.now.found.now ty) }
+    ensures node { IfOk result (λ node. node ≡ first_node types.now.dwarf.now types.now.found.now ty) }
+    ensures letters { IfOk result (λ node. letters.new + type_letters node ≡ letters.old) }
 {
     laws_of_types();
     let own = summary_at(types.dwarf, types.found, types.summaries, ty);
     let entry = offset_of(types.dwarf, ty);
     let view = view(alloc, types, ty, &own)?;
-    let labels = labels_of(alloc, types.dwarf, ty)?;
+    *letters = taken(*letters, view.tag.len())?;
+    let labels = labels_of(alloc, types.dwarf, ty, letters)?;
     Ok(Node {
         entry,
         rank: own.rank,
@@ -66,47 +71,40 @@ fn most_labels(types: usize) -> usize {
         .saturating_add(LABELS_AT_LEAST)
 }
 
-// How many enumerators a type has.
-fn enumerators_of<Ix: Index>(node: &Node<Ix>) -> usize {
-    match node.view.kind {
-        Kind::Enumeration => node.view.parts_len(),
-        _ => 0,
-    }
-}
-
-// The nodes of void and of all that was found. A node whose core is another entry has no parts yet. It fails where there are more
-// enumerators than so many.
+// The nodes of void and of all that was found. A node whose core is another entry has no parts yet. It fails where their tags and
+// names have more letters than so many.
 fn first_nodes<'a, Ix: Index>(
     alloc: Global,
     types: &JudgedTypes<'_, 'a>,
-    most_enumerators: usize,
+    most_letters: usize,
 ) -> Result<List<Node<'a, Ix>>, NoMemory>
     requires closed { IsClosed types.now.dwarf.now.tree types.now.found.now }
     requires leads { AreTypeReferences types.now.dwarf.now.tree types.now.found.now types.now.leads.now }
     requires summaries { AreSummaries types.now.dwarf.now types.now.found.now types.now.summaries.now }
     requires fits { (e : ℕ) → Contains types.now.found.now e → is_too_large types.now.dwarf.now e ≡ false }
-    ensures { IfOk result (λ nodes. nodes ≡ sharing_spec.first_nodes types.now.dwarf.now types.now.found.now) }
+    ensures nodes { IfOk result (λ nodes. nodes ≡ sharing_spec.first_nodes types.now.dwarf.now types.now.found.now) }
+    ensures letters { IfOk result (λ nodes. sum_by type_letters nodes ≤ most_letters) }
 {
     let mut nodes = List::of(Vec::with_capacity(alloc, types.found.len() + 1)?);
-    nodes.push(node(alloc, types, None)?)?;
+    let mut letters = most_letters;
+    nodes.push(node(alloc, types, None, &mut letters)?)?;
     let mut labels = most_labels(types.found.len());
-    let mut enumerators = most_enumerators;
     'found: for number in 0..types.found.len() {
         let e = types.found.at(number);
-        let made = node(alloc, types, Some(e))?;
+        let made = node(alloc, types, Some(e), &mut letters)?;
         labels = taken(labels, made.labels.as_slice().len())?;
-        enumerators = taken(enumerators, enumerators_of(&made))?;
         nodes.push(made)?;
     }
     Ok(nodes)
 }
 
-/// The nodes of void and of all that was found, in the order of the numbers. It fails where there are more enumerators than so many.
+/// The nodes of void and of all that was found, in the order of the numbers. It fails where their tags and names have more letters than
+/// so many.
 // A structure, its typedefs, and these with `const` share one list of parts: otherwise most parts of a library would be copies.
 pub(crate) fn nodes<'a, Ix: Index>(
     alloc: Global,
     types: &JudgedTypes<'_, 'a>,
-    most_enumerators: usize,
+    most_letters: usize,
 ) -> Result<List<Node<'a, Ix>>, NoMemory>
     requires closed { IsClosed types.now.dwarf.now.tree types.now.found.now }
     requires leads { AreTypeReferences types.now.dwarf.now.tree types.now.found.now types.now.leads.now }
@@ -114,7 +112,7 @@ pub(crate) fn nodes<'a, Ix: Index>(
     requires fits { (e : ℕ) → Contains types.now.found.now e → is_too_large types.now.dwarf.now e ≡ false }
     ensures { IfOk result (λ nodes. nodes ≡ made_nodes types.now.dwarf.now types.now.found.now) }
 {
-    let first: List<Node<'a, Ix>> = first_nodes(alloc, types, most_enumerators)?;
+    let first: List<Node<'a, Ix>> = first_nodes(alloc, types, most_letters)?;
     let nodes = share_parts(types, first.into_vec())?;
     Ok(List::of(nodes))
 }

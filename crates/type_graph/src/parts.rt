@@ -127,9 +127,9 @@ fn function_parts<'a, Ix: Index>(
     Ok(parts)
 }
 
-// The enumerators of an enumeration. A declaration has none.
+/// The enumerators of an enumeration. A declaration has none.
 #[tactic(auto, unfolding(type_reach::specs::Views::enumerators_of, type_reach::specs::References::tagged_children))]
-fn enumerators_of(alloc: Global, dwarf: &Dwarf, c: usize) -> Result<Vec<usize>, NoMemory>
+pub(crate) fn enumerators_of(alloc: Global, dwarf: &Dwarf, c: usize) -> Result<Vec<usize>, NoMemory>
     requires { c < length dwarf.now.tree.entries }
     ensures enumerators { IfOk result (λ list. list.items ≡ views.enumerators_of dwarf.now.tree c) }
     ensures inside { IfOk result (λ list. All (λ e. e < length dwarf.now.tree.entries) list.items) }

@@ -3,7 +3,7 @@ use Rattle.std.proofs.lemmas.List.{append_assoc}
 use Rattle.abi_types.specs.Plain.{plain_label}
 use Rattle.type_reach.specs.Flat.{own_label, labels_of}
 use Rattle.type_reach.specs.TypeLaws.{IsShallow}
-use Rattle.type_graph.proofs.LabelLemmas.{is-next}
+use Rattle.type_graph.proofs.LabelLemmas.{is-next, labels-start, labels-more}
 use Rattle.type_graph.proofs.labels.labels_of.Goals as goal
 
 pub passed-init : goal.passed-init
@@ -11,6 +11,7 @@ passed-init c = record {
   is = ap (λ xs. map plain_label xs ++ labels_of c.args.dwarf.now c.args.ty) c.new-labels.ensures.items;
   shallow = c.requires.shallow;
   inside = c.requires.inside;
+  letters = labels-start c.new-labels.result.items c.args.letters.now c.new-labels.ensures.items;
 }
 
 pub passed-preserved : goal.passed-preserved
@@ -20,14 +21,16 @@ passed-preserved c =
     let was = c.passed.invariant in
     let shallow = subst (IsShallow d) c.in-Some.is was.shallow in
     let next = is-next d (c.laws_of_types.ensures d) e c.passed_to-next.result shallow c.passed_to-next.ensures.passed c.passed_to-next.ensures.last in
+    let pushed = c.in_ok-push_label.ensures in
     record {
       is =
-          ap (λ xs. xs ++ labels_of d c.passed_to-next.result) c.in_ok-push_label.ensures
+          ap (λ xs. xs ++ labels_of d c.passed_to-next.result) pushed.label
           ∙ append_assoc (map plain_label c.passed.labels.items) (own_label d e) (labels_of d c.passed_to-next.result)
           ∙ ap (λ ls. map plain_label c.passed.labels.items ++ ls) (next.labels ∙ ap (labels_of d) (sym c.in-Some.is))
           ∙ was.is;
       shallow = next.shallow;
       inside = c.passed_to-next.ensures.inside;
+      letters = labels-more (map plain_label c.passed.labels.items) (own_label d e) _ c.passed.letters _ c.args.letters.now pushed.label pushed.letters was.letters;
     }
 
 pub passed-smaller : goal.passed-smaller

@@ -1,4 +1,7 @@
-use Rattle.std.proofs.Common.{arith}
+use Rattle.std.proofs.Common.{ap, arith, ◌∙◌}
+use Rattle.std.specs.Prelude.{sum_by}
+use Rattle.std.proofs.lemmas.List.Sums.{sum_by_push}
+use Rattle.type_graph.specs.Counts.{type_letters}
 use Rattle.type_graph.proofs.ListLemmas.{slice_get_contains}
 use Rattle.type_graph.proofs.NodeLemmas.{node-more, nodes-end}
 use Rattle.type_graph.proofs.nodes.first_nodes.Goals as goal
@@ -8,7 +11,12 @@ node-requires-in-found-clause-there g c = slice_get_contains c.args.types.now.fo
 
 pub found-preserved : goal.found-preserved
 found-preserved g c =
-    node-more c.args.types.now.dwarf.now c.args.types.now.found.now c.found.nodes c.push-in-found.new.self c.found.number c.at-e.result _ c.found.invariant c.at-e.ensures c.in_ok-made.ensures c.in_ok-push-2.ensures.ok
+    let was = c.found.invariant in
+    let grown = ap (sum_by type_letters) c.in_ok-push-2.ensures.ok ∙ sum_by_push type_letters c.found.nodes _ in
+    record {
+      nodes = node-more c.args.types.now.dwarf.now c.args.types.now.found.now c.found.nodes c.push-in-found.new.self c.found.number c.at-e.result _ was.nodes c.at-e.ensures c.in_ok-made.ensures.node c.in_ok-push-2.ensures.ok;
+      letters = omega (arith, grown, c.in_ok-made.ensures.letters, was.letters);
+    }
 
-pub returns : goal.returns
-returns g c = nodes-end c.args.types.now.dwarf.now c.args.types.now.found.now c.found.nodes c.found.number c.found.invariant (omega (arith, c.found-test.false, c.len-number-end.ensures))
+pub returns-clause-nodes : goal.returns-clause-nodes
+returns-clause-nodes g c = nodes-end c.args.types.now.dwarf.now c.args.types.now.found.now c.found.nodes c.found.number c.found.invariant.nodes (omega (arith, c.found-test.false, c.len-number-end.ensures))
