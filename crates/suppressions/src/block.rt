@@ -1,5 +1,5 @@
 // The weight of patterns, and the blocks of sections that are compiled at a time.
-ghost use Rattle.std.specs.Prelude.{◌≤◌, ◌<◌, length};
+ghost use Rattle.std.specs.Prelude.{◌≤◌, ◌<◌, length, IfSome, OnOk};
 
 use crate::compiled::is_chosen;
 use abi_base::NoMemory;
@@ -78,7 +78,9 @@ pub fn block_end(sections: &[Section], start: usize, asking: bool) -> usize
 }
 
 /// Returns `NoMemory` if the soname is too long, or if the patterns of the sections weigh too much.
-pub fn check_limits(sections: &[Section], soname: Option<&[u8]>) -> Result<(), NoMemory> {
+pub fn check_limits(sections: &[Section], soname: Option<&[u8]>) -> Result<(), NoMemory>
+    ensures { OnOk result (IfSome soname.entry (λ name. length name.now ≤ 4096)) }
+{
     if let Some(name) = soname {
         if name.len() > LONGEST_SONAME {
             return Err(NoMemory);
