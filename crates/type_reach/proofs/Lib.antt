@@ -8,6 +8,7 @@ mod LeadLemmas
 mod LearnLemmas
 mod LoopLemmas
 mod MetLemmas
+mod NameLemmas
 mod NearLemmas
 mod OrderLemmas
 mod RankLemmas

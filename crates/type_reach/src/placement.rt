@@ -7,9 +7,10 @@ use crate::constants::BIT_LIMIT;
 use crate::values::{is_there, number_at, place_of};
 use abi_base::dwarf::{
     DW_AT_bit_offset, DW_AT_bit_size, DW_AT_byte_size, DW_AT_data_bit_offset,
-    DW_AT_data_member_location,
+    DW_AT_data_member_location, DW_AT_name, DW_TAG_member,
 };
 use dwarf_entries::Dwarf;
+use dwarf_entries::laws::types_and_names_are_there;
 
 // The offset of a member in bytes.
 #[tactic(auto, unfolding(crate::specs::Placement::byte_of))]
@@ -71,14 +72,17 @@ pub fn is_out_of_range(bit: i128) -> bool
     bit < 0 || BIT_LIMIT <= bit
 }
 
-/// Whether a member has no name, its own or inherited.
+/// Whether a member has no name, its own or inherited. For an entry with the tag of a member, no letter of the name is read.
+// Such an entry has no fault, so its name attribute, if there is one, leads to a string.
 #[tactic(auto, unfolding(crate::specs::Placement::is_nameless))]
 pub fn is_nameless(dwarf: &Dwarf, m: usize) -> bool
     requires { m < length dwarf.now.tree.entries }
     ensures { result ≡ spec.is_nameless dwarf.now m }
 {
-    match dwarf.name_of(m) {
-        Some(_) => false,
-        None => true,
+    types_and_names_are_there();
+    dwarf.known();
+    if dwarf.tag(m) == DW_TAG_member {
+        return !is_there(dwarf, m, DW_AT_name);
     }
+    dwarf.name_of(m).is_none()
 }
