@@ -6,7 +6,7 @@ mod LineLemmas
 mod Marked
 mod OldExportLemmas
 mod RuleLemmas
+mod SaidLemmas
 mod StemLemmas
 mod SuccessorLemmas
-mod TypeLemmas
 mod VersionLemmas

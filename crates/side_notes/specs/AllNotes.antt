@@ -15,14 +15,11 @@ use Rattle.type_notes.specs.NotedPairs.{AreNotes, PlainPair}
 use Rattle.type_notes.specs.declared.note.Note.{Note}
 use Rattle.side_notes.specs.Affected.{AreAffected}
 use Rattle.side_notes.specs.Between.{notes_by}
+use Rattle.side_notes.specs.SaidOnce.{said_once}
 
 -- two libraries with marks, and the entries of both
 abbrev pub noted_by : PlainLibrary → PlainLibrary → Marks → PlainDwarf → PlainDwarf → PlainPair
 noted_by old new marks old_dwarf new_dwarf = record { sides = sides old new marks; old_dwarf = old_dwarf; new_dwarf = new_dwarf }
-
--- the same, with the entries of the debug information in these bytes
-abbrev pub noted_with : PlainLibrary → PlainLibrary → Marks → List ℕ → List ℕ → PlainPair
-noted_with old new marks old_bytes new_bytes = noted_by old new marks (debug_of old_bytes) (debug_of new_bytes)
 
 -- the notes on types, and those on the exports that lead to types which break a rule
 pub record AreTypeNotes (p : PlainPair) (notes : List Note) : Type 0 where
@@ -37,24 +34,24 @@ abbrev pub AreWhere : Bool → (List Note → Type 0) → List Note → Type 0
 AreWhere true Are notes = Are notes
 AreWhere false Are notes = notes ≡ []
 
--- All notes on two libraries that were read, by a rule file that was read: those on types, and then those on exports alone and on
--- the sections of the rule file that hold of nothing.
-pub record AreByRules (old new : PlainLibrary) (old_bytes new_bytes : List ℕ) (rules : PlainRules) (notes : List Note) : Type 0 where
+-- All notes on two libraries with their debug information, by a rule file that was read: those on types, and then those on exports
+-- alone and on the sections of the rule file that hold of nothing. Of notes that say the same the first one stays.
+pub record AreByRules (old new : PlainLibrary) (old_dwarf new_dwarf : PlainDwarf) (rules : PlainRules) (notes : List Note) : Type 0 where
   pub before : List Note
-  pub are_types : AreTypeNotes (noted_with old new (marks_of rules old) old_bytes new_bytes) before
-  pub are : notes ≡ before ++ notes_by old new rules
+  pub are_types : AreTypeNotes (noted_by old new (marks_of rules old) old_dwarf new_dwarf) before
+  pub are : notes ≡ said_once (before ++ notes_by old new rules)
 
 -- those by a rule file; none where it has a fault
-abbrev pub AreWithBoth : PlainLibrary → PlainLibrary → List ℕ → List ℕ → List ℕ → List Note → Type 0
-AreWithBoth old new old_bytes new_bytes rules = AreWhere (is_none (rule_fault rules)) (AreByRules old new old_bytes new_bytes (rules_of rules))
+abbrev pub AreWithBoth : PlainLibrary → PlainLibrary → PlainDwarf → PlainDwarf → List ℕ → List Note → Type 0
+AreWithBoth old new old_dwarf new_dwarf rules = AreWhere (is_none (rule_fault rules)) (AreByRules old new old_dwarf new_dwarf (rules_of rules))
 
--- those of an old library and the bytes of both; none where those of the new one have a fault
-abbrev pub AreWithOld : PlainLibrary → List ℕ → List ℕ → List ℕ → List Note → Type 0
-AreWithOld old old_bytes new_bytes rules = AreWhere (is_none (library_fault new_bytes)) (AreWithBoth old (library_of new_bytes) old_bytes new_bytes rules)
+-- those of an old library with its debug information and of the bytes of a new one; none where these have a fault
+abbrev pub AreWithOld : PlainLibrary → PlainDwarf → List ℕ → List ℕ → List Note → Type 0
+AreWithOld old old_dwarf new rules = AreWhere (is_none (library_fault new)) (AreWithBoth old (library_of new) old_dwarf (debug_of new) rules)
 
 -- those of two files and a rule file; none where one of them has a fault
 abbrev pub AreOfFiles : List ℕ → List ℕ → List ℕ → List Note → Type 0
-AreOfFiles old new rules = AreWhere (is_none (library_fault old)) (AreWithOld (library_of old) old new rules)
+AreOfFiles old new rules = AreWhere (is_none (library_fault old)) (AreWithOld (library_of old) (debug_of old) new rules)
 
 -- the same; none where the old library and the new one are the same bytes
 abbrev pub AreAllNotes : List ℕ → List ℕ → List ℕ → List Note → Type 0

@@ -11,6 +11,7 @@ pub mod laws;
 mod lines;
 pub mod making;
 pub mod old_exports;
+mod said_once;
 pub mod stems;
 pub mod successors;
 pub mod threads;

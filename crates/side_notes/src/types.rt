@@ -1,7 +1,6 @@
 // The notes on types, and all notes on two libraries, from their bytes.
 ghost use Rattle.std.specs.Prelude.{◌≡◌, ◌≤◌, ◌++◌, [], length, IfOk, Some, None};
 ghost use Rattle.abi_base.specs.Limits.{input_limit};
-ghost use Rattle.library_read.specs.Debug.{debug_of};
 ghost use Rattle.pair_compare.specs.BoundPair.{IsBinding};
 ghost use Rattle.pair_compare.specs.Marking.{AreMarksOf};
 ghost use Rattle.suppressions.specs.Marks as marks_spec;
@@ -12,33 +11,18 @@ ghost use Rattle.side_notes.specs.CountsOfFiles.{counts_by, counts_in, counts_wi
 use crate::affected::affected_exports;
 use crate::between::own_notes;
 use crate::counts::{Counts, counts_of};
+use crate::said_once::said_once;
 use abi_base::{List, NoMemory, Refusal};
 use abi_types::{Library, Marks, NewIx, OldIx};
-use dwarf_entries::{Dwarf, tree};
-use elf::file::read_elf;
-use elf::sections::debug_sections;
+use dwarf_entries::Dwarf;
 use elf_bind::bind_all;
 use library_read::copy::copied;
-use library_read::read_library;
+use library_read::{WithDebug, read_library, read_with_debug};
 use pair_compare::BoundPair;
 use std::alloc::Global;
 use suppression_text::{Rules, read_rules};
 use suppressions::marks;
 use type_notes::{Note, NotedPair, type_notes};
-
-// The debug information of a file that was read before, so that it has no fault.
-fn dwarf_of(alloc: Global, bytes: &[u8]) -> Result<Dwarf<'_>, NoMemory>
-    requires { length bytes.now ≤ input_limit }
-    ensures { IfOk result (λ dwarf. dwarf ≡ debug_of bytes.now) }
-{
-    let Ok(file) = read_elf(bytes) else {
-        return Err(NoMemory);
-    };
-    match tree(alloc, debug_sections(&file)) {
-        Ok(dwarf) => Ok(dwarf),
-        Err(_) => Err(NoMemory),
-    }
-}
 
 // What a rule file leaves out of the old library.
 fn marks_by(alloc: Global, rules: &Rules, old: &Library<OldIx>) -> Result<Marks, NoMemory>
@@ -130,28 +114,25 @@ fn nothing(alloc: Global) -> Beside
     }
 }
 
-// All notes on two libraries that were read, by a rule file that was read. Their bytes are read for the entries alone.
+// All notes on two libraries that were read with their debug information, by a rule file that was read.
 #[tactic(auto, using(crate::proofs::RuleLemmas::by_rules))]
 fn with_rules(
     alloc: Global,
-    libraries: (&Library<OldIx>, &Library<NewIx>),
+    old: &WithDebug<OldIx>,
+    new: &WithDebug<NewIx>,
     rules: &Rules,
-    old: &[u8],
-    new: &[u8],
 ) -> Result<Beside, NoMemory>
-    requires old_short { length old.now ≤ input_limit }
-    requires new_short { length new.now ≤ input_limit }
-    ensures notes { IfOk result (λ beside. AreByRules libraries.entry.0.now libraries.entry.1.now old.now new.now rules.now beside.notes) }
-    ensures counts { IfOk result (λ beside. beside.counts ≡ Some (counts_by libraries.entry.0.now libraries.entry.1.now (marks_spec.marks_of rules.now libraries.entry.0.now))) }
+    ensures notes { IfOk result (λ beside. AreByRules old.now.library new.now.library old.now.dwarf new.now.dwarf rules.now beside.notes) }
+    ensures counts { IfOk result (λ beside. beside.counts ≡ Some (counts_by old.now.library new.now.library (marks_spec.marks_of rules.now old.now.library))) }
 {
-    let marks = marks_by(alloc, rules, libraries.0)?;
-    let counts = counts_between(alloc, libraries.0, libraries.1, &marks)?;
-    let own = own_notes(alloc, libraries.0, libraries.1, rules, &marks)?;
-    let old_dwarf = dwarf_of(alloc, old)?;
-    let new_dwarf = dwarf_of(alloc, new)?;
-    let on_types = with_dwarfs(alloc, libraries, &marks, &old_dwarf, &new_dwarf)?;
+    let marks = marks_by(alloc, rules, &old.library)?;
+    let counts = counts_between(alloc, &old.library, &new.library, &marks)?;
+    let own = own_notes(alloc, &old.library, &new.library, rules, &marks)?;
+    let libraries = (&old.library, &new.library);
+    let on_types = with_dwarfs(alloc, libraries, &marks, &old.dwarf, &new.dwarf)?;
+    let all = joined(on_types, own)?;
     Ok(Beside {
-        notes: joined(on_types, own)?,
+        notes: said_once(alloc, all)?,
         counts: Some(counts),
     })
 }
@@ -160,45 +141,41 @@ fn with_rules(
 #[tactic(auto, using(crate::proofs::CountLemmas::when_readable, crate::proofs::CountLemmas::when_faulty))]
 fn with_both(
     alloc: Global,
-    libraries: (&Library<OldIx>, &Library<NewIx>),
-    old: &[u8],
-    new: &[u8],
+    old: &WithDebug<OldIx>,
+    new: &WithDebug<NewIx>,
     rules: &[u8],
 ) -> Result<Beside, NoMemory>
-    requires old_short { length old.now ≤ input_limit }
-    requires new_short { length new.now ≤ input_limit }
-    ensures notes { IfOk result (λ beside. AreWithBoth libraries.entry.0.now libraries.entry.1.now old.now new.now rules.now beside.notes) }
-    ensures counts { IfOk result (λ beside. beside.counts ≡ counts_with_both libraries.entry.0.now libraries.entry.1.now rules.now) }
+    ensures notes { IfOk result (λ beside. AreWithBoth old.now.library new.now.library old.now.dwarf new.now.dwarf rules.now beside.notes) }
+    ensures counts { IfOk result (λ beside. beside.counts ≡ counts_with_both old.now.library new.now.library rules.now) }
 {
     match read_rules(alloc, rules) {
-        Ok(rules) => with_rules(alloc, libraries, &rules, old, new),
+        Ok(rules) => with_rules(alloc, old, new, &rules),
         Err(Refusal::Fault(_)) => Ok(nothing(alloc)),
         Err(Refusal::NoMemory) => Err(NoMemory),
     }
 }
 
-// All notes on an old library that was read and a new one, from the bytes of both and of a rule file.
+// All notes on an old library that was read with its debug information and a new one, from the bytes of the new one and of a rule
+// file.
 #[tactic(auto, using(crate::proofs::CountLemmas::when_readable, crate::proofs::CountLemmas::when_faulty))]
 fn with_old(
     alloc: Global,
-    library: &Library<OldIx>,
-    old: &[u8],
+    old: &WithDebug<OldIx>,
     new: &[u8],
     rules: &[u8],
 ) -> Result<Beside, NoMemory>
-    requires old_short { length old.now ≤ input_limit }
-    requires new_short { length new.now ≤ input_limit }
-    ensures notes { IfOk result (λ beside. AreWithOld library.now old.now new.now rules.now beside.notes) }
-    ensures counts { IfOk result (λ beside. beside.counts ≡ counts_with_old library.now new.now rules.now) }
+    requires { length new.now ≤ input_limit }
+    ensures notes { IfOk result (λ beside. AreWithOld old.now.library old.now.dwarf new.now rules.now beside.notes) }
+    ensures counts { IfOk result (λ beside. beside.counts ≡ counts_with_old old.now.library new.now rules.now) }
 {
-    match read_library(alloc, new) {
-        Ok(other) => with_both(alloc, (library, &other), old, new, rules),
+    match read_with_debug(alloc, new) {
+        Ok(read) => with_both(alloc, old, &read, rules),
         Err(Refusal::Fault(_)) => Ok(nothing(alloc)),
         Err(Refusal::NoMemory) => Err(NoMemory),
     }
 }
 
-// All notes on two libraries, from their bytes and those of a rule file.
+// All notes on two libraries, from their bytes and those of a rule file. Each library is read once.
 #[tactic(auto, using(crate::proofs::CountLemmas::when_readable, crate::proofs::CountLemmas::when_faulty))]
 fn of_files(alloc: Global, old: &[u8], new: &[u8], rules: &[u8]) -> Result<Beside, NoMemory>
     requires old_short { length old.now ≤ input_limit }
@@ -206,16 +183,17 @@ fn of_files(alloc: Global, old: &[u8], new: &[u8], rules: &[u8]) -> Result<Besid
     ensures notes { IfOk result (λ beside. AreOfFiles old.now new.now rules.now beside.notes) }
     ensures counts { IfOk result (λ beside. beside.counts ≡ counts_in old.now new.now rules.now) }
 {
-    match read_library(alloc, old) {
-        Ok(library) => with_old(alloc, &library, old, new, rules),
+    match read_with_debug(alloc, old) {
+        Ok(read) => with_old(alloc, &read, new, rules),
         Err(Refusal::Fault(_)) => Ok(nothing(alloc)),
         Err(Refusal::NoMemory) => Err(NoMemory),
     }
 }
 
 /// All notes on two libraries, from their bytes and those of a rule file: those on their types, those on the exports that lead to
-/// types which break a rule, and then those on their exports alone. Where one of the files has a fault, there are none, and where
-/// both libraries are the same bytes: nothing is read then.
+/// types which break a rule, and then those on their exports alone. Of notes on types that have the same names before and now, the
+/// first one stays. Where one of the files has a fault, there are none, and where both libraries are the same bytes: nothing is read
+/// then.
 pub fn all_notes(
     alloc: Global,
     old: &[u8],
