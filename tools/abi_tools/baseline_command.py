@@ -20,7 +20,7 @@ _STATUSES = "Exit status: 0 written; 1 not written, and a sentence says why; 64 
 
 
 def main(arguments: Sequence[str]) -> int:
-    """Writes the baseline as the arguments say, and answers 0. Raises a fault if that cannot be done."""
+    """Writes the baseline as the arguments say, and returns 0. Raises a fault if that cannot be done."""
     parser = Arguments("abi-baseline", _DESCRIPTION, _STATUSES)
     parser.add_argument("library", type=Path, metavar="LIB")
     parser.add_argument("output", type=Path, metavar="OUT")

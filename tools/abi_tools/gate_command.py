@@ -29,7 +29,7 @@ Exit status:
 
 
 def main(arguments: Sequence[str]) -> int:
-    """Judges as the arguments say, prints the answer, and answers the verdict."""
+    """Judges as the arguments say, prints the answer, and returns the verdict."""
     parser = Arguments("abi-gate", _DESCRIPTION, _STATUSES, wrong=Verdict.CANNOT_TELL)
     parser.add_argument("--rules", type=Path, metavar="FILE", help="a rule file of abi: what is not compared")
     parser.add_argument("--require-types", type=share, default=0.0, metavar="SHARE",
@@ -48,7 +48,7 @@ def main(arguments: Sequence[str]) -> int:
 
 
 def _judged(given: argparse.Namespace) -> Judgement:
-    """The verdict. Where the old file is missing, the reason says how the first one is made."""
+    """The verdict. If the old file is missing, the reason says how to make the first one."""
     if not given.old.exists():
         reason = f"there is no file {given.old}: `abi-baseline LIBRARY FILE` keeps the interface of a released library in a file"
         return Judgement(Verdict.CANNOT_TELL, (reason,), None)

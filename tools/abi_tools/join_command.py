@@ -19,7 +19,7 @@ _STATUSES = "Exit status: 0 joined; 1 not joined, and a sentence says why; 64 wr
 
 
 def main(arguments: Sequence[str]) -> int:
-    """Joins as the arguments say, and answers 0. Raises a fault if that cannot be done."""
+    """Joins as the arguments say, and returns 0. Raises a fault if that cannot be done."""
     parser = Arguments("join-debug", _DESCRIPTION, _STATUSES)
     parser.add_argument("--root", type=Path, default=Path("/"), metavar="FOLDER",
                         help="the folder of an unpacked package with its usr/lib/debug (default: /)")

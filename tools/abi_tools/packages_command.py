@@ -31,7 +31,7 @@ Exit status:
 
 
 def main(arguments: Sequence[str]) -> int:
-    """Judges packages as the arguments say, prints a line for each library, and answers the worst verdict."""
+    """Judges packages as the arguments say, prints a line for each library, and returns the worst verdict."""
     parser = Arguments("abi-packages", _DESCRIPTION, _STATUSES, wrong=Verdict.CANNOT_TELL)
     parser.usage = ("abi-packages [--rules FILE] [--require-types SHARE] [--certificates FOLDER] [--keep FOLDER] [--leave-out SONAME].. "
                     "OLD.. -- NEW..")
@@ -57,7 +57,7 @@ def main(arguments: Sequence[str]) -> int:
 
 
 def _parted(arguments: Sequence[str]) -> tuple[list[str], Optional[list[str]]]:
-    """What stands before and behind the first `--`."""
+    """The arguments before and after the first `--`."""
     if "--" not in arguments:
         return list(arguments), None
     at = list(arguments).index("--")
@@ -84,21 +84,21 @@ def _judge(given: argparse.Namespace, new: Sequence[Path]) -> Verdict:
 
 
 def _refuse_unknown(left_out: Sequence[str], found: Sequence[Pair]) -> None:
-    """Raises a fault where a soname is to be left out that no library has."""
+    """Raises a fault if --leave-out names a soname that no library has."""
     for soname in left_out:
         if not any(pair.soname == soname for pair in found):
             raise Fault(f"no library has the soname {soname}, which --leave-out names")
 
 
 def _print_line(pair: Pair, line: Line) -> None:
-    """Prints what is said of a library, and its notes on standard error."""
+    """Prints the line of a library, and its notes on standard error."""
     print(line.text, flush=True)
     for note in line.notes:
         print(f"abi-packages: {pair.name}: note: {note}", file=sys.stderr)
 
 
 def _summary(lines: Sequence[Line]) -> None:
-    """Says how many libraries there were of each kind."""
+    """Prints how many libraries there were of each kind."""
     counts = Counter(line.word for line in lines)
     said = ", ".join(f"{count} {word}" for word, count in sorted(counts.items()))
     print(f"{counted(len(lines), 'library', 'libraries')}{': ' + said if said else ''}")
