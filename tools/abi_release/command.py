@@ -46,7 +46,7 @@ _OUTPUTS = ("table.txt", "release.json", "index.html")
 
 
 def main(arguments: Sequence[str]) -> int:
-    """Judges releases as the arguments say, writes the tables, and answers the worst verdict."""
+    """Judges releases as the arguments say, writes the tables, and returns the worst verdict."""
     given = _parser().parse_args(arguments)
     abi = Abi()
     check_time()
@@ -95,7 +95,7 @@ def _parser() -> Arguments:
 
 
 def _count(text: str) -> int:
-    """A number above 0. Raises an error of arguments if it is none."""
+    """A number above 0. Raises an argument error for any other."""
     value = int(text)
     if value < 1:
         raise argparse.ArgumentTypeError(f"{text} is not above 0")
@@ -103,14 +103,14 @@ def _count(text: str) -> int:
 
 
 def _head(given: argparse.Namespace, settings: Settings) -> Json:
-    """What the tables say of the run."""
+    """What the tables say about the run itself."""
     rules = OF_NOTHING if given.rules is None else digest_of_file(given.rules)
     return {"version": 1, "old": str(given.old), "new": str(given.new), "rules": rules, "program": settings.program,
             "require_types": settings.least_share}
 
 
 def _do(run: Run, tasks: Sequence[Task], what: str) -> None:
-    """Does tasks, and says how far it is."""
+    """Does tasks, and shows progress."""
     if not tasks:
         return
     progress = progress_of(len(tasks), what, sys.stderr)
@@ -140,7 +140,7 @@ def _judge(run: Run, abi: Abi, releases: Sequence[Release], head: Json) -> Verdi
 
 
 def _say_what_was_not_asked(run: Run, asks: Sequence[Ask]) -> None:
-    """Says how many packages could not be asked, and why the first was not."""
+    """Prints how many packages could not be asked, and why the first one could not."""
     failed = [ask.name for ask in asks if ask.name in run.failures]
     if failed:
         print(f"abi-release: {len(failed)} of {len(asks)} packages that need a broken library could not be asked; {failed[0]}: "
@@ -148,13 +148,13 @@ def _say_what_was_not_asked(run: Run, asks: Sequence[Ask]) -> None:
 
 
 def _peak_megabytes() -> float:
-    """What this process took at most, of which the scheduler is a part."""
+    """The peak memory of this process, which includes the scheduler of a local cluster."""
     with open("/proc/self/status", encoding="ascii", errors="replace") as stream:
         return next((int(line.split()[1]) / 1024 for line in stream if line.startswith("VmHWM:")), 0.0)
 
 
 def _write(table: Table, head: Json, store: Store) -> None:
-    """Writes the tables. Where one cannot be written, its text is printed, so that it is not lost."""
+    """Writes the tables. If one cannot be written, prints the text table instead, so that the result is not lost."""
     writers: Sequence[Callable[[TextIO], None]] = (
         lambda stream: write_text(table, stream), lambda stream: write_json(table, head, stream),
         lambda stream: write_page(table, head, stream))
@@ -164,7 +164,7 @@ def _write(table: Table, head: Json, store: Store) -> None:
             store.write(name, writer)
         except OSError as error:
             failed = failed or f"{store.folder / name}: {error.strerror or error}"
-            # One of an earlier run would pass for this one's.
+            # A table of an earlier run would be taken for this run's.
             with contextlib.suppress(OSError):
                 (store.folder / name).unlink(missing_ok=True)
     if failed:
