@@ -28,7 +28,7 @@ _FORMATS = ("text", "json", "html")
 
 
 def main(arguments: Sequence[str]) -> int:
-    """Reports as the arguments say, and answers the verdict."""
+    """Reports as the arguments say, and returns the verdict."""
     given = _parser().parse_args(arguments)
     inputs = [path for path in (given.old, given.new, given.rules) if path is not None]
     if given.certificate is not None:
@@ -37,7 +37,7 @@ def main(arguments: Sequence[str]) -> int:
         raise Fault(f"there is no folder {given.headers} of headers")
     with AbiJson().started(given.old, given.new, given.rules, not (given.fast or given.quiet)) as running:
         digests = None if given.quiet or given.format == "text" else Digests(inputs)
-        # The program judges while Python takes in the rest of this tool and begins to read the libraries.
+        # The program judges while Python imports the rest of this tool and begins to read the libraries.
         from abi_report.reporting import Wanted, reported
 
         wanted = Wanted(given.old, given.new, given.headers, given.require_types, given.certificate, given.format, given.quiet)
