@@ -120,7 +120,7 @@ def test_links_are_counted() -> None:
 
 
 def test_tables_that_do_not_fit_are_read_again(monkeypatch: pytest.MonkeyPatch) -> None:
-    # Two tables, each with one abbreviation of one pair.
+    # Two tables, each with one abbreviation of one pair. First there is room to keep only one of them.
     table = bytes([1, 0x11, 0, 3, 8, 0, 0, 0])
     monkeypatch.setattr(debug_tables, "contents", lambda elf, name: 2 * table)
     monkeypatch.setattr(debug_tables, "constant", lambda source, name: 8)
