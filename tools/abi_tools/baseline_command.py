@@ -12,9 +12,9 @@ from abi_tools.elf_files import ElfFile
 from abi_tools.output_file import clear_output, write_whole
 
 _DESCRIPTION = """\
-Writes what `abi` reads of a library to a file that a project can keep in its repository: `abi` judges it as it judges the library
-(the same exports, binds and reports; its digest is its own). Code and data are left out, and debug information is as it was, but
-inflated.
+Writes what `abi` reads of a library to a file, the baseline, that a project can keep in its repository. `abi` judges the baseline as it
+judges the library (the same exports, binds and reports), but it has a digest of its own. Code and data are left out; debug information
+is unchanged, but inflated.
 """
 _STATUSES = "Exit status: 0 written; 1 not written, and a sentence says why; 64 wrong arguments."
 
