@@ -9,7 +9,7 @@ from typing import Iterable, Iterator
 from abi_manual.sources import Command, Manual
 
 _WIDTH = 76
-_OPTIONS = "Options may stand anywhere among the arguments, each once, as `--rules` *FILE* or `--rules=`*FILE*. Behind the argument `--` there are none."
+_OPTIONS = "Options may come anywhere among the arguments, each once, as `--rules` *FILE* or `--rules=`*FILE*. After the argument `--` there are none."
 _MARKED = re.compile(r"`([^`]*)`|\*([^*]*)\*")
 # Options that abi-json does not take.
 _CHOSEN_BY_JSON = ("report",)
@@ -83,7 +83,7 @@ def paragraphs(text: str) -> Iterator[str]:
 
 
 def sentences(text: str) -> Iterator[str]:
-    """The text with a line for each sentence, since roff sets the blank behind one itself."""
+    """The text with a line for each sentence, since roff itself puts the space after a sentence."""
     for sentence in re.split(r"(?<=[.:]) (?=[A-Z`])", text.strip()):
         for line in textwrap.wrap(_marked(sentence), _WIDTH, break_long_words=False, break_on_hyphens=False):
             yield _guarded(line)

@@ -85,7 +85,7 @@ class Report:
 
     @cached_property
     def types(self) -> list[Block]:
-        """The blocks of types and functions, each behind those of its causes."""
+        """The blocks of types and functions, each after those of its causes."""
         return self.causes.ordered()
 
     def because(self, block: Block) -> list[tuple[Block, str]]:

@@ -173,7 +173,7 @@ class ElfFile:
         header = Header(*_HEADER.unpack(start))
         is_64 = start[_CLASS_AT] == _CLASS_64
         if is_64 and header.sections_at + header.section_size * header.sections > self.size:
-            raise Fault(f"{self.path} is cut short: its table of sections ends behind the end of the file")
+            raise Fault(f"{self.path} is cut short: its table of sections extends past the end of the file")
         if not is_64 or start[_ORDER_AT] != _LITTLE_ENDIAN:
             raise Fault(f"{self.path} is no ELF-64 file in little endian")
         return header
@@ -217,7 +217,7 @@ class ElfFile:
             raise Fault(f"{self.path} has no sections")
         for section in self.sections:
             if section.holds_bytes and section.offset + section.size > self.size:
-                raise Fault(f"{self.path} is cut short: its section {section.name} ends behind the end of the file")
+                raise Fault(f"{self.path} is cut short: its section {section.name} extends past the end of the file")
 
     def segments_end(self) -> int:
         """Where the program headers and the segments end in the file. Raises a fault if the program headers are damaged."""

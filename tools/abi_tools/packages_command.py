@@ -50,9 +50,9 @@ def main(arguments: Sequence[str]) -> int:
     before, new = _parted(arguments)
     given = parser.parse_args(before)
     if new is None or not new:
-        parser.error("the new packages are missing: they stand behind --")
+        parser.error("the new packages are missing: they come after --")
     if any(name.startswith("-") for name in new):
-        parser.error("options stand before the files")
+        parser.error("options come before the files")
     return int(_judge(given, [Path(name) for name in new]))
 
 
