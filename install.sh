@@ -1,18 +1,18 @@
 #!/usr/bin/env bash
-# Proves the programs abi and abi-json and the crates below them, several side by side, builds both, and puts them in place in
-# PREFIX/bin, beside links to the tools, which come to PREFIX/lib/abi/tools, with the manual pages and completions in PREFIX/share.
-# Nothing is put in place unless every proof passed.
+# Proves the programs abi and abi-json and the crates that they use, several at a time, builds both, and installs them: the programs
+# and links to the tools in PREFIX/bin, the tools in PREFIX/lib/abi/tools, and the manual pages and completions in PREFIX/share.
+# Installs nothing unless every proof passes.
 #
 # usage: ./install.sh [PREFIX]   (default: $HOME/.local)
 #
-# As many crates are proved at a time as there are processors and, at 2 GB each, memory; JOBS sets another number.
+# It proves one crate at a time for each processor and each 2 GB of free memory, whichever is fewer; JOBS sets another number.
 set -euo pipefail
 
 prefix=$(realpath -m "${1:-$HOME/.local}")
 cd "$(dirname "$0")"
 root=$PWD
 crates=$PWD/crates.txt
-# The crate of each program, under the name of the program.
+# Each program with its crate.
 programs="abi:abi_cli abi-json:abi_json"
 
 fail() {
@@ -22,13 +22,13 @@ fail() {
 
 command -v rt >/dev/null || fail "the command rt of the Rattle toolchain is missing: put the folder bin of a Rattle kit on PATH"
 
-# The lesser of the processors and of the memory that is free, in pieces of 2 GB; one at least.
+# The number of processors, or of free 2 GB pieces of memory if that is smaller; at least one.
 jobs_here() {
     awk -v processors="$(nproc)" '/^MemAvailable:/ { jobs = int($2 / 2000000) }
         END { if (jobs > processors) jobs = processors; print jobs < 1 ? 1 : jobs }' /proc/meminfo
 }
 
-# How many crates a proof of a program takes: its own and those below it, by crates.txt.
+# How many crates a program needs proved: its own and those that it uses, from crates.txt.
 crates_in_all() {
     awk -v program="$1" '
         function visit(name,    i, uses, count) {
@@ -42,7 +42,7 @@ crates_in_all() {
         END { visit(program); print total }' "$crates"
 }
 
-# follow: keeps what rt prints in the log, and shows each crate as it is done.
+# follow: keeps what rt prints in the log, and shows the progress by crate.
 follow() {
     local line count=0
     while IFS= read -r line; do
@@ -57,7 +57,7 @@ follow() {
 log=$(mktemp)
 jobs=${JOBS:-$(jobs_here)}
 
-# prove CRATE: proves the crate and those below it. What is proved already takes no time.
+# prove CRATE: proves the crate and those that it uses. Crates that are already proved take no time.
 prove() {
     total=$(crates_in_all "$1")
     echo "proving $total crates for $1, $jobs at a time; the first time takes an hour or more"
@@ -67,8 +67,8 @@ prove() {
     }
 }
 
-# build CRATE: links what was proved. `rt run` also runs it. Without arguments the programs say how they are used and end with
-# status 64, which no step of the toolchain ends with.
+# build CRATE: links what was proved. `rt run` also runs it: without arguments the programs print their usage and end with status 64,
+# which no step of the toolchain does.
 build() {
     local status=0
     rm -f "$root/crates/$1/out/$1"
@@ -90,7 +90,7 @@ for program in $programs; do
     echo "installed $prefix/bin/${program%%:*}"
 done
 
-# The tools find their packages beside the file that a link leads to.
+# A tool resolves the link and finds its packages beside its own file.
 rm -rf "$prefix/lib/abi/tools"
 mkdir -p "$prefix/lib/abi/tools"
 for tool in abi-report abi-gate abi-packages abi-baseline abi-release join-debug; do

@@ -1,9 +1,9 @@
 #!/usr/bin/env bash
-# Times the classes of alike nodes of graphs of 1,000, 10,000 and 100,000 nodes, which `tool_bench alike` makes: rings of five
-# structures, one chain of pointers, structures of up to 999 members, and 50 copies of one set of types. For each it prints
-# milliseconds of processor time for one call of `alike`, the difference between several rounds and none, divided by the rounds,
-# the least of two runs; the classes; and the peak memory of the program with one round, and with none, where the graph alone
-# is made. That the list is a graph is tested before, node by node against those before it, which takes most of the script's time.
+# Times how `alike` finds the classes of alike nodes in graphs of 1,000, 10,000 and 100,000 nodes, which `tool_bench alike` makes: rings
+# of five structures, one chain of pointers, structures of up to 999 members, and 50 copies of one set of types. For each it prints the
+# milliseconds of processor time for one call (the difference between several rounds and none, divided by the rounds; the least of two
+# runs), the number of classes, and the peak memory of the program with one round and with none, which only makes the graph. Before that
+# the program checks that the list is a graph, each node against those before it; this takes most of the script's time.
 #
 # usage: bench/alike.sh [PROGRAM]   (default: the program that `rt run` built in crates/tool_bench/out)
 set -eu

@@ -1,15 +1,15 @@
 #!/usr/bin/env bash
-# Prints how many bytes each library has that is named: stripped, with its debug information, as a baseline of `tools/abi-baseline`, and
-# as one that xz has packed.
+# Prints how many bytes each given library has: stripped, with its debug information, as a baseline by `tools/abi-baseline`, and as a
+# baseline compressed by xz.
 #
-# usage: bench/baselines.sh LIBRARY..   (libraries with their debug information in them: bench/openssl.sh builds libcrypto, and
+# usage: bench/baselines.sh LIBRARY..   (libraries that contain their debug information: bench/openssl.sh builds libcrypto, and
 #                                        `tools/join-debug` joins others)
 set -eu
 tools=$(cd "$(dirname "$0")/../tools" && pwd)
 work=$(mktemp -d)
 trap 'rm -rf "$work"' EXIT
 
-# bytes FILE: how many bytes a file has, in groups of three digits.
+# bytes FILE: prints how many bytes a file has, with digits in groups of three.
 bytes() {
     stat -L -c %s "$1" | sed ':a; s/\([0-9]\)\([0-9]\{3\}\)\($\|,\)/\1,\2\3/; ta'
 }

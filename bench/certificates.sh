@@ -1,7 +1,7 @@
 #!/usr/bin/env bash
-# Times `abi verify` over certificates: of libraries with 50,000 to 500,000 exported functions and no debug information, whose
-# certificates have a line for each, and of the libraries of trials, whose certificates have lines of all kinds.
-# Prints the lines, seconds of processor time, the least of three runs, what a line costs, and peak memory.
+# Times `abi verify` on certificates: of libraries with 50,000 to 500,000 exported functions and no debug information, whose certificates
+# have a line for each function, and of the libraries of trials, whose certificates have lines of all kinds. Prints the number of lines,
+# the seconds of processor time (the least of three runs), the time for a line, and the peak memory.
 #
 # usage: bench/certificates.sh [ABI [TRIAL_LIBRARY]]   (default: the programs that `rt run` built in their crates' out)
 set -eu
@@ -10,7 +10,7 @@ maker=$(readlink -f "${2:-$(dirname "$0")/../crates/tool_trial_library/out/tool_
 mkdir -p certificates
 cd certificates
 
-# verified NAME OLD NEW: a line of `abi verify` on the certificate that `abi check` prints of the two libraries.
+# verified NAME OLD NEW: prints a line for `abi verify` on the certificate that `abi check` prints for the two libraries.
 verified() {
     local lines ours
     "$abi" check "$2" "$3" >certificate

@@ -1,13 +1,13 @@
 #!/usr/bin/env bash
-# Times `abi exports`, which reads a library whole and prints a short line for each export, and `abi check`, over libraries with
-# debug information: the C library of the running system joined with its debug information, where the packages libc6-dbg and
-# elfutils are there; libcrypto of OpenSSL, where bench/openssl.sh built it; and libraries of generated C with 500,000 entries by
-# gcc and clang. Each is checked against itself, where the file is read once, against a copy with one more byte, where both are
-# read, and all but the first against a build in which one structure is changed. Beside them run readelf --debug-dump=info on one
-# library, sha256sum on both, and abidw and abidiff where they are there. Prints seconds of processor time, the least of five runs
-# (of one for libabigail's tools), ratios, and peak memory. Beside the yes of a library against itself stands `abi verify` on its
-# certificate. Then it checks libraries of 1,000, 10,000 and 50,000 exported functions against copies with one more
-# byte, and makes trials of as many, to show how it grows.
+# Times `abi exports`, which reads a whole library and prints a short line for each export, and `abi check`, on libraries with debug
+# information: the C library of the running system joined with its debug information, if the packages libc6-dbg and elfutils are
+# installed; libcrypto of OpenSSL, if bench/openssl.sh has built it; and libraries of generated C with 500,000 entries by gcc and clang.
+# Each library is checked against itself, which reads the file once, and against a copy with one more byte, which reads both; all except
+# the first also against a build in which one structure is changed. For comparison it runs readelf --debug-dump=info on one library,
+# sha256sum on both, and abidw and abidiff if they are installed. Prints the seconds of processor time (the least of five runs, or of one
+# for libabigail's tools), ratios, and peak memory. For a library against itself it also measures `abi verify` on the certificate. Then it
+# checks libraries of 1,000, 10,000 and 50,000 exported functions against copies with one more byte, and runs trials of the same sizes, to
+# show how the time grows.
 #
 # usage: bench/check.sh [ABI]   (default: the program that `rt run` built in crates/abi_cli/out)
 set -eu
@@ -15,7 +15,7 @@ set -eu
 mkdir -p check
 cd check
 
-# beside OURS COMMAND..: the seconds and the peak memory of another command, and the ratio to it.
+# beside OURS COMMAND..: prints the seconds and the peak memory of another command, and the ratio to it.
 beside() {
     local ours=$1 theirs
     shift
@@ -23,8 +23,8 @@ beside() {
     echo "    $(basename "$1") $theirs s, peak $(peak_memory "$@") MB, ratio to it $(ratio "$ours" "$theirs")"
 }
 
-# answers STATUS COMMAND..: runs a command that must end with the status, and ends with 0 then. Of abidiff the bits 4 and 8 of the
-# status say that there are changes.
+# answers STATUS COMMAND..: runs a command that must end with the status, and returns 0 if it does. In the status of abidiff the bits 4
+# and 8 say that there are changes.
 answers() {
     local ended=0 status=$1
     shift
@@ -36,7 +36,7 @@ answers() {
 }
 export -f answers
 
-# beside_abidiff OURS OLD NEW: the seconds and the peak memory of one run of abidiff, and the ratio to it. It is ended after 200
+# beside_abidiff OURS OLD NEW: prints the seconds and the peak memory of one run of abidiff, and the ratio to it. Kills abidiff after 200
 # seconds.
 beside_abidiff() {
     local ended=0 seconds memory
@@ -51,7 +51,7 @@ beside_abidiff() {
     esac
 }
 
-# read_whole NAME LIBRARY: a line of `abi exports` and those of the tools beside it.
+# read_whole NAME LIBRARY: prints a line for `abi exports`, and lines for the tools that it is compared with.
 read_whole() {
     local entries ours
     entries=$("$abi" entries "$2" | wc -l)
@@ -62,7 +62,7 @@ read_whole() {
     if command -v abidw >/dev/null; then runs=1 beside "$ours" abidw --out-file /dev/null "$2"; fi
 }
 
-# checked NAME STATUS OLD NEW: a line of `abi check`, which must end with the status, and those of the tools beside it.
+# checked NAME STATUS OLD NEW: prints a line for `abi check`, which must end with the status, and lines for the other tools.
 checked() {
     local ours
     ours=$(least 5 bash -c "answers $2 '$abi' check '$3' '$4'")
@@ -72,7 +72,7 @@ checked() {
     if command -v abidiff >/dev/null; then beside_abidiff "$ours" "$3" "$4"; fi
 }
 
-# verified NAME OLD NEW: a line of `abi verify` beside `abi check`, on the certificate that this prints.
+# verified NAME OLD NEW: prints a line for `abi verify`, compared with `abi check`, on the certificate that `abi check` prints.
 verified() {
     local ours
     "$abi" check "$2" "$3" >certificate
@@ -81,7 +81,7 @@ verified() {
     beside "$ours" "$abi" check "$2" "$3"
 }
 
-# longer LIBRARY: the name of a copy of it with one more byte.
+# longer LIBRARY: makes a copy of the library with one more byte, and prints its name.
 longer() {
     cp "$1" longer.so
     printf '\0' >>longer.so

@@ -1,7 +1,7 @@
 #!/usr/bin/env bash
-# Times `abi compose` over the certificates of a chain of three libraries, beside `abi verify` of both: the chain is the two libraries
-# of a trial, of which the new one is the middle and the last. Prints the lines of a certificate, seconds of processor time, the least
-# of three runs, and peak memory.
+# Times `abi compose` on the certificates of a chain of three libraries, and `abi verify` on both certificates for comparison. The chain
+# is the old library of a trial, and the new one twice. Prints the number of lines of a certificate, the seconds of processor time (the
+# least of three runs), and the peak memory.
 #
 # usage: bench/compose.sh [ABI [TRIAL_LIBRARY]]   (default: the programs that `rt run` built in their crates' out)
 set -eu

@@ -1,7 +1,7 @@
 #!/usr/bin/env bash
-# Times `abi entries` over libraries with debug information that gcc and clang make of generated C: one unit of 1,000 and of
-# 4,000 groups of declarations, and 100 units of 40 groups, beside readelf --debug-dump=info over the same file, and beside
-# llvm-dwarfdump where it is there. All print to /dev/null. Prints seconds of processor time, ratios and peak memory.
+# Times `abi entries` on libraries with debug information that gcc and clang make from generated C: one unit of 1,000 or of 4,000 groups
+# of declarations, and 100 units of 40 groups. For comparison it runs readelf --debug-dump=info on the same file, and llvm-dwarfdump if it
+# is installed. All print to /dev/null. Prints the seconds of processor time, ratios and peak memory.
 #
 # usage: bench/entries.sh [ABI]   (default: the program that `rt run` built in crates/abi_cli/out)
 set -eu
@@ -10,7 +10,7 @@ source=$top/tests/c/entries.awk
 mkdir -p entries
 cd entries
 
-# measured NAME LIBRARY: a line of each tool.
+# measured NAME LIBRARY: prints a line for each tool.
 measured() {
     local entries size ours theirs
     entries=$("$abi" entries "$2" | wc -l)
@@ -43,7 +43,7 @@ for compiler in $compilers; do
             measured "$compiler, DWARF $version, one unit of $groups groups" library.so
         done
     done
-    # The sources are words of their own.
+    # Unquoted on purpose: each source is a word.
     "$compiler" -shared -fPIC -w -g -gdwarf-5 -O1 -o library.so $units
     measured "$compiler, DWARF 5, 100 units of 40 groups" library.so
 done

@@ -1,8 +1,8 @@
 #!/usr/bin/env bash
-# Times explorations of two rings of structures, of about 1,000, 10,000, 50,000 and 100,000 triples, which
-# `tool_bench explorer` makes: where the lengths of the rings have no common factor, each structure of one meets each of the other. For
-# each size it prints milliseconds of processor time for one exploration, the difference between several rounds and none,
-# divided by the rounds, the least of five runs; and the peak memory of one.
+# Times explorations of two rings of structures, of about 1,000, 10,000, 50,000 and 100,000 triples, which `tool_bench explorer` makes.
+# The lengths of the rings have no common factor, so each structure of one meets each of the other. For each size it prints the
+# milliseconds of processor time for one exploration (the difference between several rounds and none, divided by the rounds; the least of
+# five runs), and the peak memory of one.
 #
 # usage: bench/explore.sh [PROGRAM]   (default: the program that `rt run` built in crates/tool_bench/out)
 set -eu

@@ -1,13 +1,13 @@
 #!/usr/bin/env bash
-# Makes files that ask much time or memory of the program, each kind in two sizes of which the second is twice the first, and runs
-# `abi` over them under limits of 8 GB and 120 seconds. Prints a table: bytes of the larger one (of all files of the command),
-# seconds of processor time over both, the least of three runs (RUNS=1: of one), their ratio for twice the bytes, peak memory over
-# the larger one, the most bytes of memory for a byte of the files, and how the runs ended. The last column names the bounds that a
-# kind is over: growth, more than 2.5 times the time for twice the file; time, more than 10 seconds a megabyte and 0.2; memory, more
-# than 64 bytes a byte and 10 MB. Ends with status 1 where one is.
+# Generates files that are meant to take much time or memory, each kind in two sizes, the second twice the first, and runs `abi` on them
+# under limits of 8 GB and 120 seconds. Prints a table: the bytes of the larger size (of all files of the command), the seconds of
+# processor time for both sizes (the least of three runs; with RUNS=1 of one), their ratio for twice the bytes, the peak memory for the
+# larger size, the most bytes of memory for a byte of the files, and how the runs ended. The last column names the bounds that a kind
+# exceeds: growth, more than 2.5 times the time for twice the file; time, more than 10 seconds a megabyte plus 0.2; memory, more than 64
+# bytes a byte plus 10 MB. Ends with status 1 if a kind exceeds one.
 #
 # usage: bench/hostile.sh [ABI [KIND..]]   (default: the program that `rt run` built in crates/abi_cli/out, and all kinds)
-#        TIMES=4 bench/hostile.sh ..       makes all files so many times as large
+#        TIMES=4 bench/hostile.sh ..       makes all files four times as large
 #        bench/hostile.sh --list           names the kinds
 #        bench/hostile.sh --make FOLDER KIND SIZE   writes the files of a kind
 set -eu

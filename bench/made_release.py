@@ -2,11 +2,10 @@
 
 usage: python3 bench/made_release.py [--distinct N] [--maker TRIAL_LIBRARY] FOLDER COUNT
 
-FOLDER/old and FOLDER/new get COUNT packages each, a hundred a folder. The libraries are those that the program TRIAL_LIBRARY (of
-crates/tool_trial_library) writes, of 1 to 60 functions, or, without it, such that gcc makes; a number in the header of each (e_flags,
-which nothing reads) makes it another file, or, after N of them, one that stood before. In the new release every tenth library has
-lost exports. All processors compile and write: 30,000 pairs take two minutes of processor time, and half a gigabyte of disk with
-libraries of gcc.
+FOLDER/old and FOLDER/new get COUNT packages each, a hundred in a folder. The libraries have 1 to 60 functions; the program TRIAL_LIBRARY
+(of crates/tool_trial_library) writes them or, without it, gcc makes them. A number in the header of each (e_flags, which nothing reads)
+makes it a different file; after N different ones they repeat. In the new release every tenth library has lost exports. It uses all
+processors: 30,000 pairs take two minutes of processor time, and half a gigabyte of disk with libraries of gcc.
 """
 
 from __future__ import annotations
@@ -52,7 +51,7 @@ def main() -> None:
 
 
 class _Made:
-    """What each process that writes packages has: the folder, the libraries of each side, and how many packages differ."""
+    """The data of each process that writes packages: the folder, the libraries of each side, and how many packages differ."""
 
     folder: Path
     libraries: dict[str, list[bytes]]
@@ -60,7 +59,7 @@ class _Made:
 
     @classmethod
     def take(cls, folder: Path, libraries: dict[str, list[bytes]], distinct: int) -> None:
-        """Takes it."""
+        """Sets the data."""
         cls.folder, cls.libraries, cls.distinct = folder, libraries, distinct
 
 
@@ -70,7 +69,7 @@ def _write_packages(numbers: range) -> None:
         folder = _Made.folder / side / f"{numbers.start // _IN_A_FOLDER:04d}"
         folder.mkdir(parents=True, exist_ok=True)
         for number in numbers:
-            # a library of fewer functions has lost some of the old one's
+            # a library with fewer functions has lost some of the old exports
             is_broken = side == "new" and number % _BROKEN == _BROKEN - 1
             kind = (number % _KINDS) // (2 if is_broken else 1)
             library = bytearray(_Made.libraries[side][kind])
@@ -79,7 +78,7 @@ def _write_packages(numbers: range) -> None:
 
 
 def _by_program(program: str) -> Maker:
-    """Libraries of so many functions, as `abi trial` makes them."""
+    """A function that makes a library of some functions, as `abi trial` makes it."""
 
     def make(functions: int, side: str) -> bytes:
         return subprocess.run([program, str(functions), side], stdout=subprocess.PIPE, check=True).stdout
@@ -88,7 +87,7 @@ def _by_program(program: str) -> Maker:
 
 
 def _by_gcc(folder: Path) -> Maker:
-    """Libraries of so many functions, built by gcc."""
+    """A function that builds a library of some functions with gcc."""
     folder.mkdir(parents=True, exist_ok=True)
 
     def make(functions: int, side: str) -> bytes:
@@ -104,7 +103,7 @@ def _by_gcc(folder: Path) -> Maker:
 
 
 def _write_deb(folder: Path, number: int, side: str, library: bytes) -> None:
-    """Writes the package of a library, which depends on the one before."""
+    """Writes the package of a library. It depends on the previous package."""
     name, version = f"libmade{number:05d}", "1" if side == "old" else "2"
     depends = f"Depends: libmade{number - 1:05d}\n" if number else ""
     control = f"Package: {name}\nVersion: {version}\nArchitecture: amd64\nMaintainer: a <a@example.org>\n{depends}Description: made\n"

@@ -1,7 +1,7 @@
 #!/usr/bin/env bash
-# Times the marks of a rule file over a library, by `tool_bench marks`: 50,000 exports and 20,000 nodes, with 10 and with 100
-# sections of patterns that hold of nothing, and twice as many of each. Prints seconds of processor time for one finding of the
-# marks, without those of making the library, the least of three runs, and peak memory.
+# Times how the program finds the marks of a rule file in a library, by `tool_bench marks`: 50,000 exports and 20,000 nodes, with 10 and
+# with 100 sections of patterns that match nothing, and twice as many of each. Prints the seconds of processor time for finding the marks
+# once, without making the library (the least of three runs), and the peak memory.
 #
 # usage: bench/marks.sh [PROGRAM]   (default: the program that `rt run` built in crates/tool_bench/out)
 set -eu
@@ -9,7 +9,7 @@ marks=$(readlink -f "${1:-$(dirname "$0")/../crates/tool_bench/out/tool_bench}")
 set -- "$marks"
 . "$(dirname "$0")/common.bash"
 
-# found PATTERN EXPORTS NODES SECTIONS: a line of the seconds of one finding, as a fifth of what five more cost.
+# found PATTERN EXPORTS NODES SECTIONS: prints a line with the seconds for finding the marks once: a fifth of the time for five more rounds.
 found() {
     local one six
     one=$(least 3 "$marks" marks "$@" 1)

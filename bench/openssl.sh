@@ -1,8 +1,8 @@
 #!/usr/bin/env bash
 # Builds libcrypto of OpenSSL with gcc and debug information, and a second time with one field of one structure changed, for
-# bench/check.sh, which measures the two where it finds them. It takes about ten minutes of one processor, and 1 GB of disk.
+# bench/check.sh, which measures both if they are there. It takes about ten minutes on one processor, and 1 GB of disk.
 #
-# usage: bench/openssl.sh SOURCE.tar.gz   (`apt-get source --download-only openssl` brings openssl_VERSION.orig.tar.gz)
+# usage: bench/openssl.sh SOURCE.tar.gz   (`apt-get source --download-only openssl` downloads openssl_VERSION.orig.tar.gz)
 set -eu
 source=$(readlink -f "$1")
 made=$(cd "$(dirname "$0")" && pwd)/made/check
@@ -10,14 +10,14 @@ mkdir -p "$made/openssl"
 cd "$made/openssl"
 tar -xf "$source" --strip-components=1
 ./Configure linux-x86_64 shared no-tests no-engine -g -O2 >configured
-# The headers that the build makes come first: sources that stand on them do not wait for them.
+# First the headers that the build generates: the sources that include them do not wait for them.
 make -j"$(nproc)" build_generated >built
 make -j"$(nproc)" libcrypto.so >built
 cp libcrypto.so "$made/openssl.so"
 header=include/openssl/txt_db.h
 sed -i 's/^    long error;$/    int error;/' $header
 grep -q '^    int error;$' $header || { echo "openssl.sh: $header has no field to change" >&2; exit 1; }
-# The sources that take the header in are compiled anew.
+# Recompiles the sources that include the header.
 grep -rl --include='*.c' 'openssl/txt_db.h' crypto | xargs touch
 make -j"$(nproc)" libcrypto.so >built
 cp libcrypto.so "$made/openssl_changed.so"

@@ -2,9 +2,9 @@
 
 usage: /usr/bin/python3 bench/page.py PAGE [FOLDER]
 
-Opens a page of `tools/abi-report` or `tools/abi-release` three times, each time in a new browser, and prints the seconds until its
-event `load` and until the frame behind it is painted, counted from the call that opens it. FOLDER gets pictures at two widths, light
-and dark: the top of the page, the page with the filter set, and its end.
+Opens a page of `tools/abi-report` or `tools/abi-release` three times, each time in a new browser, and prints the seconds from the call
+that opens it to its event `load`, and to the paint of the next frame. FOLDER gets pictures at two widths, light and dark: the top of the
+page, the page with the filter set, and its end.
 """
 
 from __future__ import annotations
@@ -25,7 +25,7 @@ from tornado.websocket import WebSocketClientConnection, websocket_connect
 _RUNS = 3
 _BROWSER = ["chromium", "--headless", "--no-sandbox", "--disable-gpu", "--no-first-run", "--remote-debugging-port=0",
             "--window-size=1400,900", "about:blank"]
-# Two frames later what was laid out is painted.
+# After two frames the layout has been painted.
 _PAINTED = "new Promise(done => requestAnimationFrame(() => requestAnimationFrame(() => done(true))))"
 _ROWS = "document.querySelectorAll('main tr').length"
 # Widths and heights: a desktop's and a phone's.
@@ -37,14 +37,14 @@ _FILTER = """(() => { const field = document.querySelector('input[type=search]')
 
 
 class Browser:
-    """A page of a browser, by the protocol of its developer tools."""
+    """A page of a browser, controlled by the protocol of its developer tools."""
 
     def __init__(self, connection: WebSocketClientConnection) -> None:
         self._connection = connection
         self._numbers = itertools.count(1)
 
     async def call(self, method: str, **parameters: object) -> dict[str, Any]:
-        """The answer to a method; what the browser says in between is passed over."""
+        """Calls a method and returns the answer; skips other messages of the browser."""
         number = next(self._numbers)
         await self._connection.write_message(json.dumps({"id": number, "method": method, "params": parameters}))
         while True:
@@ -73,14 +73,14 @@ class Browser:
         return answer["result"].get("value")
 
     async def picture(self, place: Path) -> None:
-        """Keeps what is seen."""
+        """Writes a picture of the visible part of the page."""
         await self.value(_PAINTED)
         answer = await self.call("Page.captureScreenshot", format="png")
         place.write_bytes(base64.b64decode(answer["data"]))
 
 
 async def opened(browser: Browser, page: Path) -> tuple[float, float]:
-    """Opens the page, and answers the seconds until it was loaded and until it was painted."""
+    """Opens the page, and returns the seconds until it was loaded and until it was painted."""
     await browser.call("Page.enable")
     start = time.monotonic()
     await browser.call("Page.navigate", url=page.as_uri())
@@ -91,7 +91,7 @@ async def opened(browser: Browser, page: Path) -> tuple[float, float]:
 
 
 async def pictures(browser: Browser, folder: Path) -> None:
-    """Keeps pictures of the page at each width and in the colours of each scheme."""
+    """Writes pictures of the page at each width and in each colour scheme."""
     folder.mkdir(parents=True, exist_ok=True)
     for width, height in _SIZES:
         await browser.call("Emulation.setDeviceMetricsOverride", width=width, height=height, deviceScaleFactor=1, mobile=width < _NARROW)
@@ -104,7 +104,7 @@ async def pictures(browser: Browser, folder: Path) -> None:
 
 
 async def _scheme(browser: Browser, folder: Path, name: str) -> None:
-    """Keeps pictures of the top, of what a filter leaves, and of the end."""
+    """Writes pictures of the top, of the filtered page, and of the end."""
     await browser.value("window.scrollTo(0, 0)")
     await browser.picture(folder / f"top_{name}.png")
     await browser.value(_FILTER % json.dumps("9 2"))
@@ -112,7 +112,7 @@ async def _scheme(browser: Browser, folder: Path, name: str) -> None:
     await browser.picture(folder / f"filter_{name}.png")
     await browser.value("for (const one of document.querySelectorAll('main details[open]')) one.open = false")
     await browser.value(_FILTER % '""')
-    # What was not laid out yet gets its height at the first of these.
+    # The first pass gives their height to parts that were not laid out yet.
     for _ in range(2):
         await browser.value("window.scrollTo(0, document.body.scrollHeight)")
         await browser.value(_PAINTED)
@@ -141,7 +141,7 @@ async def run(page: Path, folder: Optional[Path]) -> tuple[float, float]:
 
 
 async def _lines(port: Path) -> list[str]:
-    """What the browser says of its port, once it does."""
+    """Waits for the lines in which the browser writes its port."""
     for _ in range(600):
         if port.exists() and len(port.read_text().splitlines()) == 2:
             return port.read_text().splitlines()

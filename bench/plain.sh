@@ -1,7 +1,7 @@
 #!/usr/bin/env bash
-# Times `abi check` over plain libraries that gcc makes: one of 200 MB against itself, beside sha256sum over the same two
-# files, and one of 50,000 exports against itself, beside sha256sum and readelf over the same two files, and beside abidiff where
-# it is there. Prints seconds of processor time, ratios and peak memory.
+# Times `abi check` on plain libraries that gcc makes: one of 200 MB against itself, compared with sha256sum on the same two files, and
+# one of 50,000 exports against itself, compared with sha256sum and readelf on the same two files, and with abidiff if it is installed.
+# Prints the seconds of processor time, ratios and peak memory.
 #
 # usage: bench/plain.sh [ABI]   (default: the program that `rt run` built in crates/abi_cli/out)
 set -eu

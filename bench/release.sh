@@ -1,10 +1,10 @@
 #!/usr/bin/env bash
-# Makes two releases of small packages and judges them by `tools/abi-release`: for each set so many pairs of packages, on each number
-# of workers from nothing, and on the last one once more where all is done. Prints a line for each run: pairs, workers, seconds, pairs
-# a second, pairs judged, the most memory of the process in which the scheduler is, how much of it that is for a pair beside a run
-# of five pairs, and the digest of the table, which must be one for all runs of a set, or the script fails. Then it prints how large
-# the page is and how long it takes to write. Where Chromium is there, it opens the page of the last run (bench/page.py), and its
-# pictures stand in bench/made/release/pictures.
+# Makes two releases of small packages and judges them with `tools/abi-release`: for each set its number of pairs of packages, with each
+# number of workers and no earlier results, and with the last number of workers again when all is done. Prints a line for each run: pairs,
+# workers, seconds, pairs a second, pairs judged, the peak memory of the process with the scheduler, how much more memory that is for each
+# pair than in a run of five pairs, and the digest of the table. All runs of a set must have the same digest, or the script fails. Then it
+# prints how large the page is and how long it takes to write. If Chromium is installed, it opens the page of the last run (bench/page.py)
+# and puts pictures into bench/made/release/pictures.
 #
 # usage: bench/release.sh [ABI [PAIRS:WORKERS[,WORKERS]..]..]
 #            (default: the program that `rt run` built, and the sets 3000:1,2,4 and 30000:1,2,4)
@@ -18,20 +18,21 @@ sets=("${@:2}")
 folder=$PWD/release
 mkdir -p "$folder"
 
-# make PAIRS: the two releases.
+# make PAIRS: makes the two releases.
 make() {
     rm -rf "$folder/old" "$folder/new" "$folder"/out*
     /usr/bin/python3 "$top/bench/made_release.py" ${DISTINCT:+--distinct "$DISTINCT"} ${TRIAL_LIBRARY:+--maker "$TRIAL_LIBRARY"} "$folder" "$1"
 }
 
-# judge OUT WORKERS: a run; what it says is in the files `said` and `errors`.
+# judge OUT WORKERS: does a run, with its output in the files `said` and `errors`.
 judge() {
     local ended=0
     ABI=$abi "$top/tools/abi-release" "$folder/old" "$folder/new" --out "$1" --workers "$2" >said 2>errors || ended=$?
     [ "$ended" -le 1 ] || failed abi-release, with status "$ended"
 }
 
-# line OUT WORKERS LEAST: the line of a run, beside the megabytes of one of five pairs. The digest must be that of the set's first run.
+# line OUT WORKERS LEAST: prints the line of a run; LEAST is the megabytes of a run of five pairs. The digest must be that of the set's
+# first run.
 line() {
     local found
     found=$(sed -n 's/^.*"digest": "\([0-9a-f]\{64\}\)"}$/\1/p' "$1/release.json" | tail -n 1)
@@ -47,7 +48,7 @@ print(f"| {packages:,} | {sys.argv[2]} | {seconds:.1f} s | {packages / seconds:.
 END
 }
 
-# page OUT: how large the page of a run is, and how long it takes to read the results and to write it.
+# page OUT: prints how large the page of a run is, and how long it takes to read the results and to write the page.
 page() {
     PYTHONPATH=$top/tools /usr/bin/python3 -B - "$folder" "$1" <<'END'
 import json, os, sys, time
@@ -78,7 +79,7 @@ for set in "${sets[@]}"; do
     make "${set%%:*}"
     digest=
     for number in $(tr , ' ' <<<"${set#*:}"); do
-        # The disk need not hold the results of the runs before.
+        # Saves disk space: the results of earlier runs are not needed.
         rm -rf "$folder"/out*
         judge "$folder/out$number" "$number"
         line "$folder/out$number" "$number" "$least"

@@ -2,12 +2,12 @@
 
 usage: /usr/bin/python3 bench/report.py [--structures COUNT | --libraries OLD NEW] [--programs ABI ABI_JSON]
 
-Makes a library of so many structures (2,500), builds it with gcc, and once more with a member of each structure widened, which breaks
-four rules in each. Or else it takes two libraries of which the second one may not replace the first one. Prints the seconds of
-`abi check`, of `abi-json check` without digests, with these, and with notes on what no rule judges, of `abi-json notes`, and of
-`tools/abi-report` for the document and the page, with and without notes: the least of five runs, by the clock and of the processor,
-each also as a multiple of that of `abi check`.
-The page stands in `bench/made/report/page.html` then.
+Makes a library of COUNT structures (2,500 by default), builds it with gcc, and again with one member of each structure widened, which
+breaks four rules in each. Or else it takes two libraries OLD and NEW; NEW may not replace OLD. Prints the seconds of `abi check`, of
+`abi-json check` without digests, with digests, and with notes on what no rule judges, of `abi-json notes`, and of `tools/abi-report` for
+the document and the page, with and without notes: the least of five runs, by the clock and by the processor, each also as a multiple of
+the time of `abi check`.
+The page is then in `bench/made/report/page.html`.
 """
 
 from __future__ import annotations
@@ -50,7 +50,7 @@ def built(name: str, kind: str, count: int) -> Path:
 
 
 def timed(command: list[str], output: Path, variables: dict[str, str], status: int) -> tuple[float, float]:
-    """The seconds of a run that must end with a status, by the clock and of the processor, with these variables in its environment."""
+    """The seconds of a run with these environment variables, by the clock and by the processor. It must end with the status."""
     before, start = resource.getrusage(resource.RUSAGE_CHILDREN), time.monotonic()
     with output.open("wb") as stream:
         ended = subprocess.run(command, stdout=stream, stderr=subprocess.DEVNULL, check=False, env={**os.environ, **variables})

@@ -1,7 +1,7 @@
 #!/usr/bin/env bash
-# Times the rules of two types on two structures of 1,000, 2,000, 5,000 and 10,000 members, which `tool_bench rules` makes.
-# For each size it prints milliseconds of processor time for one call of `breaks`, one of `partner_at` at each member and one of
-# `partner` for the last: the difference between many rounds and none, divided by the rounds, the least of five runs.
+# Times the rules for two types on two structures of 1,000, 2,000, 5,000 and 10,000 members, which `tool_bench rules` makes. For each size
+# it prints the milliseconds of processor time for one call of `breaks`, one of `partner_at` at each member and one of `partner` for the
+# last: the difference between many rounds and none, divided by the rounds, the least of five runs.
 #
 # usage: bench/rules.sh [PROGRAM]   (default: the program that `rt run` built in crates/tool_bench/out)
 set -eu

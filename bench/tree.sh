@@ -1,12 +1,12 @@
 #!/usr/bin/env bash
-# Times the reader of the tree of entries, by `abi exports`, over libraries of generated C with 470,000 entries and more: one unit
-# of 6,500 groups of declarations by gcc, one by clang, and 150 units of 44 groups. They are compiled with -fvisibility=hidden, so
-# that they have no exports: the program then makes the tree and little else. Beside it run `abi entries`, which reads the same
-# entries one by one and keeps none, readelf --debug-dump=info, and llvm-dwarfdump where it is there. Prints seconds of processor
-# time, the least of nine runs, ratios, and peak memory. Of the first library, compiled with its exports, it prints also the bytes
-# of memory for each entry that are resident once the answer is there, without those of the file: the program is looked at while
-# nobody takes what it prints, when the tree itself is gone. Then it measures two files that are made to ask for much: one of
-# 8,300 entries of one byte, each with 8,300 attributes that take no bytes, and one of 4,200,000 entries of one byte.
+# Times the reader of the tree of entries, by `abi exports`, on libraries of generated C with 470,000 entries and more: one unit of 6,500
+# groups of declarations by gcc, one by clang, and 150 units of 44 groups. They are compiled with -fvisibility=hidden and have no exports,
+# so the program makes the tree and little else. For comparison it runs `abi entries`, which reads the same entries one by one and keeps
+# none, readelf --debug-dump=info, and llvm-dwarfdump if it is installed. Prints the seconds of processor time (the least of nine runs),
+# ratios, and peak memory. For the first library, compiled with exports, it also prints the resident bytes for each entry, without those
+# of the file, once the answer is there: it looks at the program while nobody reads its output, when the tree itself is already freed. Then
+# it measures two files that are meant to take much: one of 8,300 entries of one byte, each with 8,300 attributes that take no bytes, and
+# one of 4,200,000 entries of one byte.
 #
 # usage: bench/tree.sh [ABI]   (default: the program that `rt run` built in crates/abi_cli/out)
 set -eu
@@ -15,7 +15,7 @@ source=$top/tests/c/entries.awk
 mkdir -p tree
 cd tree
 
-# resident ENTRIES LIBRARY: the bytes for each entry that are resident while the program waits to print.
+# resident ENTRIES LIBRARY: prints how many bytes for each entry are resident while the program waits to print.
 resident() {
     local pid size
     rm -f pipe
@@ -31,7 +31,7 @@ resident() {
     awk -v size="$size" -v file="$(stat -c %s "$2")" -v entries="$1" 'BEGIN { printf "%.0f", (1024 * size - file) / entries }'
 }
 
-# measured NAME LIBRARY: a line of each tool.
+# measured NAME LIBRARY: prints a line for each tool.
 measured() {
     local entries ours
     entries=$("$abi" entries "$2" | wc -l)
@@ -43,7 +43,7 @@ measured() {
     if command -v llvm-dwarfdump >/dev/null; then beside "$ours" llvm-dwarfdump --debug-info "$2"; fi
 }
 
-# alone NAME LIBRARY: a line of `abi exports` and one of `abi entries`, with the peak memory as a multiple of the file.
+# alone NAME LIBRARY: prints a line for `abi exports` and one for `abi entries`, with the peak memory as a multiple of the file.
 alone() {
     local entries ours memory size
     entries=$("$abi" entries "$2" | wc -l)
@@ -55,7 +55,7 @@ alone() {
     beside "$ours" "$abi" entries "$2"
 }
 
-# beside OURS COMMAND..: the seconds and the peak memory of another command, and the ratio to it.
+# beside OURS COMMAND..: prints the seconds and the peak memory of another command, and the ratio to it.
 beside() {
     local ours=$1 theirs
     shift
@@ -63,14 +63,14 @@ beside() {
     echo "  $(basename "$1") $theirs s, peak $(peak_memory "$@") MB, ratio to it $(ratio "$ours" "$theirs")"
 }
 
-# built NAME COMMAND..: the library of a name, which the command makes where it is not there yet.
+# built NAME COMMAND..: makes the library of this name by the command, if it is not there yet.
 built() {
     local name=$1
     shift
     [ -e "$name" ] || "$@" -shared -fPIC -w -g -O1 -o "$name"
 }
 
-# assembled NAME ATTRIBUTES ENTRIES: a library of one unit, whose root has so many entries below it, each of one byte, with so many
+# assembled NAME ATTRIBUTES ENTRIES: makes a library of one unit. Its root has ENTRIES children of one byte, each with ATTRIBUTES
 # attributes that take no bytes. DW_FORM_flag_present is 0x19.
 assembled() {
     [ -e "$1" ] || gcc -shared -nostdlib -x assembler -o "$1" - <<END
@@ -98,7 +98,7 @@ for unit in $(seq 1 150); do
     awk -v first=$((unit * 44 - 43)) -v last=$((unit * 44)) -f "$source" >"unit_$unit.c"
     units="$units unit_$unit.c"
 done
-# The sources of the units are words of their own.
+# Unquoted on purpose: each source of a unit is a word.
 built gcc_5.so gcc -gdwarf-5 -fvisibility=hidden groups.c
 built gcc_4.so gcc -gdwarf-4 -fvisibility=hidden $units
 built gcc_exports.so gcc -gdwarf-5 groups.c

@@ -1,13 +1,13 @@
 #!/usr/bin/env bash
-# Times `abi check` over libraries of 1,000, 10,000 and 50,000 exports with twenty versions, which gcc makes of generated
-# assembly: each against a second build, beside readelf over the same two files, and beside abidiff where it is there.
-# Prints seconds of processor time, with those of the clock in brackets, ratios of both and peak memory.
+# Times `abi check` on libraries of 1,000, 10,000 and 50,000 exports with twenty versions, which gcc makes from generated assembly: each
+# against a second build, compared with readelf on the same two files, and with abidiff if it is installed. Prints the seconds of
+# processor time, with those by the clock in brackets, ratios of both, and peak memory.
 #
 # usage: bench/versions.sh [ABI]   (default: the program that `rt run` built in crates/abi_cli/out)
 set -eu
 . "$(dirname "$0")/common.bash"
 
-# repeat TIMES COMMAND..: runs a command so many times.
+# repeat TIMES COMMAND..: runs a command TIMES times.
 repeat() {
     local times=$1
     shift
@@ -17,7 +17,7 @@ repeat() {
     done
 }
 
-# measure NAME TIMES COMMAND..: adds to the file of the name a line: seconds of so many runs in a row, user, system and clock.
+# measure NAME TIMES COMMAND..: appends a line to the file of this name: user, system and clock seconds of TIMES runs in a row.
 measure() {
     local name=$1
     shift
@@ -25,7 +25,7 @@ measure() {
     { time repeat "$@" > /dev/null 2> errors; } 2>> "time_$name" || failed "$@"
 }
 
-# least_time NAME TIMES: seconds of one run, of the processor and of the clock, each by the least of its measurements.
+# least_time NAME TIMES: prints the seconds of one run, by the processor and by the clock, each the least of its measurements.
 least_time() {
     awk -v times="$2" '
         NR == 1 || $1 + $2 < cpu { cpu = $1 + $2 }
@@ -53,7 +53,7 @@ for exports in 1000 10000 50000; do
         peer=abidiff
     fi
 
-    # Eleven rounds, in which the commands take turns, so that a busy machine slows them alike.
+    # Eleven rounds in which the commands take turns, so that a busy machine slows all of them equally.
     times=$((50000 / exports))
     rm -f time_*
     for _ in 1 2 3 4 5 6 7 8 9 10 11; do

@@ -1,11 +1,11 @@
 #!/usr/bin/env bash
-# Holds what the proved program says of programs of the system against what readelf shows of them: which exports of their libraries
-# they use; that a library without one of these may not replace it, and one without another export may. And that programs run with
-# edited libraries exactly where it says yes.
+# Compares what the proved program says of the system's programs with what readelf shows: which exports of their libraries they use;
+# that a library without a used export may not replace the whole one, and that one without an unused export may. Then it checks that
+# programs run with edited libraries exactly if the proved program says yes.
 #
 #   tests/app.sh                 builds the program of this repository
-#   ABI=/path/of/abi tests/app.sh    takes another one
-#   APP_PROGRAMS=100 tests/app.sh    takes so many programs for each library, not 25
+#   ABI=/path/of/abi tests/app.sh    uses another one
+#   APP_PROGRAMS=100 tests/app.sh    takes up to 100 programs for each library, not 25
 set -eu
 title="applications"
 tools="gcc readelf awk /usr/bin/python3"
@@ -19,7 +19,7 @@ python() {
     /usr/bin/python3 -B "$made/$1.py" "${@:2}"
 }
 
-# said NAME STATUS ARGUMENT..: like `expect`, but beside the answer there must be the note of `app`, which says how many imports bind.
+# said NAME STATUS ARGUMENT..: like `expect`, but standard error must have the note of `app` that says how many imports bind.
 said() {
     local name=$1 status=$2 ended=0
     shift 2
@@ -36,7 +36,7 @@ position_independent() {
     grep -q '^ *Class: *ELF64$' header && grep -q '^ *Type: *DYN ' header && grep -q '^ *Machine: .*X86-64$' header
 }
 
-# programs LIBRARY: programs of the system that need it.
+# programs LIBRARY: lists programs of the system that need the library.
 programs() {
     local count=0 file
     for file in /usr/bin/*; do
@@ -48,7 +48,7 @@ programs() {
     done
 }
 
-# hidden NAME NUMBER STATUS: the library without the export of this number, in the place of the whole one, for the last program.
+# hidden NAME NUMBER STATUS: checks the last program with the library in which the export of this number is hidden.
 hidden() {
     [ "$2" -gt 0 ] || return 0
     python hide "$library" hidden.so "$2"
@@ -77,7 +77,7 @@ for name in libc.so.6 libz.so.1 libcrypto.so.3 libm.so.6 libtinfo.so.6 libselinu
         last=$file
     done <list
     [ -s list ] || continue
-    # The last program once more: with one export gone that it uses, and with one gone that it does not.
+    # The last program again: without an export that it uses, and without one that it does not use.
     cp want uses_all
     hidden "$last without an export of $name that it uses" "$(sed -n 1p numbers)" 1
     cp uses_all want
@@ -85,7 +85,7 @@ for name in libc.so.6 libz.so.1 libcrypto.so.3 libm.so.6 libtinfo.so.6 libselinu
 done
 [ "$judged" -ge 10 ] || fail "only $judged programs need one of the libraries"
 
-# A program, a library without what it needs, and the whole one.
+# A program, a library that lacks what it needs, and the whole library.
 echo 'int f(void) { return 0; } int g(void) { return 0; }' >whole.c
 echo 'int f(void) { return 0; }' >part.c
 echo 'V1 { global: f; g; local: *; };' >made.map

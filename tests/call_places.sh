@@ -1,21 +1,21 @@
 #!/usr/bin/env bash
-# Lets gcc and clang compile random functions and calls of them, reads out of the compiled code where each argument and result
-# stands (tests/c/places.c says how), and holds that against the places that the proved program prints of the same library.
-# docs/CALL_PLACES.md describes the kinds of types in which a compiler departs from the rules.
+# Compiles random functions and calls to them with gcc and clang, observes at run time where the compiled code puts each argument and
+# result (tests/c/places.c says how), and compares that with the places that the proved program prints for the same library.
+# docs/CALL_PLACES.md describes the kinds of types for which a compiler departs from the rules.
 #
 #   tests/call_places.sh                 builds the program of this repository
-#   ABI=/path/of/abi tests/call_places.sh    takes another one
+#   ABI=/path/of/abi tests/call_places.sh    uses another one
 #
-# The functions are the same at each run. Of the first five whose places differ, the declarations are printed. A function of a kind
-# in which a compiler departs may have other places; of each such kind a line says how many have.
+# The functions are the same in each run. If places differ, it prints the declarations of the first five such functions. A function of a
+# kind for which a compiler departs from the rules may have other places; for each such kind a line says how many functions do.
 set -eu
 title="call places"
 tools="gcc readelf awk python3"
 crate=abi_cli
 . "$(dirname "$0")/common.bash"
 
-# Kinds of functions, as tests/c/places.py has them, and how many functions of each: those in which all places are those of the
-# rules, and those in which a compiler departs from them.
+# Kinds of functions, as tests/c/places.py has them, and how many functions of each: kinds for which compilers follow the rules, and
+# kinds for which one departs from them.
 many=170
 kinds="scalars structures floats unions bits wide_bits packed packed_nested aligned typedefs arrays empty complexes vectors int128s
     x87 large mixed"
@@ -24,12 +24,12 @@ odd_kinds="zero_arrays flexible unnamed_bits packed_unions packed_arrays packed_
     x87_unions quads vector_unions vectors_32 vectors_64 vectors_variadic vectors_short vectors_of_one vectors_int128 transparent
     atomic conventions"
 
-# Kinds that are a library each: a bit field may begin before the storage that debug information says it lies in. Such a library
-# may be refused.
+# Kinds with a library of their own: a bit field may begin before the storage that the debug information gives it, and the program may
+# refuse such a library.
 lone_kinds="crossing_bits aligned_bits packed_bits"
 
-# departures: a line for each kind in which a compiler departs from the rules: the compiler, `plain` for code without AVX, `wide`
-# for code with AVX-512 or `all`, the kind, and the reason.
+# departures: prints a line for each kind for which a compiler departs from the rules: the compiler; `plain` (code without AVX), `wide`
+# (code with AVX-512) or `all`; the kind; and the reason.
 departures() {
     cat <<'END'
 gcc all zero_arrays an array of no elements that begins inside an eightbyte has the class of its element there
@@ -76,7 +76,7 @@ clang all conventions the calling convention of another system is not asked for
 END
 }
 
-# as_exported LIBRARY: what `exports` must print of it, by readelf and by the places in the file `places`.
+# as_exported LIBRARY: prints what `exports` must print for it, from readelf and the places in the file `places`.
 as_exported() {
     exports "$1" >numbers
     awk -F '\t' '
@@ -84,8 +84,8 @@ as_exported() {
         { print $1, $5, $6, $7 ($2 in place ? place[$2] : " untyped") }' places numbers
 }
 
-# compared: holds the file `got` against `want`. A function of a kind of the file `odd` may have other places. The names of others
-# that differ go to the file `wrong`, and the number of lines that agree to `agree`.
+# compared: compares the file `got` with `want`. Functions of the kinds in the file `odd` may have other places. The names of other
+# functions that differ go to the file `wrong`, and the number of lines that agree to `agree`.
 compared() {
     awk '
         FILENAME == "odd" { kind = $1; sub(/^[^ ]* /, ""); reason[kind] = $0; next }
@@ -106,7 +106,7 @@ compared() {
         }' odd want got
 }
 
-# shown: the first functions that differ, with what is expected and printed of them.
+# shown: prints the first functions that differ, with the expected line and the printed one.
 shown() {
     local name
     head -n 5 wrong | while read -r name; do
@@ -116,12 +116,12 @@ shown() {
     done
 }
 
-# before_storage LIBRARY: whether a bit field has a negative bit offset, which is that of its end from the end of its storage.
+# before_storage LIBRARY: whether a bit field has a negative bit offset; this offset counts from the end of the storage.
 before_storage() {
     readelf --wide --debug-dump=info "$1" 2>/dev/null | grep -E 'DW_AT_bit_offset *:.*(0xffff|-)' >negative
 }
 
-# agree NAME COMPILER WIDTH KIND..: links the functions of these kinds, lets them say where their arguments and results stand, and
+# agree NAME COMPILER WIDTH KIND..: links the functions of these kinds, runs them to find the places of their arguments and results, and
 # compares. WIDTH is how many bytes of a vector register calls use.
 agree() {
     local name=$1 compiler=$2 width=$3 ended=0 all
@@ -145,11 +145,11 @@ agree() {
     total=$((total + $(cat agree)))
 }
 
-# built COMPILER BUILD WIDTH OPTION..: compiles the functions of all kinds, and holds their places against those of the program.
+# built COMPILER BUILD WIDTH OPTION..: compiles the functions of all kinds, and compares their places with those of the program.
 built() {
     local compiler=$1 build=$2 width=$3 own= odd="$odd_kinds bit_precise" quiet= kind count
     shift 3
-    # gcc has other types, and says what it has changed.
+    # gcc has more types, and prints notes on what it has changed.
     if [ "$compiler" = gcc ]; then
         own="decimals halves interchange empty_arrays"
         odd="$odd_kinds complex_quads half_elements"
@@ -159,7 +159,7 @@ built() {
         count=$few
         case " $(echo $kinds $own) " in *" $kind "*) count=$many ;; esac
         python3 "$sources/places.py" "$kind" "$count" >"$kind.c"
-        # The options are words of their own.
+        # Unquoted on purpose: each option is a word.
         $compiler -I"$sources" -fPIC -w $quiet "$@" -c -o "$kind.o" "$kind.c" || fail "$compiler $*: $kind.c does not compile"
     done
     departures | awk -v compiler="$compiler" -v build="$build" '
@@ -168,12 +168,12 @@ built() {
         grep "^$kind " departing >odd || true
         agree "$compiler $*, $kind" $compiler $width $kind
     done
-    # The kinds are words of their own.
+    # Unquoted on purpose: each kind is a word.
     grep -vE "^($(echo $lone_kinds | tr ' ' '|')) " departing >odd
     agree "$compiler $*" $compiler $width $kinds $own $odd
 }
 
-# worked: examples whose places the psABI gives by hand.
+# worked: examples whose places were worked out by hand from the psABI.
 worked() {
     cat >worked.c <<'END'
 union u { double d; };
@@ -198,7 +198,7 @@ w params - result st0+rax
 z params none,rdi result none
 END
     placed worked.so
-    # A function of two ranges, whose entry has its name and its parameters by its abstract origin.
+    # A function of two ranges. Its entry gets its name and parameters from its abstract origin.
     cat >parted.c <<'END'
 __attribute__((cold, noreturn)) void bad(void);
 int f(int a) { if (a < 0) bad(); return a + 1; }
@@ -212,7 +212,7 @@ END
     placed parted.so
 }
 
-# placed LIBRARY: the program must print the places that the file `want` holds.
+# placed LIBRARY: the program must print the places in the file `want`.
 placed() {
     answers "worked examples" 0 exports "$1"
     sed 's/^[0-9]* \([^ ]*\) FUNC [0-9]* /\1 /' got | sort >places
@@ -229,7 +229,7 @@ compilers=gcc
 if there clang; then compilers="gcc clang"; ran="clang"; fi
 for compiler in $compilers; do
     built $compiler plain 16 -O0 -g -gdwarf-5
-    # The width and the option are words of their own.
+    # Unquoted on purpose: the width and the option are words.
     [ -z "$wide" ] || built $compiler wide $wide -O1 -g -gdwarf-4
 done
 title="$title: $total functions"

@@ -1,10 +1,9 @@
 #!/usr/bin/env bash
-# What the program makes of its arguments, styles, rule files, certificates and trials, on libraries that gcc builds. The answers
-# were derived by hand from what the commands promise, but for the digests of trials: tests/trials.sh holds trials against
-# `abi check`.
+# Checks arguments, styles, rule files, certificates and trials of the program, on libraries that gcc builds. The expected answers were
+# derived by hand from what the commands promise, except the digests of trials: tests/trials.sh compares trials with `abi check`.
 #
 #   tests/commands.sh                 builds the program of this repository
-#   ABI=/path/of/abi tests/commands.sh    takes another one
+#   ABI=/path/of/abi tests/commands.sh    uses another one
 set -eu
 title="commands"
 tools="gcc readelf sha256sum awk timeout"
@@ -28,7 +27,7 @@ build() {
     gcc -shared -fPIC -g -O1 -Wl,-soname,libused.so.1 -o "$1" -x c -
 }
 
-# wanted LINE..: the lines that the program must print.
+# wanted LINE..: writes the lines that the program must print to `want`.
 wanted() {
     [ $# -eq 0 ] || printf '%s\n' "$@"
 } >want
@@ -41,7 +40,7 @@ cp plain.so ./-plain.so
 
 cp usage want
 while IFS='|' read -r status arguments; do
-    # Arguments are separated by blanks; "" is an empty one, and \377 a byte that is no text.
+    # Blanks separate arguments; "" is an empty one, and \377 a byte that is not text.
     eval "set -- $arguments"
     expect "arguments: $arguments" "$status" "$@"
 done <<'END'
@@ -94,11 +93,11 @@ END
 for arguments in "check -- plain.so plain.so" "check plain.so plain.so --rules no_rules" "check plain.so --rules no_rules plain.so" \
     "--rules no_rules check plain.so plain.so" "check --rules=no_rules plain.so plain.so" "check --report=text plain.so plain.so" \
     "check --report own plain.so plain.so" "check -- -plain.so plain.so"; do
-    # The arguments are words of their own.
+    # Unquoted on purpose: each argument is a word.
     expect "arguments: $arguments" 0 $arguments
 done
 
-# An empty name is a name, of a file that is not there.
+# An empty name is a name, too: that of a file that does not exist.
 wanted "read fault rules"
 expect "an empty name of a rule file" 3 check --rules= plain.so plain.so
 wanted "read fault rules"
@@ -146,7 +145,7 @@ expect "the first ten of twelve breaks" 1 check --report first many.so few.so
 # ---- exports without a type
 
 echo 'int typed(int x) { return x; }' >typed.c
-# A symbol that has no size is not counted.
+# A symbol without a size does not count.
 echo '__asm__(".globl bare\nbare: ret"); int first(void) { return 1; } int second(void) { return 2; } int third = 3;' >untyped.c
 gcc -c -fPIC -g -o typed.o typed.c
 gcc -c -fPIC -o untyped.o untyped.c
@@ -154,7 +153,7 @@ gcc -shared -o whole.so typed.o
 gcc -shared -o part.so typed.o untyped.o
 gcc -shared -o bare.so untyped.o
 
-# noted NAME STATUS OLD NEW LINE..: `check` must end with the status, and tell these lines beside the answer.
+# noted NAME STATUS OLD NEW LINE..: `check` must end with the status, and write these lines to standard error.
 noted() {
     answers "$1" "$2" check "$3" "$4"
     shift 4
@@ -182,7 +181,7 @@ noted "no export has a size" 0 sizeless.so sizeless.so \
 
 # ---- rule files
 
-# A library in the manner of zlib: its stream points to a structure whose members no caller sees.
+# A library like zlib: its stream points to a structure whose members no caller sees.
 zlib() {
     cat <<END
 struct internal_state { int status; $1 };
@@ -208,7 +207,7 @@ expect "its certificate without the rule file" 5 verify zlib_old.so zlib_new.so 
 wanted "refused 70 OtherInput 2"
 expect "its certificate of other libraries" 5 verify --rules zlib_rules zlib_new.so zlib_old.so zlib_cert
 
-# A structure that is reached behind a pointer and by value.
+# A structure that an export reaches through a pointer and by value.
 private() {
     echo "struct priv { long a; $1 }; void p($2) {}"
 }
@@ -226,7 +225,7 @@ wanted no "L2 p param 1 / target: size 8, now 24"
 expect "behind a pointer, by value alone" 1 check --rules by_value 'old_*x.so' 'new_*x.so'
 wanted no "L14 p: param 1 in rdi, now stack+0:24" "L2 p param 1: size 8, now 24"
 expect "by value" 1 check --rules by_pointer old_x.so new_x.so
-# The structure is left out, and the places of the function's arguments are not.
+# The rule file leaves out the structure, but not the places of the function's arguments.
 wanted no "L14 p: param 1 in rdi, now stack+0:24"
 expect "by value, by any way" 1 check --rules any_way old_x.so new_x.so
 wanted no "L14 p: param 2 in rsi, now stack+0:24" "L2 p param 2: size 8, now 24"
@@ -237,11 +236,11 @@ expect "by a way that is not known" 2 check --rules by_reference old_x.so new_x.
 
 # ---- migration
 
-# A certificate of version 1 has no ways: each pair line of version 2 stands once, and the first line has the other number.
+# A certificate of version 1 has no ways: it has each pair line of version 2 once, and the other number in the first line.
 first_version() {
     sed -e 's/^yes 2$/yes 1/' -e 's/^\(pair [0-9]* [0-9]*\) .*/\1/' "$1" | awk '!/^pair/ || !seen[$0]++'
 }
-# The pairs of a migrated certificate stand at both ways.
+# A migrated certificate has its pairs at both ways.
 migrated() {
     sed 's/^yes 1$/yes 2/' "$1" | awk '/^pair/ { print $0 " direct"; print $0 " pointer"; next } { print }'
 }
@@ -289,7 +288,7 @@ expect "the first certificate is none" 2 compose zlib_old.so zlib_more.so zlib_m
 wanted "unreadable middle 2 NotElf 0"
 expect "the middle library is none" 2 compose zlib_old.so none.so zlib_most.so first_cert second_cert
 grep -q '^abi: none.so: ' errors || fail "the path of the middle library is not told: $(cat errors)"
-# What both ends define and the middle only declares is lost in the middle.
+# A type that both ends define but the middle only declares is lost in the middle.
 echo 'struct s { int x; }; void f(struct s *p) {}' | build ends.so
 echo 'struct s; void f(struct s *p) {}' | build declares.so
 answers "a middle that declares" 0 check ends.so declares.so
@@ -319,7 +318,7 @@ expect "bit fields" 0 layout layouts.so bits
 wanted "layout flexible size 4" "member n bit 0 width 32" "member tail bit 32 width 0"
 expect "a flexible array" 0 layout layouts.so flexible
 
-# untagged NAME LIBRARY TAG LINE: `layout` must refuse the tag, and say this line beside the answer.
+# untagged NAME LIBRARY TAG LINE: `layout` must refuse the tag, and write this line to standard error.
 untagged() {
     answers "$1" 5 layout "$2" "$3"
     [ "$(cat got)" = "refused 85 NoTag 0" ] || fail "another answer to a tag that no structure has: $(cat got)"

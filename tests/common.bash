@@ -1,13 +1,13 @@
-# What the scripts beside this one share: which tools they need, which program they run, how they fail and count, and what an
-# answer must be by sha256sum and readelf. A script sets `title`, the `tools` that it needs and the `crate` of the program that it
-# runs, and then takes this file in; one that runs no program of this repository sets an empty `crate`.
+# What the scripts beside this one share: they check for tools, find the program, count checks and fail, and derive from sha256sum and
+# readelf what the program must answer. A script sets `title`, the `tools` that it needs and the `crate` of the program that it runs,
+# and then sources this file. A script that runs no program of this repository sets an empty `crate`.
 #
-# A missing tool is a failure. Where SKIP_MISSING_TOOLS is set, what needs it is left out, and the last line names the tool.
+# A missing tool is a failure. With SKIP_MISSING_TOOLS set, what needs it is left out, and the last line names the tool.
 export LC_ALL=C
 
 root=$(cd "$(dirname "$0")/.." && pwd)
 sources=$root/tests/c
-# the tools beside `tools` that were there and used, and what was left out
+# the optional tools that were found and used, and what was left out
 ran=
 left_out=
 
@@ -16,13 +16,13 @@ fail() {
     exit 1
 }
 
-# told LINE: the last line of a script, which the gate lists once more at its end.
+# told LINE: prints the last line of a script, which the gate lists again at its end.
 told() {
     echo "$title: $1"
     [ -z "${TEST_SUMMARY:-}" ] || echo "$title: $1" >>"$TEST_SUMMARY"
 }
 
-# there TOOL: whether the tool is there. Where it is missing, that is a failure, unless it may be left out.
+# there TOOL: whether the tool is there. A missing tool is a failure, unless SKIP_MISSING_TOOLS is set.
 there() {
     command -v "$1" >/dev/null && return
     [ -n "${SKIP_MISSING_TOOLS:-}" ] || fail "there is no $1 (with SKIP_MISSING_TOOLS=1 what needs it is left out)"
@@ -37,7 +37,7 @@ for tool in $tools; do
     there "$tool" || { told "nothing ran, since there is no $tool"; exit 0; }
 done
 
-# refuse_old PROGRAM: a program that is older than the sources beside this script is refused.
+# refuse_old PROGRAM: fails if the program is older than the sources of this repository.
 refuse_old() {
     local newer
     newer=$(find "$root/crates" "$root/crates.txt" -name out -prune -o \( -name '*.rt' -o -name '*.antt' -o -name crates.txt \) \
@@ -45,9 +45,9 @@ refuse_old() {
     [ -z "$newer" ] || fail "the program at $1 is older than $newer"
 }
 
-# program_of CRATE STATUS GIVEN: the path of the crate's program, in `found`: that of the one that is given, which must not be
-# older than the sources, or else of one that rt builds, which it does only where it is proved. A run without arguments ends with
-# the status.
+# program_of CRATE STATUS GIVEN: sets `found` to the path of the crate's program: the path GIVEN, which must not be older than the
+# sources, or else the program that rt builds, which it does only after a proof. rt also runs it, without arguments, and that run must
+# end with the status.
 program_of() {
     local built=0
     if [ -n "$3" ]; then
@@ -75,7 +75,7 @@ cd "$work"
 
 checks=0
 
-# finished: the last line: how many checks agreed, with which tools, and what was left out.
+# finished: prints the last line: how many checks agreed, with which tools, and what was left out.
 finished() {
     told "$checks checks agree; tools:$(printf ' %s' $tools $ran); left out:${left_out:- nothing}"
 }
@@ -86,9 +86,9 @@ passed() {
     echo "ok: $1"
 }
 
-# answers NAME STATUS ARGUMENT..: the program, given the arguments, must end with the status; what it prints is in the file `got`.
-# Standard error says what is wrong with an input; beside a yes or a no of `check`, how many exports have no type to be compared; and
-# beside a tag that no structure has, which tags are near it. Beside any other answer it says nothing.
+# answers NAME STATUS ARGUMENT..: the program, given the arguments, must end with the status; its standard output goes to the file
+# `got`. With the statuses 2, 3, 4, 6 and 64, standard error must say what is wrong; with 5 it must have exactly one note; with a yes or
+# no of `check` it may have notes. Otherwise it must be empty.
 answers() {
     local name=$1 status=$2 ended=0
     shift 2
@@ -103,23 +103,23 @@ answers() {
     esac
 }
 
-# same NAME: what the program printed must be what the file `want` holds.
+# same NAME: the file `got` must be the same as the file `want`.
 same() {
     diff -u want got >differences || { head -n 40 differences >&2 && fail "$1: another text"; }
 }
 
-# expect NAME STATUS ARGUMENT..: the program, given the arguments, must end with the status and print what the file `want` holds.
+# expect NAME STATUS ARGUMENT..: the program, given the arguments, must end with the status and print the contents of the file `want`.
 expect() {
     answers "$@"
     same "$1"
     passed "$1"
 }
 
-# exports LIBRARY: a line for each export, in order of the numbers, as readelf has them. Its fields, parted by tabs, are the
-# number, the name, the version (empty where there is none), the version's index, the label, the kind and the size.
+# exports LIBRARY: prints a line for each export that readelf shows, in the order of the symbol numbers. Its fields, separated by tabs,
+# are the number, the name, the version (or empty), the version's index, the label, the kind and the size.
 exports() {
     { readelf --wide --version-info "$1" && echo "symbols" && readelf --wide --dyn-syms "$1"; } | awk '
-        # the value of a number in decimal, or in hexadecimal behind 0x
+        # the value of a number in decimal, or in hexadecimal after 0x
         function value(text,    i, sum) {
             if (text !~ /^0x/) return text + 0
             for (i = 3; i <= length(text); i++) sum = 16 * sum + index("0123456789abcdef", substr(text, i, 1)) - 1
@@ -129,7 +129,7 @@ exports() {
         BEGIN { count = 0 }
         $0 == "symbols" { part = "symbols" }
 
-        # the version of each symbol: its index, an `h` where it is hidden, and its name in brackets
+        # the version of each symbol: its index, an `h` if it is hidden, and its name in brackets
         /^Version symbols section / { part = "versions"; next }
         part == "versions" && $0 == "" { part = "" }
         part == "versions" && sub(/^ +[0-9a-f]+:/, "") {
@@ -145,7 +145,7 @@ exports() {
             }
         }
 
-        # a binding and a kind that readelf only names where the header says GNU
+        # a kind and a binding that readelf names only if the file header says GNU
         part == "symbols" && $4 " " $5 " " $6 == "<OS specific>: 10" { sub(/<OS specific>: 10/, "IFUNC") }
         part == "symbols" && $5 " " $6 " " $7 == "<OS specific>: 10" { sub(/<OS specific>: 10/, "UNIQUE") }
 
@@ -175,15 +175,15 @@ digest() {
     sha256sum <"$1" | cut -d ' ' -f 1
 }
 
-# bound OLD NEW: for each old export, in order, a line with its number and that of the new export that it binds to, where
-# there is one; and where there is none, or the two do not agree, the rows of the report.
+# bound OLD NEW: prints, for each old export in order, its `bind` line with the new export that it binds to, if there is one, and the
+# rows of the report if there is none, or if the two do not agree.
 bound() {
     exports "$1" >old_exports
     exports "$2" >new_exports
     bound_exports
 }
 
-# bound_exports: the same, of the exports in the files `old_exports` and `new_exports`.
+# bound_exports: the same, for the exports in the files `old_exports` and `new_exports`.
 bound_exports() {
     awk -F '\t' '
         function is_function(kind) { return kind == "FUNC" || kind == "IFUNC" }
@@ -218,7 +218,7 @@ bound_exports() {
         }' new_exports old_exports
 }
 
-# certificate OLD NEW: what a yes must print.
+# certificate OLD NEW: prints the certificate that a yes must give.
 certificate() {
     echo "yes 2"
     echo "old $(digest "$1")"
@@ -228,7 +228,7 @@ certificate() {
     echo "end"
 }
 
-# breaks OLD NEW: the rows of a report: the soname, and then those of the exports, in order of their numbers.
+# breaks OLD NEW: prints the rows of a report: that of the soname, and then those of the exports in the order of their numbers.
 breaks() {
     local old new
     old=$(soname "$1")

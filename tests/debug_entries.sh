@@ -1,18 +1,18 @@
 #!/usr/bin/env bash
-# Builds libraries with gcc and clang, with debug information of DWARF 5 and of DWARF 4, with type units and with partial
-# units (of dwz), and holds the entries that the proved program prints against those that readelf prints, line by line; of the C
-# library of the system, joined with its debug information, too.
+# Builds libraries with gcc and clang, with debug information in DWARF 5 and DWARF 4, with type units and with partial units (by dwz),
+# and compares the entries that the proved program prints with those that readelf prints, line by line. Does the same for the C library
+# of the system, joined with its debug information.
 #
 #   tests/debug_entries.sh                 builds the program of this repository
-#   ABI=/path/of/abi tests/debug_entries.sh    takes another one
+#   ABI=/path/of/abi tests/debug_entries.sh    uses another one
 set -eu
 title="debug entries"
 tools="gcc readelf awk"
 crate=abi_cli
 . "$(dirname "$0")/common.bash"
 
-# entries LIBRARY: a line for each entry of .debug_info, as readelf has them: offset, depth, and tag in hexadecimal. It prints
-# depths in decimal, and left alone it lists the file that .gnu_debuglink names too.
+# entries LIBRARY: prints a line for each entry of .debug_info, as readelf shows it: the offset, the depth, and the tag in hexadecimal.
+# readelf prints depths in decimal, and by default it also lists the file that .gnu_debuglink names.
 entries() {
     readelf --wide --debug-dump=info,no-follow-links "$1" | awk '
         function value(text,    i, sum) {
@@ -21,7 +21,7 @@ entries() {
         }
 
         BEGIN {
-            # the tags of DWARF 5, section 7.5.3, and of GNU
+            # the tags of DWARF 5 (section 7.5.3) and of GNU
             count = split("array_type 1 class_type 2 entry_point 3 enumeration_type 4 formal_parameter 5 imported_declaration 8 " \
                 "label a lexical_block b member d pointer_type f reference_type 10 compile_unit 11 string_type 12 " \
                 "structure_type 13 subroutine_type 15 typedef 16 union_type 17 unspecified_parameters 18 variant 19 " \
@@ -47,7 +47,7 @@ entries() {
         }'
 }
 
-# listed NAME LIBRARY LEAST: the program must print what readelf does, and that is so many lines at least.
+# listed NAME LIBRARY LEAST: the program must print the same entries as readelf, at least LEAST lines.
 listed() {
     entries "$2" >want
     [ "$(wc -l <want)" -ge "$3" ] || fail "$1: readelf shows $(wc -l <want) entries: $(tail -n 1 want)"
@@ -64,7 +64,7 @@ if there clang; then compilers="gcc clang"; ran="clang"; fi
 for compiler in $compilers; do
     for options in "-gdwarf-5" "-gdwarf-4" "-fdebug-types-section -gdwarf-5"; do
         for level in -O0 -O2; do
-            # The options are words of their own.
+            # Unquoted on purpose: each option is a word.
             $compiler -shared -fPIC -w -g $options $level -o small.so part_1.c part_2.c part_3.c
             listed "$compiler -g $options $level, three units" small.so 3000
         done
@@ -89,7 +89,7 @@ if there dwz; then
     done
 fi
 
-# A library of the system, joined with the debug information that its package ships apart.
+# A library of the system, joined with the debug information from its debug package.
 if there eu-unstrip && there objcopy; then
     library=/lib/x86_64-linux-gnu/libc.so.6
     if "$root/tools/join-debug" "$library" joined.so 2>join_errors; then
@@ -101,7 +101,7 @@ if there eu-unstrip && there objcopy; then
     fi
 fi
 
-# What has a fault is refused, whatever it is.
+# Files with faults are refused, whatever the fault is.
 printf 'unreadable library 1 ShortFile 0\n' >want
 : >empty.so
 expect "an empty file has a fault" 2 entries empty.so

@@ -1,10 +1,10 @@
 #!/usr/bin/env bash
-# What the program does where files and devices fail: a call to read or write that fails, is interrupted or moves few bytes; a file
-# that shrinks while it is read, folders, pipes, sockets and devices as inputs, files above the limit; a full device, a closed
-# standard output and a broken pipe to write to. A failure is status 3 or 6 and its text, and never a signal.
+# Checks the program when files and devices fail: a call to read or write that fails, is interrupted or transfers few bytes; a file that
+# shrinks while it is read; folders, pipes, sockets and devices as inputs; files above the limit; and output to a full device, a closed
+# standard output or a broken pipe. A failure must give status 3 or 6 with its text, and never a signal.
 #
 #   tests/devices.sh                    builds the program of this repository
-#   ABI=/path/of/abi tests/devices.sh   takes another one
+#   ABI=/path/of/abi tests/devices.sh   uses another one
 set -eu
 title="devices"
 tools="gcc awk python3"
@@ -13,18 +13,18 @@ crate=abi_cli
 
 gcc -shared -fPIC -O1 -o faulty.so "$sources/faulty.c"
 
-# with SETTINGS ARGUMENT..: the program, given the arguments, with the calls of faulty.so that these settings make fail. Its status
-# is in `ended`, and what it writes in the files `got` and `errors`.
+# with SETTINGS ARGUMENT..: runs the program, given the arguments, with faulty.so, which makes calls fail as the settings say. Sets
+# `ended` to its status; its output goes to the files `got` and `errors`.
 with() {
     local settings=$1
     shift
     ended=0
-    # The settings are words of their own.
+    # Unquoted on purpose: each setting is a word.
     env LD_PRELOAD="$PWD/faulty.so" $settings "$program" "$@" >got 2>errors || ended=$?
 }
 
-# gives NAME STATUS TEXT: the last run must have ended with the status and printed the text; beside the statuses 2, 3 and 6 stands
-# one sentence.
+# gives NAME STATUS TEXT: the last run must have ended with the status and printed the text. With the statuses 2, 3 and 6, standard
+# error must have exactly one sentence.
 gives() {
     [ "$ended" -eq "$2" ] || fail "$1: status $ended, not $2: $(head -n 1 errors)"
     printf '%b' "$3" >want
@@ -34,7 +34,7 @@ gives() {
     esac
 }
 
-# run ARGUMENT..: the program, given the arguments, with calls that do not fail.
+# run ARGUMENT..: runs the program, given the arguments, without failing calls.
 run() {
     ended=0
     "$program" "$@" >got 2>errors || ended=$?
@@ -52,7 +52,7 @@ printf '[suppress_type]\nname = other\n' >rules
 
 # ---- calls that read
 
-# reads_fail WORDS ARGUMENT..: each call to read in turn fails; the words are the inputs in the order in which they are read.
+# reads_fail WORDS ARGUMENT..: makes each call to read fail in turn; the words name the inputs in the order in which they are read.
 reads_fail() {
     local which calls call at=0 names=$1 status
     shift
@@ -60,14 +60,14 @@ reads_fail() {
     calls=$(cut -d ' ' -f 1 counts) status=$ended
     cp got whole
     for which in $names; do
-        # Each input is read in two calls: its bytes, and the end.
+        # Reading an input takes two calls: one for its bytes, and one for the end.
         for call in $((at + 1)) $((at + 2)); do
             with "READ_FAILS=$call" "$@"
             gives "read $call of $* fails" 3 "read fault $which\n"
         done
         at=$call
     done
-    # A rule file is read once more, for a note: where that fails, the answer stands.
+    # The rule file is read again for a note. If that fails, the answer stays the same.
     for call in $(seq $((at + 1)) "$calls"); do
         with "READ_FAILS=$call" "$@"
         [ "$ended" -eq "$status" ] && cmp -s got whole || fail "read $call of $* fails: the answer is another one"
@@ -86,7 +86,7 @@ for settings in READ_MOST=1 READ_MOST=7 INTERRUPTED=1 "INTERRUPTED=1 READ_MOST=4
     passed "the answer with $settings"
 done
 
-# A file of which the first call gives a part, and that then has no bytes left, is the part that was read.
+# If the first call returns a part of a file and the next one no bytes, the input is the part that was read.
 head -c -1 old.so >cut.so
 cp old.so shrinking.so
 with "SHRINKS=shrinking.so READ_MOST=1000" exports shrinking.so
@@ -113,7 +113,7 @@ for name in folder socket missing.so /proc/self/mem "" old.so/inside; do
     passed "what cannot be read: '$name'"
 done
 
-# from_pipe NAME STATUS TEXT BYTES: the program reads from a pipe, which closes behind the first so many bytes of a library.
+# from_pipe NAME STATUS TEXT BYTES: the program reads from a pipe that closes after the first BYTES bytes of a library.
 from_pipe() {
     head -c "$4" old.so >pipe &
     run check pipe new.so
@@ -150,8 +150,8 @@ rm most.so more.so sparse.so
 
 # ---- calls that write
 
-# writes_fail STATUS TEXT ARGUMENT..: the device takes a byte at a time, and fails at each byte of the text in turn. What was
-# written is the text up to that byte.
+# writes_fail STATUS TEXT ARGUMENT..: the device takes one byte at a time, and fails at each byte of the text in turn. The output must
+# be the text up to that byte.
 writes_fail() {
     local status=$1 text=$2 size call
     shift 2
@@ -170,12 +170,12 @@ writes_fail() {
 writes_fail 0 exported exports old.so
 writes_fail 1 no check old.so new.so
 
-# to_device NAME DEVICE: all answers that are written there fail with status 6.
+# to_device NAME DEVICE: all answers that are written to the device must fail with status 6.
 to_device() {
     local arguments
     for arguments in "exports old.so" "check old.so old.so" "check old.so new.so" "exports f.c" "exports missing.so" --help ""; do
         ended=0
-        # The arguments are words of their own.
+        # Unquoted on purpose: each argument is a word.
         "$program" $arguments >"$2" 2>errors || ended=$?
         [ "$ended" -eq 6 ] || fail "$arguments to $1: status $ended, not 6"
         grep -qx 'abi: writing failed' errors || fail "$arguments to $1: it says: $(cat errors)"
@@ -184,7 +184,7 @@ to_device() {
 }
 to_device "a full device" /dev/full
 
-# The first file that is opened then has the number of standard output, and is only read.
+# With standard output closed, the first file that is opened gets its number, and must only be read.
 cp old.so whole.so
 ended=0
 "$program" check old.so new.so >&- 2>errors || ended=$?
@@ -199,7 +199,7 @@ ended=0
 [ "$ended" -eq 6 ] || fail "all is closed: status $ended, not 6"
 passed "standard error, and all, is closed"
 
-# broken.py BYTES COMMAND..: the reader of a pipe takes so many bytes and goes; the command must end with status 6, and no signal.
+# broken.py BYTES COMMAND..: the reader of a pipe reads BYTES bytes and closes it; the command must end with status 6, not by a signal.
 cat >broken.py <<'END'
 import os, subprocess, sys
 taken, words = int(sys.argv[1]), sys.argv[2:]

@@ -1,10 +1,10 @@
 #!/usr/bin/env bash
-# Holds the documents of `abi-json` against their schema, and the places of types in them against the sources: of libraries by gcc
-# and clang, in DWARF 4 and 5, with a header in a folder of its own, with names from the folder of the compiler and with absolute
-# ones. tests/python/test_damaged_lines.py damages line programs.
+# Checks the documents of `abi-json` against their schema, and the places of types in them against the sources, for libraries by gcc and
+# clang, in DWARF 4 and 5, with a header in a folder of its own, and with relative and absolute file names.
+# tests/python/test_damaged_lines.py covers damaged line programs.
 #
 #   tests/documents.sh                  builds the program of this repository
-#   ABI_JSON=/path/of/abi_json tests/documents.sh    takes another one
+#   ABI_JSON=/path/of/abi_json tests/documents.sh    uses another one
 set -eu
 title="documents"
 tools="/usr/bin/python3 gcc readelf"

@@ -1,14 +1,14 @@
-# What the scripts of the edits share: tests/c/edits.txt, cut up, and the two libraries of an edit, built. A script takes
-# common.bash in before.
+# What the scripts of the edits share: they split tests/c/edits.txt, and build the two libraries of an edit. A script sources
+# common.bash first.
 
-# cut_edits: the table, cut up into the folders edits/1, edits/2 and so on, which have the files
+# cut_edits: splits the table into the folders edits/1, edits/2 and so on, which have the files
 #   name                        the name of the edit
 #   old_1.c, new_1.c, old_2.c.. the sources
-#   old.map, new.map            the version scripts, where there are any
+#   old.map, new.map            the version scripts, if there are any
 #   old.options, new.options    options for the compiler
 #   answers                     the answers with their rows, pairs and alike types
-#   abidiff                     why abidiff answers something else, where it does
-# The number of edits is `edits`.
+#   abidiff                     why abidiff answers something else, if it does
+# It sets `edits` to the number of edits.
 cut_edits() {
     mkdir edits
     awk '
@@ -38,20 +38,20 @@ cut_edits() {
     edits=$(find edits -mindepth 1 -maxdepth 1 | wc -l)
 }
 
-# build_edit EDIT COMPILER OPTION..: edits/EDIT/old.so and edits/EDIT/new.so.
+# build_edit EDIT COMPILER OPTION..: builds edits/EDIT/old.so and edits/EDIT/new.so.
 build_edit() {
     local folder=edits/$1 compiler=$2 side options
     shift 2
     for side in old new; do
         options=$(cat "$folder/$side.options" 2>/dev/null || true)
         [ ! -f "$folder/$side.map" ] || options="$options -Wl,--version-script=$folder/$side.map"
-        # The options are words of their own.
+        # Unquoted on purpose: each option is a word.
         "$compiler" -shared -nostdlib -fPIC -w -Wno-psabi -g "$@" $options -o "$folder/$side.so" "$folder/${side}"_*.c
     done
 }
 
-# answer_of EDIT WORD..: the answer to an edit for a compiler and its options, with what stands below it. Of answers that name
-# words, all must be there; nothing is printed where no answer or several have them.
+# answer_of EDIT WORD..: prints the answer to an edit for a compiler and its options, with the lines below it. An answer that names
+# words applies only if all of them are given. Prints nothing if no answer applies, or several.
 answer_of() {
     local edit=$1
     shift

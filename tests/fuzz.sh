@@ -1,13 +1,14 @@
 #!/usr/bin/env bash
-# Changes libraries, rule files and certificates at random, with knowledge of their shape, and runs the program over them under
-# limits of memory (2 GB) and time (20 seconds). An answer must have a named status and a text that goes with it; of a library
-# `exports`, `entries` and `check` must name the same fault, and it may replace itself; a certificate that is made must be accepted.
-# Without a seed that of the day is taken, in universal time. A wrong answer is a failure, whose files are kept in tests/found.
+# Changes libraries, rule files and certificates at random, with knowledge of their structure, and runs the program on them under limits
+# of memory (2 GB) and time (20 seconds). An answer must have a documented status and a text that goes with it; `exports`, `entries` and
+# `check` must name the same fault of a library; a library that can be read may replace itself; and `verify` must accept each
+# certificate that the program makes. Without a seed, the date (UTC) is the seed. A wrong answer is a failure; its files are kept in
+# tests/found.
 #
-#   tests/fuzz.sh [COUNT [SEED [FIRST]]]    2,000 inputs, where no count is given; of them those from number FIRST on
-#   ABI=/path/of/abi tests/fuzz.sh          takes another program
-#   FUZZ_JOBS=1 tests/fuzz.sh 1000000       takes one processor, and not two; for a long run
-#   FUZZ_MEMORY=0 tests/fuzz.sh             sets no limit of memory, which a program with an address sanitizer needs
+#   tests/fuzz.sh [COUNT [SEED [FIRST]]]    tries 2,000 inputs, or those with numbers from FIRST (0) to below COUNT
+#   ABI=/path/of/abi tests/fuzz.sh          uses another program
+#   FUZZ_JOBS=1 tests/fuzz.sh 1000000       uses one processor in place of two; for a long run
+#   FUZZ_MEMORY=0 tests/fuzz.sh             sets no memory limit; a program with an address sanitizer needs this
 set -eu
 title="changed inputs"
 tools="gcc awk python3"

@@ -1,10 +1,11 @@
 #!/usr/bin/env bash
-# Holds the layouts that the proved program prints against pahole's: of structures made for this, of the C library and of others
-# whose debug information is there. Sizes, members, holes and padding must agree; docs/LAYOUTS.md lists what pahole counts otherwise.
+# Compares the layouts that the proved program prints with pahole's: for structures made for this test, and for those of the C library
+# and of other libraries with debug information. Sizes, members, holes and padding must agree; docs/LAYOUTS.md lists what pahole counts
+# in another way.
 #
 #   tests/layouts.sh                 builds the program of this repository
-#   ABI=/path/of/abi tests/layouts.sh    takes another one
-#   LAYOUTS_EVERY=1 tests/layouts.sh     holds each structure of a system library, not every fourth one, which takes minutes
+#   ABI=/path/of/abi tests/layouts.sh    uses another one
+#   LAYOUTS_EVERY=1 tests/layouts.sh     compares every structure of a system library, not every fourth; this takes minutes
 set -eu
 title="layouts"
 tools="gcc pahole readelf awk /usr/bin/python3"
@@ -14,8 +15,8 @@ crate=abi_cli
 made=$root/tests/layouts
 total=0
 
-# held NAME LIBRARY MINIMUM OPTION..: each structure of the library that its exports reach must have the layout that pahole
-# prints; at least so many are reached.
+# held NAME LIBRARY MINIMUM OPTION..: each structure that the library's exports reach must have the layout that pahole prints, and
+# they must reach at least MINIMUM structures.
 held() {
     local name=$1 library=$2 least=$3 laid overlaps left
     shift 3
@@ -27,7 +28,7 @@ held() {
     passed "$name: $laid layouts, $overlaps of them with overlaps; $left tags that no export reaches"
 }
 
-# The made structures, each of which a function takes.
+# The structures made for this test. A function takes each.
 structures=$(awk '/^struct .*\{/ { sub(/__attribute__\(\(([^()]|\([^()]*\))*\)\) /, ""); print $2 }' "$made/structures.h")
 {
     echo "#include \"$made/structures.h\""
@@ -45,7 +46,7 @@ for compiler in $compilers; do
     done
 done
 
-# header NAME MINIMUM HEADER..: the structures that headers define, each of which a function takes; where the headers are there.
+# header NAME MINIMUM HEADER..: the structures that the headers define, if the headers are there. A function takes each.
 header() {
     local name=$1 least=$2 tag
     shift 2
@@ -60,7 +61,7 @@ header() {
 header zlib.h 3 zlib.h
 header "headers of OpenSSL" 100 openssl/{ssl,evp,x509v3,cms,ts,ocsp,pkcs12,asn1t,conf,err,engine,ui,dh,dsa,rsa,ec}.h
 
-# joined NAME: the library of the system with its debug information, in `joined.so`, where that is there.
+# joined NAME: writes the library of the system, joined with its debug information if that is there, to `joined.so`.
 joined() {
     local library
     library=$(gcc -print-file-name="$1")

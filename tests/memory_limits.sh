@@ -1,17 +1,17 @@
 #!/usr/bin/env bash
-# Runs each command under limits of memory (ulimit -v), from the least under which the program starts upwards, in steps: each time
-# it must give the answer that it gives without a limit, or end with status 4 and write nothing to standard output. It goes on until
-# the answer came under ten limits in a row.
+# Runs each command under memory limits (ulimit -v) that grow in steps from the smallest under which the program starts. Each time it
+# must give the same answer as without a limit, or end with status 4 and write nothing to standard output. The limits grow until the
+# answer has come ten times in a row.
 #
 #   tests/memory_limits.sh                 builds the program of this repository
-#   ABI=/path/of/abi tests/memory_limits.sh    takes another one
+#   ABI=/path/of/abi tests/memory_limits.sh    uses another one
 set -eu
 title="memory limits"
 tools="gcc awk"
 crate=abi_cli
 . "$(dirname "$0")/common.bash"
 
-# limited KILOBYTES ARGUMENT..: the program, given the arguments, under a limit of memory; its status is that of this.
+# limited KILOBYTES ARGUMENT..: runs the program, given the arguments, under a memory limit, and returns its status.
 limited() {
     local limit=$1
     shift
@@ -21,15 +21,15 @@ limited() {
     ) >got 2>errors
 }
 
-# The least limit, in steps of 64 kilobytes, under which the program starts: without arguments it then prints its usage.
+# The smallest limit, in steps of 64 kilobytes, under which the program starts: without arguments it then prints its usage.
 least=64
 until { limited "$least"; } 2>/dev/null; [ $? -eq 64 ]; do
     least=$((least + 64))
     [ "$least" -le 262144 ] || fail "the program does not start in 256 megabytes"
 done
 
-# under_limits NAME STATUS STEP ARGUMENT..: the command under limits from the least on, in steps of so many kilobytes, until it gave
-# the right answer, which the file `want` holds, ten times in a row.
+# under_limits NAME STATUS STEP ARGUMENT..: runs the command under limits that grow from the smallest in steps of STEP kilobytes, until it
+# has given the right answer, which is in the file `want`, ten times in a row.
 under_limits() {
     local name=$1 status=$2 step=$3 limit=$least right=0 refused=0 ended
     shift 3
@@ -51,7 +51,7 @@ under_limits() {
     passed "$name: out of memory under $refused limits, the answer from there on"
 }
 
-# The libraries are large enough that a program which can start may yet want memory for them.
+# The libraries are so large that a program that can start may still run out of memory on them.
 for i in $(seq 5000); do echo "int exported_$i(void) { return $i; }"; done >many.c
 gcc -shared -nostdlib -fPIC -w -o many.so many.c
 head -n 4000 many.c >fewer.c
@@ -59,7 +59,7 @@ gcc -shared -nostdlib -fPIC -w -o fewer.so fewer.c
 awk -v first=1 -v last=200 -f "$sources/entries.awk" >entries.c
 gcc -shared -fPIC -w -g -O1 -o entries.so entries.c
 
-# answered NAME STATUS STEP ARGUMENT..: what the program answers without a limit must come under limits too.
+# answered NAME STATUS STEP ARGUMENT..: the program must give the same answer under limits as without one.
 answered() {
     local name=$1 status=$2 step=$3 ended=0
     shift 3

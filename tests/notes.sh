@@ -1,10 +1,10 @@
 #!/usr/bin/env bash
-# What `abi check` says of what no rule judges, on small C libraries that gcc and clang build: objects whose qualifiers change,
-# structures that one unit only declares and another one defines, dimensions of open arrays, members in padding, unions without
-# members, and functions of the old style.
+# Checks the notes of `abi check` on what no rule judges, on small C libraries that gcc and clang build: objects whose qualifiers change,
+# structures that one unit only declares and another one defines, dimensions of open arrays, members in padding, unions without members,
+# and old-style functions.
 #
 #   tests/notes.sh                    builds the program of this repository
-#   ABI=/path/of/abi tests/notes.sh   takes another one
+#   ABI=/path/of/abi tests/notes.sh   uses another one
 set -eu
 title="notes"
 tools="gcc sed grep"
@@ -37,13 +37,13 @@ enum color;
 int of_color(enum color *color) { return color != 0; }
 END
 
-# A structure that a second unit declares: its definition has one note, at the shorter path.
+# A structure that a second unit only declares: its definition gets one note, at the shorter path.
 cat >again.c <<'END'
 struct inner;
 int of_inner_again(struct inner **inner) { return inner != 0; }
 END
 
-# The structures of this unit are reached from no export.
+# No export reaches the structures of this unit.
 cat >inner.c <<'END'
 struct other { int a; };
 union either { int whole; char bytes[4]; };
@@ -58,18 +58,18 @@ void local(void) {
 }
 END
 
-# units SIDE EDIT EDIT: the two units of a side, edited.
+# units SIDE EDIT EDIT: writes the two units of a side, edited.
 units() {
     sed "$2" outer.c >"$1_outer.c"
     sed "$3" inner.c >"$1_inner.c"
 }
 
-# built SIDE: the library of its units, by the compiler and the options in `build`.
+# built SIDE: builds the library of its units, with the compiler and the options in `build`.
 built() {
     $build -O0 -fPIC -shared -o "$1.so" "$1_outer.c" again.c "$1_inner.c" 2>warnings || fail "$build refuses the units of $1"
 }
 
-# said NAME: what is said of the two sides must be what the file `want` holds, by each kind of build.
+# said NAME: the notes on the two sides must be those in the file `want`, for each kind of build.
 said() {
     while read -r build; do
         built old
@@ -81,14 +81,14 @@ said() {
     done <<<"$builds"
 }
 
-# notes NAME EDIT EDIT: the same, of the units before and after an edit of each.
+# notes NAME EDIT EDIT: the same, for the units before and after an edit of each.
 notes() {
     units old "" ""
     units new "$2" "$3"
     said "$1"
 }
 
-# backward NAME EDIT EDIT: the same, of the units after the edits and before them.
+# backward NAME EDIT EDIT: the same, with the edited units as the old side.
 backward() {
     units old "$2" "$3"
     units new "" ""
@@ -131,8 +131,8 @@ notes "a bit field is wider" "" "s/third : 3/third : 5/"
 
 # ---- one form of bit fields against the other
 
-# forms NAME OLD NEW: nothing is said of the units, which one compiler builds with two versions of DWARF. DWARF 4 counts a bit field
-# from the other end of its storage.
+# forms NAME OLD NEW: there must be no note on the same units, built by one compiler with two versions of DWARF. DWARF 4 counts a bit
+# field from the other end of its storage.
 forms() {
     units old "" ""
     units new "" ""
@@ -158,8 +158,8 @@ struct inner { short only; };
 __attribute__((visibility("hidden"))) int use_twice(struct inner *inner) { return inner->only; }
 END
 
-# twice NAME OLD NEW EDIT: what is said of libraries that define a tag twice, by the order of their units and an edit of the second
-# definition.
+# twice NAME OLD NEW EDIT: the notes on libraries that define a tag twice, with an edit of the second definition; OLD and NEW give the
+# order of the units.
 twice() {
     sed "$4" twice.c >twice_new.c
     while read -r build; do
@@ -181,8 +181,8 @@ twice "the second structure of a tag changes, and stands first" "inner.c twice.c
 
 # ---- one source against another
 
-# sources NAME COMPILERS OLD NEW: what is said of the libraries of two sources must be what the file `want` holds, by each kind of
-# build with one of the compilers.
+# sources NAME COMPILERS OLD NEW: the notes on the libraries of two sources must be those in the file `want`, for each kind of build
+# with one of the compilers.
 sources() {
     while read -r build; do
         case " $2 " in *" ${build%% *} "*) ;; *) continue ;; esac
@@ -207,7 +207,7 @@ echo 'union without members: g param 1: was size 8, members 0, now size 8, membe
 sources "a transparent union, whose members gcc leaves out" gcc \
     'typedef union { int *i; unsigned *u; } any __attribute__((transparent_union)); int g(any a) { return *a.i; }' \
     'typedef union { int *i; long *u; } any __attribute__((transparent_union)); int g(any a) { return *a.i; }'
-# itself NAME COMPILER SOURCE: nothing is said of a library against a copy of it.
+# itself NAME COMPILER SOURCE: there must be no note on a library and a copy of it.
 itself() {
     echo "$3" | $2 -g -w -O0 -fPIC -shared -o old.so -x c - || fail "$2 refuses the source of $1"
     cp old.so new.so
@@ -229,7 +229,7 @@ sources "a function of the old style" "gcc clang" 'int h(int a) { return a; }' '
 
 # ---- how many exports are compared
 
-# counts NAME RULES LINE: the line of counts of two libraries, of which the old one has three exports and the new one two of them.
+# counts NAME RULES LINE: the line of counts for two libraries: the old one has three exports, and the new one two of them.
 counts() {
     echo 'int f(void) { return 1; } int g(void) { return 2; } int h(void) { return 3; }' | gcc -g -fPIC -shared -o old.so -x c -
     echo 'int f(void) { return 1; } int g(void) { return 2; }' | gcc -g -fPIC -shared -o new.so -x c -

@@ -1,12 +1,12 @@
 #!/usr/bin/env bash
 # Runs each command of the pages word by word, and compares what it prints with what the page shows.
 #
-#   tests/pages.sh [PAGE..]            builds the programs of this repository; takes all pages where none is named
-#   ABI=/path/of/abi tests/pages.sh    takes another one, as ABI_JSON does for abi-json
-#   tests/pages.sh --print PAGE        prints a page with what its commands print in place
+#   tests/pages.sh [PAGE..]            builds the programs of this repository; runs all pages if none is named
+#   ABI=/path/of/abi tests/pages.sh    uses another one; ABI_JSON does the same for abi-json
+#   tests/pages.sh --print PAGE        prints a page with the actual output of its commands
 #
-# The commands stand in blocks ```console, behind `$ `. A line `..` stands for any lines, and `9aa62e3a..` for a digest. `cat` of a
-# file that is not there makes it. What needs a mirror of Debian is left out where no mirror answers. The packages of README take a
+# The commands are in ```console blocks, after `$ `. A line `..` stands for any lines, and `9aa62e3a..` for a digest. `cat` of a file
+# that does not exist makes it. Commands that need a mirror of Debian are left out if no mirror answers. The packages of README take a
 # minute or two of processor time.
 set -eu
 title="pages"

@@ -1,9 +1,9 @@
 #!/usr/bin/env bash
-# Shows the edits of tests/c/edits.txt to abidiff, of the package abigail-tools, and holds the tables of docs/PEERS.md against what
-# it answers. It runs no program of this repository: what `abi` answers is what the table of edits says, and tests/typed_check.sh
-# holds the program against that.
+# Runs abidiff, of the package abigail-tools, on the edits of tests/c/edits.txt, and compares its answers with the tables of
+# docs/PEERS.md. It runs no program of this repository: the answers of `abi` come from the table of edits, which tests/typed_check.sh
+# checks against the program.
 #
-#   tests/peers.sh           compares with the page, which speaks of one version of abidiff
+#   tests/peers.sh           compares with the page, which is about one version of abidiff
 #   tests/peers.sh --print   prints the tables of the page
 set -eu
 title="peers"
@@ -21,7 +21,7 @@ if [ "${1:-}" != --print ] && ! grep -q "abidiff $version\b" "$page"; then
     exit 0
 fi
 
-# shown STATUS: what abidiff's exit status tells: 4 a change, 8 an incompatible one, 1 and 2 a failure.
+# shown STATUS: the meaning of abidiff's exit status: 4 is a change, 8 an incompatible change, 1 and 2 are failures.
 shown() {
     case $1 in
     0) echo "no change" ;;
@@ -53,7 +53,7 @@ for edit in $(seq "$edits"); do
     fi
 done
 
-# many ANSWER SHOWN: how many edits have both.
+# many ANSWER SHOWN: how many edits have this answer of abi and this one of abidiff.
 many() {
     grep -c -x "$1/$2" counted || true
 }

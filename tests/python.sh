@@ -1,9 +1,9 @@
 #!/usr/bin/env bash
-# Runs the tests of the tools that put together what distributions ship, of whole releases, and of the recipes of examples/: libraries
-# and packages that gcc, objcopy, dwz, dpkg-deb and rpmbuild make, and what the proved program says of them.
+# Runs the tests of the tools in Python and of the recipes of examples/, with libraries and packages that gcc, objcopy, dwz, dpkg-deb
+# and rpmbuild make, and with the answers of the proved program.
 #
 #   tests/python.sh                 builds the program of this repository
-#   ABI=/path/of/abi tests/python.sh    takes another one, as ABI_JSON does for abi-json
+#   ABI=/path/of/abi tests/python.sh    uses another one; ABI_JSON does the same for abi-json
 set -eu
 title="packages and recipes"
 tools="/usr/bin/python3 gcc clang readelf objcopy ar strip dwz eu-unstrip eu-elflint dpkg-deb bsdtar make prlimit /usr/bin/time
@@ -23,7 +23,7 @@ ABI=$program ABI_JSON=$found /usr/bin/python3 -B -m pytest --quiet --color=no -p
     "$root/tests/python" >log 2>&1 || { tail -n 60 log >&2 && fail "$(tail -n 1 log)"; }
 cat log
 
-# The last line counts the tests; lines before it name what was left out.
+# The last line of the log counts the tests; lines before it name what was left out.
 checks=$(sed -n '$s/^\([0-9]*\) passed.*/\1/p' log)
 [ "${checks:-0}" -gt 0 ] || fail "no test ran"
 left_out=$(sed -n 's/^SKIPPED .*there is no \(.*\)$/ \1/p' log | sort -u | tr -d '\n')

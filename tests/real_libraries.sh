@@ -1,24 +1,24 @@
 #!/usr/bin/env bash
-# Builds pairs of small libraries with gcc, with versions and without, and holds what the proved program says of them
-# against what sha256sum and readelf say.
+# Builds pairs of small libraries with gcc, with symbol versions and without, and compares what the proved program says of them with
+# what sha256sum and readelf say.
 #
 #   tests/real_libraries.sh                 builds the program of this repository
-#   ABI=/path/of/abi tests/real_libraries.sh    takes another one
+#   ABI=/path/of/abi tests/real_libraries.sh    uses another one
 set -eu
 title="real libraries"
 tools="gcc readelf sha256sum awk"
 crate=abi_cli
 . "$(dirname "$0")/common.bash"
 
-# build NAME SOURCE OPTION..: the library NAME.so of a source.
+# build NAME SOURCE OPTION..: builds the library NAME.so from a source.
 build() {
     local name=$1 source=$2
     shift 2
     gcc -shared -nostdlib -fPIC "$@" -o "$name.so" "$sources/$source.c"
 }
 
-# broken NAME OLD NEW: the breaks must be those of the sorted file `rows`, by readelf and by the program, which must have
-# them in order.
+# broken NAME OLD NEW: both readelf and the program must find the breaks in the sorted file `rows`, and the program must print them in
+# order.
 broken() {
     breaks "$2" "$3" >breaks
     sort breaks | diff -u rows - >&2 || fail "$1: readelf shows other breaks"
@@ -48,14 +48,14 @@ build less_2 less -Wl,-soname,libshape.so.2
 build old_2 old -Wl,-soname,libshape.so.2
 build debug old -g
 
-# Libraries of versions, and libraries without versions that have names of theirs.
+# Libraries with symbol versions, and libraries without versions that share names with them.
 for number in 1 2 3; do
     build "versions_$number" versions "-DBUILD=$number" "-Wl,--version-script=$sources/versions.map"
 done
 build unversioned unversioned
 build late unversioned -DLATE
 
-# What readelf says of the exports, for sure: six in old.so, and two of them not in less.so.
+# First check what readelf finds: six exports in old.so, two of which are not in less.so.
 exports old.so | cut -f 2 | sort | tr '\n' ' ' >names
 [ "$(cat names)" = "area around border count kept maybe " ] || fail "readelf names other exports of old.so: $(cat names)"
 passed "readelf names the exports of old.so"
@@ -89,7 +89,7 @@ expect "a lost soname is a break" 1 check old_1.so more.so
 [ "$(sed -n 2p want)" = "X1 -: SONAME libshape.so.1, now libshape.so.2" ] || fail "readelf shows no other soname first"
 expect "the soname goes before the exports" 1 check old_1.so less_2.so
 
-# Versions. What readelf says of them, for sure.
+# Versions. First check what readelf finds.
 exports versions_1.so | cut -f 5 | sort | tr '\n' ' ' >names
 [ "$(cat names)" = "apart@@V2 apart@V1 lost@@V1 pick@@V2 pick@V1 plain@@V1 shape@@V1 table@@V1 " ] ||
     fail "readelf names other exports of versions_1.so: $(cat names)"
@@ -113,7 +113,7 @@ X3 pick@@V3: version gone
 END
 broken "nor may the old one replace the one with one more" versions_2.so versions_1.so
 
-# Versions for no versions: the first version, or else the only default one.
+# From no versions to versions: exports bind to the first version, or else to the only default one.
 certificate unversioned.so versions_2.so >want
 for name in pick@V1 plain@@V1 table@@V1 only@@V3; do
     number=$(exports versions_2.so | awk -F '\t' -v label="$name" '$5 == label { print $1 }')
@@ -171,7 +171,7 @@ X4 tls_object_gnu_indirect_function: kind TLS, now IFUNC
 END
 broken "twelve of the twenty-five pairs of kinds disagree" kinds_old.so kinds_new.so
 
-# With debug information: the lines of a certificate without types, then those of types.
+# With debug information: first the lines that a certificate without types has, then those on types.
 answers "a library with debug information may replace itself" 0 check debug.so debug.so
 certificate debug.so debug.so | grep -v '^end$' >start
 head -n "$(wc -l <start)" got | diff -u start - >&2 || fail "the certificate of debug.so begins otherwise"
@@ -179,7 +179,7 @@ grep -Eq '^pair [0-9]+ [0-9]+ direct$' got || fail "the certificate of debug.so 
 tail -n +"$(($(wc -l <start) + 1))" got | grep -Ev '^(alike (old|new) [0-9]+ [0-9]+|pair [0-9]+ [0-9]+ (direct|pointer)|end)$' >&2 &&
     fail "the certificate of debug.so has another line"
 passed "a library with debug information may replace itself"
-# A byte behind all that is read makes another file: here both are read, where above one is. Only the digest of the new one differs.
+# One more byte at the end makes another file, so the program reads two files, not one as above. Only the digest of the new one differs.
 cp got of_itself
 cp debug.so longer.so
 printf '\0' >>longer.so

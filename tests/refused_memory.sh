@@ -1,10 +1,10 @@
 #!/usr/bin/env bash
-# Refuses the program's requests for memory one at a time, with a function that stands before those of the C library. Each time
-# it must give the answer that it gives with all its memory, or end with status 4 and print nothing. Of commands with many requests
-# some are tried, spread evenly.
+# Refuses the program's requests for memory one at a time, with a preloaded function that replaces the C library's. Each time the program
+# must give the same answer as with all its memory, or end with status 4 and print nothing. For commands with many requests it tries
+# some of them, spread evenly.
 #
-#   tests/refused_memory.sh [MOST]             tries at most so many requests of a command: 60, where no number is given
-#   ABI=/path/of/abi tests/refused_memory.sh   takes another program
+#   tests/refused_memory.sh [MOST]             tries at most MOST requests of each command (60 by default)
+#   ABI=/path/of/abi tests/refused_memory.sh   uses another program
 set -eu
 title="refused memory"
 tools="gcc awk sed"
@@ -14,7 +14,7 @@ most=${1:-60}
 
 gcc -shared -fPIC -O1 -o faulty.so "$sources/faulty.c"
 
-# refused NAME STATUS ARGUMENT..: the command with one request refused, time and again.
+# refused NAME STATUS ARGUMENT..: runs the command again and again, each time with another request refused.
 refused() {
     local name=$1 status=$2 ended=0 calls call tried=0 out=0
     shift 2

@@ -1,12 +1,12 @@
 #!/usr/bin/python3
-"""Holds libraries of C of a release of Debian beside those of the next one, with their debug information.
+"""Compares C libraries of a release of Debian with those of the next one, with their debug information.
 
 usage: tests/release_pairs.py FOLDER [DEBUG_PACKAGE..]     with the program `abi` in the variable ABI
 
-Downloads packages to FOLDER by curl where they are not there, joins each library with its debug information as `tools/join-debug` does,
-and prints a line for each pair in Markdown: the answer of `abi check`, its breaks by rule, the notes by kind, the notes that either
-library has beside itself, and what abidiff says. The last line counts the answers of both. Texts and notes are kept in FOLDER/results,
-and the joined libraries in FOLDER/joined. This needs the network and abidiff, so it is no part of the gate.
+Downloads missing packages to FOLDER by curl, joins each library with its debug information as `tools/join-debug` does, and prints a
+line for each pair in Markdown: the answer of `abi check`, its breaks by rule, the notes by kind, the notes on each library compared
+with itself, and the answer of abidiff. The last line counts the answers of both. Texts and notes are kept in FOLDER/results, and the
+joined libraries in FOLDER/joined. It needs the network and abidiff, so it is not part of the gate.
 """
 
 from __future__ import annotations
@@ -37,9 +37,9 @@ from abi_tools.package_sides import PackagedLibrary, Side  # noqa: E402
 _ARCHIVE = "http://deb.debian.org/debian"
 _FIELD = re.compile(r"^([A-Z][A-Za-z0-9-]*): (.*)$", re.MULTILINE)
 _NOTE = re.compile(r"abi: note: ([a-z -]+)(?:: and (\d+) more$|:|$)")
-# Where libraries lie. What lies further down is loaded by its place, and is passed over.
+# The folders of libraries. Files further down are plugins that programs load by path, and are skipped.
 _FOLDERS = ("lib/x86_64-linux-gnu", "usr/lib/x86_64-linux-gnu", "usr/lib")
-# Seconds of processor time that abidiff gets for a pair, and the status of a process that takes more.
+# How many seconds of processor time abidiff gets for a pair, and the status of a process that takes more.
 _LONGEST = 200
 _TOO_LONG = -signal.SIGXCPU
 # The bits of abidiff's exit status.
@@ -50,8 +50,8 @@ HEAD = """\
 | Library | Old | New | Answer | Breaks | Notes | Notes beside itself | abidiff |
 |---|---|---|---|---|---|---|---|"""
 
-# The debug packages, the releases of Debian whose versions are held beside each other, and the packages of libraries, which may have
-# another name in the later release (`old=new`).
+# The debug packages, the two releases of Debian to compare, and the packages of libraries, which may have another name in the later
+# release (`old=new`).
 _LIST = """\
 libadns1-dbg bookworm trixie libadns1=libadns1t64
 libao-dbg bookworm trixie libao4
@@ -101,20 +101,20 @@ trousers-dbg bookworm trixie libtspi1
 
 @dataclass(frozen=True)
 class Release:
-    """A release of Debian: what it says of its packages, by their names."""
+    """A release of Debian: the fields of its packages, by name."""
 
     packages: dict[str, dict[str, str]]
 
     @classmethod
     @functools.cache
     def read(cls, name: str, folder: Path) -> "Release":
-        """Reads the list of its packages, which is downloaded where it is not there."""
+        """Reads the list of its packages, and downloads it if it is missing."""
         place = _downloaded(f"dists/{name}/main/binary-amd64/Packages.xz", folder / "lists" / f"{name}.xz")
         paragraphs = (dict(_FIELD.findall(part)) for part in lzma.decompress(place.read_bytes()).decode().split("\n\n"))
         return cls({fields["Package"]: fields for fields in paragraphs if fields})
 
     def file(self, package: str, folder: Path) -> Path:
-        """The file of a package, downloaded where it is not there. Raises a fault where its digest is another."""
+        """The file of a package, downloaded if it is missing. Raises a fault if its digest is wrong."""
         fields = self.packages[package]
         place = _downloaded(fields["Filename"], folder / "packages" / Path(fields["Filename"]).name)
         if hashlib.sha256(place.read_bytes()).hexdigest() != fields["SHA256"]:
@@ -123,7 +123,7 @@ class Release:
 
 
 def _downloaded(name: str, place: Path) -> Path:
-    """A file of the archive. Raises a fault if it cannot be downloaded."""
+    """Downloads a file of the archive. Raises a fault if that fails."""
     if not place.exists():
         place.parent.mkdir(parents=True, exist_ok=True)
         part = place.with_suffix(".part")
@@ -151,7 +151,7 @@ class Task:
 
 
 def _pairs(old: Side, new: Side) -> Iterator[tuple[PackagedLibrary, PackagedLibrary]]:
-    """The libraries of both sides, paired by sonames or, where these have changed, by sonames without their numbers."""
+    """The libraries of both sides, paired by soname or, if that has changed, by soname without its number."""
     left, right = ({one.soname: one for one in side.libraries if str(one.name.parent) in _FOLDERS} for side in (old, new))
     alike = {re.sub(r"[0-9.-]+", "", soname): one for soname, one in right.items() if soname not in left}
     for soname, library in left.items():
@@ -162,7 +162,7 @@ def _pairs(old: Side, new: Side) -> Iterator[tuple[PackagedLibrary, PackagedLibr
 
 @dataclass(frozen=True)
 class Row:
-    """A line of the table: which libraries it is on, and what `abi` and abidiff say."""
+    """A line of the table: its libraries, and what `abi` and abidiff say of them."""
 
     names: tuple[str, ...]
     answer: str
@@ -177,7 +177,7 @@ class Row:
 
 
 def _judged(names: tuple[str, ...], old: Path, new: Path, results: Path) -> Row:
-    """What `abi` says of a pair, which is kept in a folder, and what abidiff says."""
+    """What `abi` and abidiff say of a pair. Keeps the texts of `abi` in a folder."""
     answer = _kept(Abi().check(old, new, None), results, "pair")
     if answer.status not in (YES, NO):
         return Row(names, answer.text.strip() or answer.why())
@@ -189,7 +189,7 @@ def _judged(names: tuple[str, ...], old: Path, new: Path, results: Path) -> Row:
 
 
 def _kept(answer: Answer, results: Path, name: str) -> Answer:
-    """Keeps what the program said in a folder."""
+    """Keeps an answer of the program in a folder, and returns it."""
     results.mkdir(parents=True, exist_ok=True)
     for suffix, text in (("status", f"{answer.status}\n"), ("text", answer.text), ("notes", answer.notes)):
         (results / f"{name}.{suffix}").write_text(text, errors="surrogateescape")
@@ -197,7 +197,7 @@ def _kept(answer: Answer, results: Path, name: str) -> Answer:
 
 
 def _notes(answer: Answer) -> Counter[str]:
-    """The notes by kind, with those that are only counted."""
+    """How many notes there are of each kind, including those that the program only counts."""
     found: Counter[str] = Counter()
     for line in answer.notes.splitlines():
         note = _NOTE.match(line)
@@ -212,7 +212,7 @@ def _counted(counts: Counter[str]) -> str:
 
 
 def _abidiff(old: Path, new: Path) -> str:
-    """What abidiff says by its status."""
+    """The answer of abidiff, from its exit status."""
     command = ["prlimit", f"--cpu={_LONGEST}:", "--", "abidiff", str(old), str(new)]
     status = subprocess.run(command, stdin=subprocess.DEVNULL, capture_output=True, check=False).returncode
     if status == _TOO_LONG:
@@ -225,7 +225,7 @@ def _abidiff(old: Path, new: Path) -> str:
 
 
 def _rows(task: Task, folder: Path) -> Iterator[Row]:
-    """The lines on the libraries of a task."""
+    """The lines for the libraries of a task."""
     releases = [Release.read(name, folder) for name in task.releases]
     versions = [release.packages[names[0]]["Version"] for release, names in zip(releases, task.packages)]
     files = [[release.file(name, folder) for name in (*names, task.debug)] for release, names in zip(releases, task.packages)]
@@ -246,7 +246,7 @@ def _rows(task: Task, folder: Path) -> Iterator[Row]:
 
 
 def main(arguments: list[str]) -> int:
-    """Holds the libraries of the list beside each other, or those of the debug packages that are named."""
+    """Compares the libraries of the list, or only those of the debug packages that the arguments name."""
     if not arguments:
         print("usage: tests/release_pairs.py FOLDER [DEBUG_PACKAGE..]", file=sys.stderr)
         return WRONG_ARGUMENTS

@@ -1,9 +1,9 @@
 #!/usr/bin/env bash
-# Gives the same rule files to `abi check` and to abidiff, and compares which breaks each leaves out: of libraries whose exports
-# are gone in a new one, and of functions whose types have changed.
+# Gives the same rule files to `abi check` and to abidiff, and compares which breaks each leaves out, for exports that are gone and for
+# functions whose types have changed.
 #
 #   tests/rule_files.sh                 builds the program of this repository
-#   ABI=/path/of/abi tests/rule_files.sh    takes another one
+#   ABI=/path/of/abi tests/rule_files.sh    uses another one
 set -eu
 title="rule files"
 tools="gcc abidiff"
@@ -18,21 +18,21 @@ build -Wl,--version-script="$sources/ruled_new.map" -o new.so "$sources/ruled_ne
 build -o types_old.so "$sources/ruled_types.c"
 build -DGROWN -o types_new.so "$sources/ruled_types.c"
 
-# reported OLD NEW RULES: the report of abidiff, in the file `report`. Its status has bits for changes, and one from 128 on where it
-# was killed; it is where the value of a property begins with a bracket.
+# reported OLD NEW RULES: writes the report of abidiff to the file `report`. Its exit status has bits for changes, and is 128 or more if
+# a signal killed it, which happens if the value of a property begins with a bracket.
 reported() {
     local ended=0
     abidiff --suppressions "$3" "$1" "$2" >report || ended=$?
     [ "$ended" -lt 128 ] || fail "abidiff ends with status $ended on: $(cat "$3")"
 }
 
-# removed RULES: the exports that abidiff reports as gone.
+# removed RULES: lists the exports that abidiff reports as gone.
 removed() {
     reported old.so new.so "$1"
     sed -n "s/^ *\[D\] '.*'  *{\([^@}]*\).*/\1/p" report | sort
 }
 
-# changed RULES: the functions that abidiff reports as changed.
+# changed RULES: lists the functions that abidiff reports as changed.
 changed() {
     reported types_old.so types_new.so "$1"
     sed -n "s/^ *\[C\] 'function [a-z]* \([a-z_]*\)(.*/\1/p" report | sort
@@ -44,14 +44,14 @@ removed none >all_exports
 changed none >all_functions
 [ "$(wc -l <all_functions)" -eq 6 ] || fail "abidiff reports other functions than the six that have changed"
 
-# checked OLD NEW: the rows that the program reports with the rule file `rules`, in the file `printed`.
+# checked OLD NEW: writes what the program reports with the rule file `rules` to the file `printed`.
 checked() {
     local ended=0
     "$program" check --rules rules "$1" "$2" >printed 2>errors || ended=$?
     [ "$ended" -le 1 ] || fail "the rule file is refused: $(cat rules printed)"
 }
 
-# exports_agree: both report the same exports that are gone.
+# exports_agree: both must report the same exports as gone.
 exports_agree() {
     removed rules >want
     checked old.so new.so
@@ -59,7 +59,7 @@ exports_agree() {
     diff -u want got >&2 || fail "other exports are left out by: $(cat rules)"
 }
 
-# types_agree: both report changed types of the same functions.
+# types_agree: both must report changed types for the same functions.
 types_agree() {
     changed rules >want
     checked types_old.so types_new.so
@@ -67,7 +67,7 @@ types_agree() {
     diff -u want got >&2 || fail "other types are left out by: $(cat rules)"
 }
 
-# each LINES: the rule file of these lines, which are separated by `~`, leaves out the same in both tools.
+# each LINES: a rule file of these lines, which are separated by `~`, must leave out the same in both tools.
 each() {
     printf '%s\n' "$1" | tr '~' '\n' >rules
     exports_agree
@@ -75,7 +75,7 @@ each() {
     passed "$1: $(tr '\n' ' ' <got)"
 }
 
-# each_of_exports LINES: the same of exports alone. To abidiff members of structures are variables, too.
+# each_of_exports LINES: the same, for exports alone. For abidiff, members of structures are variables, too.
 each_of_exports() {
     printf '%s\n' "$1" | tr '~' '\n' >rules
     exports_agree
@@ -129,8 +129,8 @@ each "$T~name = five~accessed_through = pointer"
 each "$T~name = five~accessed_through = direct"
 each "$T~name = six~$F~name = f_beta"
 
-# differs LINES REPORTED HERE: with the rule file of these lines, which are separated by `~`, abidiff still reports so many exports
-# that are gone, and the program so many, or refuses the file with a fault. docs/RULE_FILES.md lists these differences.
+# differs LINES REPORTED HERE: with a rule file of these lines, which are separated by `~`, abidiff must still report REPORTED exports as
+# gone. The program must report HERE exports, or refuse the file with the fault HERE. docs/RULE_FILES.md lists these differences.
 differs() {
     local here ended=0
     printf "$1\n" | tr '~' '\n' >rules

@@ -1,18 +1,18 @@
 #!/usr/bin/env bash
-# What people are told on standard error of what is wrong with a call: a row for each sentence that a file can be made for. The
-# notes on exports without a type, which stand beside a yes or a no, have theirs in commands.sh.
+# Checks the sentences on standard error that say what is wrong with a call: one row for each sentence that an input can cause. The notes
+# on exports without a type, which come with a yes or a no, have their rows in commands.sh.
 #
 #   tests/sentences.sh                    builds the program of this repository
-#   ABI=/path/of/abi tests/sentences.sh   takes another one
+#   ABI=/path/of/abi tests/sentences.sh   uses another one
 set -eu
 title="sentences"
 tools="gcc clang objcopy readelf ar dd awk sed"
 crate=abi_cli
 . "$(dirname "$0")/common.bash"
 
-# run ARGUMENT..: the program, given the arguments, writes to the file `output`. Where these are set, it may take `limit` kilobytes of
-# memory, and the functions of the library `preload` stand before those of the C library. Its status is in `ended`; what it tells
-# people is in the file `errors`, and is kept in the file `said`.
+# run ARGUMENT..: runs the program, given the arguments, with its output in the file `output`. If `limit` is set, it may take that many
+# kilobytes of memory; if `preload` is set, that library is preloaded. Sets `ended` to its status; its standard error goes to the file
+# `errors`, and is appended to the file `said`.
 output=got
 limit=
 preload=
@@ -26,13 +26,12 @@ run() {
     cat errors >>said
 }
 
-# mark: what a sentence ends with where an input has a fault: the number, the name and the place that the answer gives.
+# mark: the end of a sentence on an input with a fault: the number, the name and the place that the answer gives.
 mark() {
     [ "$ended" -ne 2 ] || awk 'NR == 1 { printf " (fault %s %s at %s)", $3, $4, $5 }' "$output"
 }
 
-# says STATUS SENTENCE ARGUMENT..: the program must end with the status and say this sentence, with the mark of its fault, and no
-# other.
+# says STATUS SENTENCE ARGUMENT..: the program must end with the status and print only this sentence, with the mark of its fault.
 says() {
     local status=$1 sentence=$2
     shift 2
@@ -43,7 +42,7 @@ says() {
     passed "$sentence"
 }
 
-# says_like STATUS PATTERN ARGUMENT..: the same, of a sentence that matches the pattern as a whole, before its mark.
+# says_like STATUS PATTERN ARGUMENT..: the same, for a sentence that the pattern matches as a whole, before the mark.
 says_like() {
     local status=$1 pattern=$2
     shift 2
@@ -53,18 +52,18 @@ says_like() {
     passed "$(sed 's/^abi: //' errors)"
 }
 
-# readable LIBRARY: the library has no fault, so what is said of a copy is said of the damage.
+# readable LIBRARY: the library must have no fault, so that a fault of a damaged copy comes from the damage.
 readable() {
     answers "$1 has no fault" 0 exports "$1"
     passed "$1 has no fault"
 }
 
-# patched FILE PLACE BYTES: puts other bytes into the file, from this place on.
+# patched FILE PLACE BYTES: overwrites bytes of the file, from this offset on.
 patched() {
     printf "$3" | dd of="$1" bs=1 seek="$2" conv=notrunc status=none
 }
 
-# header FILE SENTENCE PLACE BYTES: of a copy of plain.so with other bytes in the file's header.
+# header FILE SENTENCE PLACE BYTES: checks the sentence on a copy of plain.so with other bytes in the file header.
 header() {
     cp plain.so "$1"
     patched "$1" "$3" "$4"
@@ -80,7 +79,7 @@ readable plain.so
 mkdir folder
 says_like 3 "folder: .*directory.*" exports folder
 says_like 3 "missing.so: .*[Nn]o such file.*" check plain.so missing.so
-# A device fails once, at the second read of a file, and can be read when the program asks for the reason.
+# A device that fails once, at the second read of a file, and can be read when the program looks for the reason.
 cat >once.c <<'C'
 #include <errno.h>
 #include <sys/syscall.h>
@@ -102,7 +101,7 @@ says 2 "long.so: it is longer than 256 MiB" exports long.so
 
 # ---- words that ask for nothing
 
-# wrong SENTENCE WORD..: of words after which the usage is printed.
+# wrong SENTENCE WORD..: checks the sentence on wrong arguments, after which the program prints its usage.
 wrong() {
     local sentence=$1
     shift
@@ -128,7 +127,7 @@ wrong "--help=all: the option takes no value" --help=all
 
 : >empty
 says 2 "empty: it is empty" exports empty
-# A path stands in one line, whatever its characters are.
+# A path takes one line, whatever its characters are.
 odd=$(printf 'two\nlines\033[0m')
 cp empty "$odd"
 says 2 'two\x0alines\x1b[0m: it is empty' exports "$odd"
@@ -152,7 +151,7 @@ done
 says 2 "f.c: it is not an ELF file" exports f.c
 head -c 20 plain.so >short.so
 says 2 "short.so: it ends inside its ELF header" exports short.so
-# A pipe gives its bytes once, and is not opened again for the sentence.
+# A pipe can be read only once, so the program must not open it again for the sentence.
 mkfifo pipe
 cat f.a >pipe &
 says 2 "pipe: it is not an ELF file" exports pipe
@@ -160,7 +159,7 @@ says 2 "f.o: it is an object file (.o), not a shared object" exports f.o
 echo 'int main(void) { return 0; }' | gcc -no-pie -o program -x c -
 says 2 "program: it is an executable at a fixed address (compiled with -no-pie), not a shared object or a position-independent executable" exports program
 
-# In the file's header stand 4 e_ident[EI_CLASS], 5 e_ident[EI_DATA], 6 e_ident[EI_VERSION], 16 e_type, 18 e_machine, 20 e_version
+# Offsets in the file header: 4 e_ident[EI_CLASS], 5 e_ident[EI_DATA], 6 e_ident[EI_VERSION], 16 e_type, 18 e_machine, 20 e_version
 # and 40 e_shoff.
 header bits "it is a 32-bit file; only 64-bit shared objects for x86-64 are read" 4 '\1'
 header class "it is not a 64-bit file; only 64-bit shared objects for x86-64 are read" 4 '\0'
@@ -182,7 +181,7 @@ says 2 "unlinked.so: it has no table of dynamic symbols (.dynsym)" exports unlin
 
 # ---- damaged tables
 
-# The library has f in two versions, V1 and V2, and a soname behind the name of a library that it needs.
+# The library has f in two versions, V1 and V2, and its soname follows the name of a library that it needs.
 cat >tables.c <<'C'
 __asm__(".symver old_f, f@V1");
 __asm__(".symver new_f, f@@V2");
@@ -193,18 +192,18 @@ echo 'V1 { global: f; local: *; }; V2 { global: f; };' >tables.map
 gcc -shared -fPIC -Wl,--no-as-needed,-soname,tables.so.1,--version-script=tables.map -o tables.so tables.c
 readable tables.so
 
-# section NAME COLUMN: of a section of tables.so, what readelf shows behind its number: 1 the number itself, 5 where it stands.
+# section NAME COLUMN: a column of readelf's line on a section of tables.so: 1 is its number, 5 its offset.
 section() {
     readelf --wide --sections tables.so |
         awk -v name="$1" -v column="$2" 'sub(/^ *\[ */, "") && sub(/\]/, "") && $2 == name { print $column }'
 }
 
-# contents NAME AT: where the byte of this number of a section stands in tables.so.
+# contents NAME AT: the offset in tables.so of byte AT of a section.
 contents() {
     echo $((16#$(section "$1" 5) + $2))
 }
 
-# field NAME FIELD: where a field of a section's header stands in tables.so (gABI, "Section Header").
+# field NAME FIELD: the offset in tables.so of a field of a section header (gABI, "Section Header").
 field() {
     local table at
     table=$(readelf --file-header tables.so | awk '/Start of section headers:/ { print $5 }')
@@ -217,7 +216,7 @@ field() {
     echo $((table + 64 * $(section "$1" 1) + at))
 }
 
-# damaged SENTENCE PLACE BYTES: of a copy of tables.so with other bytes from the place on.
+# damaged SENTENCE PLACE BYTES: checks the sentence on a copy of tables.so with other bytes from this offset on.
 damaged() {
     cp tables.so damaged.so
     patched damaged.so "$2" "$3"
@@ -229,7 +228,7 @@ damaged "section $number (.dynstr) does not lie inside the file, which may have 
     "$(field .dynstr sh_size)" '\377\377\377'
 damaged "section $number has a name that does not end inside the section of names" "$(field .dynstr sh_name)" '\377\377'
 
-# A symbol has 24 bytes, and begins with st_name.
+# A symbol has 24 bytes and begins with st_name.
 symbol=$(exports tables.so | awk -F '\t' '$5 == "f@V1" { print $1 }')
 sentence="is damaged, or its name does not end inside the table of names"
 damaged "the table of dynamic symbols is damaged" "$(field .dynsym sh_entsize)" '\27'
@@ -242,24 +241,24 @@ damaged "the dynamic table is damaged, or its soname does not end inside the tab
 damaged "entry $named of the dynamic table is damaged, or the soname does not end inside the table of names" "$(contents .dynamic $((16 * named + 8)))" '\377\377'
 
 damaged "its table of symbol versions has not one entry for each dynamic symbol" "$(field .gnu.version sh_size)" '\2'
-# The first definition has 28 bytes, 8 of them for its name; the second one begins with vd_version.
+# The first version definition has 28 bytes, 8 of them for its name; the second one begins with vd_version.
 damaged "version definition 0 is damaged" "$(field .gnu.version_d sh_link)" '\0'
 damaged "version definition 1 is damaged" "$(contents .gnu.version_d 28)" '\2'
 
-# A symbol's version is the index of a definition, in two bytes: V1 has 2, V2 has 3, and 9 is that of none.
+# The version of a symbol is the index of a definition, in two bytes: V1 has 2, V2 has 3, and no definition has 9.
 later=$(exports tables.so | awk -F '\t' '$2 == "f" { print $1 }' | tail -n 1)
 damaged "dynamic symbol $symbol has a version that is not defined" "$(contents .gnu.version $((2 * symbol)))" '\11\0'
 damaged "dynamic symbol $later has the name and the version of an earlier export" \
     "$(contents .gnu.version $((2 * symbol)))" '\3\0'
 
-# damaged_app SENTENCE PLACE BYTES: the same of a copy that is taken for an application, which needs a version of the C library.
+# damaged_app SENTENCE PLACE BYTES: the same for a copy given as the application, which needs a version of the C library.
 damaged_app() {
     cp tables.so damaged.so
     patched damaged.so "$2" "$3"
     says 2 "damaged.so: $1" app damaged.so tables.so tables.so
 }
 
-# A need begins with vn_version.
+# A version need begins with vn_version.
 damaged_app "version need 0 is damaged" "$(contents .gnu.version_r 0)" '\2'
 imported=$(readelf --wide --dyn-syms tables.so | awk '$7 == "UND" && $8 ~ /^__cxa_finalize@/ { print $1 + 0 }')
 damaged_app "dynamic symbol $imported is imported with a version that the file does not name among those that it needs" \
@@ -267,7 +266,7 @@ damaged_app "dynamic symbol $imported is imported with a version that the file d
 
 # ---- debug information that is not read
 
-# made SENTENCE SOURCE COMMAND..: of an entry or a unit of the library that the command makes of the source.
+# made SENTENCE SOURCE COMMAND..: checks the sentence on an entry or a unit of the library that the command makes from the source.
 made() {
     local sentence=$1 source=$2
     shift 2
@@ -306,7 +305,7 @@ fi
 
 # ---- damaged entries
 
-# written FILE [FIELD VALUE]: the library of hand_entries.s, with another value in a field.
+# written FILE [FIELD VALUE]: assembles hand_entries.s into a library, with another value in a field.
 written() {
     local field=${2:-} value=${3:-}
     [ -z "$field" ] || [ "$(grep -c "## $field\$" "$sources/hand_entries.s")" -eq 1 ] || fail "no field, or several: $field"
@@ -314,12 +313,12 @@ written() {
     gcc -shared -nostdlib -o "$1" entries.s
 }
 
-# offset LABEL: where the label of hand_entries.s stands in its section of damaged.so.
+# offset LABEL: the offset of a label of hand_entries.s in its section of damaged.so.
 offset() {
     printf '0x%x' "0x$(readelf --wide --symbols damaged.so | awk -v label="$1" '$8 == label { print $2 }')"
 }
 
-# entry LABEL SENTENCE FIELD VALUE: of the unit or the entry at the label, where the field has another value.
+# entry LABEL SENTENCE FIELD VALUE: checks the sentence on the unit or the entry at the label, with another value in the field.
 entry() {
     written damaged.so "$3" "$4"
     says 2 "damaged.so: offset $(offset "$1") of .debug_info: $2" exports damaged.so
@@ -355,7 +354,7 @@ entry point "the type, or the place of a member of it, is too large" "size of po
 
 # ---- rule files and certificates
 
-# rule LINE SENTENCE TEXT: of the line of a rule file.
+# rule LINE SENTENCE TEXT: checks the sentence on a line of a rule file.
 rule() {
     printf "$3" >rules
     says 2 "rules: line $1: $2" check --rules rules plain.so plain.so
@@ -371,7 +370,7 @@ rule 3 "the section has this property twice" '[suppress_type]\nname = a\nname = 
 rule 2 "the pattern has a brace, which is not read" '[suppress_type]\nname_regexp = a{2}\n'
 
 "$program" check plain.so plain.so >certificate
-# certificate SENTENCE COMMAND: of a certificate that the command of sed changes.
+# certificate SENTENCE COMMAND: checks the sentence on a certificate that the sed command changes.
 certificate() {
     sed "$2" certificate >changed
     says_like 2 "changed: line [0-9]*: $1" verify plain.so plain.so changed
@@ -380,21 +379,21 @@ certificate "it is no line of a certificate, or not the one that belongs there" 
 certificate "it is out of order" '/^bind/p'
 certificate "the certificate does not end with its line 'end'" '$d'
 
-# A comment behind a value is a part of it, and the answer stands.
+# A comment after a value is part of the value, and the answer stays the same.
 commented="a comment stands on a line of its own, so what looks like one is a part of the value"
 printf '[suppress_type]\nname_not_regexp = ^f # x\n' >rules
 says 0 "rules: $commented: name_not_regexp = ^f # x" check --rules rules plain.so plain.so
 printf '# name = a # b\n[suppress_type]\nname = a#b;c\n' >rules
 "$program" check --rules rules plain.so plain.so >got 2>errors && [ ! -s errors ] || fail "a comment is seen where none is: $(cat errors)"
 
-# Certificates that prove something else.
+# Valid certificates that prove something else.
 sed 's/int x, y/long x, y/' f.c | gcc -shared -fPIC -g -o other.so -x c -
 says 5 "certificate: the certificate does not prove that other.so may replace plain.so" verify plain.so other.so certificate
 says 5 "certificate: with certificate it does not prove that plain.so may replace plain.so" compose plain.so other.so plain.so certificate certificate
 
 # ---- what is seen and not judged
 
-# noted LINE OLD NEW: with ABI_NOTES=1, `check` must say this line.
+# noted LINE OLD NEW: with ABI_NOTES=1, `check` must print this line.
 noted() {
     local line=$1
     shift
@@ -403,7 +402,7 @@ noted() {
     passed "$line"
 }
 
-# unnoted KIND OLD NEW: and no line of this kind.
+# unnoted KIND OLD NEW: with ABI_NOTES=1, `check` must print no line of this kind.
 unnoted() {
     local kind=$1
     shift
@@ -415,7 +414,7 @@ unnoted() {
 echo 'V1 { global: *; };' >one.map
 echo 'V2 { global: *; };' >two.map
 for compiler in gcc clang; do
-    # built LIBRARY ARGUMENT..: of the source on standard input.
+    # built LIBRARY ARGUMENT..: builds the library from the source on standard input.
     built() { "$compiler" -shared -fPIC -g -x c -o "$@" -; }
     echo '__thread int current;' | built int.so
     echo '__thread long current;' | built long.so
@@ -446,12 +445,12 @@ done
 
 # ---- each sentence has its row
 
-# What is said of no file: nothing finds the faults 41 and 42, whose numbers are kept (docs/DECISIONS.md).
+# Sentences that no file can cause: nothing finds the faults 41 and 42, whose numbers are reserved (docs/DECISIONS.md).
 cat >never <<'END_OF_LIST'
 its table of needed versions is damaged
 needs a version that is not named
 END_OF_LIST
-# The texts that the crate explain has for faults and for their places, where {..} stands for anything.
+# The texts of the crate explain for faults and their places; {..} stands for anything.
 sed 's,//.*,,' "$root"/crates/explain/src/{faults,files}.rt | grep -o '[^b]"[^"]*"' >texts
 sed 's,//.*,,' "$root/crates/explain/src/sentence.rt" | grep -o '"[^"]*{[^"]*"' >>texts
 sed -i 's/^[^"]*"//; s/"$//; s/{[^}]*}/.*/g' texts

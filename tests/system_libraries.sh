@@ -1,17 +1,17 @@
 #!/usr/bin/env bash
-# Holds what the proved program says of libraries that the system's own packages brought against what sha256sum and readelf
-# say of them: of each against itself, and of pairs of two. It takes those of the names below that are there and have no debug
-# information, of which there must be ten, and the last line names the others.
+# Compares what the proved program says of libraries from the system's packages with what sha256sum and readelf say: of each library
+# against itself, and of pairs. It takes the libraries named below that are installed and have no debug information. There must be at
+# least ten, and the last line names the others.
 #
 #   tests/system_libraries.sh                 builds the program of this repository
-#   ABI=/path/of/abi tests/system_libraries.sh    takes another one
+#   ABI=/path/of/abi tests/system_libraries.sh    uses another one
 set -eu
 title="system libraries"
 tools="readelf sha256sum awk"
 crate=abi_cli
 . "$(dirname "$0")/common.bash"
 
-# place NAME: the path of a library of the system, where it is there, an ELF-64 library for x86-64 without debug information.
+# place NAME: prints the path of a library of the system, if it is there and is an ELF-64 library for x86-64 without debug information.
 place() {
     local folder
     for folder in /usr/lib/x86_64-linux-gnu /lib/x86_64-linux-gnu /usr/lib64 /lib64 /usr/lib /lib; do
@@ -57,7 +57,7 @@ while read -r library; do
     expect "$library may replace itself, with $(grep -c '^bind ' want) exports" 0 check "$library" "$library"
 done <found
 
-# pair OLD NEW: the one may not replace the other, and each break is reported.
+# pair OLD NEW: NEW may not replace OLD, and the program must report each break.
 pair() {
     breaks "$1" "$2" >rows
     [ -s rows ] || fail "readelf shows no break between $1 and $2"
@@ -74,7 +74,7 @@ while read -r library; do
 done <found
 pair "$previous" "$(head -n 1 found)"
 
-# Pairs that have names in common, where they are there: with other versions, with versions and without, and with none.
+# Pairs that have names in common, if they are there: with different versions, with and without versions, and without any.
 while read -r old new; do
     first=$(place "$old")
     second=$(place "$new")

@@ -1,9 +1,9 @@
 #!/usr/bin/env bash
-# Writes the libraries of trials to disk and holds `abi trial` against `abi check` of them: the lines that it counts, and the digest
-# of the text. readelf and abidiff must read the libraries without a complaint.
+# Writes the libraries of trials to disk and compares `abi trial` with `abi check` on them: the number of lines, and the digest of the
+# text. readelf and abidiff must read the libraries without a complaint.
 #
 #   tests/trials.sh                 builds the programs of this repository
-#   ABI=/path/of/abi TRIAL_LIBRARY=/path/of/tool_trial_library tests/trials.sh    takes other ones
+#   ABI=/path/of/abi TRIAL_LIBRARY=/path/of/tool_trial_library tests/trials.sh    uses other ones
 set -eu
 title="trials"
 tools="gcc readelf sha256sum awk abidiff python3"
@@ -13,7 +13,7 @@ crate=abi_cli
 program_of tool_trial_library 1 "${TRIAL_LIBRARY:-}"
 maker=$found
 
-# tried FUNCTIONS: the trial of so many functions, against the libraries on disk.
+# tried FUNCTIONS: compares the trial of this many functions with the libraries on disk.
 tried() {
     "$maker" "$1" old >old.so
     "$maker" "$1" new >new.so
@@ -35,7 +35,7 @@ for side in old new; do
     passed "readelf reads the $side library"
 done
 
-# loadable LIBRARY COPY: a copy with a program header (PT_LOAD) behind all else.
+# loadable LIBRARY COPY: writes a copy with a program header (PT_LOAD) at the end.
 loadable() {
     python3 - "$1" "$2" <<'END'
 import struct, sys
@@ -49,8 +49,8 @@ open(sys.argv[2], "wb").write(data)
 END
 }
 
-# abidiff 2.2 ends with a failed assertion where a file with addresses has no program header, and where two units have no name, as
-# those of more than 100 functions do.
+# abidiff 2.2 ends with a failed assertion if a file with addresses has no program header, or if two units have no name, as in libraries
+# of more than 100 functions.
 for side in old new; do
     "$maker" 100 $side >$side.so
     loadable $side.so loadable_$side.so

@@ -1,12 +1,12 @@
 #!/usr/bin/env bash
-# Makes edits of small C libraries, builds each with gcc and clang, with several kinds of debug information, and holds what the
-# proved program says of the two libraries against what the rules say, row by row: tests/c/edits.txt has the edits and their
-# answers, which were derived from the rules by hand. Each library that is built must be able to replace itself, and so must each
-# library of the system for which there is debug information.
+# Makes edits of small C libraries, builds each with gcc and clang, with several kinds of debug information, and compares what the proved
+# program says of the two libraries with what the rules say, row by row: tests/c/edits.txt has the edits and their answers, which were
+# derived from the rules by hand. Each library that is built must be able to replace itself, and so must each library of the system with
+# debug information.
 #
 #   tests/typed_check.sh                 builds the program of this repository
-#   ABI=/path/of/abi tests/typed_check.sh    takes another one
-#   EDITS="3 17" tests/typed_check.sh    takes these edits of the table alone, and no libraries of the system
+#   ABI=/path/of/abi tests/typed_check.sh    uses another one
+#   EDITS="3 17" tests/typed_check.sh    checks only these edits of the table, and no libraries of the system
 set -eu
 title="typed check"
 tools="gcc readelf sha256sum awk"
@@ -14,7 +14,7 @@ crate=abi_cli
 . "$(dirname "$0")/common.bash"
 . "$root/tests/edits.bash"
 
-# The kinds of builds. gcc puts type units of version 5 into .debug_info.
+# The kinds of builds. In version 5 gcc puts type units into .debug_info.
 builds="gcc -gdwarf-5 -O0
 gcc -gdwarf-4 -O2
 gcc -gdwarf-5 -O2 -fdebug-types-section"
@@ -25,7 +25,7 @@ clang -gdwarf-5 -O0
 clang -gdwarf-4 -O2"
 fi
 
-# offsets LIBRARY: the offsets of its debugging information entries, in decimal.
+# offsets LIBRARY: prints the offsets of its debugging information entries, in decimal.
 offsets() {
     readelf --wide --debug-dump=info,no-follow-links "$1" | awk '
         function value(text,    i, sum) {
@@ -35,17 +35,17 @@ offsets() {
         match($0, /^ *<[0-9a-f]+><[0-9a-f]+>: Abbrev Number: [1-9]/) { split($0, field, /[<>]+/); print value(field[3]) }'
 }
 
-# told_of SIDE LIBRARY: what readelf and sha256sum tell of a library, in the files SIDE_exports, SIDE_offsets and SIDE_digest,
-# where SIDE is old or new.
+# told_of SIDE LIBRARY: writes what readelf and sha256sum say of a library to the files SIDE_exports, SIDE_offsets and SIDE_digest; SIDE
+# is old or new.
 told_of() {
     exports "$2" >"$1_exports"
     offsets "$2" >"$1_offsets"
     digest "$2" >"$1_digest"
 }
 
-# ordered: the rows of the file `rows_of_edit`, which stand in order but for the numbers of exports: X1, the other rows of
-# exports by number and rule, and then the rows of types by length of path and number. Of two names f|g the one of the least
-# number is taken.
+# ordered: sorts the rows of the file `rows_of_edit`, which are in order except for the numbers of exports: first X1, then the other rows
+# on exports by number and rule, and then the rows on types by length of path and number. Of two names f|g it takes the one with the
+# smaller number.
 ordered() {
     awk '
         FILENAME == "old_exports" { split($0, field, "\t"); number[field[5]] = field[1]; next }
@@ -66,10 +66,10 @@ ordered() {
 
 empty_digest=$(digest /dev/null)
 
-# certified NAME SIDE SIDE: what the program printed of two libraries, in the file `got`, must be a certificate: the lines that
-# sha256sum and readelf tell, and between them the lines for alike types and pairs, in one spelling and in order, which name
-# entries that are there, and in pairs no entry that another one stands for. Where both sides are one, each export binds to
-# itself, and each type is paired with itself.
+# certified NAME SIDE SIDE: the output on two libraries, in the file `got`, must be a certificate: the lines that follow from sha256sum
+# and readelf, and between them the lines for alike types and for pairs, well-formed and in order. These must name entries that exist,
+# and pairs must not name an entry that another one stands for. If both sides are the same, each export must bind to itself, and each
+# type must be paired with itself.
 certified() {
     local name=$1 old=$2 new=$3
     {
@@ -88,7 +88,7 @@ certified() {
         { head -n 40 differences >&2 && fail "$name: other digests or bindings"; }
     awk -v old_file="${old}_offsets" -v new_file="${new}_offsets" '
         function bad(why) { if (!failed) print "line " FNR ", \"" $0 "\": " why; failed = 1 }
-        # the line stands strictly behind the one before, where that has the same kind
+        # the line comes strictly after the previous one, if that has the same kind
         function ascends(kind, first, second, third) {
             if (kind == last_kind && (first < last_first || first == last_first && (second < last_second ||
                 second == last_second && third <= last_third))) bad("not above the line before it")
@@ -141,7 +141,7 @@ certified() {
         }' got >differences || fail "$name: $(cat differences)"
 }
 
-# accepted NAME OLD NEW: the command `verify` accepts the certificate in the file `got`.
+# accepted NAME OLD NEW: the command `verify` must accept the certificate in the file `got`.
 accepted() {
     cp got certificate
     echo accepted >want
@@ -150,15 +150,15 @@ accepted() {
     mv certificate got
 }
 
-# replaces_itself NAME SIDE LIBRARY: the library may replace itself.
+# replaces_itself NAME SIDE LIBRARY: the program must say that the library may replace itself.
 replaces_itself() {
     answers "$1, against itself" 0 check "$3" "$3"
     certified "$1, against itself" "$2" "$2"
     accepted "$1, against itself" "$3" "$3"
 }
 
-# types_named LIBRARY: of a library of one unit, a line for each entry of a type, a function or a variable: its offset and its
-# name. Names are those of the table of edits: T, *T, const:T, with `long` for what gcc calls `long int`, and _ for blanks.
+# types_named LIBRARY: for a library of one unit, prints the offset and the name of each entry of a type, a function or a variable. The
+# names are those of the table of edits: T, *T, const:T, with `long` for what gcc calls `long int`, and _ for blanks.
 types_named() {
     readelf --wide --debug-dump=info "$1" | awk '
         function value(text,    i, sum) {
@@ -199,7 +199,7 @@ types_named() {
         }'
 }
 
-# known_pairs OLD NEW: the alike lines and pair lines that the file `rows_of_edit` names.
+# known_pairs OLD NEW: prints the alike lines and pair lines that the file `rows_of_edit` names.
 known_pairs() {
     types_named "$1" >old_types
     types_named "$2" >new_types
@@ -232,7 +232,7 @@ known_pairs() {
         }' old_types new_types rows_of_edit | sort -n -k 1,1 -k 2,2 -k 3,3 -k 4,4 | cut -f 2 | uniq
 }
 
-# holds NAME OLD NEW WORDS: the program must answer what the file `answer` says, which is that for a build of these words.
+# holds NAME OLD NEW WORDS: the program must give the answer in the file `answer`, which is the one for a build with these words.
 holds() {
     local name=$1 old=$2 new=$3
     sed 1d answer >rows_of_edit
@@ -245,7 +245,7 @@ holds() {
     yes)
         answers "$name" 0 check "$old" "$new"
         certified "$name" old new
-        # The names of types tell them in one unit alone.
+        # Names identify types only within one unit.
         if [ -s rows_of_edit ] && [[ $4 != *types-section* ]]; then
             known_pairs "$old" "$new" >lines
             { sed '$d' plain && cat lines && echo end; } >want
@@ -263,7 +263,7 @@ for edit in ${EDITS:-$(seq "$edits")}; do
     folder=edits/$edit
     rm -f first.so
     while read -r build; do
-        # The compiler and its options are words of their own.
+        # Unquoted on purpose: the compiler and its options are words.
         build_edit "$edit" $build
         told_of old "$folder/old.so"
         told_of new "$folder/new.so"
@@ -274,7 +274,7 @@ for edit in ${EDITS:-$(seq "$edits")}; do
         [ -f first.so ] || cp "$folder/old.so" first.so
         last=$build
     done <<<"$builds"
-    # Built by one compiler, and then edited and built by another one.
+    # The old library by one compiler, and the edited one by another.
     crossed="$(head -n 1 <<<"$builds") $last"
     answer_of "$edit" $crossed >answer
     if [ -s answer ] && [[ $last = clang* ]]; then
@@ -284,7 +284,7 @@ for edit in ${EDITS:-$(seq "$edits")}; do
     passed "$name: $(head -n 1 "edits/$edit/answers")"
 done
 
-# Each library of the system for which there is debug information, joined with it.
+# Each library of the system that has debug information, joined with it.
 if [ -z "${EDITS:-}" ] && there eu-unstrip && there objcopy; then
     ran="$ran eu-unstrip objcopy"
     joined=0

@@ -1,17 +1,17 @@
 #!/usr/bin/env bash
-# Builds libraries with gcc and clang, and holds the entry of debug information that the proved readers find for each exported
-# function and variable, and its name, against what readelf lists.
+# Builds libraries with gcc and clang, and compares the debug information entry that the proved readers find for each exported function
+# and variable, and its name, with what readelf lists.
 #
 #   tests/typed_exports.sh                 builds the program of this repository
-#   GRAPH_LINES=/path/of/tool_graph_lines tests/typed_exports.sh    takes another one
+#   GRAPH_LINES=/path/of/tool_graph_lines tests/typed_exports.sh    uses another one
 set -eu
 title="typed exports"
 tools="gcc readelf awk"
 crate=tool_graph_lines
 . "$(dirname "$0")/common.bash"
 
-# addressed LIBRARY: a line for each export, in order: its name and its value in hexadecimal, which is `-` where the symbol
-# stands for no address.
+# addressed LIBRARY: prints a line for each export, in order: its name, and its value in hexadecimal, or `-` if the symbol has no
+# address.
 addressed() {
     exports "$1" >numbers
     readelf --wide --dyn-syms "$1" | awk '
@@ -25,12 +25,12 @@ addressed() {
         }' numbers -
 }
 
-# typed LIBRARY: a line for each export, in order: its name, the offset of its entry and the entry's name, as readelf lists
+# typed LIBRARY: prints a line for each export, in order: its name, the offset of its entry and the entry's name, from readelf's lists of
 # entries, ranges and indexed addresses.
 typed() {
     addressed "$1" >wanted
     {
-        # It ends badly where units share one table.
+        # readelf fails if units share one table.
         readelf --wide --debug-dump=addr "$1" || true
         readelf --wide --debug-dump=Ranges "$1"
         readelf --wide --hex-dump=.debug_rnglists "$1"
@@ -41,12 +41,12 @@ typed() {
             for (i = 1; i <= length(text); i++) sum = 16 * sum + index("0123456789abcdef", substr(text, i, 1)) - 1
             return sum
         }
-        # a number in hexadecimal without zeros before it
+        # a number in hexadecimal without leading zeros
         function short(text) {
             sub(/^(0x)?0*/, "", text)
             return text == "" ? "0" : text
         }
-        # the text of an attribute behind its form
+        # the text of an attribute after its form
         function said(text) {
             sub(/^[^:]*: /, "", text)
             sub(/^\([a-z_0-9]+\) */, "", text)
@@ -59,12 +59,12 @@ typed() {
             return short(substr(text, RSTART + 1, RLENGTH - 2))
         }
 
-        # the number in so many bytes of .debug_rnglists, the lowest byte first
+        # the number in some bytes of .debug_rnglists, in little endian
         function number(at, size,    i, sum) {
             for (i = size - 1; i >= 0; i--) sum = 256 * sum + bytes[at + i]
             return sum
         }
-        # where the first range of the list at a place begins; readelf shows only the first of lists that no table names
+        # where the first range of the list at an offset begins; readelf shows only the first of the lists that no table names
         function first_range(at,    base, shift, sum) {
             while (bytes[at] == 5) { base = number(at + 1, 8); at += 9 }
             if (bytes[at] == 6 || bytes[at] == 7) return sprintf("%x", number(at + 1, 8))
@@ -116,7 +116,7 @@ typed() {
             next
         }
         part == ".debug_info" && / DW_AT_name / && !(entry in named) { named[entry] = said($0) }
-        # units of one base share the table that readelf shows for the first of them
+        # units with the same base share the table that readelf shows for the first of them
         part == ".debug_info" && / DW_AT_addr_base *: / {
             base[unit] = $NF
             if (!(base[unit] in table)) table[base[unit]] = unit
@@ -159,7 +159,7 @@ typed() {
         }' wanted -
 }
 
-# listed NAME LIBRARY LEAST: the program must find what readelf lists, and that is an entry for so many exports at least.
+# listed NAME LIBRARY LEAST: the program must find what readelf lists, which must be an entry for at least LEAST exports.
 listed() {
     typed "$2" >want
     local found
@@ -182,7 +182,7 @@ for compiler in $compilers; do
         types=
         if [ "$version" = 5 ]; then types="-fdebug-types-section"; fi
         for level in -O0 -O2 "-O2 $types -fno-inline" "-O0 $types -ffunction-sections -fdata-sections"; do
-            # The options and the units are words of their own.
+            # Unquoted on purpose: each option and each unit is a word.
             $compiler -shared -fPIC -w -g -gdwarf-$version $level -o shapes.so $units
             listed "$compiler -gdwarf-$version $level" shapes.so 20
             $compiler -shared -fPIC -w -g -gdwarf-$version $level $versions -o versions.so $units
@@ -209,7 +209,7 @@ if there clang && there ld.lld; then
     listed "clang -O2 -flto" lto.so 20
 fi
 
-# A signature of a type unit of .debug_types refers to no entry: the fault is that of the first entry that has one.
+# The signature of a type unit in .debug_types refers to no entry that is read: the fault is at the first entry that has one.
 gcc -shared -fPIC -w -g -gdwarf-4 -O0 -fdebug-types-section -o types.so $units
 readelf --wide --debug-dump=info types.so | awk '
     match($0, /^ *<[0-9a-f]+><[0-9a-f]+>: Abbrev Number: [1-9]/) { split($0, field, /[<>]+/); entry = field[3] }
@@ -217,7 +217,7 @@ readelf --wide --debug-dump=info types.so | awk '
 printf 'unreadable 34 %d\n' "0x$(cat signed)" >want
 expect "gcc -gdwarf-4 -fdebug-types-section: the first signature" 1 types.so
 
-# What has no debug information has no entries, and what cannot be read is said.
+# A library without debug information has no entries, and an unreadable file is reported.
 gcc -shared -fPIC -w -o bare.so $units
 listed "gcc, no debug information" bare.so 0
 printf 'unreadable 1 0\n' >want

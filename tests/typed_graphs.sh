@@ -1,18 +1,18 @@
 #!/usr/bin/env bash
-# Builds libraries that hold types of every kind with gcc and clang, and holds the graph that the proved reader makes of each
-# against the compiler that built it: a program of the same types prints their sizes, the alignments that they ask for, where
-# their members begin, the widths of bit fields (by setting them and looking at the bytes), the values of enumerators, and what
-# functions take and give. Sizes and members are held against what pahole prints, too.
+# Builds libraries with types of every kind with gcc and clang, and compares the graph that the proved reader makes of each with facts
+# from the compiler that built it: a program with the same types prints their sizes, their requested alignments, where their members
+# begin, the widths of bit fields (found by setting them and looking at the bytes), the values of enumerators, and the parameters and
+# results of functions. Sizes and members are also compared with what pahole prints.
 #
 #   tests/typed_graphs.sh                 builds the program of this repository
-#   GRAPH_LINES=/path/of/tool_graph_lines tests/typed_graphs.sh    takes another one
+#   GRAPH_LINES=/path/of/tool_graph_lines tests/typed_graphs.sh    uses another one
 set -eu
 title="typed graphs"
 tools="gcc readelf awk timeout"
 crate=tool_graph_lines
 . "$(dirname "$0")/common.bash"
 
-# build COMPILER OPTION..: builds kinds.so, whose two units hold the functions and the variables of kinds.h.
+# build COMPILER OPTION..: builds kinds.so from two units, with the functions and the variables of kinds.h.
 build() {
     local output
     for output in functions variables facts; do
@@ -21,12 +21,12 @@ build() {
     "$@" -shared -fPIC -w -Wno-psabi -g -I "$sources" -o kinds.so functions.c variables.c 2>errors || { cat errors >&2 && fail "$*"; }
 }
 
-# differ NAME: `got` must be `want`. All differences are named.
+# differ NAME: `got` must be the same as `want`. Prints all differences.
 differ() {
     diff want got >differences || { cat differences >&2 && fail "$1: other facts, those of the compiler or of pahole first"; }
 }
 
-# agreed NAME: the graph of kinds.so, whose lines it leaves in `lines`, must say what the program of the same types does.
+# agreed NAME: the graph of kinds.so must have the facts that the program with the same types prints. Leaves its lines in `lines`.
 agreed() {
     ./facts | sort -u >want
     [ "$(wc -l <want)" -ge 420 ] || fail "$1: the compiler says $(wc -l <want) facts"
@@ -37,7 +37,7 @@ agreed() {
     passed "$1: $(wc -l <want) facts"
 }
 
-# laid_out NAME: the layouts that pahole prints of kinds.so must stand in `lines`.
+# laid_out NAME: `lines` must have the layouts that pahole prints for kinds.so.
 laid_out() {
     there pahole || return 0
     { timeout 60 pahole -F dwarf -s kinds.so && timeout 60 pahole -F dwarf kinds.so; } 2>/dev/null |
@@ -50,15 +50,15 @@ laid_out() {
     passed "$1: $(wc -l <want) layouts by pahole"
 }
 
-# held COMPILER OPTION..: the graph of what it builds must agree.
+# held COMPILER OPTION..: the graph of what the compiler builds must agree.
 held() {
     build "$@"
     "$@" -w -Wno-psabi -I "$sources" -o facts facts.c 2>errors || { cat errors >&2 && fail "$*: the facts"; }
     agreed "$*"
 }
 
-# crossed COMPILER OPTION..: where debug information says by bit_offset that a bit field begins before the bytes of its type,
-# that is no place, and the fault is at the structure.
+# crossed COMPILER OPTION..: if bit_offset puts a bit field before the bytes of its type, the field has no valid place, and the program
+# must report a fault at the structure.
 crossed() {
     build "$@" -DCROSSING
     readelf --wide --debug-dump=info kinds.so 2>/dev/null | awk '
@@ -68,13 +68,13 @@ crossed() {
     expect "$*: a bit field in more bytes than its type has" 1 kinds.so
 }
 
-# gcc tells where bit fields begin by data_bit_offset from DWARF 5 on.
+# From DWARF 5 on, gcc gives the place of a bit field by data_bit_offset.
 for level in -O0 -O2; do
     held gcc -gdwarf-5 $level -DCROSSING
     laid_out "gcc -gdwarf-5 $level"
     held gcc -gdwarf-4 $level
     laid_out "gcc -gdwarf-4 $level"
-    # pahole does not end on type units.
+    # pahole never ends on type units.
     held gcc -gdwarf-5 $level -fdebug-types-section -DCROSSING
 done
 crossed gcc -gdwarf-4 -O0
@@ -96,7 +96,7 @@ if there clang; then
     for level in -O0 -O2; do
         held clang -gdwarf-5 $level
         laid_out "clang -gdwarf-5 $level"
-        # Its DWARF 4 tells no alignment of a typedef.
+        # Its DWARF 4 has no alignments of typedefs.
         held clang -gdwarf-4 $level -DNO_TYPEDEF_ALIGNMENT
         laid_out "clang -gdwarf-4 $level"
         held clang -gdwarf-5 $level -fdebug-types-section

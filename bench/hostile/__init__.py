@@ -1,1 +1,1 @@
-"""Files that are made to ask much time or memory of `abi`, and how they are measured."""
+"""Generates files that are meant to take `abi` much time or memory, and measures the runs."""

@@ -1,4 +1,4 @@
-"""Makes files that ask much of a program, and measures it over them.
+"""Generates files that are meant to take a program much time or memory, and measures it on them.
 
 usage: python3 -m hostile PROGRAM FOLDER [KIND..]: measures, in the folder
        python3 -m hostile --list: names the kinds
@@ -25,7 +25,7 @@ def kind_named(name: str) -> Kind:
 
 
 def measured(program: str, kind: Kind) -> Row:
-    """A row of the table. Of the two files one is held at a time."""
+    """A row of the table. Only one of the two sizes is in memory at a time."""
     first = kind.first * int(os.environ.get("TIMES", "1"))
     case = kind.make(first)
     small = case.size(), run_case(program, case, RUNS)
@@ -45,7 +45,7 @@ def make(folder: str, name: str, size: int) -> None:
 
 
 def table(program: str, folder: str, kinds: list[Kind]) -> int:
-    """Prints the table; 1 where a kind is over the bounds."""
+    """Prints the table, and returns 1 if a kind exceeds a bound."""
     os.chdir(folder)
     print(HEAD, flush=True)
     over = 0

@@ -1,4 +1,4 @@
-"""What a made file is: its bytes, and the command that is measured over it."""
+"""A generated case: the bytes of its files, and the command to measure on them."""
 
 from collections.abc import Callable
 from dataclasses import dataclass, field
@@ -6,8 +6,7 @@ from dataclasses import dataclass, field
 
 @dataclass(frozen=True)
 class Case:
-    """Files by their names, the words of the measured command, and those of a command whose output stands in the file `made`
-    before it."""
+    """Files by name, the words of the command to measure, and those of a command that runs before it and writes the file `made`."""
 
     files: dict[str, bytes]
     words: list[str]
@@ -19,7 +18,7 @@ class Case:
 
 @dataclass(frozen=True)
 class Kind:
-    """A kind of made files: one of each size. The second of the two measured sizes is twice the first."""
+    """A kind of cases, which come in any size. Two sizes are measured, the second twice the first."""
 
     name: str
     what: str
@@ -43,7 +42,7 @@ def against(old: bytes, new: bytes) -> Case:
 
 
 def applied(app: bytes, library: bytes) -> Case:
-    """`abi app` of an application and a library in the place of itself."""
+    """`abi app` of an application, and a library that replaces itself."""
     return Case({"app": app, "old": library}, ["app", "app", "old", "old"])
 
 

@@ -1,8 +1,8 @@
-// Prints keys of eight bytes, as hexadecimal numbers, that stand at one place of a hash map whose seed is fixed.
+// Prints keys of eight bytes, as hexadecimal numbers, that collide in a hash map with a fixed seed.
 //
-// usage: collide COUNT BITS STATE numbers|names: so many keys without a 0 byte, whose hashes have so many low bits 0, for a hasher in
-// this state. A number is hashed by one product of 128 bits, whose halves are joined by xor, and a name by one for each byte; the
-// halves of the result are joined by xor, too.
+// usage: collide COUNT BITS STATE numbers|names: prints COUNT keys without a 0 byte whose hashes end with BITS zero bits, for a hasher in
+// this state. A number is hashed by one product of 128 bits, whose halves are combined by xor, and a name by one product for each byte;
+// the halves of the result are combined by xor, too.
 #include <inttypes.h>
 #include <stdio.h>
 #include <stdlib.h>
@@ -21,7 +21,7 @@ static int has_zero(uint64_t number) {
     return ((number - 0x0101010101010101) & ~number & 0x8080808080808080) != 0;
 }
 
-/* Prints the key where its hash has the low bits 0. */
+/* Prints the key if the low bits of its hash are 0. */
 static void try(uint64_t key, uint64_t hash, uint64_t mask, uint64_t *left) {
     if (*left == 0 || ((hash ^ hash >> 32) & mask) != 0 || has_zero(key)) return;
     printf("%" PRIx64 "\n", key);
@@ -35,7 +35,7 @@ static void numbers(uint64_t state, uint64_t mask, uint64_t left) {
     }
 }
 
-/* All names of five first bytes, which are hashed once, and three more. */
+/* Tries all names that begin with these five bytes, which are hashed once, and end with three more. */
 static void names_behind(uint64_t first, uint64_t state, uint64_t mask, uint64_t *left) {
     for (int at = 0; at < 5; at++) state = with_byte(state, first >> 8 * at & 0xff);
     for (uint64_t one = 1; one < 256; one++) {

@@ -1,4 +1,4 @@
-"""Keys that stand at one place of a hash map whose seed is fixed. A program in C looks for them."""
+"""Keys that collide in a hash map with a fixed seed. A program in C searches for them."""
 
 import subprocess
 import tempfile
@@ -13,18 +13,18 @@ from .library import library
 SEED = 0x243F6A8885A308D3
 FACTOR = 0x9E3779B97F4A7C15
 MASK = 2**64 - 1
-# The most entries that stand in a group of places on average.
+# The average number of entries in a group of slots, at most.
 GROUP_LOAD = 9
 
 
 def folded(state: int, number: int, size: int) -> int:
-    """The state of the hasher behind a number of so many bytes, at most 8."""
+    """The state of the hasher after a number of `size` bytes, at most 8."""
     product = (state ^ number) * (FACTOR ^ 2 * size)
     return (product & MASK) ^ (product >> 64)
 
 
 def bits_for(count: int) -> int:
-    """How many bits of a hash choose a group in a map of so many entries."""
+    """How many bits of a hash choose a group in a map of `count` entries."""
     bits = 0
     while GROUP_LOAD << bits < count:
         bits += 1
@@ -32,7 +32,7 @@ def bits_for(count: int) -> int:
 
 
 def colliding(count: int, state: int = SEED, form: str = "numbers") -> list[int]:
-    """So many different keys of eight bytes that stand at one place, as numbers."""
+    """`count` different keys of eight bytes that collide, as numbers."""
     source = Path(__file__).with_name("collide.c")
     with tempfile.TemporaryDirectory() as folder:
         program = f"{folder}/collide"
@@ -43,7 +43,7 @@ def colliding(count: int, state: int = SEED, form: str = "numbers") -> list[int]
 
 
 def addresses_that_collide(count: int) -> Case:
-    """Functions at addresses that stand at one place of a map by address."""
+    """Functions at addresses that collide in a map by address."""
     info = Info()
     info.begin()
     for address in colliding(count):
@@ -54,7 +54,7 @@ def addresses_that_collide(count: int) -> Case:
 
 
 def signatures_that_collide(count: int) -> Case:
-    """Type units whose signatures stand at one place of a map by signature."""
+    """Type units whose signatures collide in a map by signature."""
     root = Abbreviation(1, TYPE_UNIT, True, ((AT_LANGUAGE, DATA1),))
     empty = Abbreviation(2, STRUCTURE, False)
     info = Info()
@@ -67,7 +67,7 @@ def signatures_that_collide(count: int) -> Case:
 
 
 def names_that_collide(count: int) -> Case:
-    """Symbols whose names of eight bytes stand at one place of a map by name."""
+    """Symbols whose names of eight bytes collide in a map by name."""
     names = bytearray(b"\0")
     symbols = []
     # The length is hashed before the bytes.

@@ -1,4 +1,4 @@
-"""Debug information that is written entry by entry (DWARF 5)."""
+"""Writes debug information entry by entry (DWARF 5)."""
 
 from dataclasses import dataclass
 
@@ -22,7 +22,7 @@ HEADER_SIZE = 12
 
 @dataclass(frozen=True)
 class Abbreviation:
-    """An abbreviation. Behind the form IMPLICIT of an attribute stands the value, as a third number."""
+    """An abbreviation. An attribute with the form IMPLICIT has a third number, its value."""
 
     code: int
     tag: int
@@ -62,7 +62,7 @@ UNIT_ROOT = u8(UNIT) + u8(C99)
 
 
 class Info:
-    """The bytes of `.debug_info` while they are written. Places count from the start of the unit that is open."""
+    """The bytes of `.debug_info` while they are written. Offsets are relative to the start of the open unit."""
 
     def __init__(self) -> None:
         self.bytes = bytearray()
@@ -84,7 +84,7 @@ class Info:
         return len(self.bytes) - self.start
 
     def add(self, code: int, *fields: bytes) -> int:
-        """Adds an entry, and gives its place."""
+        """Adds an entry, and returns its offset."""
         place = self.here()
         self.bytes += uleb(code)
         for one in fields:
@@ -96,7 +96,7 @@ class Info:
         self.bytes += b"\0"
 
     def put(self, place: int, number: int) -> None:
-        """Puts a reference of four bytes where one was left open."""
+        """Fills in a reference of four bytes that was left open."""
         at = self.start + place
         self.bytes[at : at + 4] = u32(number)
 
@@ -116,7 +116,7 @@ class Info:
         return self.add(NAMED, name.encode() + b"\0", u32(of_type))
 
     def function(self, address: int, *params: int) -> int:
-        """A function with parameters of these types."""
+        """Adds a function with parameters of these types."""
         place = self.add(CALL, u64(address))
         for param in params:
             self.add(TAKES, u32(param))

@@ -1,4 +1,4 @@
-"""Images of shared objects: sections, dynamic symbols and GNU versions (System V gABI)."""
+"""Makes shared objects: sections, dynamic symbols and GNU versions (System V gABI)."""
 
 from dataclasses import dataclass, field
 
@@ -19,7 +19,7 @@ HEADER_SIZE = 64
 
 @dataclass(frozen=True)
 class Section:
-    """A section. The link is the number of its string table, or 0."""
+    """A section. `link` is the number of its string table, or 0."""
 
     name: bytes
     kind: int
@@ -32,7 +32,7 @@ class Section:
 
 @dataclass
 class Layout:
-    """The contents of sections one behind the other, and their headers."""
+    """The contents of sections in a row, and their headers."""
 
     contents: bytearray = field(default_factory=bytearray)
     headers: bytearray = field(default_factory=lambda: bytearray(HEADER_SIZE))
@@ -52,8 +52,8 @@ class Layout:
 
 
 def image(sections: list[Section], names: bytes | None = None) -> bytes:
-    """A file of these sections, which have the numbers from 1 on. The section of names is the last; where its contents are given,
-    each section has a `name_at` in them."""
+    """A file of these sections, numbered from 1 on. The section with the names is the last one; if its contents are given, the `name_at`
+    of each section is an offset in them."""
     layout = Layout()
     for section in sections:
         layout.add(section)
@@ -76,7 +76,7 @@ def image(sections: list[Section], names: bytes | None = None) -> bytes:
 
 @dataclass(frozen=True)
 class Symbol:
-    """A dynamic symbol: where its name stands in the table of names, and its value."""
+    """A dynamic symbol: the offset of its name in the string table, and its value."""
 
     name_at: int
     value: int
@@ -103,7 +103,8 @@ def soname_section(name_at: int) -> Section:
 
 
 def version_sections(indexes: list[int], names_at: list[int]) -> list[Section]:
-    """The version of each symbol, of number 0 too, and the definitions of versions 2, 3 and so on by their names' places."""
+    """The version of each symbol, including symbol 0, and the definitions of the versions 2, 3 and so on, by the offsets of their
+    names."""
     table = b"".join(u16(index) for index in indexes)
     definitions = bytearray()
     for number, name_at in enumerate(names_at):
@@ -117,7 +118,7 @@ def version_sections(indexes: list[int], names_at: list[int]) -> list[Section]:
 
 
 def need_section(needs: int, entries: int) -> Section:
-    """So many needs, which all have one list of so many auxiliary entries; each name is the one at byte 1 of the names."""
+    """`needs` version needs that share one list of `entries` auxiliary entries; each name is the one at byte 1 of the string table."""
     table = bytearray()
     for number in range(needs):
         step = 16 if number + 1 < needs else 0

@@ -1,4 +1,4 @@
-"""Numbers and texts as bytes, the lowest byte first."""
+"""Numbers and texts as bytes, in little endian."""
 
 
 def u8(number: int) -> bytes:
@@ -18,7 +18,7 @@ def u64(number: int) -> bytes:
 
 
 def uleb(number: int) -> bytes:
-    """An unsigned number of variable length (DWARF 5, section 7.6)."""
+    """An unsigned LEB128 number (DWARF 5, section 7.6)."""
     spelled = bytearray()
     while number > 0x7F:
         spelled.append(number & 0x7F | 0x80)
@@ -28,7 +28,7 @@ def uleb(number: int) -> bytes:
 
 
 def text(letters: str) -> bytes:
-    """A text and the 0 byte that ends it."""
+    """A text with its terminating zero."""
     return letters.encode() + b"\0"
 
 
@@ -36,7 +36,7 @@ DIGITS = "abcdefghijklmnopqrstuvwxyz"
 
 
 def short_name(number: int) -> str:
-    """A short name, another one for each number."""
+    """A short name, different for each number."""
     letters = DIGITS[number % 26]
     while number >= 26:
         number //= 26

@@ -1,4 +1,4 @@
-"""Made debug information whose units, abbreviations, entries and range lists ask much."""
+"""Generated debug information whose units, abbreviations, entries and range lists take much time or memory."""
 
 from .cases import Case, Kind, against_itself, listed
 from .dwarf import (
@@ -39,8 +39,8 @@ from .library import addresses, library
 ROOT = Abbreviation(UNIT, COMPILE_UNIT, True, ((AT_LANGUAGE, DATA1),))
 
 
-# Numbers of attributes that nobody asks for, each of which differs by 64 from one that is asked: name, location, low_pc, ranges,
-# entry_pc, abstract_origin, specification, type and declaration.
+# Numbers of attributes that the program does not use. Each differs by 64 from one that it uses: name, location, low_pc, ranges, entry_pc,
+# abstract_origin, specification, type and declaration.
 BESIDE = (0x43, 0x42, 0x51, 0x15, 0x12, 0x71, 0x07, 0x09, 0x7C)
 
 
@@ -49,7 +49,7 @@ def beside(count: int) -> tuple[tuple[int, ...], ...]:
 
 
 def of_one_form(count: int, form: Abbreviation, entry: bytes) -> Case:
-    """As many entries of one abbreviation, each spelled so."""
+    """`count` entries of one abbreviation, each with the bytes `entry`."""
     info = Info()
     info.begin()
     info.bytes += entry * count
@@ -59,18 +59,18 @@ def of_one_form(count: int, form: Abbreviation, entry: bytes) -> Case:
 
 
 def flags(count: int) -> Case:
-    """Functions of one abbreviation with as many attributes without bytes."""
+    """Functions of one abbreviation that has equally many attributes without bytes."""
     return of_one_form(count, Abbreviation(2, FUNCTION, False, beside(count)), b"\2")
 
 
 def flags_and_value(count: int) -> Case:
-    """Members of one abbreviation with as many attributes, of which the last alone takes bytes."""
+    """Members of one abbreviation that has equally many attributes; only the last one takes bytes."""
     pairs = ((AT_DECLARATION, FLAG_PRESENT),) * count + ((AT_CONST_VALUE, UDATA),)
     return of_one_form(count, Abbreviation(2, MEMBER, False, pairs), b"\2\0")
 
 
 def flags_of_roots(count: int) -> Case:
-    """Units whose roots share an abbreviation of as many attributes without bytes."""
+    """Units whose roots share an abbreviation with equally many attributes without bytes."""
     pairs = ((AT_LANGUAGE, DATA1),) + ((0x53, FLAG_PRESENT),) * count
     info = Info()
     for _ in range(count):
@@ -81,7 +81,7 @@ def flags_of_roots(count: int) -> Case:
 
 
 def two_tables(count: int) -> Case:
-    """Units that take by turns one of two tables of as many abbreviations."""
+    """Units that alternate between two tables of equally many abbreviations."""
     root = Abbreviation(UNIT, COMPILE_UNIT, False, ((AT_LANGUAGE, DATA1),))
     further = [Abbreviation(code, MEMBER, False) for code in range(2, count + 1)]
     one = table([root, *further])
@@ -93,7 +93,7 @@ def two_tables(count: int) -> Case:
 
 
 def one_chain(count: int) -> Case:
-    """Units that begin to read one chain of abbreviations each at another one. All roots have the code of the last."""
+    """Units that share one chain of abbreviations, each from another one on. All roots have the code of the last one."""
     last = Abbreviation(count, COMPILE_UNIT, False, ((AT_LANGUAGE, DATA1),))
     spelled = [Abbreviation(code, MEMBER, False).spelled() for code in range(1, count)]
     info = Info()
@@ -106,7 +106,7 @@ def one_chain(count: int) -> Case:
 
 
 def ranges(count: int) -> Case:
-    """Functions that share one range list, which begins with as many base addresses."""
+    """Functions that share one range list, which begins with equally many base addresses."""
     info = Info()
     info.begin()
     for _ in range(count):
@@ -119,7 +119,7 @@ def ranges(count: int) -> Case:
 
 
 def ends_of_ranges(count: int) -> Case:
-    """Functions whose range lists are the ends of one list, each with another number of base addresses."""
+    """Functions whose range lists are the ends of one list, so that each has another number of base addresses."""
     info = Info()
     info.begin()
     for number in range(count):
@@ -132,7 +132,7 @@ def ends_of_ranges(count: int) -> Case:
 
 
 def pairs_of_ranges(count: int) -> Case:
-    """The same in version 4: pairs that select a base address."""
+    """The same in version 4, where pairs select a base address."""
     info = Info()
     root = u8(UNIT) + u8(0x0C)
     info.bytes += u32(0) + u16(4) + u32(0) + u8(8) + root
@@ -146,7 +146,7 @@ def pairs_of_ranges(count: int) -> Case:
 
 
 def one_origin(count: int) -> Case:
-    """Functions that all take their parameters from one origin, which has as many."""
+    """Functions that all take their parameters from one origin, which has equally many."""
     info = Info()
     info.begin()
     origin = info.add(FREE)
@@ -167,7 +167,7 @@ def one_origin(count: int) -> Case:
 
 
 def one_address(count: int) -> Case:
-    """Exports at the address of one function with as many parameters."""
+    """Exports at the address of one function with equally many parameters."""
     info = Info()
     info.begin()
     info.add(FREE + 1, u64(0x1000))
@@ -199,7 +199,7 @@ def parameters(count: int) -> Case:
 
 
 def enumerators(count: int) -> Case:
-    """An enumeration with enumerators of one byte, which all have no name and one value."""
+    """An enumeration with enumerators of one byte, all without a name and with the same value."""
     info = Info()
     info.begin()
     counted = info.add(FREE, u32(4))
@@ -232,7 +232,7 @@ def pointers(count: int) -> Case:
 
 
 def leaves(count: int) -> Case:
-    """Entries of one byte that say nothing."""
+    """Entries of one byte without attributes."""
     info = Info()
     info.begin()
     info.bytes += u8(FREE) * count
@@ -243,7 +243,7 @@ def leaves(count: int) -> Case:
 
 
 def nested(count: int) -> Case:
-    """Entries each of which stands inside the one before."""
+    """Nested entries: each is a child of the previous one."""
     info = Info()
     info.begin()
     info.bytes += u8(FREE) * count + bytes(count)
@@ -253,7 +253,7 @@ def nested(count: int) -> Case:
 
 
 def abbreviations(count: int) -> Case:
-    """One unit with a table of abbreviations that have no attributes and codes far apart."""
+    """One unit with a table of abbreviations without attributes, whose codes are far apart."""
     info = Info()
     info.begin()
     info.close()
@@ -263,7 +263,7 @@ def abbreviations(count: int) -> Case:
 
 
 def asked_names(count: int) -> Case:
-    """Pointers whose type stands behind attributes without bytes: each question passes them all."""
+    """Pointers whose type comes after attributes without bytes: each look-up passes all of them."""
     pairs = ((AT_EXTERNAL, FLAG_PRESENT),) * count + ((AT_TYPE, REF4),)
     info = Info()
     info.begin()
@@ -277,7 +277,7 @@ def asked_names(count: int) -> Case:
 
 
 def attributes(count: int) -> Case:
-    """A root with as many attributes without bytes."""
+    """A root with `count` attributes without bytes."""
     info = Info()
     info.begin(root=bytes((UNIT, 0x0C)))
     info.end()
@@ -286,7 +286,7 @@ def attributes(count: int) -> Case:
 
 
 def units(count: int) -> Case:
-    """Units of as few bytes as can be."""
+    """Units of the fewest possible bytes."""
     info = Info()
     for _ in range(count):
         info.begin(root=bytes((UNIT,)))

@@ -1,4 +1,4 @@
-"""Made types that hold much by value, or that many names stand for."""
+"""Generated types that hold much by value, or that have many names."""
 
 from .cases import Case, Kind, against, against_itself, listed
 from .dwarf import (
@@ -38,7 +38,7 @@ ADDRESS = 0x1000
 
 
 def grown(info: Info, code: int, size: int, first: int, doublings: int, nameless: bool) -> int:
-    """A structure or union with so many members of one byte, then structures that hold the one before twice."""
+    """A structure or union with `first` members of one byte, and then structures that each hold the previous one twice."""
     byte = info.number(1)
     inner = info.add(code, u32(size))
     for number in range(first):
@@ -57,7 +57,7 @@ def grown(info: Info, code: int, size: int, first: int, doublings: int, nameless
 
 
 def flat_members(count: int) -> Case:
-    """Structures that each hold one nameless structure of 917,504 members, once they are flat."""
+    """Structures that each hold one nameless structure with 917,504 flat members."""
     info = Info()
     info.begin()
     inner = grown(info, STRUCT, 1, 14, 16, True)
@@ -74,7 +74,7 @@ def flat_members(count: int) -> Case:
 
 
 def leaves_of_arrays(count: int) -> Case:
-    """Names of an array of 64 unions of one byte, which have 851,968 leaves."""
+    """Typedefs of an array of 64 unions of one byte, which have 851,968 leaves."""
     info = Info()
     info.begin()
     inner = grown(info, EITHER, 1, 13, 16, False)
@@ -88,7 +88,7 @@ def leaves_of_arrays(count: int) -> Case:
 
 
 def alignments(count: int) -> Case:
-    """Names of a structure of nearly the greatest weight, which a function takes by value."""
+    """Typedefs of a structure of nearly the greatest weight, which a function takes by value."""
     info = Info()
     info.begin()
     inner = grown(info, STRUCT, 100, 13, 16, False)
@@ -107,7 +107,7 @@ def with_members(info: Info, size: int, count: int, of_type: int) -> int:
 
 
 def typedefs(count: int) -> Case:
-    """Names of a structure of as many members."""
+    """Typedefs of a structure with equally many members."""
     info = Info()
     info.begin()
     whole = with_members(info, 4 * count, count, info.number())
@@ -118,7 +118,7 @@ def typedefs(count: int) -> Case:
 
 
 def broken_typedefs(count: int) -> Case:
-    """The same, and in the new library the members stand at other places."""
+    """The same, but in the new library the members are at other places."""
     files = []
     for step in (0, 4):
         info = Info()
@@ -171,7 +171,7 @@ def member_names(count: int) -> Case:
 
 
 def long_tag(count: int) -> Case:
-    """Typedefs, each of another name, of one structure with a long name."""
+    """Typedefs with different names of one structure with a long name."""
     info = Info()
     info.begin()
     whole = info.add(FREE + 1, u32(0), u32(8))
@@ -183,7 +183,7 @@ def long_tag(count: int) -> Case:
 
 
 def behind_long_name(count: int) -> Case:
-    """Structures of other sizes behind a member with a long name."""
+    """Structures that change their sizes, reached through a member with a long name."""
     files = []
     for more in (0, 1):
         info = Info()
@@ -208,7 +208,7 @@ def behind_long_name(count: int) -> Case:
 
 
 def alike_names(count: int) -> Case:
-    """`abi verify` of typedefs of one name, all alike, of a structure of as many members."""
+    """`abi verify` on alike typedefs of the same name, of a structure with equally many members."""
     info = Info()
     info.begin()
     whole = with_members(info, 4 * count, count, info.number())
@@ -258,7 +258,7 @@ def member_list(count: int) -> Case:
 
 
 def typedefs_of_functions(count: int) -> Case:
-    """Names of a type of functions with as many parameters."""
+    """Typedefs of a function type with equally many parameters."""
     info = Info()
     info.begin()
     called = info.add(FREE)
@@ -272,7 +272,7 @@ def typedefs_of_functions(count: int) -> Case:
 
 
 def declared_names(count: int) -> Case:
-    """Functions that all have one long name in the debug information."""
+    """Functions that all have the same long name in the debug information."""
     further = [Abbreviation(FREE, FUNCTION, False, ((AT_NAME, STRP), (AT_LOW_PC, ADDR)))]
     info = Info()
     info.begin()

@@ -36,8 +36,8 @@ def library(
     more: dict[str, bytes] | None = None,
     abbreviations: bytes | None = None,
 ) -> bytes:
-    """A library of this debug information with a function at each of the values. Its abbreviations are the shared ones and the
-    further ones, unless a whole section of them is given."""
+    """A library with this debug information and a function at each of the values. Its abbreviations are the shared ones and those in
+    `further`, unless `abbreviations` gives the whole section."""
     symbols, names = symbols_at(values)
     tables = abbreviations if abbreviations is not None else table(SHARED + (further or []))
     return image(symbol_sections(symbols, names) + debug_sections(bytes(info.bytes), tables, more or {}))

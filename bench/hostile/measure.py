@@ -1,4 +1,4 @@
-"""Runs a program over made files under limits, and measures processor time and peak memory."""
+"""Runs a program on generated files under limits, and measures processor time and peak memory."""
 
 import math
 import os
@@ -10,20 +10,21 @@ from .cases import Case
 
 MOST_MEMORY = 8_000_000_000
 MOST_SECONDS = 120
-# What a made file may ask: times the seconds of half the file, and bytes for each byte beside some for the program itself.
+# The bounds for a generated file: how many times the seconds of half the file it may take, and how many bytes of memory for each of its
+# bytes, besides some for the program itself.
 MOST_GROWTH = 2.5
 BYTES_A_BYTE = 64
 BYTES_BESIDE = 10_000_000
-# Beside the growth: no file of few bytes may take long.
+# Besides, no small file may take long.
 SECONDS_A_MEGABYTE = 10
 SECONDS_BESIDE = 0.2
-# Shorter runs say nothing of how time grows.
+# Shorter runs do not show how the time grows.
 SHORT = 0.08
 
 
 @dataclass(frozen=True)
 class Run:
-    """How a run ended: its exit status, or the signal that ended it; seconds of processor time; bytes of peak memory."""
+    """A run: its exit status, or the signal that ended it; its seconds of processor time; and its peak memory in bytes."""
 
     status: str
     seconds: float
@@ -32,14 +33,14 @@ class Run:
 
 @dataclass(frozen=True)
 class Row:
-    """A kind's file, and the one that is twice as large."""
+    """The runs on a file of a kind, and on one that is twice as large."""
 
     name: str
     sizes: tuple[int, int]
     runs: tuple[Run, Run]
 
     def growth(self) -> float | None:
-        """How many times the seconds for twice the bytes; a file that grew by less counts as twice as large."""
+        """The ratio of the seconds for twice the bytes; a file that grew by less counts as twice as large."""
         small, large = self.runs
         if large.seconds < SHORT:
             return None
@@ -50,7 +51,7 @@ class Row:
         return max(run.memory / size for run, size in zip(self.runs, self.sizes))
 
     def overs(self) -> list[str]:
-        """Which bounds the kind passes."""
+        """The bounds that the kind exceeds."""
         found = []
         growth = self.growth()
         if growth is not None and growth > MOST_GROWTH or self.runs[1].status.startswith("signal"):
@@ -96,7 +97,7 @@ def limited(words: list[str], output: str) -> Run:
 
 
 def run_case(program: str, case: Case, runs: int) -> Run:
-    """The least of some runs of a case; a long one is made once."""
+    """The fastest of some runs of a case; a case that takes long runs once."""
     for name, contents in case.files.items():
         Path(name).write_bytes(contents)
     if case.before:

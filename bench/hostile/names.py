@@ -1,4 +1,4 @@
-"""Made libraries whose names and versions are long, share their bytes, or are many of one name."""
+"""Generated libraries whose names and versions are long, share their bytes, or are many with the same name."""
 
 from .cases import Case, Kind, against, against_itself, applied, listed
 from .elf import SHT_PROGBITS, Section, Symbol, image, need_section, symbol_sections, version_sections
@@ -8,7 +8,7 @@ MOST_VERSIONS = 32766
 
 
 def table_of(names: list[str]) -> tuple[bytes, list[int]]:
-    """A table of texts, and where each stands."""
+    """A string table, and the offset of each string."""
     contents = bytearray(b"\0")
     places = []
     for name in names:
@@ -18,7 +18,7 @@ def table_of(names: list[str]) -> tuple[bytes, list[int]]:
 
 
 def versioned(count: int, version: str) -> bytes:
-    """Functions of short names that all have one version."""
+    """Functions with short names that all have the same version."""
     names, places = table_of([short_name(number) for number in range(count)] + [version])
     symbols = [Symbol(place, 0x1000 + 16 * number) for number, place in enumerate(places[:-1])]
     indexes = [0] + [2] * count
@@ -26,17 +26,17 @@ def versioned(count: int, version: str) -> bytes:
 
 
 def one_version(count: int) -> Case:
-    """Symbols whose one version has a long name."""
+    """Symbols with the same version, which has a long name."""
     return against_itself(versioned(count, "v" * (8 * count)))
 
 
 def gone(count: int) -> Case:
-    """The same, and in the new library all are gone."""
+    """The same, but in the new library all are gone."""
     return against(versioned(count, "v" * (8 * count)), versioned(1, "v"))
 
 
 def of_versions(count: int, name: str, hidden: int) -> bytes:
-    """Symbols of one name, each of another version."""
+    """Symbols with the same name, each with another version."""
     names, places = table_of([short_name(number) for number in range(count)] + [name])
     symbols = [Symbol(places[-1], 0x1000 + 16 * number) for number in range(count)]
     indexes = [0] + [number + 2 | hidden for number in range(count)]
@@ -44,24 +44,24 @@ def of_versions(count: int, name: str, hidden: int) -> bytes:
 
 
 def versions(count: int) -> Case:
-    """Symbols of one long name, each of another version."""
+    """Symbols with the same long name, each with another version."""
     return against_itself(of_versions(count, "f" * (20 * count), 0x8000))
 
 
 def short_versions(count: int) -> Case:
-    """Symbols of one short name, each of another version."""
+    """Symbols with the same short name, each with another version."""
     return against_itself(of_versions(count, "f", 0x8000))
 
 
 def definitions(count: int) -> Case:
-    """Definitions of versions that all have one long name. No symbol has one of them."""
+    """Version definitions that all have the same long name. No symbol has one of these versions."""
     names = b"\0" + b"v" * (40 * count) + b"\0"
     places = [1] * min(count, MOST_VERSIONS)
     return listed(image(symbol_sections([], names) + version_sections([0], places)))
 
 
 def shared_needs(count: int) -> Case:
-    """Needs that all have one list of auxiliary entries."""
+    """Version needs that share one list of auxiliary entries."""
     app = image(symbol_sections([], b"\0v\0") + [need_section(count, min(count, 65535))])
     return applied(app, image(symbol_sections([], b"\0")))
 
@@ -81,13 +81,13 @@ def listed_ends(count: int) -> Case:
 
 
 def hidden_names(count: int) -> Case:
-    """Local symbols whose names are all one long text."""
+    """Local symbols that all have the same long name."""
     names = b"\0" + b"s" * (20 * count) + b"\0"
     return listed(image(symbol_sections([Symbol(1, 0, info=0)] * count, names)))
 
 
 def section_names(count: int) -> Case:
-    """Sections whose names are all one long text."""
+    """Sections that all have the same long name."""
     first = symbol_sections([], b"\0")
     names = b"s" * (20 * count) + b"\0"
     sections = [Section(b"", one.kind, one.contents, one.link, one.info, one.entry_size, 0) for one in first]

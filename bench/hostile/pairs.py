@@ -1,4 +1,4 @@
-"""Made types of which many pairs are compared."""
+"""Generated types of which many pairs are compared."""
 
 from collections.abc import Sequence
 
@@ -11,7 +11,7 @@ ADDRESS = 0x1000
 
 
 def ring_of_structures(sizes: Sequence[int], members: int = 0) -> bytes:
-    """Structures that each lead by a pointer to the next one, the last to a name of the first."""
+    """Structures that each point to the next one; the last one points to a typedef of the first."""
     info = Info()
     info.begin()
     number = info.number()
@@ -20,7 +20,7 @@ def ring_of_structures(sizes: Sequence[int], members: int = 0) -> bytes:
         whole = info.add(STRUCT, u32(size))
         for place in range(members):
             info.field(short_name(place), number, 4 * place + 8)
-        # The pointer stands behind the structure, and leads to the next one.
+        # The pointer comes after the structure, and leads to the next one.
         info.field("_", info.here() + 12)
         info.close()
         last = info.pointer(info.here() + 5)
@@ -32,20 +32,20 @@ def ring_of_structures(sizes: Sequence[int], members: int = 0) -> bytes:
 
 
 def rings_of_sizes(count: int) -> Case:
-    """Two rings of structures of which no two have one size."""
+    """Two rings of structures. No two structures have the same size."""
     old = ring_of_structures(range(8, 8 + 16 * count, 16))
     return against(old, ring_of_structures(range(16, 16 + 16 * (count + 1), 16)))
 
 
 def wide_rings(count: int) -> Case:
-    """Two rings of structures of one size with as many members."""
+    """Two rings of structures of the same size, with equally many members."""
     one_size = 8 + 4 * count
     old, new = ([one_size] * length for length in (count, count + 1))
     return against(ring_of_structures(old, count), ring_of_structures(new, count))
 
 
 def chain(count: int) -> Case:
-    """Chains of pointers to structures, each of another size than its partner."""
+    """Chains of pointers to structures that each differ in size from their partner."""
     files = []
     for more in (0, 1):
         info = Info()
@@ -65,7 +65,7 @@ def chain(count: int) -> Case:
 
 
 def ring_of_pointers(count: int) -> bytes:
-    """Pointers, each to a typedef of the next, of which no two are alike."""
+    """Pointers, each to a typedef of the next one. No two are alike."""
     info = Info()
     info.begin()
     first = info.here()

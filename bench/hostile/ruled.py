@@ -1,4 +1,4 @@
-"""Made rule files, and the libraries that they are asked of."""
+"""Generated rule files, with the libraries to which they are applied."""
 
 from .cases import Case, Kind, ruled
 from .dwarf import AT_NAME, STRING, FREE, STRUCTURE, Abbreviation, AT_BYTE_SIZE, DATA4, Info
@@ -10,13 +10,13 @@ FIRST_LETTER = 0x4E00
 
 
 def exact_names(count: int) -> Case:
-    """Sections that each give the name of a function that is not there."""
+    """Sections that each name a function that does not exist."""
     rules = "".join(f"[suppress_function]\nname = {short_name(number)}_\n" for number in range(count))
     return ruled(exporting(addresses(count)), rules)
 
 
 def patterns(count: int) -> Case:
-    """Sections with a pattern that holds of no name."""
+    """Sections with a pattern that matches no name."""
     rules = "".join(f"[suppress_function]\nname_regexp = {short_name(number)}_$\n" for number in range(count))
     return ruled(exporting(addresses(count)), rules)
 
@@ -28,13 +28,13 @@ def small_patterns(count: int) -> Case:
 
 
 def classes(count: int) -> Case:
-    """Patterns of Unicode classes, as long as they may be, and one export."""
+    """Patterns of Unicode classes, of the greatest length allowed, and one export."""
     pattern = r"\w\d\s" * 42
     return ruled(exporting(addresses(1)), f"[suppress_function]\nname_regexp = {pattern}_\n" * count)
 
 
 def heavy_pattern(count: int) -> Case:
-    """One pattern of Unicode classes, and an export with a long name, which it has to read to the end."""
+    """One pattern of Unicode classes, and an export with a long name, which the pattern has to read to the end."""
     pattern = r"(?:\w+\d*\pL?)" * 14
     letters = "".join(chr(FIRST_LETTER + number % 1000) for number in range(count))
     names = b"\0" + text(letters)
@@ -43,7 +43,7 @@ def heavy_pattern(count: int) -> Case:
 
 
 def sonames(count: int) -> Case:
-    """Sections that ask a long soname, and as many exports."""
+    """Sections that match against a long soname, and equally many exports."""
     names = bytearray(b"\0")
     symbols = []
     for number, value in enumerate(addresses(count)):
@@ -56,7 +56,7 @@ def sonames(count: int) -> Case:
 
 
 def kinds_of_types(count: int) -> Case:
-    """Sections without a name that hold of no type, and as many structures of other names."""
+    """Sections without a name that match no type, and equally many structures with different names."""
     info = Info()
     info.begin()
     pointers = []

@@ -1,11 +1,11 @@
-"""Measures how much of each limit of `abi` some libraries take.
+"""Measures how much of each limit of `abi` some libraries use.
 
 usage: /usr/bin/python3 -m limits ABI GRAPH_LINES LIBRARY[,CHANGED]..
 
-Prints the table of docs/LIMITS.md, with a cell for each library: what was counted, how much it may be, and the percentage. CHANGED
-is another build of the library, for which there is a report. Below stand how deep types hold one another, how much they weigh and
-how long chains of origins are at most, and what the rule files of examples/ weigh. Ends with status 1 where a library takes more
-than a tenth of a limit of the table.
+Prints the table of docs/LIMITS.md, with a cell for each library: the count, the limit, and the percentage. CHANGED is another build of the
+library, for the row on reports. Below the table it prints how deeply types hold each other by value, how much they weigh and how long
+chains of origins are, each at most, and the weights of the rule files of examples/. Ends with status 1 if a library uses more than a
+tenth of a limit in the table.
 """
 
 from __future__ import annotations
@@ -29,7 +29,7 @@ Figures = dict[str, Figure]
 
 @dataclass(frozen=True)
 class Programs:
-    """Where `abi` and tool_graph_lines stand."""
+    """The paths of `abi` and tool_graph_lines."""
 
     abi: str
     graph_lines: str
@@ -70,7 +70,7 @@ def _type_figures(library: str, nodes: dict[int, graphs.Node]) -> Figures:
 
 
 def _pair_figures(library: str, changed: Optional[str], abi: str, nodes: dict[int, graphs.Node]) -> Figures:
-    """What is found where the library is compared with itself, and with another build."""
+    """The figures of comparing the library with itself, and with another build."""
     certificate = pairs.run(abi, "check", library, library)
     figures = {"visits": pairs.visits(nodes, certificate), "compared": pairs.compared_parts(nodes, certificate)}
     figures["listing"] = pairs.listing_bytes(pairs.run(abi, "exports", library), library)
@@ -80,7 +80,7 @@ def _pair_figures(library: str, changed: Optional[str], abi: str, nodes: dict[in
 
 
 def _composed_figures(library: str, certificate: str, abi: str) -> Figures:
-    """What is found where the certificate of the library and itself is composed with itself."""
+    """The figures of composing the certificate of the library against itself with itself."""
     with tempfile.NamedTemporaryFile("w") as copy:
         copy.write(certificate)
         copy.flush()

@@ -1,4 +1,4 @@
-"""Tables of abbreviations and range lists, as far as `abi` reads them."""
+"""The parts of abbreviation tables and range lists that `abi` reads."""
 
 from __future__ import annotations
 
@@ -9,7 +9,7 @@ from elftools.elf.elffile import ELFFile
 from .entries import Entries, Unit
 from .figures import Figure, constant, times_read
 
-# An abbreviation has at least a byte for its code, its tag, its children and each number of its pairs, of which the last is 0 0.
+# An abbreviation has at least one byte each for its code, its tag, DW_CHILDREN, and the two numbers of each pair; the last pair is 0 0.
 _ABBREVIATION = 5
 _PAIR = 2
 _IMPLICIT_CONST = 0x21
@@ -26,7 +26,7 @@ def contents(elf: ELFFile, name: str) -> bytes:
 
 
 class _Numbers:
-    """Reads numbers of variable length."""
+    """Reads LEB128 numbers."""
 
     def __init__(self, held: bytes, at: int) -> None:
         self._held = held
@@ -37,7 +37,7 @@ class _Numbers:
         return self._held[self._at - 1]
 
     def number(self) -> int:
-        """An unsigned number; of a signed one only the end counts here."""
+        """An unsigned number. Signed ones are only skipped, so their value does not matter."""
         value = shift = 0
         while True:
             byte = self.byte()
@@ -57,7 +57,7 @@ class _Numbers:
 
 
 def _table_bytes(held: bytes, at: int) -> int:
-    """The least bytes of the abbreviations of a table."""
+    """The fewest bytes that the abbreviations of a table can have."""
     numbers = _Numbers(held, at)
     found = 0
     while numbers.number():
@@ -68,7 +68,7 @@ def _table_bytes(held: bytes, at: int) -> int:
 
 
 def abbreviations(elf: ELFFile, units: list[Unit]) -> Figure:
-    """The tables of all units: one is read again where those that are kept beside one another left no room for it."""
+    """The tables of all units. A table is read again if the tables that are kept left no room for it."""
     held = contents(elf, ".debug_abbrev")
     most = min(len(held), constant("dwarf_units/src/table.rt", "MOST_KEPT_BYTES"))
     kept: set[int] = set()
@@ -85,7 +85,7 @@ def abbreviations(elf: ELFFile, units: list[Unit]) -> Figure:
 
 
 def attributes(units: list[Unit]) -> Figure:
-    """The attributes of the entries of a unit: of the unit that has the most for its bytes."""
+    """The attributes of the entries of a unit, for the unit with the most attributes for each of its bytes."""
     figures = [times_read(unit.attributes, unit.size) for unit in units]
     return max(figures, key=lambda figure: figure.share, default=Figure(0, 0))
 

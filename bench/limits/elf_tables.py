@@ -24,7 +24,7 @@ def _length(name: str) -> int:
 
 
 def _table(elf: ELFFile, kind: str, record: int, names: Iterator[str]) -> Figure:
-    """Records of a size, each with a name, in the first section of a kind."""
+    """Records of one size, each with a name, in the first section of a type."""
     section = _section(elf, kind)
     if section is None:
         return Figure(0, 0)
@@ -41,12 +41,12 @@ def symbols(elf: ELFFile) -> Figure:
 
 
 def definitions(elf: ELFFile) -> Figure:
-    """Definitions of versions with their names."""
+    """Version definitions with their names."""
     return _table(elf, "SHT_GNU_verdef", _DEFINITION, iter(_versions(elf).values()))
 
 
 def _versions(elf: ELFFile) -> dict[int, str]:
-    """The names of the versions that a library defines, by their indexes."""
+    """The names of the versions that a library defines, by index."""
     section = _section(elf, "SHT_GNU_verdef")
     if section is None:
         return {}
@@ -54,7 +54,7 @@ def _versions(elf: ELFFile) -> dict[int, str]:
 
 
 def exports(elf: ELFFile) -> Figure:
-    """The names of defined symbols, each with that of its version."""
+    """The names of defined symbols, each with the name of its version."""
     section = _section(elf, "SHT_DYNSYM")
     if section is None:
         return Figure(0, 0)
@@ -70,7 +70,7 @@ def exports(elf: ELFFile) -> Figure:
 
 
 def needs(elf: ELFFile) -> Figure:
-    """What a library needs of others: files and versions with their names, as `abi app` reads them of a program."""
+    """What a library needs from others: files and versions with their names, as `abi app` reads them from a program."""
     section = _section(elf, "SHT_GNU_verneed")
     if section is None:
         return Figure(0, 0)

@@ -1,5 +1,5 @@
-"""The entries of the debug information of a library, as `readelf --debug-dump=info` prints them. No link to another file is
-followed, as from a library to the debug information that its distribution ships apart."""
+"""The entries of the debug information of a library, as `readelf --debug-dump=info` prints them. It follows no link to another file, such
+as a separate debug file."""
 
 from __future__ import annotations
 
@@ -11,7 +11,7 @@ from typing import Iterator, Optional
 WRAPPERS = {"typedef", "const_type", "volatile_type", "restrict_type", "atomic_type", "variable"}
 AGGREGATES = {"structure_type", "union_type"}
 _KEPT = {*WRAPPERS, *AGGREGATES, "array_type", "member"}
-# A unit begins with four bytes for its length, which does not count them.
+# A unit begins with its length in four bytes, which do not count.
 _LENGTH = 4
 _HEAD = re.compile(r" <([0-9a-f]+)><([0-9a-f]+)>: Abbrev Number: [0-9]+ \(DW_TAG_(\w+)\)")
 _ORIGINS = ("DW_AT_abstract_origin", "DW_AT_specification")
@@ -20,7 +20,7 @@ _REFERENCE = re.compile(r"<0x([0-9a-f]+)>")
 
 @dataclass
 class Unit:
-    """A unit: its version, how many bytes it has, where its abbreviations stand, and how many attributes its entries have."""
+    """A unit: its version, its size in bytes, the offset of its abbreviations, and how many attributes its entries have."""
 
     version: int = 0
     size: int = 0
@@ -30,7 +30,7 @@ class Unit:
 
 @dataclass
 class Entry:
-    """An entry of a type or a member, with the members below it."""
+    """The entry of a type or a member, with the members below it."""
 
     tag: str
     named: bool = False
@@ -41,8 +41,8 @@ class Entry:
 
 @dataclass
 class Entries:
-    """What is read of a library: units, how many entries there are, types and members by their offsets, the entries that others
-    complete, and the version and place of each range list of a function."""
+    """What is read of a library: its units, how many entries there are, types and members by offset, the entries that others complete,
+    and the version and offset of the range list of each function."""
 
     units: list[Unit] = field(default_factory=list)
     count: int = 0
@@ -52,7 +52,7 @@ class Entries:
 
 
 class _Reader:
-    """Reads the lines in their order."""
+    """Reads the lines in order."""
 
     def __init__(self) -> None:
         self.read = Entries()

@@ -1,4 +1,4 @@
-"""What was found in a library, beside the limit that stands in the code."""
+"""Counts from a library, each with the limit in the code."""
 
 from __future__ import annotations
 
@@ -7,7 +7,7 @@ from dataclasses import dataclass
 from pathlib import Path
 
 _TOP = Path(__file__).resolve().parents[2]
-# A library that nobody made to cost much has at most so much of what a limit allows.
+# An ordinary library should use at most this share of a limit.
 MOST_SHARE = 0.1
 _LEAST_SHOWN = 0.00001
 
@@ -41,15 +41,15 @@ def constant(source: str, name: str) -> int:
 
 
 def allowed(source: str, each: str, many: int, beside: str) -> int:
-    """A limit that grows with something: so much for each of many, and so much more."""
+    """A limit that grows with a number: the constant `each` times `many`, and the constant `beside` more."""
     return constant(source, each) * many + constant(source, beside)
 
 
 def allowed_by(source: str, bytes_each: str, size: int, beside: str) -> int:
-    """A limit that grows with the bytes of a file: one for so many of its bytes, and so many more."""
+    """A limit that grows with the size of a file: the size divided by the constant `bytes_each`, and the constant `beside` more."""
     return size // constant(source, bytes_each) + constant(source, beside)
 
 
 def times_read(found: int, held: int) -> Figure:
-    """Bytes that are read, of a table with so many bytes: each may be read some times."""
+    """Bytes that are read from a table of `held` bytes. The limit is a multiple of the table's size."""
     return Figure(found, constant("abi_base/src/effort.rt", "MOST_TIMES") * held)

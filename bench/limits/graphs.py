@@ -15,15 +15,15 @@ _WALKS = "psabi/src/walks.rt"
 _HIDDEN = re.compile(r"\\x[0-9a-f]{2}")
 _LABEL = re.compile(r" (?:structure|union|enumeration|typedef|builtin):(\S+)")
 _NODE = re.compile(r"node (\d+) (\w+) size (\d+) align (\d+) count (\d+)(?: .*)? tag (\S+) labels(.*)")
-# What stands inside an object of an aggregate.
+# The parts that are inside an object of an aggregate.
 _INSIDE = ("member", "element")
 _AGGREGATES = ("structure", "union", "array")
 
 
 @dataclass
 class Node:
-    """A type: its kind, how many bytes and elements it has, the letters of its names and parts, how many names, and its parts by
-    sort and entry. An enumerator leads to no entry."""
+    """A type: its kind, how many bytes and elements it has, the letters of its names and parts, how many names it has, and the kind and
+    the entry of each part. An enumerator has no entry."""
 
     kind: str
     size: int
@@ -53,18 +53,18 @@ def _take_part(node: Node, line: str) -> None:
 
 
 def read_lines(program: str, library: str) -> list[str]:
-    """What tool_graph_lines prints of a library."""
+    """The lines that tool_graph_lines prints for a library."""
     return subprocess.run([program, library], stdout=subprocess.PIPE, check=True, text=True).stdout.splitlines()
 
 
 def declared_letters(lines: list[str], size: int) -> Figure:
-    """The letters of the names under which exports are declared, of a file with so many bytes."""
+    """The letters of the names under which exports are declared, in a file of `size` bytes."""
     found = sum(_letters(line.split()[-1]) for line in lines if line.startswith("export "))
     return times_read(found, size)
 
 
 def read_graph(lines: list[str]) -> dict[int, Node]:
-    """The types by their entries; void has 0."""
+    """The types, by entry; void has 0."""
     nodes: dict[int, Node] = {}
     node = Node("", 0, 0, 0, 0)
     for line in lines:
@@ -81,7 +81,7 @@ def parts(nodes: dict[int, Node]) -> int:
 
 
 def _flat(types: dict[int, Entry], entry: Entry) -> int:
-    """The members of a structure or a union, and those that stand for nameless ones."""
+    """How many members a structure or a union has, with the members of nameless ones in their place."""
     if entry.declared:
         return 0
     found = len(entry.members)
@@ -100,7 +100,7 @@ def _peeled(types: dict[int, Entry], place: int | None) -> Entry | None:
 
 
 def reached_types(nodes: dict[int, Node], size: int) -> Figure:
-    """The types that exports reach, of a file with so many bytes. The node of void is none."""
+    """The types that exports reach, in a file of `size` bytes. The node of void does not count."""
     return Figure(len(nodes) - 1, allowed_by(_LIMITS, "BYTES_A_TYPE", size, "TYPES_AT_LEAST"))
 
 
@@ -111,7 +111,7 @@ def enumerators(nodes: dict[int, Node], size: int) -> Figure:
 
 
 def flat_parts(nodes: dict[int, Node], entries: Entries, size: int) -> Figure:
-    """Flat members and parameters that are made, of a file with so many bytes."""
+    """The flat members and parameters that the program makes, for a file of `size` bytes."""
     found = 0
     for place, node in nodes.items():
         entry = entries.types.get(place)
@@ -123,12 +123,12 @@ def flat_parts(nodes: dict[int, Node], entries: Entries, size: int) -> Figure:
 
 
 def held_parts(nodes: dict[int, Node], size: int) -> Figure:
-    """The parts that types are compared by, of a file with so many bytes."""
+    """The parts by which types are compared, for a file of `size` bytes."""
     return Figure(parts(nodes), allowed(_ROOM, "PARTS_A_BYTE", size, "PARTS_AT_LEAST"))
 
 
 def letters(nodes: dict[int, Node], size: int) -> Figure:
-    """The letters of names of types and parts, of a file with so many bytes."""
+    """The letters of the names of types and parts, for a file of `size` bytes."""
     found = sum(node.letters for node in nodes.values())
     return Figure(found, allowed(_ROOM, "LETTERS_A_BYTE", size, "LETTERS_AT_LEAST"))
 
@@ -140,7 +140,7 @@ def labels(nodes: dict[int, Node]) -> Figure:
 
 
 def _steps(nodes: dict[int, Node], place: int, known: dict[int, int]) -> int:
-    """The steps of a walk to the leaves of an object: one, and those of all that stands inside it."""
+    """The steps of a walk to the leaves of an object: one, and the steps for all parts inside it."""
     node = nodes[place]
     if node.size == 0 or node.kind not in _AGGREGATES:
         return 1
@@ -151,7 +151,7 @@ def _steps(nodes: dict[int, Node], place: int, known: dict[int, int]) -> int:
 
 
 def walk_steps(nodes: dict[int, Node]) -> Figure:
-    """The steps of walks to the leaves of what functions pass, as if each was made anew for each function."""
+    """The steps of walks to the leaves of what functions pass, counted anew for each function."""
     most = constant("psabi/src/sizes.rt", "OBJECT_LIMIT")
     known: dict[int, int] = {}
     found = 0

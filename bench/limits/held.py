@@ -1,4 +1,4 @@
-"""What types hold by value, how deep it goes and how much each weighs, and how long chains of origins are."""
+"""How deeply types hold each other by value, how much each type weighs, and how long chains of origins are."""
 
 from __future__ import annotations
 
@@ -12,7 +12,7 @@ Place = Optional[int]
 
 
 class Held:
-    """The depth and the weight of types, each of which is found once."""
+    """The depth and the weight of types, each computed once."""
 
     def __init__(self, nodes: dict[int, Node], types: dict[int, Entry]) -> None:
         self._nodes = nodes
@@ -20,7 +20,7 @@ class Held:
         self._known: dict[int, tuple[int, int]] = {}
 
     def _steps(self, place: int) -> list[Place]:
-        """The types that one holds by value; of a function those of its result and parameters."""
+        """The types that a type holds by value; for a function those of its result and parameters."""
         entry = self._types.get(place)
         if entry is None:
             node = self._nodes.get(place)
@@ -30,7 +30,8 @@ class Held:
         return [entry.type]
 
     def facts(self, place: Place) -> tuple[int, int]:
-        """How many steps by value lead on from a type, and one more than the weights of what it holds; of a function 1."""
+        """The depth of a type (how many steps by value lead on from it), and its weight: one more than the weights of what it holds, or 1
+        for a function."""
         if not place:
             return 0, 1
         if place not in self._known:

@@ -16,7 +16,7 @@ _BASE = "abi_base/src/lib.rt"
 
 
 def run(program: str, *words: str) -> str:
-    """What a command of `abi` prints, which ends with yes or no."""
+    """What a command of `abi` prints. It must end with yes or no."""
     ended = subprocess.run([program, *words], stdout=subprocess.PIPE, stderr=subprocess.PIPE, text=True)
     if ended.returncode not in (0, 1):
         raise RuntimeError(f"{program} {' '.join(words)}: {ended.returncode} {ended.stderr.strip()}")
@@ -24,24 +24,24 @@ def run(program: str, *words: str) -> str:
 
 
 def pair_lines(certificate: str) -> list[tuple[int, int]]:
-    """The old and the new entry of each line."""
+    """The old and the new entry of each pair line."""
     words = (line.split() for line in certificate.splitlines())
     return [(int(line[1]), int(line[2])) for line in words if line[0] == "pair"]
 
 
 def visits(nodes: dict[int, Node], certificate: str) -> Figure:
-    """The pairs of types that were visited, of a library beside itself."""
+    """The pairs of types that were visited, for a library against itself."""
     return Figure(len(pair_lines(certificate)), allowed(_EXPLORING, "VISITS_A_TYPE", 2 * len(nodes), "VISITS_AT_LEAST"))
 
 
 def compared_parts(nodes: dict[int, Node], certificate: str) -> Figure:
-    """The parts of the types of each pair, of a library beside itself."""
+    """The parts of the types of each pair, for a library against itself."""
     found = sum(len(nodes[old].parts) + len(nodes[new].parts) for old, new in pair_lines(certificate))
     return Figure(found, allowed(_EXPLORING, "PARTS_A_PART", 2 * parts(nodes), "PARTS_AT_LEAST"))
 
 
 def report_bytes(report: str, old: str, new: str) -> Figure:
-    """The rows of a report, each with what it takes beside its text."""
+    """The rows of a report, each with the bytes that it takes besides its text."""
     row = constant(_ROOM, "ROW")
     found = sum(row + len(line.encode()) for line in report.splitlines()[1:])
     size = Path(old).stat().st_size + Path(new).stat().st_size
@@ -49,7 +49,7 @@ def report_bytes(report: str, old: str, new: str) -> Figure:
 
 
 def listing_bytes(listing: str, library: str) -> Figure:
-    """The bytes that `exports` prints of a library."""
+    """The bytes that `exports` prints for a library."""
     size = Path(library).stat().st_size
     return Figure(len(listing.encode()), allowed(_LISTING, "BYTES_A_BYTE", size, "BYTES_AT_LEAST"))
 

@@ -1,4 +1,4 @@
-"""What docs/LIMITS.md says of each limit: what is counted, and how much there may be. The numbers are those of the sources."""
+"""The rows of docs/LIMITS.md: for each limit what is counted, and how much there may be. The numbers come from the sources."""
 
 from __future__ import annotations
 
@@ -21,7 +21,7 @@ _LINES = _INPUT // constant("library_check/src/composing.rt", "PAIR_ROOM")
 
 @dataclass(frozen=True)
 class Row:
-    """A limit: the name of its figure, what is counted, and how much there may be."""
+    """A limit: the name of its figure, what it counts, and how much there may be."""
 
     name: str
     counted: str

@@ -1,4 +1,4 @@
-"""How much the patterns of a rule file weigh."""
+"""The weight of the patterns of a rule file."""
 
 from __future__ import annotations
 
@@ -13,7 +13,7 @@ _CLASS = re.compile(r"\\(.)", re.DOTALL)
 
 
 def weight(rules: Path) -> Figure:
-    """The patterns of a rule file: a weight of its own for each, one for each byte, and one for each class."""
+    """The weight of the patterns of a rule file: a weight for each pattern, 1 for each of its bytes, and a weight for each class."""
     each, class_weight = constant(_BLOCK, "PATTERN_WEIGHT"), constant(_BLOCK, "CLASS_WEIGHT")
     found = 0
     for pattern in _PATTERN.findall(rules.read_text()):

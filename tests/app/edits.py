@@ -1,10 +1,10 @@
 #!/usr/bin/env python3
-"""Links programs with a library, edits exports and versions of the library, and runs each program with what comes out: it must run
-exactly where `abi app` says yes.
+"""Links programs with a library, edits exports and versions of the library, and runs each program with the edited library: it must run
+exactly if `abi app` says yes.
 
     edits.py ABI COUNT
 
-It works in the current folder, and prints how often the answer was yes and no.
+It works in the current folder, and prints how often the answer was yes and how often no.
 """
 
 from __future__ import annotations
@@ -25,7 +25,7 @@ NAMES = ("alpha", "beta", "gamma", "delta", "epsilon", "zeta")
 
 @dataclass(frozen=True)
 class Function:
-    """A function of a library, in a version, or in none."""
+    """A function of a library, with or without a version."""
 
     name: str
     version: str | None
@@ -58,7 +58,7 @@ def _library_source(library: Library) -> str:
 
 
 def _script(library: Library) -> str:
-    """A version script with the versions of a library, in which nothing else is exported."""
+    """A version script with the versions of a library. It exports nothing else."""
     lines = []
     for version in sorted({it.version for it in library if it.version}):
         names = "".join(f" {it.name};" for it in _in_order(library) if it.version == version)
@@ -72,7 +72,7 @@ def _compile(*words: str) -> None:
 
 
 def build(library: Library, folder: Path) -> Path:
-    """The library, in a folder of its own, under its soname."""
+    """Builds the library in a folder of its own, under its soname."""
     folder.mkdir(exist_ok=True)
     source, made = folder / "made.c", folder / SONAME
     source.write_text(_library_source(library))
@@ -85,7 +85,7 @@ def build(library: Library, folder: Path) -> Path:
 
 
 def link(uses: list[Function], library: Path, program: Path) -> None:
-    """A program that calls these functions of the library, each in its version."""
+    """Links a program that calls these functions of the library, each in its version."""
     lines = []
     for it in uses:
         if it.version and not it.is_default:
@@ -109,14 +109,14 @@ def first_library(chance: random.Random, has_versions: bool) -> Library:
 
 
 def _with_default(functions: set[Function], name: str) -> set[Function]:
-    """The functions, where the last version of this name is its default one."""
+    """The functions, with the last version of this name as its default version."""
     of_name = sorted(it.version for it in functions if it.name == name and it.version)
     others = {it for it in functions if it.name != name or not it.version}
     return others | {Function(name, version, version == of_name[-1]) for version in of_name}
 
 
 def edited(chance: random.Random, library: Library, uses: list[Function]) -> Library:
-    """The library after one edit of its exports or versions, in half of the cases of one that is used."""
+    """The library after one edit of its exports or versions. Half of the edits change an export that the program uses."""
     functions = set(library)
     there = [it for it in uses if it in library]
     one = chance.choice(there if there and chance.random() < 0.5 else _in_order(library))
@@ -135,7 +135,7 @@ def edited(chance: random.Random, library: Library, uses: list[Function]) -> Lib
 
 
 def _are_alike(library: Library) -> bool:
-    """Whether a linker takes it: all functions have a version, or none has, and each name has one definition of a version."""
+    """Whether a linker accepts it: all functions have a version, or none has, and each name has one definition per version."""
     kinds = {it.version is None for it in library}
     bodies = [it.body for it in library]
     defaults = [it.name for it in library if it.is_default]

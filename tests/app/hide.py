@@ -1,5 +1,5 @@
 #!/usr/bin/env python3
-"""Writes a copy of a library in which one dynamic symbol has the version index of a local one, so that it is no export.
+"""Writes a copy of a library in which one dynamic symbol has the version index of local symbols, so that it is not exported.
 
     hide.py LIBRARY COPY NUMBER
 """

@@ -19,7 +19,7 @@ def _readelf(*words: str) -> list[str]:
 
 @dataclass(frozen=True)
 class Import:
-    """A name that a program takes from elsewhere, and the version and the file that it needs it of, where it has a version."""
+    """A name that a program imports and, if it has a version, the version and the file that it needs it from."""
 
     name: str
     version: str | None
@@ -42,7 +42,7 @@ class Export:
 
 
 def needs_of(program: str) -> dict[int, tuple[str, str]]:
-    """The version and the file of each index that a program's version needs name."""
+    """The version and the file for each index in a program's version needs."""
     needs: dict[int, tuple[str, str]] = {}
     file = ""
     for line in _readelf("--version-info", program):
@@ -54,7 +54,7 @@ def needs_of(program: str) -> dict[int, tuple[str, str]]:
 
 
 def imports_of(program: str) -> list[Import]:
-    """The undefined symbols of a program, and those whose version it needs of another file, as copied objects are."""
+    """The undefined symbols of a program, and the defined ones whose version comes from another file, such as copied objects."""
     needs = needs_of(program)
     imports = []
     for line in _readelf("--dyn-syms", program):
@@ -72,7 +72,7 @@ def imports_of(program: str) -> list[Import]:
 
 
 def exports_in(listing: Path) -> list[Export]:
-    """The exports of a listing that `exports` wrote."""
+    """The exports in a listing by `exports`."""
     exports = []
     for line in listing.read_text().splitlines():
         number, name, version, index, label, *_ = line.split("\t")
@@ -81,8 +81,8 @@ def exports_in(listing: Path) -> list[Export]:
 
 
 def bound_to(wanted: Import, soname: str, exports: list[Export]) -> Export | None:
-    """The export to which an import binds: one with a version by its name and version, if its file has this soname; one without as
-    the dynamic loader binds what was linked before there were versions."""
+    """The export to which an import binds. An import with a version binds by name and version, if its file has this soname; one without
+    binds as the dynamic loader binds programs that were linked before the library had versions."""
     named = [export for export in exports if export.name == wanted.name]
     if wanted.version is not None:
         return next((it for it in named if it.version == wanted.version), None) if wanted.file == soname else None
@@ -93,6 +93,6 @@ def bound_to(wanted: Import, soname: str, exports: list[Export]) -> Export | Non
 
 
 def used(program: str, soname: str, exports: list[Export]) -> list[Export]:
-    """The exports of a library that a program uses, in their order."""
+    """The exports of a library that a program uses, in order."""
     bound = {bound_to(wanted, soname, exports) for wanted in imports_of(program)}
     return [export for export in exports if export in bound]

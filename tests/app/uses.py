@@ -1,11 +1,11 @@
 #!/usr/bin/env python3
-"""Prints what `abi app` must say of a program and a library in the place of itself, by readelf.
+"""Prints what `abi app` must say of a program and a library that replaces itself, according to readelf.
 
     uses.py PROGRAM SONAME LISTING [UNUSED]
 
 LISTING has the exports of the library, as `exports` in tests/common.bash lists them. Each export that the program uses is a line
-`use LABEL`. With UNUSED, that file gets the number of the first export that is used, and that of the first one that is not and
-whose name stands for no other export: a line each.
+`use LABEL`. With UNUSED, that file gets two lines: the number of the first export that the program uses, and that of the first export
+that it does not use and whose name no other export has.
 """
 
 from __future__ import annotations

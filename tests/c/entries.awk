@@ -1,5 +1,5 @@
-# Prints a C source of many declarations of all sorts: groups FIRST to LAST, each of a structure, an enumeration, unions,
-# typedefs, variables and functions that use those of the group before.
+# Prints a C source of many declarations of all kinds: groups FIRST to LAST, each of a structure, an enumeration, unions, typedefs,
+# variables and functions that use those of the previous group.
 #
 #   awk -v first=1 -v last=400 -f entries.awk
 BEGIN {

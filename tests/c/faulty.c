@@ -1,10 +1,10 @@
-// Calls of the system that fail, to stand before those of the C library (LD_PRELOAD). Variables of the environment say which:
-//   READ_FAILS, WRITE_FAILS, ALLOC_FAILS   the number of the call, from 1 on, that fails, of those that read, that write to standard
+// Replaces functions of the C library (by LD_PRELOAD) with ones that can fail. Environment variables say how:
+//   READ_FAILS, WRITE_FAILS, ALLOC_FAILS   the number of the call that fails, from 1 on, among those that read, that write to standard
 //                                          output, that ask for memory
 //   READ_MOST, WRITE_MOST                  the most bytes that one call moves
 //   INTERRUPTED                            each call to read or write is interrupted once before it is made
 //   SHRINKS                                the name of a file that has no bytes left after the first read
-//   COUNTS                                 the name of a file, to which the numbers of calls are written in the end
+//   COUNTS                                 the name of a file to which the numbers of calls are written at the end
 #include <errno.h>
 #include <stddef.h>
 #include <stdio.h>
@@ -22,7 +22,7 @@ static long number(const char *name, long otherwise) {
     return word ? atol(word) : otherwise;
 }
 
-/* Whether the call is interrupted, as each is that was not interrupted the last time. */
+/* Whether the call is interrupted: every other one is, from the first on. */
 static int is_interrupted(void) {
     if (!getenv("INTERRUPTED") || interrupted++ % 2) return 0;
     errno = EINTR;

@@ -1,6 +1,6 @@
 # Reads what tool_graph_lines prints, and prints a line for each fact of it, in the form of kinds.awk:
 #
-#     structure KEY size BYTES align BYTES        and so for a union; an enumeration has no alignment
+#     structure KEY size BYTES align BYTES        the same for a union; an enumeration has no alignment
 #     KEY member NUMBER NAME bit BIT width BITS DESCRIPTION size BYTES
 #     KEY enumerator NUMBER NAME VALUE
 #     function KEY params COUNT [variadic]
@@ -8,7 +8,7 @@
 #     KEY param NUMBER DESCRIPTION size BYTES
 #     variable NAME [typedef:NAME ..] align BYTES DESCRIPTION size BYTES
 #
-# A key is a tag, or that of a type with `.NAME` behind it for the nameless type of its member NAME.
+# A key is a tag, or the key of a type followed by `.NAME` for the nameless type of its member NAME.
 function described(n,    elements) {
     if (kind[n] == "array") {
         # an array of arrays is one array of all their elements, as it is in the debug information of gcc
@@ -26,7 +26,7 @@ function function_facts(key, n,    k) {
     for (k = 1; k <= parts[n]; k++) fact(key " " word[n, k] (k > 1 ? " " (k - 1) : ""), to[n, k])
 }
 
-# What stands in the nameless type of a member: of an array that of its elements, of a pointer that of its target.
+# The nameless type of a member; for an array that of its elements, and for a pointer that of its target.
 function inner_facts(key, n,    pointed) {
     while (labels[n] == "" && (kind[n] == "array" || kind[n] == "pointer" && !pointed)) {
         pointed = pointed || kind[n] == "pointer"

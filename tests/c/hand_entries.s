@@ -1,5 +1,5 @@
-# A shared object whose debug information is written by hand, in DWARF 5. As it stands it has no fault. tests/sentences.sh puts
-# another value into one field at a time: a field is the word before ##, and its name stands behind. In C the source would be
+# A shared object whose debug information is written by hand, in DWARF 5. As written it has no fault. tests/sentences.sh puts
+# another value into one field at a time: a field is the word before ##, and its name comes after. In C the source would be
 #
 #     struct point { int x; };
 #     typedef struct point place;

@@ -1,8 +1,8 @@
-# Reads kinds.h as the preprocessor leaves it, and prints a C source:
+# Reads the preprocessed kinds.h, and prints a C source:
 #
 #   -v output=functions    its functions, with bodies that trap
 #   -v output=variables    its variables
-#   -v output=facts        a program that prints what the compiler says of all of them, a line for each fact, in the form of
+#   -v output=facts        a program that prints the compiler's facts about all of them, a line for each fact, in the form of
 #                          graph.awk
 function trimmed(text) {
     gsub(/[ \t]+/, " ", text)
@@ -11,7 +11,7 @@ function trimmed(text) {
     return text
 }
 
-# A line without its attributes; `explicit` says whether they, or a keyword, ask for an alignment.
+# A line without its attributes. Sets `explicit` if an attribute or a keyword asks for an alignment.
 function bare(line) {
     explicit = line ~ /aligned|_Alignas/
     while (match(line, /__attribute__\(\([a-z_]+(\([0-9]+\))?(, [a-z_]+(\([0-9]+\))?)*\)\)/))
@@ -69,8 +69,8 @@ function unqualified(type) {
     return trimmed(type)
 }
 
-# describe: puts the format of what an expression of the type is into `format`, and appends what it takes to `values`. An array
-# of arrays is one array of all their elements.
+# describe: puts a format that describes the type into `format`, and appends the arguments of the format to `values`. An array of
+# arrays is one array of all their elements.
 function describe(type, dims, expression,    k, element, plain) {
     plain = unqualified(type)
     element = expression
@@ -99,7 +99,7 @@ function describe(type, dims, expression,    k, element, plain) {
     values = values ", GROUP(" element ")"
 }
 
-# fact LINE TYPE DIMS EXPRESSION: prints a statement that prints the line, what the expression is, and its size.
+# fact LINE TYPE DIMS EXPRESSION: prints a statement that prints the line, the description of the expression's type, and its size.
 function fact(line, type, dims, expression,    open) {
     open = open_end
     format = values = ""
@@ -108,7 +108,7 @@ function fact(line, type, dims, expression,    open) {
     print "    printf(\"" line " " format " size %zu\\n\"" values ", " (open ? "(size_t)0" : "sizeof(" expression ")") ");"
 }
 
-# The parameters of a function, parted by the commas between them, into `param`.
+# Splits the parameters of a function at their commas, into `param`.
 function part_params(text,    i, c, depth, count) {
     variadic = 0
     if (text == "void" || text == "") return 0
@@ -168,7 +168,7 @@ function is_aligned(type,    plain) {
     return (plain in typedef_explicit) || (plain in aligned)
 }
 
-# A bit field: all its bits are set in an object of zeros, whose bytes tell where they are; its value tells whether it is signed.
+# A bit field: sets all its bits in an object of zeros. The bytes show where they are, and the value shows whether it is signed.
 function bit_field_fact(line, name, type, of,    is_truth) {
     is_truth = unqualified(of) == "_Bool"
     print "    { static " type " object; object." name " = " (is_truth ? 1 : -1) ";"
@@ -190,7 +190,7 @@ function member_fact(n, k, type, key,    name, line, expression) {
     else fact("", member_type[n, k], member_dims[n, k], expression)
 }
 
-# The members, those included that nameless aggregates give.
+# The members, including those of nameless aggregates.
 function members_facts(n, type, key,    k) {
     for (k = 1; k <= count_of[n]; k++) {
         if (member_name[n, k] != "") member_fact(n, k, type, key)
@@ -204,7 +204,7 @@ function enumeration_facts(n, size, key,    k) {
         print "    printf(\"" key " enumerator " k " " member_name[n, k] " %llu\\n\", (unsigned long long)" member_name[n, k] ");"
 }
 
-# What stands in nameless types of members.
+# The contents of nameless types of members.
 function inner_facts(n, type, key,    k, j, name, element) {
     for (k = 1; k <= count_of[n]; k++) {
         name = member_name[n, k]
@@ -237,7 +237,7 @@ function aggregate_facts(n, type, key,    align) {
     inner_facts(n, type, key)
 }
 
-# The end of one, behind which the name of a member may stand.
+# The end of an aggregate, which the name of a member may follow.
 function end(text, asked,    n) {
     n = open_node[depth--]
     if (asked) explicit_of[n] = 1
@@ -274,7 +274,7 @@ function add_typedef(line) {
     if (!explicit && is_aligned(type)) typedef_explicit[name] = 1
 }
 
-# The typedefs that a type passes.
+# The typedefs on the way to a type.
 function passed(type,    plain, list) {
     plain = unqualified(type)
     while (plain in typedef_type) {

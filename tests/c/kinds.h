@@ -1,5 +1,5 @@
-/* Types of every kind. kinds.awk reads what the preprocessor leaves of them: each member, enumerator, function and variable has a
-   line of its own, parameters have no names, and a name stands last but for what its declarator and its attributes add. */
+/* Types of every kind. kinds.awk reads them after preprocessing: each member, enumerator, function and variable has a line of its
+   own, parameters have no names, and only the rest of its declarator and its attributes follow a name. */
 #ifdef __clang__
 #define QUAD __float128
 #else
@@ -132,7 +132,7 @@ struct bits {
     unsigned char byte;
 };
 #ifndef __clang__
-/* clang says of a bit field of all bits of its type that it is none */
+/* clang does not describe a bit field with all bits of its type as a bit field */
 struct full_bits {
     int whole : 32;
     unsigned long long wide : 64;

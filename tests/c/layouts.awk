@@ -1,5 +1,5 @@
 # Reads what tool_graph_lines prints, and prints a line for each defined structure and union with a tag: its kind, its tag, its size,
-# and for each member its name, its bit and its width where it is a bit field.
+# and for each member its name, its bit and, if it is a bit field, its width.
 function print_type() {
     if (line != "") print line
     line = ""

@@ -1,4 +1,4 @@
-/* The exports of old.c without `border` and `count`: the one is hidden now, and the other is gone. */
+/* The exports of old.c without `border` and `count`: one is hidden now, and the other is gone. */
 __attribute__((visibility("hidden"))) int border(int width, int height) { return 2 * (width + height); }
 __attribute__((weak)) int maybe(int x) { return x; }
 int kept(int x) { return border(x, x); }

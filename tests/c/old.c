@@ -1,4 +1,4 @@
-/* What the other sources change: functions, objects, a weak and a protected function, and names that are no exports. */
+/* The source that the others change: functions, objects, a weak and a protected function, and names that are not exported. */
 int count = 1;
 static int own(int x) { return x + count; }
 __attribute__((visibility("hidden"))) int inner(int x) { return own(x); }

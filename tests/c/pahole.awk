@@ -1,6 +1,6 @@
 # Reads what `pahole -s` and then `pahole` print, and prints a line for each structure and union with a tag: its kind, its tag, its
-# size, and for each member its name, its bit and its width where it is a bit field, in the form of layouts.awk. The members of a
-# nameless structure or union stand in the place of it. Nothing is printed of types in which pahole meets what it does not know.
+# size, and for each member its name, its bit and, if it is a bit field, its width, in the form of layouts.awk. The members of a
+# nameless structure or union take its place. Types with parts that pahole does not know are left out.
 function named(text) {
     if (match(text, /\(\*+ ?(const )?[A-Za-z_0-9]+(\[[0-9]*\])*\)/)) {
         text = substr(text, RSTART, RLENGTH)
@@ -33,7 +33,7 @@ depth == 0 { next }
 }
 /^\t+(const |volatile )*(struct|union|enum) ?([A-Za-z_0-9]+ )?\{$/ { members[++depth] = ""; inner[depth] = $0 !~ /enum/; next }
 /;/ {
-    # where it begins: the byte, and behind a colon the bit; what begins nowhere is no member
+    # where it begins: the byte and, after a colon, the bit; a line without a place is no member
     if (!match($0, /\/\* *[0-9]+(:[ 0-9]+)? +[0-9]+ \*\/$/)) {
         if (/^\t+}/) depth--
         next

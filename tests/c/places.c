@@ -1,13 +1,13 @@
-/* Reads out of compiled code where calls have their arguments and results. For each function that places.py made it prints
+/* Observes in compiled code where calls pass their arguments and results. For each function that places.py made it prints
  *
  *   NAME params LIST result PLACE
  *
- * as `abi exports` prints places. Each byte of a register, of the stack and of an object is a mark, which is another one in
- * each run, so that a byte is known again by what it was in all runs. An argument stands where the function takes it from: it
- * is called with marks in all registers for arguments and on the stack, and copies its parameters. A result stands where the
- * caller takes it from: it calls a function that leaves marks in all registers for results, or in memory where the caller hands
- * over an address, and copies the result. And each has to stand there by the other side too: the caller is seen to put the bytes
- * of its arguments there, and the function those of its result. Bytes of padding need not be the same on both sides.
+ * as `abi exports` prints places. Each byte of a register, of the stack and of an object is a mark, which differs in each run,
+ * so that its values over all runs identify a byte. The place of an argument is where the function takes it from: the function
+ * is called with marks in all argument registers and on the stack, and copies its parameters. The place of a result is where
+ * the caller takes it from: the caller calls a function that leaves marks in all result registers, or in memory if the caller
+ * passes an address, and copies the result. The other side must agree: the caller must put the bytes of its arguments there,
+ * and the function those of its result. Bytes of padding need not be the same on both sides.
  *
  *   places WIDTH      WIDTH is how many bytes of a vector register hold marks: 16, 32 or 64 */
 #define _GNU_SOURCE
@@ -59,15 +59,15 @@ struct sites {
 
 typedef byte object[ROOM];
 
-/* What came of the calls of one side: what stood at all sites and what objects it took from there, and what it left there of the
- * objects that it handed over. */
+/* The outcome of the calls of one side: what was at all sites and which objects it took from there, and what it left there of the
+ * objects that it passed. */
 struct side {
     struct sites marks[RUNS], left[RUNS];
     object took[RUNS][MOST], gave[RUNS][MOST];
 };
 
 static struct side caller, callee;
-static byte *arena;        /* the memory that calls have, with the stack in its middle */
+static byte *arena;        /* the memory for calls, with the stack in its middle */
 static size_t memory_used; /* how many bytes on the stack, or of a result in memory, hold marks */
 static int run;
 
@@ -103,7 +103,7 @@ static void mark_object(object bytes, unsigned size)
 
 enum sort { NOWHERE, ASTRAY, IN_GENERAL, IN_VECTOR, IN_X87, IN_MEMORY };
 
-/* a byte of a register or of memory; of several registers of a sort, the number says which */
+/* a byte of a register or of memory; `number` says which register of its kind */
 struct site {
     enum sort sort;
     unsigned number, at;
@@ -118,7 +118,7 @@ static struct site site_of(size_t at)
     return (struct site){IN_MEMORY, 0, at - sizeof(struct registers)};
 }
 
-/* Whether byte `at` of the sites was in all runs the byte `from` of object `n`. */
+/* Whether byte `at` of the sites was byte `from` of object `n` in all runs. */
 static bool agrees(const struct sites *sites, size_t at, object (*objects)[MOST], unsigned n, size_t from, byte mask)
 {
     for (int k = 0; k < RUNS; k++)
@@ -126,8 +126,8 @@ static bool agrees(const struct sites *sites, size_t at, object (*objects)[MOST]
     return true;
 }
 
-/* The site that one side took byte `from` of object `n` from in all runs, and where the other side left it in all runs. What is
- * only padding may come from anywhere, and so the first side alone does not say where it stands. */
+/* The site that one side took byte `from` of object `n` from in all runs, and where the other side left it in all runs. Padding may
+ * come from anywhere, so the first side alone does not say where it is. */
 static struct site where(struct side *side, struct side *other, unsigned n, size_t from, byte mask)
 {
     size_t end = sizeof(struct registers) + memory_used;
@@ -148,7 +148,7 @@ static void told(const char *what)
     failed = true;
 }
 
-/* a place as it is printed, and the site where each eightbyte begins */
+/* a place to print, and the site where each eightbyte begins */
 struct place {
     char text[256];
     struct site lines[ROOM / LINE];
@@ -159,8 +159,8 @@ static bool is_behind(struct site a, struct site b, size_t step)
     return a.sort == b.sort && a.number == b.number && a.at + step == b.at;
 }
 
-/* Where the eightbyte `k` of object `n` begins: nowhere where none of its bytes comes from marks, and astray where one does, and
- * the other side left none of its bytes where it was taken from. */
+/* Where the eightbyte `k` of object `n` begins: nowhere if none of its bytes comes from marks, and astray if one does, but the
+ * other side left none of its bytes where it was taken from. */
 static struct site line_of(struct side *side, struct side *other, unsigned n, unsigned size, size_t k)
 {
     struct site start = {NOWHERE, 0, 0};
@@ -175,7 +175,7 @@ static struct site line_of(struct side *side, struct side *other, unsigned n, un
     return start;
 }
 
-/* Whether all eightbytes that come from anywhere lie in one piece of memory; then `*start` is where the object begins. */
+/* Whether all eightbytes that come from marks lie in one piece of memory; if so, `*start` is where the object begins. */
 static bool is_in_memory(const struct place *place, size_t lines, unsigned *start)
 {
     bool some = false;
@@ -189,8 +189,8 @@ static bool is_in_memory(const struct place *place, size_t lines, unsigned *star
     return some;
 }
 
-/* Prints the registers of all eightbytes; `none` where there are none, and `astray` where one side takes the object from where
- * the other one does not leave it. What no place has is printed too: a part of a register with its offset, memory beside it. */
+/* Prints the registers of all eightbytes; `none` if there are none, and `astray` if one side takes the object from where the other
+ * does not leave it. It also prints what no valid place has: a part of a register with its offset, or memory besides registers. */
 static void join(struct place *place, size_t lines)
 {
     char *end = place->text;
@@ -213,7 +213,7 @@ static void join(struct place *place, size_t lines)
     if (end == place->text) strcpy(end, astray ? "astray" : "none");
 }
 
-/* Finds the place of object `n`. What is in memory is on the stack, or for a result at the address that was handed over. */
+/* Finds the place of object `n`. An object in memory is on the stack or, for a result, at the address that was passed. */
 static void find_place(struct place *place, struct side *side, struct side *other, unsigned n, unsigned size)
 {
     size_t lines = (size_of(size) + LINE - 1) / LINE;
@@ -227,11 +227,11 @@ static void find_place(struct place *place, struct side *side, struct side *othe
 /* ---- runs */
 
 static sigjmp_buf back;
-static bool hidden; /* the caller hands over the address of the result */
+static bool hidden; /* the caller passes the address of the result */
 
 static void on_signal(int number) { siglongjmp(back, number); }
 
-/* Calls what `function` names; false where it ends with a signal. */
+/* Calls `function`; false if that ends with a signal. */
 static bool entered(void)
 {
     if (sigsetjmp(back, 1) != 0) {
@@ -242,7 +242,7 @@ static bool entered(void)
     return true;
 }
 
-/* What callers call. The result is in registers, and where its address is handed over, there. */
+/* What callers call. The result is in registers or, if its address is passed, there. */
 void answer(const void *arguments);
 void answer(const void *arguments)
 {
@@ -256,7 +256,7 @@ void answer(const void *arguments)
     outcome.general[RAX] = address;
 }
 
-/* Marks all sites, and what lies about with other marks. */
+/* Puts marks at all sites, and other marks around them. */
 static void prepare(struct side *side)
 {
     mark(&side->marks[run].registers, sizeof(struct registers));
@@ -293,7 +293,7 @@ static bool taken(void)
         memcpy(callee.gave[run][0], given, size_of(subject->result));
         entry = callee.marks[run].registers;
         if (hidden) entry.general[RDI] = (uintptr_t)result;
-        entry.general[RAX] = VECTORS; /* as many as there may be for a function of unspecified parameters */
+        entry.general[RAX] = VECTORS; /* the most that a function with unspecified parameters may use */
         memcpy(stack, callee.marks[run].memory, memory_used);
         function = subject->function;
         if (!entered()) return false;
@@ -305,7 +305,7 @@ static bool taken(void)
     return true;
 }
 
-/* Whether the caller took a byte of the result from marks. */
+/* Whether the caller took any byte of the result from marks. */
 static bool is_taken(void)
 {
     for (size_t b = 0; b < size_of(subject->result); b++)
@@ -313,7 +313,7 @@ static bool is_taken(void)
     return false;
 }
 
-/* Lets the caller call with the result in registers, and where it takes nothing from there, in memory. */
+/* Lets the caller call with the result in registers and, if it takes nothing from there, with the result in memory. */
 static bool called_either_way(void)
 {
     hidden = false;

@@ -1,5 +1,5 @@
-/* What the functions that places.py makes have in common: types, and how a function hands over what it finds in its parameters,
- * and a caller what it finds in a result. Each has bytes to give and room for what it finds; places.c holds both. */
+/* What the functions that places.py makes share: types, and how a function reports what it finds in its parameters, and a caller what
+ * it finds in a result. Each has bytes to pass and room for what it finds; both are in places.c. */
 #ifndef PLACES_H
 #define PLACES_H
 
@@ -10,19 +10,19 @@ enum places_limits {
     MOST = 16    /* parameters at most */
 };
 
-/* what callers pass, what functions find of it; what functions give, what callers find of it */
+/* what callers pass, and what functions find of it; what functions return, and what callers find of it */
 extern byte passed[MOST][ROOM], found[MOST][ROOM], given[ROOM], kept[ROOM];
 
 /* what callers call, as a function of any type */
 extern void (*volatile put)(void);
 
-/* A truth value is 0 or 1: a compiler may take its lowest bit alone. */
+/* A truth value is 0 or 1: a compiler may read only its lowest bit. */
 enum { TRUTH = 0x10000 };
 
 struct subject {
     const char *name;
     void (*function)(void), (*call)(void);
-    unsigned result;      /* the size of the result, and TRUTH where it is a truth value */
+    unsigned result;      /* the size of the result, with TRUTH if it is a truth value */
     unsigned count;       /* how many parameters there are */
     unsigned sizes[MOST]; /* their sizes, in the same way */
 };
@@ -33,12 +33,12 @@ struct subject {
 #define KEEP(object) __builtin_memcpy(kept, &object, sizeof object)
 #define FITS(type) _Static_assert(sizeof(type) <= ROOM, #type)
 
-/* SUBJECT(NAME, RESULT, COUNT, SIZE..): tells places.c of a function; COUNT sizes stand behind it. */
+/* SUBJECT(NAME, RESULT, COUNT, SIZE..): describes a function for places.c; COUNT sizes follow. */
 #define SUBJECT(name, result, count, ...)                                                                                    \
     static const struct subject about_##name = {#name, (void (*)(void))name, call_##name, result, count, {__VA_ARGS__}};     \
     static const struct subject *const at_##name __attribute__((section("subjects"), used)) = &about_##name
 
-/* Types of which the sources make objects. */
+/* Types of objects in the sources. */
 struct unknown;
 typedef struct unknown *handle;
 typedef void *address;

@@ -4,7 +4,7 @@
     places.py KIND COUNT      COUNT functions of a kind: KIND_1, KIND_2 and so on
     places.py KIND NAME       the declarations of one of them and of its types
 
-The same words give the same source. A kind says of what types one parameter or the result is at least, and others may be.
+The same arguments give the same source. A kind names types: at least one parameter or the result has one, and others may.
 """
 import math
 import random
@@ -28,14 +28,14 @@ SMALL = INTEGERS + FLOATS * 3
 PLAIN = SMALL * 2 + ENUMS + POINTERS
 WIDE = COMPLEX * 2 + X87 * 2 + X87_COMPLEX + VECTORS
 
-# the widths that bit fields of a type have at most
+# the largest width of a bit field of each type
 BIT_FIELDS = {
     "_Bool": 1, "char": 8, "signed char": 8, "unsigned char": 8, "short": 16, "unsigned short": 16, "int": 32, "unsigned": 32,
     "long": 64, "unsigned long": 64, "long long": 64, "unsigned long long": 64, "enum plain_enum": 32, "enum wide_enum": 64,
 }
 WIDE_BIT_FIELDS = {"__int128": 128, "unsigned __int128": 128}
 
-# the sizes of types; those of others are not above LONGEST
+# the sizes of types; other types have at most LONGEST bytes
 SIZES = {
     "_Bool": 1, "char": 1, "signed char": 1, "unsigned char": 1, "enum byte_enum": 1, "short": 2, "unsigned short": 2,
     "enum short_enum": 2, "int": 4, "unsigned": 4, "float": 4, "enum plain_enum": 4, "enum signed_enum": 4, "long": 8,
@@ -43,11 +43,11 @@ SIZES = {
 } | {own: 8 for own in POINTERS} | {own: 16 for own in COMPLEX + X87 + VECTORS + INT128 + QUAD}
 LONGEST = 64
 
-# the size that no object is above, and how deep aggregates stand in each other
+# the largest size of an object, and how deep aggregates are nested
 LARGEST = 400
 DEEPEST = 3
 
-# members of eight bytes of a transparent union, whose first one must not be a floating-point number
+# members of eight bytes for a transparent union, whose first member must not be a floating-point number
 TRANSPARENT = POINTERS + ["long", "struct { double d; }", "struct { float f[2]; }"]
 
 ARRAYS = [[1], [2], [2], [3], [4], [2, 2], [7], [1, 3]]
@@ -55,7 +55,7 @@ ALIGNMENTS = [1, 2, 4, 8, 8, 16, 16, 32, 64]
 
 
 class Kind:
-    """What types are made of: scalars inside aggregates and alone, how likely an aggregate is, and how likely each form in it."""
+    """What types are made of: scalars inside aggregates and alone, how likely an aggregate is, and how likely each form is in it."""
 
     def __init__(self, scalars, alone=None, aggregates=0.85, typedefs=(), **forms):
         self.scalars = scalars
@@ -66,7 +66,7 @@ class Kind:
 
 
 KINDS = {
-    # whose places are those of the rules
+    # kinds for which compilers follow the rules
     "scalars": Kind(PLAIN + WIDE * 2, aggregates=0.0, qualified=0.3),
     "structures": Kind(PLAIN, nested=0.2, arrays=0.1),
     "floats": Kind(FLOATS + ["float", "int"], nested=0.2, arrays=0.2),
@@ -92,7 +92,7 @@ KINDS = {
     "halves": Kind(SMALL + ["_Float16", "_Float16 _Complex"] * 5, nested=0.2, unions=0.2, arrays=0.1),
     "interchange": Kind(SMALL + ["_Float32", "_Float64", "_Float32x", "_Float64x"] * 5, nested=0.2),
     "empty_arrays": Kind(SMALL, empty=0.6, nested=0.4, unions=0.3, arrays=0.6),
-    # in which a compiler departs from the rules
+    # kinds for which a compiler departs from the rules
     "zero_arrays": Kind(FLOATS + ["float", "int", "char"], zero_arrays=0.4, nested=0.2),
     "flexible": Kind(PLAIN, flexible=0.8),
     "unnamed_bits": Kind(SMALL, bits=0.3, unnamed=0.5),
@@ -125,7 +125,7 @@ KINDS = {
 
 
 class Type:
-    """The specifiers of a type, and a size and an alignment that it is not above."""
+    """The specifiers of a type, and upper bounds for its size and alignment."""
 
     def __init__(self, text, size=None, align=None):
         self.text = text
@@ -147,7 +147,7 @@ class Types:
         return self.dice.random() < likely
 
     def form(self, form, part=1.0, default=0.0):
-        """Whether a form is chosen, or with a part of its likelihood."""
+        """Whether a form is chosen; `part` reduces its likelihood."""
         return self.chance(self.kind.forms.get(form, default) * part)
 
     def tag(self):
@@ -172,7 +172,7 @@ class Types:
         return Type(name, own.size, max(own.align, align))
 
     def transparent(self):
-        """A union that is passed as its first member is."""
+        """A union that is passed like its first member."""
         members = [self.dice.choice(TRANSPARENT) for _ in range(self.dice.randint(1, 3))]
         text = " ".join(f"{own} m{number};" for number, own in enumerate(members))
         name = self.tag()
@@ -188,7 +188,7 @@ class Types:
         return Type(f"struct {tag}", own.size * count, own.align)
 
     def aggregate(self, depth):
-        """Declares a structure or a union. One that is too large is dropped, with its types, for another one."""
+        """Declares a structure or a union. If one is too large, drops it with its types and makes another one."""
         before = len(self.lines)
         while True:
             tag = self.tag()
@@ -200,7 +200,7 @@ class Types:
         return Type(f"{own.text.split()[0]} {tag}", own.size, own.align)
 
     def body(self, depth, tag, names):
-        """A structure or a union with its members, whose names begin so."""
+        """A structure or a union with its members; `names` is the prefix of their names."""
         kind = "union" if self.form("unions") or depth == 0 and self.form("outer_unions") else "struct"
         packed = " __attribute__((packed))" if self.form("packed") else ""
         many = self.dice.choices([1, 2, 3, 4, 6, 8], [5, 7, 5, 3, 2, 1 if depth == 0 else 0])[0]
@@ -228,7 +228,7 @@ class Types:
             return self.bit_field(name)
         if depth < DEEPEST and (self.form("nested", 1 / (1 + depth)) or self.form("empty", 0.5)):
             if self.chance(0.3):
-                # without a tag and a name: its members are those of the outer one too
+                # without a tag and a name: its members also belong to the outer one
                 own = self.body(depth + 1, "", f"{name}_")
                 return own.text.replace("\n", "\n    ") + ";", own.size, own.align
             own = self.aggregate(depth + 1)
@@ -244,14 +244,14 @@ class Types:
         return f"{own.text} {name}{dimensions}{packed}{attribute};", own.size * math.prod(counts), max(own.align, align)
 
     def bit_field(self, name):
-        """The line of a bit field, the size and the alignment of its type."""
+        """The line of a bit field, and the size and the alignment of its type."""
         own, most = self.dice.choice(list((WIDE_BIT_FIELDS if self.form("wide_bits") else BIT_FIELDS).items()))
         width = most if self.form("whole_bits") else self.dice.randint(1, max(1, most - 1))
         align, attribute = self.alignment() if self.form("aligned_bits") else (1, "")
         return f"{own} {name} : {width}{attribute};", SIZES.get(own, 16), max(align, SIZES.get(own, 16))
 
     def alignment(self):
-        """An alignment and its attribute, mostly 1 and none."""
+        """An alignment and its attribute; usually 1 and no attribute."""
         if not self.form("aligned"):
             return 1, ""
         align = self.dice.choice(ALIGNMENTS)
@@ -259,7 +259,7 @@ class Types:
 
 
 class Object:
-    """A parameter or a result: the specifiers of its type as a function declares it, and as those of an object."""
+    """A parameter or a result: the specifiers of its type in the declaration of a function, and in that of an object."""
 
     def __init__(self, types, special):
         own = types.whole() if special or types.chance(0.5) else Type(types.dice.choice(PLAIN))
@@ -293,7 +293,7 @@ class Function:
         return "\n".join(self.types.lines + [self.head(self.convention + self.name, params)])
 
     def text(self):
-        """The function, its caller, and what places.c is told of both."""
+        """The function, its caller, and their description for places.c."""
         params = list(enumerate(self.params))
         cast = self.head(f"({self.convention}*)", [of.declared for of in self.params])
         call = f"(({cast})put)({', '.join(f'p{n}' for n, _ in params)})"

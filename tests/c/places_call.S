@@ -1,7 +1,7 @@
-/* Calls with all registers set, for places.c, which says what stands in `struct registers`.
+/* Calls with all registers set, for places.c, which defines `struct registers`.
  *
- * enter: loads the registers of `entry`, calls `function` on the stack at `stack`, and notes in `left` what registers hold then.
- * put_noted, which callers call: notes in `noted` what registers hold, shows `answer` the stack, and loads those of `outcome`. */
+ * enter: loads the registers of `entry`, calls `function` on the stack at `stack`, and then stores the registers in `left`.
+ * put_noted, which callers call: stores the registers in `noted`, shows `answer` the stack, and loads the registers of `outcome`. */
 
     .equ RDI, 0
     .equ RSI, 8
@@ -25,7 +25,7 @@
     .endr
     .endm
 
-    /* As much of each vector register as `vector_size` says. */
+    /* `vector_size` bytes of each vector register. */
     .macro vectors each, registers
     cmpl $32, vector_size(%rip)
     ja 3f

@@ -1,5 +1,5 @@
-// Each function reaches one type, which changes where GROWN is defined: p_ functions through a pointer to one that grows, d_
-// functions by value, in which a member points to what grows, so that the places of arguments stay.
+// Each function reaches one type, which changes if GROWN is defined: p_ functions through a pointer to a type that grows, d_
+// functions by value, with a member that points to a type that grows, so that the places of arguments stay the same.
 #ifdef GROWN
 #define MORE long more[4];
 #else

@@ -1,4 +1,4 @@
-/* What the units of the library share: types, and functions that are put in place. */
+/* What the units of the library share: types, and inline functions. */
 struct point { int x, y; };
 
 struct shape {

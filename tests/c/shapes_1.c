@@ -17,7 +17,7 @@ long shape_area(const struct shape *shape) {
     return area + unseen(shape);
 }
 
-/* A part that is hardly ever reached, which a compiler may put elsewhere. */
+/* A rarely executed part, which a compiler may put elsewhere. */
 __attribute__((cold, noinline)) int shape_rare(int n) {
     static int times;
     return n + ++times;

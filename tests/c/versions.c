@@ -1,5 +1,5 @@
-/* A library of versions. The option -DBUILD says which build of it: 1 the first one, 2 one that may replace it, and 3 one
-   that may not. */
+/* A library with symbol versions. The option -DBUILD selects the build: 1 is the first one, 2 one that may replace it, and 3
+   one that may not. */
 __asm__(".symver pick_1, pick@V1");
 int pick_1(int x) { return x; }
 int apart_1(int x) { return x; }

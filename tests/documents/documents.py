@@ -1,4 +1,4 @@
-"""Documents of `abi-json`: each is one by the schema, and the places and names in it are those that the sources have of the structures.
+"""Checks documents of `abi-json`: each must follow the schema, and its places and names of structures must be those in the sources.
 
 usage: documents.py PROGRAM SCHEMA FOLDER COMPILER..
 """
@@ -18,13 +18,13 @@ COUNT = 12
 LINES = 5
 
 
-# The lines of the structures in the source and their names, by the ends of the names of their functions.
+# The structures in the source: by the suffix of the function's name, the line and the name.
 OWN = {"": (2, "struct own"), "_plain": (3, "plain")}
 
 
 def sources(folder: Path, member: str) -> Path:
-    """Writes a library whose structures each have a member of this type. Its header has a folder of its own, and structure k
-    begins there at line LINES * k + 1; one more stands in the source at line 2, and one without a tag at line 3."""
+    """Writes the sources of a library whose structures each have a member of this type. The header has a folder of its own, and structure
+    k begins there at line LINES * k + 1; the source has another structure at line 2, and one without a tag at line 3."""
     (folder / "inc").mkdir(parents=True, exist_ok=True)
     header = "".join(
         f"struct s{k} {{\n    int first;\n    {member} second;\n}};\n\n" for k in range(COUNT)
@@ -51,7 +51,7 @@ def built(compiler: str, version: int, folder: Path, member: str, absolute: bool
 
 
 def place_of(export: str, folder: Path) -> dict[str, Any]:
-    """Where the structure stands that a function is given."""
+    """Where the structure that a function takes is declared."""
     number = export.removeprefix("use")
     if number in OWN:
         return {"file": str(folder / "library.c"), "line": OWN[number][0]}
@@ -59,20 +59,20 @@ def place_of(export: str, folder: Path) -> dict[str, Any]:
 
 
 def name_of(export: str) -> str:
-    """The name of the structure that a function is given."""
+    """The name of the structure that a function takes."""
     number = export.removeprefix("use")
     return OWN[number][1] if number in OWN else f"struct s{number}"
 
 
 class Documents:
-    """Runs the program, and holds what it prints against the schema."""
+    """Runs the program, and checks what it prints against the schema."""
 
     def __init__(self, program: str, schema: str) -> None:
         self.program = program
         self.schema = json.loads(Path(schema).read_text())
 
     def of(self, *words: object, **variables: str) -> dict[str, Any]:
-        """The document of a run, with these variables in its environment."""
+        """The document of a run with these environment variables."""
         ended = subprocess.run([self.program, *map(str, words)], capture_output=True, check=False, env={**os.environ, **variables})
         document: dict[str, Any] = json.loads(ended.stdout)
         jsonschema.validate(document, self.schema)
@@ -81,7 +81,7 @@ class Documents:
 
 
 def hold_places(document: dict[str, Any], side: str, library: Path) -> int:
-    """The structure that each function is given has its place in the sources, and its name; how many there are."""
+    """Checks that the structure that each function takes has its place in the sources, and its name. Returns how many there are."""
     rows = [row for row in document["breaks"] if row["steps"] == ["param 1", "target"] and row["rule"] == "L2"]
     for row in rows:
         entry = str(row[f"{side}_entry"])
@@ -92,7 +92,7 @@ def hold_places(document: dict[str, Any], side: str, library: Path) -> int:
 
 
 def hold_member_types(document: dict[str, Any]) -> None:
-    """The member that is an `int` in the old library and a `long` in the new one has these types, where a break names them."""
+    """Checks the types of the member that is an `int` in the old library and a `long` in the new one, where a break names them."""
     rows = [row for row in document["breaks"] if row["steps"][2:] == ["member second"]]
     assert rows, document
     for row in rows:
@@ -101,7 +101,7 @@ def hold_member_types(document: dict[str, Any]) -> None:
 
 
 def hold_notes(documents: Documents, old: Path, new: Path) -> None:
-    """The notes alone are those beside the answer; without digests the inputs are the same but for these."""
+    """Checks that `abi-json notes` gives the same notes as `check`, and that without digests the inputs are otherwise the same."""
     noted = documents.of("check", old, new, ABI_NOTES="1")
     alone = documents.of("notes", old, new)
     assert alone["answer"] == "done" and alone["side_notes"] == noted["side_notes"] != [], alone
@@ -113,8 +113,8 @@ def hold_notes(documents: Documents, old: Path, new: Path) -> None:
     assert documents.of("notes", old, __file__)["side_notes"] == []
 
 
-# Each structure has an `int` and a member that is an `int` in the old library and a `long` in the new one (System V psABI, figure
-# 3.1): what a break of a rule says of the part, of the old type, and of the new one.
+# Each structure has an `int`, and a member that is an `int` in the old library and a `long` in the new one (System V psABI, figure
+# 3.1). By rule: the part, the old value and the new value that a break must have.
 VALUES = {
     "L2": (None, (8, "bytes"), (16, "bytes")),
     "L7": ("second", (32, "bits"), (64, "bits")),
@@ -122,7 +122,7 @@ VALUES = {
 
 
 def hold_values(document: dict[str, Any]) -> int:
-    """The breaks of each structure have its sizes and offsets; how many there are."""
+    """Checks that the breaks of each structure have its sizes and offsets. Returns how many breaks there are."""
     rows = [row for row in document["breaks"] if row["steps"] == ["param 1", "target"]]
     for row in rows:
         said = (row["part"], *((row[side]["value"], row[side]["unit"]) for side in ("was", "is")))

@@ -1,1 +1,1 @@
-"""Libraries, rule files and certificates that are changed at random, and what `abi` may say of them."""
+"""Libraries, rule files and certificates with random changes, and what `abi` may answer to them."""

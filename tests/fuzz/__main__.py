@@ -1,10 +1,10 @@
-"""Tries inputs that are changed at random.
+"""Tries inputs with random changes.
 
 usage: python3 -m fuzz PROGRAM SOURCES FOUND COUNT SEED FIRST STEP MEMORY
 
-Tries the inputs of the numbers FIRST, FIRST + STEP and so on below COUNT, under a limit of so many bytes of memory, or of none
-where that is 0. SOURCES is the folder of C sources. The files of an input that shows a fault are kept in the folder FOUND. The
-last line says how many inputs were tried, in how many runs of the program, and how many answers were wrong.
+Tries the inputs with the numbers FIRST, FIRST + STEP and so on below COUNT, under a limit of MEMORY bytes, or without a limit if
+that is 0. SOURCES is the folder of C sources. The files of an input that shows a fault are kept in the folder FOUND. The last line
+says how many inputs were tried, in how many runs of the program, and how many answers were wrong.
 """
 
 import shutil
@@ -34,7 +34,7 @@ def prepared(program: str, sources: Path, memory: int) -> Bench:
 
 
 def keep(found: Path, number: int, wrong: Wrong) -> None:
-    """Keeps the files of an input."""
+    """Keeps the files of an input with a wrong answer."""
     folder = found / str(number)
     folder.mkdir(parents=True, exist_ok=True)
     for name in FILES:

@@ -6,7 +6,7 @@ from .faults import OF_INPUT, REFUSALS
 from .runs import Answer
 
 YES, NO, UNREADABLE, NO_MEMORY, REFUSED = 0, 1, 2, 4, 5
-# The statuses that the commands may end with over files that can be read.
+# The statuses that each command may end with, if its files can be read.
 STATUSES = {
     "check": {YES, NO, UNREADABLE, NO_MEMORY},
     "verify": {YES, REFUSED, UNREADABLE, NO_MEMORY},
@@ -15,7 +15,7 @@ STATUSES = {
 }
 
 NUMBER = rb"(?:0|[1-9][0-9]*)"
-# A name as it is shown: visible bytes, or \x and two digits.
+# A name as it is printed: visible bytes, or \x and two digits.
 SHOWN = rb"(?:[!-\[\]-~]|\\x[0-9a-f][0-9a-f])*"
 REGISTER = rb"(?:r(?:di|si|dx|cx|8|9|ax)|xmm[0-9]+(?:\*[2-8])?|st[01])"
 PLACE = rb"(?:none|memory|stack\+" + NUMBER + rb":" + NUMBER + rb"|" + REGISTER + rb"(?:\+" + REGISTER + rb")*)"
@@ -89,8 +89,8 @@ def is_text(command: str, status: int, answer: Answer) -> bool:
 
 
 def are_sentences(status: int, errors: bytes, command: str) -> bool:
-    """Whether what is told on standard error may stand beside the status: one sentence where an input is unreadable or memory is
-    out, a sentence on a certificate that is refused, notes beside the answers of `check` and `verify`, and nothing else."""
+    """Whether standard error goes with the status: one sentence if an input is unreadable or memory ran out, one on a refused
+    certificate, notes with the answers of `check` and `verify`, and otherwise nothing."""
     found = lines(errors)
     if found is None or not all(line.startswith(b"abi: ") for line in found):
         return False
@@ -104,7 +104,7 @@ def are_sentences(status: int, errors: bytes, command: str) -> bool:
 
 
 def complaint(command: str, answer: Answer) -> str | None:
-    """What is wrong with an answer of a command."""
+    """What is wrong with the answer of a command; None if nothing is."""
     if answer.status < 0:
         return f"{command} ended by signal {-answer.status}"
     if answer.status not in STATUSES[command]:

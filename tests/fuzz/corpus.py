@@ -1,5 +1,5 @@
-"""The sound files that are changed: libraries that gcc and clang make of the sources beside the tests, one of the system, and made
-ones that ask much where they are large."""
+"""The sound files to change: libraries that gcc and clang make from the sources of the tests, one of the system, and generated ones
+of kinds that take much time or memory when they are large."""
 
 import shutil
 import subprocess
@@ -10,7 +10,7 @@ from hostile.__main__ import ALL
 from .damage import Base
 from .runs import Runner
 
-# Sources, and how a library is made of them.
+# Libraries by name: their sources, and how to build them.
 BUILDS = {
     "old.c": ("-O1", "-gdwarf-5"),
     "unversioned.c": ("-O1",),
@@ -20,7 +20,7 @@ BUILDS = {
     "entries.c": ("-O2", "-gdwarf-5"),
 }
 SYSTEM = "/lib/x86_64-linux-gnu/libz.so.1"
-# Made libraries of few bytes that have no part which one of the others lacks too.
+# Generated libraries: their kinds, with sizes that make small files.
 MADE = {
     "ranges": 20, "pairs_of_ranges": 20, "one_origin": 8, "enumerators": 80, "typedefs": 6, "chained_names": 4,
     "colliding_signatures": 8, "short_versions": 6, "two_tables": 4, "rings": 5, "sonames": 6,
@@ -34,7 +34,7 @@ def compiled(compiler: str, name: str, output: str, options: tuple[str, ...]) ->
 
 
 def of_compilers(sources: Path) -> dict[str, bytes]:
-    """Libraries by gcc, and by clang where it is there."""
+    """Libraries by gcc, and by clang if it is installed."""
     awk = ["awk", "-v", "first=1", "-v", "last=6", "-f", str(sources / "entries.awk")]
     Path("entries.c").write_bytes(subprocess.run(awk, check=True, capture_output=True).stdout)
     made = {}
@@ -61,7 +61,7 @@ def made_ones() -> dict[str, bytes]:
 
 
 def entries_of(runner: Runner, contents: bytes) -> list[int]:
-    """Where the entries of a library begin, as the program lists them."""
+    """The offsets of the entries of a library, as the program lists them."""
     Path("base").write_bytes(contents)
     answer = runner.run("entries", "base")
     if answer.status != 0:

@@ -1,4 +1,4 @@
-"""Random changes of libraries, which know where headers, numbers and sections stand."""
+"""Random changes of libraries, with knowledge of where headers, numbers and sections are."""
 
 import random
 import struct
@@ -6,7 +6,7 @@ from dataclasses import dataclass, field
 
 from .parts import Image, Part, apart
 
-# Sections that are read, by how often they are changed.
+# The sections that the program reads, each with how often it is changed.
 READ = {
     ".debug_info": 12,
     ".debug_abbrev": 8,
@@ -29,7 +29,7 @@ LARGE = (2**32, 2**60, 2**61, 2**63 - 1, 2**63, 2**64 - 1)
 
 @dataclass
 class Base:
-    """A sound library: its bytes, and where its entries begin."""
+    """A sound library: its bytes, and the offsets of its entries."""
 
     name: str
     contents: bytes
@@ -37,7 +37,7 @@ class Base:
 
 
 def number_near(rng: random.Random, old: int, most: int) -> int:
-    """A number that stands near the old one, or near an end of what fits."""
+    """A number near the old one, or near an end of the range."""
     choice = rng.randrange(4)
     if choice == 0:
         return (old + rng.choice((-2, -1, 1, 2, 8, -8, 64))) % most
@@ -49,7 +49,7 @@ def number_near(rng: random.Random, old: int, most: int) -> int:
 
 
 def put_number(rng: random.Random, body: bytearray, at: int, size: int) -> None:
-    """Another number in a field of so many bytes."""
+    """Puts another number into a field of `size` bytes."""
     if at < 0 or at + size > len(body):
         return
     old = int.from_bytes(body[at : at + size], "little")
@@ -67,7 +67,7 @@ def change_field(rng: random.Random, body: bytearray) -> None:
 
 
 def change_leb(rng: random.Random, body: bytearray) -> None:
-    """Another number of variable length, of as many bytes or of more."""
+    """Puts another LEB128 number in place of one, with as many bytes or more."""
     at = rng.randrange(len(body))
     end = at
     while end < len(body) - 1 and body[end] >= 0x80 and end - at < 9:
@@ -79,7 +79,7 @@ def change_leb(rng: random.Random, body: bytearray) -> None:
 
 
 def copy_part(rng: random.Random, body: bytearray) -> None:
-    """Bytes of one place at another one, too."""
+    """Copies bytes from one place over another one."""
     size = min(len(body), rng.choice((1, 4, 8, 12, 16, 24, 40, 64)))
     source, target = (rng.randrange(len(body) - size + 1) for _ in range(2))
     body[target : target + size] = body[source : source + size]
@@ -116,7 +116,7 @@ def chosen_part(rng: random.Random, image: Image) -> Part | None:
 
 
 def change_header(rng: random.Random, body: bytearray) -> None:
-    """The file's header, or one of a section."""
+    """Changes the file header, or a section header."""
     table = struct.unpack_from("<Q", body, 40)[0]
     if rng.randrange(3) == 0 or table + 64 > len(body):
         put_number(rng, body, rng.choice((4, 5, 6, 16, 18, 20, 58, 60, 62)), rng.choice((1, 2)))
@@ -128,7 +128,7 @@ def change_header(rng: random.Random, body: bytearray) -> None:
 
 
 def change_reference(rng: random.Random, image: Image, base: Base) -> None:
-    """A number of four bytes in an entry becomes the place of another entry."""
+    """Replaces a number of four bytes in an entry with the offset of another entry."""
     part = image.named(".debug_info")
     if part is None or not base.entries or len(part.contents) < 32:
         return
@@ -138,7 +138,7 @@ def change_reference(rng: random.Random, image: Image, base: Base) -> None:
 
 
 def copy_entry(rng: random.Random, image: Image, base: Base) -> None:
-    """The bytes of an entry at the place of another one, with what follows moved."""
+    """Inserts the bytes of one entry at another one, and moves what follows."""
     part = image.named(".debug_info")
     if part is None or len(base.entries) < 3:
         return
@@ -149,7 +149,7 @@ def copy_entry(rng: random.Random, image: Image, base: Base) -> None:
 
 
 def mend_unit(image: Image, before: int) -> None:
-    """The length of the first unit again agrees with what was put in or cut out, where there is one unit alone."""
+    """Adjusts the length of the unit to what was inserted or cut out, if there is only one unit."""
     part = image.named(".debug_info")
     if part is None or len(part.contents) < 4:
         return
@@ -159,7 +159,7 @@ def mend_unit(image: Image, before: int) -> None:
 
 
 def splice(rng: random.Random, image: Image, other: Image) -> None:
-    """A section of another library in the place of the one of its name."""
+    """Puts a section of another library in place of the section of the same name."""
     part = chosen_part(rng, image)
     donor = other.named(part.name) if part else None
     if part and donor:
@@ -167,7 +167,7 @@ def splice(rng: random.Random, image: Image, other: Image) -> None:
 
 
 def rebuilt(rng: random.Random, base: Base, bases: list[Base]) -> bytes:
-    """The library with sections of other contents or sizes."""
+    """The library, with sections of other contents or sizes."""
     image = apart(base.contents)
     info = image.named(".debug_info")
     before = len(info.contents) if info else 0
@@ -189,7 +189,7 @@ def rebuilt(rng: random.Random, base: Base, bases: list[Base]) -> bytes:
 
 
 def in_place(rng: random.Random, base: Base) -> bytes:
-    """The library with changes that move nothing."""
+    """The library, with changes that move nothing."""
     body = bytearray(base.contents)
     sections = apart(base.contents)
     for _ in range(rng.choice((1, 1, 1, 2, 4))):

@@ -71,7 +71,7 @@ REFUSALS = {
     77: "Partner",
 }
 LIBRARIES = HEADERS | SYMBOLS | ENTRIES | SAID | LONG
-# What may be said of each input.
+# The faults that each input may have.
 OF_INPUT = {
     "old": LIBRARIES,
     "new": LIBRARIES,

@@ -1,4 +1,4 @@
-"""The sections of an image, which are taken apart and put together again."""
+"""Takes an ELF file apart into its sections, and puts them together again."""
 
 import struct
 from dataclasses import dataclass
@@ -18,7 +18,7 @@ class Part:
 
 @dataclass
 class Image:
-    """The header of a file, and its sections."""
+    """A file: its header, and its sections."""
 
     header: bytearray
     parts: list[Part]
@@ -30,7 +30,7 @@ class Image:
         return None
 
     def joined(self) -> bytes:
-        """The file: the header, the contents of all sections, and the section table."""
+        """The bytes of the file: the header, the contents of all sections, and the section table."""
         body = bytearray(self.header)
         for part in self.parts:
             if part.fields[1] in (0, NOBITS):
@@ -48,7 +48,7 @@ def text_at(table: bytes, at: int) -> str:
 
 
 def apart(contents: bytes) -> Image:
-    """The parts of a sound file."""
+    """Takes a sound file apart."""
     table = struct.unpack_from("<Q", contents, 40)[0]
     count, names = struct.unpack_from("<HH", contents, 60)
     parts = []

@@ -12,7 +12,7 @@ SECONDS = 20
 
 @dataclass(frozen=True)
 class Answer:
-    """How a run ended: its exit status, or less than 0 for the signal that ended it, and what it wrote."""
+    """How a run ended: its exit status (negative if a signal ended it), and what it wrote."""
 
     status: int
     output: bytes
@@ -28,7 +28,7 @@ def ring(_number: int, _frame: FrameType | None) -> None:
 
 
 class Runner:
-    """Starts the program again and again. What it writes goes into two files that are used each time."""
+    """Starts the program again and again. Its output goes into the same two files each time."""
 
     def __init__(self, program: str, memory: int) -> None:
         self.program = program
@@ -36,7 +36,7 @@ class Runner:
         self.errors = os.open("errors", os.O_RDWR | os.O_CREAT | os.O_TRUNC)
         self.runs = 0
         signal.signal(signal.SIGALRM, ring)
-        # The limits are those of this process, which the program takes over.
+        # The limits are those of this process; the program inherits them.
         resource.setrlimit(resource.RLIMIT_CORE, (0, 0))
         if memory:
             resource.setrlimit(resource.RLIMIT_AS, (memory, memory))

@@ -1,4 +1,4 @@
-"""Tests of the judge and of the changes. They run under pytest, or alone: python3 -m fuzz.test_fuzz."""
+"""Tests of the judge of answers and of the random changes. They run under pytest, or as python3 -m fuzz.test_fuzz."""
 
 import random
 

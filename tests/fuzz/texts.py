@@ -1,4 +1,4 @@
-"""Random rule files, and certificates that are changed at random."""
+"""Random rule files, and certificates with random changes."""
 
 import random
 
@@ -46,7 +46,7 @@ def rule_line(rng: random.Random) -> str:
 
 
 def rules(rng: random.Random) -> bytes:
-    """A rule file, sound or not. The first line is mostly the head of a section."""
+    """A rule file, sound or not. Its first line is usually the head of a section."""
     first = f"[{rng.choice(SECTIONS)}]\n" if rng.randrange(8) else ""
     lines = [rule_line(rng) + rng.choice(ENDS) for _ in range(rng.choice((1, 2, 3, 6, 12)))]
     text = bytearray((first + "".join(lines)).encode())
@@ -57,7 +57,7 @@ def rules(rng: random.Random) -> bytes:
 
 
 def other_number(rng: random.Random, word: bytes) -> bytes:
-    """Another number in a line of a certificate, or one that is spelled wrongly."""
+    """Another number for a line of a certificate, or a malformed one."""
     old = int(word)
     numbers = (old + 1, max(old - 1, 0), 0, rng.randrange(300), 2**32 - 1, 2**32, 2**64 - 1, 2**64, 10**40)
     made = str(rng.choice(numbers)).encode()
@@ -77,7 +77,7 @@ def change_line(rng: random.Random, line: bytes) -> bytes:
 
 
 def certificate(rng: random.Random, sound: bytes) -> bytes:
-    """A certificate with lines changed, doubled, moved or left out."""
+    """A certificate with lines changed, repeated, moved or left out."""
     lines = sound.split(b"\n")
     for _ in range(rng.choice((1, 1, 2, 3))):
         at = rng.randrange(len(lines))

@@ -1,4 +1,4 @@
-"""One input each: what is run over it, and what must agree."""
+"""Trials of one input each: which commands run on it, and which answers must agree."""
 
 import hashlib
 import random
@@ -12,7 +12,7 @@ from .runs import Answer, Runner
 
 
 class Wrong(Exception):
-    """What is wrong with an answer, and the files that show it."""
+    """A wrong answer: what is wrong, and the files that show it."""
 
     def __init__(self, what: str, words: list[str]) -> None:
         super().__init__(f"{what}\n    abi {' '.join(words)}")
@@ -20,14 +20,14 @@ class Wrong(Exception):
 
 @dataclass
 class Bench:
-    """What trials share: the program, the sound libraries, and a small one with a certificate for rules and certificates."""
+    """What trials share: the program, the sound libraries, and a small library with a certificate, for rule files and certificates."""
 
     runner: Runner
     bases: list[damage.Base]
     certificate: bytes
 
     def answer(self, *words: str) -> Answer:
-        """The answer to a command; one that is none is wrong."""
+        """The answer to a command. Raises Wrong if it is not a valid answer."""
         answer = self.runner.run(*words)
         what = complaint(words[0], answer)
         if what:
@@ -50,7 +50,7 @@ def same_fault(exports: Answer, check: Answer, which: str) -> bool:
 
 
 def agree_with_entries(exports: Answer, entries: Answer) -> bool:
-    """Whether `entries`, which asks fewer faults, names the fault of `exports` where it asks for it, and none of the others."""
+    """Whether `entries`, which checks for fewer faults, names the fault of `exports` if it checks for it, and no other."""
     number, listed = number_of(exports), number_of(entries)
     if number in HEADERS or number in ENTRIES:
         return exports.output == entries.output
@@ -60,7 +60,7 @@ def agree_with_entries(exports: Answer, entries: Answer) -> bool:
 
 
 def library(bench: Bench, rng: random.Random) -> None:
-    """A damaged library: all commands name the same fault of it, and it may replace itself."""
+    """A damaged library: all commands must name the same fault; without a fault, it must be able to replace itself."""
     base, contents = damage.damaged(rng, bench.bases)
     Path("x").write_bytes(contents)
     Path("y").write_bytes(base.contents)
@@ -84,7 +84,7 @@ def library(bench: Bench, rng: random.Random) -> None:
 
 
 def accepted(bench: Bench, made: Answer, words: list[str]) -> None:
-    """The certificate that was made must be accepted."""
+    """Checks that `verify` accepts a certificate that the program made."""
     Path("c").write_bytes(made.output)
     answer = bench.answer(*words)
     if answer.status not in (YES, NO_MEMORY):
@@ -92,7 +92,7 @@ def accepted(bench: Bench, made: Answer, words: list[str]) -> None:
 
 
 def rule_file(bench: Bench, rng: random.Random) -> None:
-    """A rule file: where it is sound, the certificate has its digest, and is accepted."""
+    """A rule file: if it is sound, the certificate must have its digest, and `verify` must accept it."""
     contents = texts.rules(rng)
     Path("r").write_bytes(contents)
     words = ["check", "--rules", "r", "a", rng.choice("ab")]
@@ -106,7 +106,7 @@ def rule_file(bench: Bench, rng: random.Random) -> None:
 
 
 def certificate(bench: Bench, rng: random.Random) -> None:
-    """A certificate that is changed. That of another pair of libraries is never accepted."""
+    """A certificate with random changes. `verify` must never accept it for another pair of libraries."""
     Path("c").write_bytes(texts.certificate(rng, bench.certificate))
     bench.answer("verify", "a", "a", "c")
     words = ["verify", "a", "b", "c"]
@@ -115,7 +115,7 @@ def certificate(bench: Bench, rng: random.Random) -> None:
 
 
 def trial(bench: Bench, seed: str, number: int) -> None:
-    """The input of a number: of ten, seven are libraries, two rule files and one a certificate."""
+    """The input with this number: of ten inputs, seven are libraries, two are rule files, and one is a certificate."""
     rng = random.Random(f"{seed} {number}")
     match number % 10:
         case 0:

@@ -1,11 +1,11 @@
 #!/usr/bin/env python3
-"""Holds the layouts that the program prints of a library's structures against what `pahole` prints of them.
+"""Compares the layouts that the program prints for a library's structures with what `pahole` prints for them.
 
     compare.py PROGRAM LIBRARY [--all] [--every N]
 
-The program prints the layout of each structure with a tag of which pahole knows all members, or of each N-th tag. A structure that
-no export reaches is left out, and with --all there may be none. The line that is printed has the number of layouts, the number of
-those with overlaps, and the number of tags that were left out.
+It compares each structure (or every N-th) that has a tag, and whose members pahole knows. A structure that no export reaches is left
+out; with --all there must be none. It prints a line with the number of layouts, the number of those with overlaps, and the number of
+tags that were left out.
 """
 
 from __future__ import annotations
@@ -38,12 +38,12 @@ def _gaps(lines: list[str]) -> set[int]:
 
 
 def _counted(structure: Structure, free: set[int]) -> set[int]:
-    """The free bits that pahole counts, and those of which it says nothing."""
+    """The free bits that pahole counts, together with those on which it says nothing."""
     return _bits(structure.free) | (_bits(structure.silent) & free)
 
 
 def _difference(structures: list[Structure], lines: list[str]) -> str | None:
-    """How the lines differ from what pahole says of each structure of the tag."""
+    """How the lines differ from what pahole says of each structure with the tag; None if they agree with one."""
     same = [it for it in structures if model.lines(it) == lines]
     if not same:
         return "pahole's members would give\n" + "\n".join("    " + line for line in model.lines(structures[0]))
@@ -56,7 +56,7 @@ def _difference(structures: list[Structure], lines: list[str]) -> str | None:
 
 
 def _judged(program: str, library: str, structures: list[Structure], is_whole: bool) -> tuple[str, str | None]:
-    """The sort of answer for the structures of one tag, and a difference, where there is one."""
+    """The kind of answer for the structures with one tag, and the difference, if there is one."""
     tag = structures[0].tag
     ended = subprocess.run([program, "layout", library, tag], capture_output=True, text=True, check=False, timeout=60)
     if ended.returncode == REFUSED and ended.stdout == NO_TAG:

@@ -1,4 +1,4 @@
-"""The lines of a layout, by the members of a structure and by what they mean: each bit is looked at by itself."""
+"""The lines of a layout, derived from the members of a structure and from what the lines mean, one bit at a time."""
 
 from __future__ import annotations
 
@@ -8,7 +8,7 @@ Run = tuple[int, int]
 
 
 def _names(members: list[Member]) -> list[str]:
-    """The name of each member as paths print it: with its number from the second member of its name on."""
+    """The name of each member as paths print it: the second member of a name and later ones have a number."""
     count: dict[str, int] = {}
     names = []
     for member in members:
@@ -27,7 +27,7 @@ def _bits(member: Member) -> set[int]:
 
 
 def runs(bits: set[int]) -> list[Run]:
-    """The longest runs of these bits, each by its first bit and the one behind its last one."""
+    """The longest runs of these bits: for each its first bit, and the bit after its last one."""
     firsts = sorted(bit for bit in bits if bit - 1 not in bits)
     ends = sorted(bit + 1 for bit in bits if bit + 1 not in bits)
     return list(zip(firsts, ends))
@@ -40,7 +40,7 @@ def free_bits(structure: Structure) -> set[int]:
 
 
 def clashes(structure: Structure) -> list[str]:
-    """The lines of members that share bits with earlier ones, and of members that end past the size."""
+    """The lines on members that share bits with earlier members, and on members that end past the size."""
     members, names = structure.members, _names(structure.members)
     overlaps, outsides = [], []
     order = _order(members)

@@ -1,4 +1,4 @@
-"""Structures as `pahole` prints them: where each member stands, and which bits it says that no member holds."""
+"""Structures as `pahole` prints them: where each member is, and which bits pahole says that no member holds."""
 
 from __future__ import annotations
 
@@ -8,7 +8,7 @@ from dataclasses import dataclass, field
 from pathlib import Path
 from typing import Iterator
 
-# The options leave out what pahole adds to make a source that a compiler lays out in the same way.
+# The options leave out what pahole adds so that a compiler would lay its output out in the same way.
 COMMAND = ("pahole", "-F", "dwarf", "--suppress_aligned_attribute", "--suppress_packed", "--suppress_force_paddings")
 
 HEAD = re.compile(r"struct (\w+) \{")
@@ -34,39 +34,39 @@ class Member:
 
     @property
     def end(self) -> int:
-        """The bit behind its last one."""
+        """The bit after its last one."""
         return self.bit + self.width
 
 
 @dataclass
 class Structure:
-    """A structure, with the members of its nameless members in their places."""
+    """A structure. The members of nameless members take their place."""
 
     tag: str
     size: int = 0
     members: list[Member] = field(default_factory=list)
-    # The runs of bits that pahole says no member holds: for each its first bit and the one behind its last one. It says
-    # nothing of those that belong to a member with a name.
+    # The runs of bits that pahole says no member holds: for each its first bit, and the bit after its last one. It says nothing of
+    # free bits inside a member with a name.
     free: list[tuple[int, int]] = field(default_factory=list)
-    # The runs behind bit fields that end a nameless member, of which pahole says nothing.
+    # The runs after bit fields at the end of a nameless member, on which pahole says nothing.
     silent: list[tuple[int, int]] = field(default_factory=list)
     is_known: bool = True
 
 
 @dataclass
 class _Block:
-    """A structure, union or enumeration whose lines are being read."""
+    """A structure, union or enumeration that is being read."""
 
     kind: str
     members: list[Member] = field(default_factory=list)
-    # The runs of bits that pahole says no member holds: for each its first bit and the one behind its last one.
+    # The runs of bits that pahole says no member holds: for each its first bit, and the bit after its last one.
     free: list[tuple[int, int]] = field(default_factory=list)
-    # The runs behind bit fields that end a nameless member, of which pahole says nothing.
+    # The runs after bit fields at the end of a nameless member, on which pahole says nothing.
     silent: list[tuple[int, int]] = field(default_factory=list)
 
 
 def _name(declaration: str) -> str:
-    """The name in a declaration without its width, or nothing."""
+    """The name in a declaration without its width; empty if there is none."""
     function = FUNCTION_NAME.search(declaration)
     if function:
         return function[1]
@@ -93,7 +93,7 @@ class _Reader:
     def __init__(self, tag: str) -> None:
         self.structure = Structure(tag)
         self.blocks = [_Block("struct")]
-        # The bit behind the member that was read last.
+        # The bit after the member that was read last.
         self.end = 0
         self.was_nameless = False
         self.was_field = False
@@ -141,7 +141,7 @@ class _Reader:
         elif size:
             self.structure.size = int(size[1])
         elif padding:
-            # the bytes first, and then the bits before them
+            # pahole prints first the padding in bytes, and then the padding bits before it
             self.padding += int(padding[2]) * (1 if padding[1] else 8)
         elif place and ";" in line:
             self._take(line, place)
@@ -164,6 +164,6 @@ def _structures(text: str) -> Iterator[Structure]:
 
 
 def structures_of(library: Path) -> list[Structure]:
-    """The structures with tags of a library's debug information, where pahole knows all their members."""
+    """The structures with tags in a library's debug information, if pahole knows all their members."""
     ended = subprocess.run([*COMMAND, str(library)], capture_output=True, text=True, check=False, timeout=60)
     return [it for it in _structures(ended.stdout) if it.is_known]

@@ -14,7 +14,7 @@ from packages_read.debian_packages import debug_packages, downloaded  # noqa: E4
 
 
 def main() -> int:
-    """Compares packages as the arguments say, and answers 0 where all were downloaded."""
+    """Compares packages as the arguments say, and returns 0 if all were downloaded."""
     if len(sys.argv) < 2:
         print("usage: python3 -m packages_read FOLDER [DEBUG_PACKAGE..]", file=sys.stderr)
         return 64
@@ -39,7 +39,7 @@ def main() -> int:
 
 
 def _summary(counts: Counter[str], missing: list[str]) -> str:
-    """How many libraries there were, and what was not downloaded."""
+    """How many libraries there were, and which packages were not downloaded."""
     said = f"{counts['read']} of {counts['libraries']} libraries read, {counts['compared']} compared"
     return said + (f"; not downloaded: {', '.join(missing)}" if missing else "")
 

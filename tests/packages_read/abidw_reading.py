@@ -1,4 +1,4 @@
-"""What abidw reads of a library: its exports, which of them have types, and the numbers of their parameters."""
+"""What abidw reads of a library: its exports, which of them have types, and how many parameters functions have."""
 
 from __future__ import annotations
 
@@ -11,15 +11,15 @@ from typing import Optional
 
 from abi_tools.faults import Fault
 
-# Seconds of processor time that abidw gets for a library, and the status of a process that takes more.
+# How many seconds of processor time abidw gets for a library, and the status of a process that takes more.
 _LONGEST = 1200
 _TOO_LONG = -signal.SIGXCPU
 
 
 @dataclass
 class Reading:
-    """Exports by their labels (`name`, `name@VERSION`, `name@@VERSION`): all functions and variables, those with a type, and how many
-    parameters each function has."""
+    """Exports by label (`name`, `name@VERSION`, `name@@VERSION`): all functions and variables, those with a type, and how many parameters
+    each function has."""
 
     exports: set[str] = field(default_factory=set)
     typed: set[str] = field(default_factory=set)
@@ -27,7 +27,7 @@ class Reading:
 
 
 def abidw_reading(library: Path) -> Reading:
-    """What abidw reads. Raises a fault if it fails."""
+    """What abidw reads of a library. Raises a fault if it fails."""
     command = ["prlimit", f"--cpu={_LONGEST}:", "--", "abidw", "--no-corpus-path", "--no-comp-dir-path", str(library)]
     ended = subprocess.run(command, stdin=subprocess.DEVNULL, capture_output=True, check=False)
     if ended.returncode == _TOO_LONG:
@@ -58,7 +58,7 @@ def _label(symbol: ElementTree.Element) -> str:
 
 
 def _groups(aliases: dict[str, list[str]]) -> dict[str, set[str]]:
-    """For each symbol all that stand for the same place. The first of them names the others."""
+    """For each symbol, all symbols at the same address. In `aliases`, the first symbol names the others."""
     groups: dict[str, set[str]] = {}
     for label, others in aliases.items():
         group = {label, *(other for other in others if other)}

@@ -1,4 +1,4 @@
-"""A library, read by `abi` and by abidw."""
+"""Compares what `abi` and abidw read of a library."""
 
 from __future__ import annotations
 
@@ -23,7 +23,7 @@ _MOST_NAMED = 6
 
 @dataclass
 class PackageLine:
-    """What came of the libraries of a package: counts, and sentences on libraries that were not read or on which the two differ."""
+    """The outcome for the libraries of a package: counts, and remarks on libraries that were not read or on which the two differ."""
 
     package: str
     counts: Counter[str] = field(default_factory=Counter)
@@ -43,7 +43,7 @@ HEAD = """\
 
 
 def compared(package: str, files: Sequence[Path]) -> PackageLine:
-    """Unpacks the packages of a library and of its debug information, and compares what the two read of each library."""
+    """Unpacks a package and those of its debug information, and compares what `abi` and abidw read of each library."""
     line = PackageLine(package)
     with tempfile.TemporaryDirectory(prefix="packages-read-") as folder:
         try:
@@ -64,7 +64,7 @@ def compared(package: str, files: Sequence[Path]) -> PackageLine:
 
 
 def _compare(library: PackagedLibrary, side: Side, joined: Path, line: PackageLine) -> None:
-    """Compares one library, and counts. Raises a fault if `abi` does not read it."""
+    """Compares one library, and counts. Raises a fault if `abi` cannot read it."""
     joined.write_bytes(join(library.path, side.root))
     listed = {export.label: export for export in Abi().exports(joined) if export.kind in _LISTED}
     line.counts["read"] += 1
@@ -93,7 +93,7 @@ def _compare(library: PackagedLibrary, side: Side, joined: Path, line: PackageLi
 
 
 def _shown_by_readelf(name: str, fault: str, joined: Path, listed: dict[str, Export], line: PackageLine) -> int:
-    """Compares a library that abidw does not read with what readelf shows, and answers for how many of the exports with types that
+    """Compares a library that abidw does not read with what readelf shows, and returns for how many of the exports with types readelf
     shows an entry."""
     at, values, found = addresses(joined), ElfFile(joined).symbol_values(), exports(joined)
     shown = [export for export in listed.values() if values[export.number] in at]

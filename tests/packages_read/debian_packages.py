@@ -1,4 +1,4 @@
-"""Packages of Debian's main archive: those of debug information for libraries, and where they lie once they are downloaded."""
+"""Packages of Debian's main archive: finds the debug packages of libraries, and downloads packages."""
 
 from __future__ import annotations
 
@@ -10,17 +10,17 @@ from typing import Optional, Sequence
 
 _FIELD = re.compile(r"^([A-Z][A-Za-z-]*): (.*)$", re.MULTILINE)
 _SAME_VERSION = re.compile(r"([a-z0-9][a-z0-9.+-]*) \(= [^)]*\)")
-# Debug packages of kernels, of tools for other processors, and of other kinds of libraries for this one.
+# Debug packages to skip: of kernels, of tools for other processors, and of libraries with another ABI for this processor.
 _PASSED_OVER = re.compile(r"linux-image-.*|binutils-.*|gnumach-.*|lib32.*|libx32.*")
 _LIBRARY = re.compile(r"lib.*(?<!-dev)(?<!-dbg)(?<!-common)")
-# A debug package of more bytes is passed over.
+# Debug packages with more bytes are skipped.
 _LARGEST = 60 << 20
 
 
 @dataclass(frozen=True)
 class DebugPackage:
-    """A debug package, the packages of libraries of the same version that it belongs to, and the other debug packages of its source,
-    where debug files of the same libraries may be."""
+    """A debug package, the packages of the same version that it belongs to, and the other debug packages of its source, which may also
+    have debug files of the same libraries."""
 
     name: str
     libraries: tuple[str, ...]
@@ -28,7 +28,7 @@ class DebugPackage:
 
 
 def debug_packages(names: Sequence[str]) -> list[DebugPackage]:
-    """The debug packages of the names, or all, as far as they are of packages of libraries."""
+    """The debug packages with these names, or all of them, without those that belong to no package of libraries."""
     found_names = (line.split(" ")[0] for line in _said("apt-cache", "search", "--names-only", "--", "-dbg$").splitlines())
     fields_of = _fields([name for name in found_names if not _PASSED_OVER.fullmatch(name)])
     sources: dict[tuple[str, str], list[str]] = {}
@@ -43,19 +43,19 @@ def debug_packages(names: Sequence[str]) -> list[DebugPackage]:
 
 
 def _fields(names: Sequence[str]) -> dict[str, dict[str, str]]:
-    """What the archive says of debug packages that are not too large, in the order of their names."""
+    """What the archive says of the debug packages that are not too large, sorted by name."""
     paragraphs = _said("apt-cache", "show", "--no-all-versions", *names).split("\n\n")
     all_fields: list[dict[str, str]] = [dict(_FIELD.findall(paragraph)) for paragraph in paragraphs if paragraph]
     return {fields["Package"]: fields for fields in sorted(all_fields, key=lambda one: one["Package"]) if int(fields["Size"]) <= _LARGEST}
 
 
 def _source(fields: dict[str, str]) -> tuple[str, str]:
-    """The source of a package, and its version."""
+    """The source package of a package, and its version."""
     return fields.get("Source", fields["Package"]).split(" ")[0], fields["Version"]
 
 
 def downloaded(name: str, folder: Path) -> Optional[Path]:
-    """The file of a package in a folder, downloaded where it is not there; none where that fails."""
+    """The file of a package in a folder, downloaded if it is missing; None if that fails."""
     there = sorted(folder.glob(f"{name}_*.deb"))
     if not there:
         subprocess.run(["apt-get", "download", name], cwd=folder, stdin=subprocess.DEVNULL, capture_output=True, check=False)

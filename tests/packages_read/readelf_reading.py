@@ -1,5 +1,5 @@
-"""What readelf shows of a library: its exports, and at which addresses an entry of a function or a variable stands. It is a witness
-where `abi` and abidw differ, and where abidw takes too long."""
+"""What readelf shows of a library: its exports, and the addresses for which there is an entry of a function or a variable. It decides
+if `abi` and abidw differ, or if abidw takes too long."""
 
 from __future__ import annotations
 
@@ -34,7 +34,7 @@ def addresses(library: Path) -> set[int]:
 
 
 def exports(library: Path) -> set[str]:
-    """The functions and variables that a library exports, by their labels (`name`, `name@VERSION`, `name@@VERSION`)."""
+    """The functions and variables that a library exports, by label (`name`, `name@VERSION`, `name@@VERSION`)."""
     listed = subprocess.run(["readelf", "--wide", "--dyn-syms", str(library)], stdin=subprocess.DEVNULL, capture_output=True, text=True,
                             check=True).stdout
     return {found.group(1) for line in listed.splitlines() if (found := _SYMBOL.match(line))}

@@ -1,1 +1,1 @@
-"""The commands of the pages, run word by word."""
+"""Runs the commands of the pages word by word."""

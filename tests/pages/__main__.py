@@ -1,7 +1,7 @@
-"""Runs each command of the pages word by word, and holds what it prints against what the page shows.
+"""Runs each command of the pages word by word, and compares what it prints with what the page shows.
 
     python3 -m pages FOLDER ABI ABI_JSON PAGE..           compares, and prints a line for each page
-    python3 -m pages --print FOLDER ABI ABI_JSON PAGE     prints the page with what the commands print in place
+    python3 -m pages --print FOLDER ABI ABI_JSON PAGE     prints the page with the actual output of the commands
 """
 
 from __future__ import annotations
@@ -16,20 +16,20 @@ from pages.sessions import Session
 
 ROOT = Path(__file__).resolve().parents[2]
 
-# What is not run, by how a command begins, and why.
+# Commands that are not run: how they begin, and why.
 LEFT_OUT = {
     "sudo ": "it installs packages",
     "./install.sh": "it proves for an hour",
     "rt ci": "it is what the gate runs",
     ".ci/run": "it is the gate",
 }
-# What fetches files from a mirror. Where it fails, what the page does with them is left out.
+# The command that fetches files from a mirror. If it fails, the commands that use the files are left out.
 FETCHES = "apt-get download"
 
 
 @dataclass
 class Outcome:
-    """What came of a page: how many commands agreed, which were left out, and what differed."""
+    """The outcome for a page: how many commands agreed, which were left out, and what differed."""
 
     agreed: int = 0
     left_out: list[str] = field(default_factory=list)
@@ -61,13 +61,13 @@ def run_page(page: Path, folder: Path, programs: Mapping[str, Path]) -> Outcome:
 
 
 def differing(page: Path, command: Command, printed: list[str]) -> str:
-    """What a page shows of a command, and what the command printed."""
+    """A comparison of what a page shows for a command with what the command printed."""
     return "\n".join([f"{page.relative_to(ROOT)}:{command.line}: $ {command.text}", *("- " + line for line in command.shown),
                       *("+ " + line for line in printed)])
 
 
 def filled(page: Path, outcome: Outcome) -> str:
-    """The page with what the commands print in place of what it shows of those that differ."""
+    """The page, with the actual output of the commands that differ."""
     lines = page.read_text(encoding="utf-8").split("\n")
     for number, (command, printed) in sorted(outcome.printed.items(), reverse=True):
         if not command.agrees(printed):

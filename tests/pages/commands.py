@@ -12,7 +12,7 @@ _DIGEST = re.compile(r"\b[0-9a-f]{8}\.\.$")
 
 @dataclass(frozen=True)
 class Command:
-    """A command, the numbers of its first line and of the first line behind what is shown of its output, and that output."""
+    """A command, the number of its first line, the number of the first line after its output, and the output that the page shows."""
 
     line: int
     end: int
@@ -20,14 +20,14 @@ class Command:
     shown: tuple[str, ...]
 
     def agrees(self, printed: list[str]) -> bool:
-        """Whether the command printed what the page shows. A line `..` stands for any lines, and eight digits with `..` behind
-        them for a digest."""
+        """Whether the command printed what the page shows. A line `..` stands for any lines, and eight digits followed by `..` for a
+        digest."""
         pattern = "".join(_line_pattern(line) for line in self.shown)
         return re.fullmatch(pattern, "".join(line + "\n" for line in printed), re.DOTALL) is not None
 
 
 def _line_pattern(line: str) -> str:
-    """The pattern of a line that a page shows."""
+    """A regular expression for a line that a page shows."""
     if line == "..":
         return r"(?:[^\n]*\n)*?"
     digest = _DIGEST.search(line)
@@ -37,7 +37,7 @@ def _line_pattern(line: str) -> str:
 
 
 def commands_of(page: Path) -> list[Command]:
-    """The commands of all blocks ```console of a page, in order."""
+    """The commands of all ```console blocks of a page, in order."""
     lines = page.read_text(encoding="utf-8").split("\n")
     found: list[Command] = []
     language = None

@@ -14,7 +14,7 @@ _END = "-- the command ended --"
 
 
 class Session:
-    """The shell of a page. The programs and the tools are on its PATH, and the folders of the repository that pages name are there."""
+    """The shell of a page. The programs and the tools are on its PATH, and its folder has the repository folders that pages name."""
 
     def __init__(self, folder: Path, root: Path, named: Mapping[str, Path]) -> None:
         self.folder = folder
@@ -41,7 +41,7 @@ class Session:
         self.shell.wait()
 
     def run(self, text: str, shown: tuple[str, ...]) -> list[str]:
-        """Runs a command and gives the lines that it prints. `cat` of a file that is not there makes the file that is shown."""
+        """Runs a command and returns the lines that it prints. `cat` of a missing file makes the file with the contents shown."""
         cat = _CAT.match(text)
         if cat and not (self.folder / cat.group(1)).exists():
             made = self.folder / cat.group(1)

@@ -1,4 +1,4 @@
-"""What the tests share: libraries that gcc builds, tools that are run, and what readelf says of files."""
+"""What the tests share: they build libraries with gcc, run the tools, and read files with readelf."""
 
 from __future__ import annotations
 
@@ -23,7 +23,7 @@ sys.path.insert(0, str(TOOLS))
 
 from abi_tools.faults import run_tool  # noqa: E402
 
-# The module of each tool, and the status with which it tells a fault.
+# The module of each tool, and its exit status for a fault.
 COMMANDS = {"join-debug": ("join_command", 1), "abi-baseline": ("baseline_command", 1), "abi-gate": ("gate_command", 2),
             "abi-packages": ("packages_command", 2)}
 
@@ -48,7 +48,7 @@ int second(callback_type f, shape_type *s) { return f(s, green_colour, 0); }
 
 @dataclass(frozen=True)
 class Ended:
-    """What a program did: its exit status and what it printed."""
+    """How a program ended: its exit status and what it printed."""
 
     status: int
     out: str
@@ -63,14 +63,14 @@ def run(*command: object, folder: Path | None = None) -> Ended:
 
 
 def done(*command: object, folder: Path | None = None) -> str:
-    """What a program prints that must succeed."""
+    """Runs a program that must succeed, and returns its standard output."""
     ended = run(*command, folder=folder)
     assert ended.status == 0, f"{command}: {ended.status}: {ended.out}{ended.errors}"
     return ended.out
 
 
 def tool(name: str, *arguments: object, folder: Path | None = None) -> Ended:
-    """Does what a tool of this repository does, without a process of its own, which takes longer than the tool."""
+    """Runs a tool of this repository in this process, since starting another one takes longer than the tool."""
     module, fault_status = COMMANDS[name]
     main = importlib.import_module(f"abi_tools.{module}").main
     out, errors = io.StringIO(), io.StringIO()
@@ -95,12 +95,12 @@ def script(name: str, *arguments: object, folder: Path | None = None) -> Ended:
 
 
 def abi(*arguments: object) -> Ended:
-    """Runs the program `abi` that is tested."""
+    """Runs the program `abi` under test."""
     return run(os.environ["ABI"], *arguments)
 
 
 def refused(ended: Ended, status: int, words: str, output: Path) -> None:
-    """A tool must have ended with the status and one sentence that has the words, and left no output."""
+    """Checks that a tool ended with the status and one sentence with these words, and left no output file."""
     assert ended.status == status, ended
     lines = ended.errors.splitlines()
     assert len(lines) == 1 and words in lines[0], ended.errors
@@ -110,7 +110,7 @@ def refused(ended: Ended, status: int, words: str, output: Path) -> None:
 
 @pytest.fixture
 def build(tmp_path: Path) -> Callable[..., Path]:
-    """Builds a shared library of a text in C by gcc."""
+    """A function that builds a shared library from C source with gcc."""
 
     def built(name: str, text: str, *options: str, soname: str | None = None, compiler: str = "gcc") -> Path:
         (tmp_path / "shapes.h").write_text(HEADER)
@@ -126,14 +126,14 @@ def build(tmp_path: Path) -> Callable[..., Path]:
 
 
 def build_id(path: Path) -> str:
-    """The build id of a file, as readelf reads it."""
+    """The build id of a file, as readelf shows it."""
     found = re.search(r"Build ID: ([0-9a-f]+)", done("readelf", "--wide", "--notes", path))
     assert found is not None
     return found.group(1)
 
 
 def split(library: Path, debug: Path, link: bool = True) -> Path:
-    """Parts a library as packages do: its debug information goes to `debug`, and the stripped library is the answer."""
+    """Splits a library as distributions do: moves its debug information to `debug`, and returns the stripped library."""
     stripped = library.with_suffix(".stripped")
     debug.parent.mkdir(parents=True, exist_ok=True)
     done("objcopy", "--only-keep-debug", library, debug)
@@ -143,19 +143,19 @@ def split(library: Path, debug: Path, link: bool = True) -> Path:
 
 
 def system_place(root: Path, identifier: str) -> Path:
-    """Where the debug file of a build id lies below a root folder."""
+    """The place of the debug file with a build id below a root folder."""
     return root / "usr/lib/debug/.build-id" / identifier[:2] / f"{identifier[2:]}.debug"
 
 
 def exports(library: Path) -> str:
-    """What `abi exports` prints of a library, which it must read."""
+    """What `abi exports` prints for a library, which it must be able to read."""
     ended = abi("exports", library)
     assert ended.status == 0, ended
     return ended.out
 
 
 def sections(library: Path) -> dict[str, str]:
-    """The sections of a file by readelf: the flags of each name."""
+    """The sections of a file, as readelf shows them: the flags for each name."""
     found = {}
     for line in done("readelf", "--wide", "--sections", library).splitlines():
         fields = re.match(r"\s*\[\s*\d+\] (\S+)\s+\S+\s+[0-9a-f]{16} [0-9a-f]+ [0-9a-f]+ [0-9a-f]+(.{4})", line)
@@ -165,19 +165,19 @@ def sections(library: Path) -> dict[str, str]:
 
 
 def section_bytes(library: Path, name: str, folder: Path) -> bytes:
-    """The bytes of a section, by objcopy."""
+    """The bytes of a section, extracted by objcopy."""
     output = folder / "section"
     done("objcopy", f"--dump-section={name}={output}", library, folder / "rest")
     return output.read_bytes()
 
 
 def shared(libraries: Sequence[Path], supplementary: Path, *options: str) -> None:
-    """Moves what libraries have in common to a supplementary file, by dwz."""
+    """Moves what libraries have in common to a supplementary file, with dwz."""
     done("dwz", *options, "-m", supplementary, *libraries)
 
 
 def needs(*programs: str) -> None:
-    """What a test needs: a missing program is a failure, unless SKIP_MISSING_TOOLS leaves out what needs it."""
+    """Says which programs a test needs. A missing one is a failure or, with SKIP_MISSING_TOOLS, skips the test."""
     missing = [program for program in programs if shutil.which(program) is None]
     if missing and os.environ.get("SKIP_MISSING_TOOLS"):
         pytest.skip(f"there is no {', '.join(missing)}")
@@ -185,7 +185,7 @@ def needs(*programs: str) -> None:
 
 
 def killer(folder: Path, number: signal.Signals, arguments: str) -> Path:
-    """A program `abi` that sends a signal to the tool that runs it, where its arguments match a pattern of the shell."""
+    """A program `abi` that sends a signal to the tool that runs it if its arguments match a shell pattern."""
     path = folder / "killing_abi"
     path.write_text(f"#!/bin/sh\ncase \"$*\" in *{arguments}*) kill -{int(number)} $PPID; exit 0 ;; esac\n"
                     f"exec '{Path(os.environ['ABI']).resolve()}' \"$@\"\n")
@@ -195,5 +195,5 @@ def killer(folder: Path, number: signal.Signals, arguments: str) -> Path:
 
 @pytest.fixture(scope="session", autouse=True)
 def program() -> None:
-    """The program must be named."""
+    """The variable ABI must name the program."""
     assert os.environ.get("ABI"), "the variable ABI names no program"

@@ -1,4 +1,4 @@
-"""What the tests of reports share: the programs, and libraries that gcc builds of small sources."""
+"""What the tests of reports share: the programs, and libraries that gcc builds from small sources."""
 
 from __future__ import annotations
 
@@ -56,12 +56,12 @@ int old_name(int number) { return number; }
 
 
 def needs_json() -> None:
-    """The program abi-json must be named."""
+    """The variable ABI_JSON must name the program."""
     assert os.environ.get("ABI_JSON"), "the variable ABI_JSON names no program"
 
 
 def report(*arguments: object, folder: Path | None = None) -> Ended:
-    """Does what the tool does, without a process of its own, which takes longer than the tool."""
+    """Runs the tool in this process, since starting another one takes longer than the tool."""
     needs_json()
     out, errors = io.StringIO(), io.StringIO()
     before = Path.cwd()
@@ -93,12 +93,12 @@ def document(*arguments: object, folder: Path | None = None) -> dict[str, Any]:
 
 @dataclass(frozen=True)
 class Project:
-    """A library with a public header in `include` and a source in `src`, of which builds are made."""
+    """A library with a public header in `include` and a source in `src`, and builds of it."""
 
     folder: Path
 
     def build(self, name: str, header: str = HEADER, source: str = SOURCE, *options: str) -> Path:
-        """Builds the library of these texts in a folder of its own, below which the sources are."""
+        """Builds the library from these texts in a folder of its own, which also has the sources."""
         home = self.folder / name
         for path, text in (("include/stream.h", header), ("src/stream.c", source)):
             (home / path).parent.mkdir(parents=True, exist_ok=True)
@@ -110,7 +110,7 @@ class Project:
 
 
 def stand_in(project: Project, monkeypatch: pytest.MonkeyPatch, **members: object) -> None:
-    """A program that prints a document with these members, in place of abi-json."""
+    """Puts a program in place of abi-json that prints a document with these members."""
     made = project.folder / "made.json"
     made.write_text(json.dumps({"format": 1, "command": "check", "fault": None, "untyped": None, "places": None, "text": None, "notes": [],
                                 "side_notes": None, "inputs": [], "answer": "no", "status": 1, **members}))
@@ -150,7 +150,7 @@ class Edit:
 
 
 def edits() -> Iterator[Edit]:
-    """The edits that gcc builds and whose answer depends on no option of a compiler."""
+    """The edits that gcc can build and whose answer does not depend on compiler options."""
     for block in EDITS.read_text().split("\ncase ")[1:]:
         name, _, text = block.partition("\n")
         edit = _edit(name, text.splitlines())

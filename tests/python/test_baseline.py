@@ -1,4 +1,4 @@
-"""`abi-baseline`: what it keeps is judged as the library is."""
+"""`abi-baseline`: `abi` judges a baseline as it judges the library."""
 
 from __future__ import annotations
 

@@ -1,4 +1,4 @@
-"""Chains of builds: what `abi compose` joins is accepted, and what `abi check` says of the ends of a chain agrees with it."""
+"""Chains of builds: `abi verify` accepts what `abi compose` joins, and `abi check` on the ends of a chain agrees."""
 
 from __future__ import annotations
 
@@ -17,7 +17,7 @@ VERSIONS = 10
 
 @dataclass(frozen=True)
 class Source:
-    """The source of one build: structures and functions, in an order of their own."""
+    """The source of one build: structures and functions, and their order."""
 
     functions: tuple[str, ...]
     structures: tuple[str, ...] = ()
@@ -57,7 +57,7 @@ def edited(source: Source, rnd: random.Random) -> Source:
 
 
 def built(folder: Path, name: str, source: Source) -> Path:
-    """The library of a source."""
+    """Builds the library of a source."""
     library = folder / f"{name}.so"
     text = folder / f"{name}.c"
     text.write_text(source.text())
@@ -73,7 +73,7 @@ def certificate(folder: Path, old: Path, new: Path) -> Path:
 
 
 def composed(folder: Path, first: Path, middle: Path, last: Path, one: Path, other: Path) -> Path:
-    """The certificate that two compose, which must be accepted for the ends of the chain."""
+    """Composes two certificates. `abi verify` must accept the result for the ends of the chain."""
     text = done(os.environ["ABI"], "compose", first, middle, last, one, other)
     written = folder / f"{first.stem}-{last.stem}.composed"
     written.write_text(text)
@@ -83,7 +83,7 @@ def composed(folder: Path, first: Path, middle: Path, last: Path, one: Path, oth
 
 
 def chain(folder: Path, seed: int) -> None:
-    """A chain of three libraries: its composed certificate is accepted, and the ends are compatible."""
+    """Checks a chain of three libraries: its composed certificate is accepted, and its ends are compatible."""
     folder.mkdir()
     rnd = random.Random(seed)
     source = Source(functions=tuple(f"f{i}" for i in range(rnd.randrange(1, 4))))

@@ -1,6 +1,6 @@
-"""Damaged line programs: whatever the bytes of `.debug_line` and `.debug_line_str` are, `abi-json` gives the same status and breaks.
+"""Damaged line programs: whatever bytes `.debug_line` and `.debug_line_str` have, `abi-json` gives the same status and breaks.
 
-The last byte of `.debug_line_str` stays: it ends the name of a unit in `.debug_info`, and a name that does not end is a fault.
+The last byte of `.debug_line_str` stays as it is: it ends the name of a unit in `.debug_info`, and an unterminated name is a fault.
 """
 
 from __future__ import annotations
@@ -22,32 +22,32 @@ from abi_tools.elf_files import ElfFile
 
 _MUTATIONS = 1000
 _SECTIONS = (".debug_line", ".debug_line_str")
-# One structure behind another, so that a document has places of both.
+# One structure points to another, so that a document has places of both.
 _SOURCE = """\
 struct inner { int a; %s b; };
 struct outer { struct inner *inner; int c; };
 int use(struct outer *outer) { return outer->c; }
 """
-# Bytes that end numbers, begin long ones, or are the greatest of a size.
+# Bytes that end numbers, begin long ones, or are the largest of a size.
 _EXTREMES = (0x00, 0x01, 0x7F, 0x80, 0xFF)
 
 
 def built(folder: Path, name: str, member: str, version: int) -> Path:
-    """A small library without the C library's start files."""
+    """Builds a small library without the C library's start files."""
     (folder / f"{name}.c").write_text(_SOURCE % member)
     done("gcc", f"-gdwarf-{version}", "-shared", "-fPIC", "-nostdlib", "-o", f"{name}.so", f"{name}.c", folder=folder)
     return folder / f"{name}.so"
 
 
 def mutated(library: Path, number: int) -> bytes:
-    """The library with a few bytes of its line programs and their texts changed, by a number."""
+    """The library with a few bytes of its line programs and their strings changed; `number` is the seed."""
     chance = random.Random(number)
     file = ElfFile(library)
     parts = [(section.offset, section.size - (name != _SECTIONS[0])) for name in _SECTIONS if (section := file.first(name)) is not None]
     data = bytearray(file.data)
     for _ in range(chance.randint(1, 4)):
         offset, size = chance.choice(parts)
-        # Half of the changes are at the start of the section, where the header of the first program stands.
+        # Half of the changes are at the start of the section, where the header of the first program is.
         place = offset + chance.randrange(min(size, 64) if chance.random() < 0.5 else size)
         data[place] = chance.choice(_EXTREMES) if chance.random() < 0.5 else chance.randrange(256)
     return bytes(data)
@@ -62,7 +62,7 @@ def judged(old: Path, new: Path) -> tuple[int, Any]:
 
 
 def judged_damaged(old: Path, new: Path, number: int) -> tuple[int, tuple[int, Any]]:
-    """The same of mutations: of the old library, of the new one, and of both by turns."""
+    """The same for mutations: of the old library, of the new one, and of both in turn."""
     sides = [old, new]
     for side in ((0,), (1,), (0, 1))[number % 3]:
         sides[side] = old.with_name(f"{number}-{side}.so")

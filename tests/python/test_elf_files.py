@@ -1,4 +1,4 @@
-"""What the tools read of ELF files and DWARF, beside pyelftools."""
+"""What the tools read of ELF files and DWARF, compared with pyelftools."""
 
 from __future__ import annotations
 
@@ -91,7 +91,7 @@ def test_imports_of_files_of_the_system(path: Path) -> None:
 
 
 def ranges_of(information: Any, unit: Any) -> list[tuple[int, int]]:
-    """The code of a unit by pyelftools."""
+    """The code of a unit, as pyelftools reads it."""
     attributes = unit.get_top_DIE().attributes
     if "DW_AT_ranges" not in attributes:
         if "DW_AT_high_pc" not in attributes:

@@ -1,4 +1,4 @@
-"""`abi-gate`: 0, 1 and 2."""
+"""`abi-gate`: its exit statuses 0, 1 and 2."""
 
 from __future__ import annotations
 
@@ -23,21 +23,21 @@ NEW = OLD.replace("int x, y;", "long x, y;")
 
 
 def gate(*arguments: object) -> Ended:
-    """What the gate does, with a line that begins with its answer."""
+    """Runs the gate, whose output must begin with its answer."""
     ended = tool("abi-gate", *arguments)
     assert ended.out.startswith({0: "yes", 1: "no", 2: "cannot tell: "}[ended.status]), ended
     return ended
 
 
 def told(ended: Ended, *words: str) -> None:
-    """It cannot be told, and the reason has the words."""
+    """Checks that the gate cannot tell, and that the reason has these words."""
     assert ended.status == 2 and len(ended.out.splitlines()) == 1, ended
     assert all(word in ended.out for word in words), ended.out
 
 
 @pytest.fixture(params=("gcc -gdwarf-5", "gcc -gdwarf-4 -ffunction-sections", "clang -gdwarf-5 -ffunction-sections", "clang -gdwarf-4"))
 def levels(request: pytest.FixtureRequest, build: Build, tmp_path: Path) -> dict[str, Path]:
-    """One library with types, with debug information of level 1, and stripped, and its next build."""
+    """A library with types, with debug information of level 1, and stripped; and its next build."""
     compiler, *options = request.param.split()
     made = {"full": build("full.so", OLD, *options, "-g", compiler=compiler),
             "next": build("next.so", NEW, *options, "-g", compiler=compiler),
@@ -80,7 +80,7 @@ def test_a_break_is_a_no_also_without_types(levels: dict[str, Path], build: Buil
 
 
 def test_parts_of_a_library_may_lack_types(tmp_path: Path) -> None:
-    """A library of two units, of which the new one has types of one alone."""
+    """A library of two units. The new library has types of only one of them."""
     (tmp_path / "one.c").write_text("struct point { int x, y; };\nint area(struct point *p) { return p->x; }\n")
     (tmp_path / "two.c").write_text("int other(int a) { return a + 1; }\nint third(long *a) { return *a > 1; }\n")
     for name, unit, options in (("a", "one", "-g"), ("b", "two", "-g"), ("c", "two", "-g1"), ("d", "two", "-g0")):
@@ -101,7 +101,7 @@ FOLDED = "int first(int a) { return a * 3 + 7; }\nint second(int a) { return a *
 
 
 def test_equal_functions_that_gcc_folds_are_told(build: Build) -> None:
-    """The entry of a folded function has no address, so `abi` says X6; another break is a no all the same."""
+    """The entry of a folded function has no address, so `abi` reports X6. With another break besides, the answer is still no."""
     mended = FOLDED.replace("+ 8", "+ 7")
     old, new = build("old.so", FOLDED, "-g", "-O2"), build("new.so", mended, "-g", "-O2")
     assert abi("check", old, new).out == "no\nX6 second: type gone\n"
@@ -157,7 +157,7 @@ def test_the_script_ends_with_2_where_nothing_can_be_told(build: Build, tmp_path
 
 @pytest.mark.parametrize("number", (signal.SIGKILL, signal.SIGTERM))
 def test_a_run_that_is_killed_leaves_no_certificate(build: Build, tmp_path: Path, number: signal.Signals) -> None:
-    """Also none of an earlier run, and nothing beside it."""
+    """It also leaves none of an earlier run, and no other file."""
     whole, folder = build("whole.so", OLD), tmp_path / "kept"
     folder.mkdir()
     (folder / "cert").write_text("of an earlier run")

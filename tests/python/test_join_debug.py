@@ -1,4 +1,4 @@
-"""`join-debug` on libraries that are parted as distributions part them."""
+"""`join-debug` on libraries that are split as distributions split them."""
 
 from __future__ import annotations
 
@@ -67,7 +67,7 @@ def test_a_debug_file_is_found_by_build_id(build: Build, tmp_path: Path) -> None
 
 
 def test_a_build_id_may_be_a_link_from_the_folder_of_the_root(build: Build, tmp_path: Path) -> None:
-    """As Fedora has it: the name by build id is a link, and one that begins with `/` counts from the root."""
+    """As on Fedora: the name by build id is a symbolic link, and a target that begins with `/` is relative to the root."""
     whole = build("whole.so", FIRST)
     root = tmp_path / "root"
     stripped = split(whole, root / "usr/lib/debug/usr/lib64/whole.so-1.debug", link=False)
@@ -79,7 +79,7 @@ def test_a_build_id_may_be_a_link_from_the_folder_of_the_root(build: Build, tmp_
 
 
 def test_a_debug_file_is_found_by_its_name_and_checksum(build: Build, tmp_path: Path) -> None:
-    """A library without a build id, below the root, with its debug file where `.gnu_debuglink` names it."""
+    """A library without a build id, below the root; its debug file is where `.gnu_debuglink` says."""
     whole = build("whole.so", FIRST, "-g", "-Wl,--build-id=none")
     root = tmp_path / "root"
     stripped = split(whole, root / "usr/lib/debug/usr/lib/whole.debug")
@@ -94,7 +94,7 @@ def test_a_debug_file_is_found_by_its_name_and_checksum(build: Build, tmp_path: 
 
 
 def test_without_a_root_the_system_is_searched(build: Build, tmp_path: Path) -> None:
-    """Beside the library, and in `.debug` beside it, where `.gnu_debuglink` names the file; then by build id in /usr/lib/debug."""
+    """If `.gnu_debuglink` names the file: beside the library, and in `.debug` beside it; then by build id in /usr/lib/debug."""
     whole = build("whole.so", FIRST)
     stripped, joined = split(whole, tmp_path / "whole.debug"), tmp_path / "joined.so"
     assert tool("join-debug", stripped, joined).status == 0
@@ -151,7 +151,7 @@ def test_a_file_that_is_cut_short_is_refused(build: Build, tmp_path: Path, share
 
 
 def test_bytes_that_are_changed_never_give_a_trace(build: Build, tmp_path: Path) -> None:
-    """Each ends with 0 or with one sentence and 1, whatever the bytes are."""
+    """Each run ends with status 0, or with one sentence and status 1, whatever the bytes are."""
     stripped = split(build("one.so", FIRST), tmp_path / "one.debug")
     contents = (tmp_path / "one.debug").read_bytes()
     chosen = random.Random(41)
@@ -189,7 +189,7 @@ def test_an_output_is_there_exactly_where_the_run_succeeded(build: Build, tmp_pa
 
 
 def killed_while_writing(output: Path, contents: bytes) -> None:
-    """Writes a file in a process that is killed once half of it is written."""
+    """Writes a file in a process that is killed when half of it is written."""
     child = os.fork()
     if child == 0:
         write = os.write
@@ -210,7 +210,7 @@ def test_a_run_that_is_killed_leaves_nothing(build: Build, tmp_path: Path, monke
     folder.mkdir()
     killed_while_writing(folder / "joined.so", bytes(100_000))
     assert list(folder.iterdir()) == []
-    # Where the file system has no files without a name, a temporary file stays, of another name.
+    # On a file system without O_TMPFILE, a temporary file with another name stays.
     monkeypatch.setattr(output_file, "_NO_UNNAMED_FILES", (errno.ENOTDIR,))
     monkeypatch.setattr(os, "O_TMPFILE", os.O_DIRECTORY | os.O_CREAT | os.O_EXCL)
     opened = os.open
@@ -229,7 +229,7 @@ def test_a_run_that_is_killed_leaves_nothing(build: Build, tmp_path: Path, monke
 
 @pytest.mark.parametrize("name", ("join-debug", "abi-baseline"))
 def test_a_run_that_is_ended_leaves_nothing_or_the_whole_file(build: Build, tmp_path: Path, name: str) -> None:
-    """A signal that comes once the file has its name finds it whole."""
+    """If a signal comes after the file got its name, the file is whole."""
     whole = build("whole.so", FIRST)
     stripped = split(whole, tmp_path / "whole.debug")
     output = tmp_path / "output/made.so"
@@ -247,7 +247,7 @@ def test_a_run_that_is_ended_leaves_nothing_or_the_whole_file(build: Build, tmp_
 
 @pytest.fixture(params=("-gdwarf-4", "-gdwarf-5", "-gdwarf-5 standard"))
 def two(request: pytest.FixtureRequest, build: Build, tmp_path: Path) -> tuple[list[Path], list[Path], Path]:
-    """Two libraries, as they were and as dwz left them, and the supplementary file of both."""
+    """Two libraries before and after dwz, and the supplementary file that both share."""
     version, *standard = request.param.split()
     whole = [build(f"whole_{number}.so", text, "-g", version) for number, text in ((1, FIRST), (2, SECOND))]
     kept = []
@@ -266,7 +266,7 @@ def test_a_supplementary_file_is_put_in(two: tuple[list[Path], list[Path], Path]
         assert tool("join-debug", parted, joined).status == 0
         assert exports(joined) == exports(library)
         assert ".gnu_debugaltlink" not in sections(joined) and ".debug_sup" not in sections(joined)
-        # Both libraries are one to abi: neither gets a no beside the other.
+        # For abi both libraries are the same: each may replace the other.
         for old, new in ((library, joined), (joined, library)):
             assert run(os.environ["ABI"], "check", old, new).status == 0
         ended = run("readelf", "--wide", "--debug-dump=info", joined)
@@ -276,7 +276,7 @@ def test_a_supplementary_file_is_put_in(two: tuple[list[Path], list[Path], Path]
 
 
 def test_a_supplementary_file_beside_a_debug_file(two: tuple[list[Path], list[Path], Path], tmp_path: Path) -> None:
-    """The debug file is found by build id or is named, and the supplementary file below the root by the name `/usr/lib/debug/.dwz`."""
+    """The debug file is found by build id or named, and the supplementary file is found below the root in `/usr/lib/debug/.dwz`."""
     whole, kept, common = two
     root = tmp_path / "root"
     identifier = build_id(whole[0])
@@ -293,7 +293,7 @@ def test_a_supplementary_file_beside_a_debug_file(two: tuple[list[Path], list[Pa
 
 def test_a_supplementary_file_beside_a_debug_file_that_is_found_by_its_name(two: tuple[list[Path], list[Path], Path],
                                                                             tmp_path: Path) -> None:
-    """There is no folder of build ids: `.gnu_debuglink` leads to the debug file, and that to the supplementary file beside it."""
+    """Without a folder of build ids, `.gnu_debuglink` leads to the debug file, and that leads to the supplementary file beside it."""
     whole, kept, common = two
     root = tmp_path / "root"
     place = root / "usr/lib/debug/usr/lib/whole.debug"
@@ -349,7 +349,7 @@ def test_a_supplementary_file_of_64_bit_dwarf_is_refused(build: Build, tmp_path:
 
 
 def test_600_000_entries_are_joined_in_20_seconds(build: Build, tmp_path: Path) -> None:
-    """A tenth of them in a tenth of the time of the processor, so that the test stays short."""
+    """The test joins a tenth of them in a tenth of the processor time, so that it stays short."""
     structure = "struct node_{0} {{ struct node_{0} *next; int a, b, c, d, e; long f, g, h; char i[{0} + 1]; }};\n"
     types = "".join(structure.format(one) for one in range(4000))
     text = "".join(f"int {{0}}_{one}(struct node_{one} *p) {{{{ return p->a + p->i[0]; }}}}\n" for one in range(4000))

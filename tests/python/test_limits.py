@@ -1,4 +1,4 @@
-"""docs/LIMITS.md and the sources say the same, and what bench/limits counts is what was counted by hand."""
+"""docs/LIMITS.md agrees with the sources, and bench/limits counts what was counted by hand."""
 
 from __future__ import annotations
 
@@ -120,7 +120,7 @@ def test_links_are_counted() -> None:
 
 
 def test_tables_that_do_not_fit_are_read_again(monkeypatch: pytest.MonkeyPatch) -> None:
-    # Two tables of one abbreviation with one pair each, of which the section has room for one at a time.
+    # Two tables, each with one abbreviation of one pair. First there is room to keep only one of them.
     table = bytes([1, 0x11, 0, 3, 8, 0, 0, 0])
     monkeypatch.setattr(debug_tables, "contents", lambda elf, name: 2 * table)
     monkeypatch.setattr(debug_tables, "constant", lambda source, name: 8)

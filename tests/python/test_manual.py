@@ -1,4 +1,4 @@
-"""The manual pages and completions: what tools/make-manual makes of one source, which is that of the usage text, too."""
+"""The manual pages, the completions and the usage text, which all come from one source."""
 
 from __future__ import annotations
 
@@ -69,7 +69,7 @@ def test_pages_of_tools_name_all_options_and_statuses(name: str) -> None:
 
 
 def completed(program: str, *words: str) -> list[str]:
-    """What bash offers for the last of some words."""
+    """The completions that bash offers for the last of some words."""
     script = f"""
         . {SHARE}/bash-completion/completions/{program}
         COMP_WORDS=({' '.join(f"'{word}'" for word in (program, *words))})
@@ -100,7 +100,7 @@ def test_completions_are_scripts(program: str) -> None:
 
 
 def test_install_puts_everything_in_place(tmp_path: Path) -> None:
-    """With a stand-in for the toolchain, which says that all is proved and builds programs that end with 64."""
+    """A stand-in for the toolchain says that everything is proved, and builds programs that end with status 64."""
     for name in ("install.sh", "crates.txt", "tools", "share"):
         done("cp", "-r", ROOT / name, tmp_path / name)
     for crate in ("abi_cli", "abi_json"):

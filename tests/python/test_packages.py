@@ -23,7 +23,7 @@ CHANGED = FIRST.replace('#include "shapes.h"', '#include "shapes.h"\nstruct adde
 
 
 def tree(folder: Path, files: Files) -> Path:
-    """The files of a package in their places."""
+    """Puts the files of a package in their places."""
     for name, path in files.items():
         (folder / name).parent.mkdir(parents=True, exist_ok=True)
         done("cp", "-P", path, folder / name)
@@ -31,7 +31,7 @@ def tree(folder: Path, files: Files) -> Path:
 
 
 def deb(folder: Path, name: str, files: Files, compression: str = "xz", version: str = "1") -> Path:
-    """A .deb, by dpkg-deb."""
+    """Makes a .deb with dpkg-deb."""
     made = tree(folder / f"{name}.tree", files)
     (made / "DEBIAN").mkdir(parents=True)
     (made / "DEBIAN/control").write_text(f"Package: {name}\nVersion: {version}\nArchitecture: amd64\n"
@@ -41,7 +41,7 @@ def deb(folder: Path, name: str, files: Files, compression: str = "xz", version:
 
 
 def rpm(folder: Path, name: str, files: Files) -> Path:
-    """A .rpm, by rpmbuild."""
+    """Makes a .rpm with rpmbuild."""
     needs("rpmbuild")
     made = tree(folder / f"{name}.tree", files)
     spec = folder / f"{name}.spec"
@@ -62,13 +62,13 @@ def parted(build: Build, folder: Path, text: str, name: str, soname: str) -> tup
 
 
 def packages(folder: Path, *arguments: object) -> Ended:
-    """What the tool says; certificates go to a folder of the test."""
+    """Runs the tool, with a folder of the test for certificates."""
     return tool("abi-packages", "--certificates", folder / "certificates", *arguments)
 
 
 @pytest.fixture
 def old(build: Build, tmp_path: Path) -> tuple[Path, Path]:
-    """The old packages: of a library, and of its debug information."""
+    """The old packages: one of a library, and one of its debug information."""
     library, debug, _ = parted(build, tmp_path, FIRST, "old", "libshapes.so.1")
     return deb(tmp_path, "libshapes1", library), deb(tmp_path, "libshapes1-dbgsym", debug)
 
@@ -95,7 +95,7 @@ def test_a_no_has_the_report_of_abi(old: tuple[Path, Path], build: Build, tmp_pa
 
 
 def test_a_no_may_keep_both_libraries(old: tuple[Path, Path], build: Build, tmp_path: Path) -> None:
-    """The line has the command that shows what broke, which runs; a later yes takes the libraries away."""
+    """The line has the command that shows what broke, and the command works; a later yes removes the libraries."""
     library, debug, _ = parted(build, tmp_path, CHANGED, "new", "libshapes.so.1")
     (tmp_path / "abi.rules").write_text("[suppress_function]\nname = nothing\n")
     new = deb(tmp_path, "new", {**library, "usr/share/doc/new/abi.rules": tmp_path / "abi.rules"}), deb(tmp_path, "new-dbgsym", debug)
@@ -178,7 +178,7 @@ def test_a_package_may_bring_its_rule_file(old: tuple[Path, Path], build: Build,
 
 
 def test_rpm_packages_with_a_supplementary_file(build: Build, tmp_path: Path) -> None:
-    """As Fedora has it: debug files by name, links by build id, and a supplementary file that is named from the debug file on."""
+    """As on Fedora: debug files by name, links by build id, and a supplementary file whose name is relative to the debug file."""
     whole = [build(f"{number}.so", text, soname=f"lib{number}.so.1") for number, text in ((1, FIRST), (2, SECOND))]
     stripped, files = [], {}
     for library in whole:
@@ -209,7 +209,7 @@ def test_a_soname_may_stand_in_several_folders(build: Build, tmp_path: Path) -> 
 
 
 def hostile_deb(path: Path, members: list[tuple[str, bytes | None, str]]) -> Path:
-    """A .deb whose archive has names that dpkg-deb would not make: a name, contents or none for a link, and where the link leads."""
+    """A .deb whose archive has names that dpkg-deb would not make. A member is a name, contents (None for a link), and a link target."""
     archive = io.BytesIO()
     with tarfile.open(fileobj=archive, mode="w:gz") as made:
         for name, contents, target in members:
@@ -260,7 +260,7 @@ def test_what_is_no_package_is_refused(old: tuple[Path, Path], tmp_path: Path) -
 
 
 def mirror(folder: Path, packages_of_it: Sequence[Path]) -> list[str]:
-    """A mirror of packages on this machine, and the options by which apt-get takes it alone."""
+    """A mirror of packages on this machine. Returns the options with which apt-get uses only this mirror."""
     pool, state = folder / "mirror", folder / "apt"
     pool.mkdir()
     for number, package in enumerate(packages_of_it):
@@ -279,7 +279,7 @@ def mirror(folder: Path, packages_of_it: Sequence[Path]) -> list[str]:
 
 
 def test_two_versions_that_apt_downloads(build: Build, tmp_path: Path) -> None:
-    """As a packager has them: two versions of a package and of its debug package, as `apt-get download` names them, and one command."""
+    """As for a packager: two versions of a package and of its debug package, named as by `apt-get download`, and one command."""
     needs("apt-get", "dpkg-scanpackages")
     made = []
     versions = ("1:1.2-1", "1:1.2-1+deb12u1", "1:1.3-1")
@@ -304,7 +304,7 @@ def test_two_versions_that_apt_downloads(build: Build, tmp_path: Path) -> None:
 @pytest.mark.parametrize("number", (signal.SIGKILL, signal.SIGTERM))
 def test_a_run_that_is_killed_leaves_no_half_file(build: Build, tmp_path: Path, monkeypatch: pytest.MonkeyPatch,
                                                   number: signal.Signals) -> None:
-    """It is killed over the second of three libraries: what it kept of the first one is whole, and the next run keeps all three."""
+    """The run is killed at the second of three libraries: the file of the first one is whole, and the next run keeps all three."""
     files: dict[str, Path] = {}
     for one in (1, 2, 3):
         library = build(f"{one}.so", FIRST, soname=f"lib{one}.so.1")
@@ -328,7 +328,7 @@ def test_a_run_that_is_killed_leaves_no_half_file(build: Build, tmp_path: Path, 
 
 
 def test_the_worst_library_is_the_status(build: Build, tmp_path: Path) -> None:
-    """A no counts more than what cannot be told, and that more than a yes. A library that is new counts nothing."""
+    """No outranks cannot tell, and that outranks yes. A library that is new does not count."""
     sides: dict[str, dict[str, Path]] = {"old": {}, "new": {}}
     for side, texts in (("old", (FIRST, FIRST, FIRST)), ("new", (FIRST, FIRST, CHANGED))):
         for name, text in zip(("yes", "untold", "no"), texts):

@@ -1,4 +1,4 @@
-"""The recipes of examples/: each is run where the library may be replaced, and where it may not."""
+"""The recipes of examples/: each runs with a library that may be replaced, and with one that may not."""
 
 from __future__ import annotations
 
@@ -12,14 +12,14 @@ import yaml  # type: ignore[import]
 from conftest import ROOT, TOOLS, Ended, done, needs, run, tool
 
 EXAMPLES = ROOT / "examples"
-# Lines that the tools print in the log of a build.
+# Lines of the tools in the log of a build.
 YES = "yes: 2 exports compared, 2 with types"
 BREAK = "L7 stream_left param 1 / target: member left at bit"
 
 
 @pytest.fixture
 def project(tmp_path: Path, monkeypatch: pytest.MonkeyPatch) -> Iterator[Path]:
-    """The small library of the recipes, with the interface of its release in the folder `abi`, and the tools on the PATH."""
+    """The small library of the recipes, with the baseline of its release in the folder `abi`, and the tools on the PATH."""
     programs = tmp_path / "programs"
     programs.mkdir()
     (programs / "abi").symlink_to(Path(os.environ["ABI"]).resolve())
@@ -35,14 +35,14 @@ def project(tmp_path: Path, monkeypatch: pytest.MonkeyPatch) -> Iterator[Path]:
 
 
 def broken(folder: Path) -> None:
-    """Widens a member in the source, so that all behind it moves."""
+    """Adds a member in the source, so that all members after it move."""
     source = folder / "stream.c"
     source.write_text(source.read_text().replace("unsigned char *next;", "unsigned char *next; long position;"))
     (folder / "libstream.so.1").unlink(missing_ok=True)
 
 
 def untyped(folder: Path) -> None:
-    """Compiles without types from now on."""
+    """Makes later builds compile without types."""
     makefile = folder / "Makefile"
     makefile.write_text(makefile.read_text().replace("-g -fPIC", "-g1 -fPIC"))
     (folder / "libstream.so.1").unlink(missing_ok=True)
@@ -54,7 +54,7 @@ def debian_build(folder: Path) -> Ended:
 
 
 def test_debian_rules(project: Path, tmp_path: Path) -> None:
-    """The package is built by debhelper, and two of its builds are compared as packages."""
+    """debhelper builds the package, and two of its builds are compared as packages."""
     needs("dpkg-buildpackage", "dh")
     shutil.copytree(EXAMPLES / "debian/debian", project / "debian")
     shutil.move(project / "abi", project / "debian/abi")
@@ -97,7 +97,7 @@ def test_rpm_check(project: Path, tmp_path: Path) -> None:
 
 
 def steps(folder: Path, *scripts: str) -> Ended:
-    """The scripts of a job, one behind the other, in the shell that runners take."""
+    """Runs the scripts of a job in turn, in the shell that CI runners use."""
     ended = Ended(0, "", "")
     for script in scripts:
         ended = run("bash", "-e", "-c", script, folder=folder)
@@ -107,7 +107,7 @@ def steps(folder: Path, *scripts: str) -> Ended:
 
 
 def job_holds(project: Path, scripts: list[str]) -> None:
-    """A job must end with the statuses of the gate."""
+    """Checks that a job ends with the exit statuses of the gate."""
     ended = steps(project, *scripts)
     assert ended.status == 0 and YES in ended.out and (project / "libstream.cert").is_file()
     broken(project)

@@ -1,4 +1,4 @@
-"""`abi-release` on small releases that dpkg-deb makes, and on each fault that one may meet."""
+"""`abi-release` on small releases that dpkg-deb makes, and on each kind of fault."""
 
 from __future__ import annotations
 
@@ -42,7 +42,7 @@ SHAPES = "struct point {{ {type} x, y; }};\nint area(struct point *p) {{ return 
 
 
 def compiled(folder: Path, name: str, text: str, *options: str) -> Path:
-    """A library, or a program, of a text in C."""
+    """Compiles a library, or a program, from C source."""
     source = folder / f"{name}.c"
     source.write_text(text)
     done("gcc", "-O1", "-g", "-Wl,--build-id", "-o", folder / name, source, *options, folder=folder)
@@ -50,13 +50,13 @@ def compiled(folder: Path, name: str, text: str, *options: str) -> Path:
 
 
 def library(folder: Path, name: str, kind: str = "int", number: int = 0) -> Path:
-    """A library with one export, whose structure has members of a kind."""
+    """A library with one export, whose structure has members of this type."""
     return compiled(folder, name, SHAPES.format(type=kind, number=number), "-shared", "-fPIC", f"-Wl,-soname,{name}")
 
 
 def deb(folder: Path, name: str, files: Mapping[str, Path], version: str = "1", depends: str = "", architecture: str = "amd64",
         packing: str = "gzip") -> Path:
-    """A .deb under the name that mirrors give it."""
+    """Makes a .deb under the name that mirrors give it."""
     folder.mkdir(parents=True, exist_ok=True)
     tree = folder / f".{name}"
     for place, path in files.items():
@@ -73,13 +73,13 @@ def deb(folder: Path, name: str, files: Mapping[str, Path], version: str = "1", 
 
 
 def packaged(folder: Path, path: Path, version: str = "1", package: str = "") -> Path:
-    """A package of a library, named as the library where it has no name."""
+    """Makes the package of a library; without a name of its own it is named after the library."""
     return deb(folder, package or path.name.partition(".so")[0], {f"{LIBRARIES}/{path.name}": path}, version)
 
 
 def release(folder: Path, *options: object, workers: int = 1, out: str = "out", wrapper: Path | None = None,
             before: tuple[object, ...] = ()) -> Ended:
-    """What the tool says of the folders `old` and `new`."""
+    """Runs the tool on the folders `old` and `new`."""
     command = [*before, TOOL, "old", "new", "--out", out, "--workers", workers, "--memory", 1000, *options]
     environment = {**os.environ, "ABI": str(wrapper or os.environ["ABI"])}
     ended = subprocess.run([str(word) for word in command], capture_output=True, text=True, check=False, cwd=folder, env=environment)
@@ -87,14 +87,14 @@ def release(folder: Path, *options: object, workers: int = 1, out: str = "out", 
 
 
 def table(folder: Path, out: str = "out") -> Json:
-    """The table of a run, which must be by the schema."""
+    """The table of a run, which must follow the schema."""
     found: Json = json.loads((folder / out / "release.json").read_text())
     jsonschema.validate(found, SCHEMA)
     return found
 
 
 def lines(folder: Path, out: str = "out") -> dict[str, Json]:
-    """The lines of a run by the package and the library."""
+    """The lines of a run, by package and library."""
     return {f"{line['package']} {line['library'] or '-'}": line for line in table(folder, out)["lines"]}
 
 
@@ -110,12 +110,12 @@ def judged(ended: Ended) -> tuple[int, int]:
 
 
 def unmeasured(found: Json) -> list[Json]:
-    """The lines of a table without what they measure."""
+    """The lines of a table, without their measurements."""
     return [{key: value for key, value in line.items() if key != "measured"} for line in found["lines"]]
 
 
 def wrapper_of(folder: Path, text: str) -> Path:
-    """A program `abi` that does something first, in `sh`; `$worker` is the process of the worker."""
+    """A program `abi` that first runs a text in `sh`, in which `$worker` is the process of the worker."""
     path = folder / "abi"
     path.write_text(f"#!/bin/sh\nparent=$(cut -d ' ' -f 4 /proc/$PPID/stat)\n"
                     f"worker=$(cut -d ' ' -f 4 /proc/$parent/stat)\n{text}\nexec '{Path(os.environ['ABI']).resolve()}' \"$@\"\n")
@@ -124,7 +124,7 @@ def wrapper_of(folder: Path, text: str) -> Path:
 
 
 def three(folder: Path) -> None:
-    """Two releases with three libraries, the second of which breaks."""
+    """Two releases with three libraries. The second library breaks."""
     for side, kinds in (("old", ("int", "int", "int")), ("new", ("int", "long", "int"))):
         for number, kind in enumerate(kinds):
             packaged(folder / side, library(folder, f"lib{number}.so.1", kind, number))
@@ -134,14 +134,14 @@ THREE = {"lib0 lib0.so.1": "yes", "lib1 lib1.so.1": "no", "lib2 lib2.so.1": "yes
 
 
 def test_a_release_and_the_next(tmp_path: Path) -> None:
-    """Lines of each kind, who is hit, a second run that does nothing, and one that does only what changed."""
+    """Lines of each kind, the packages that are hit, a second run that judges nothing, and one that judges only what changed."""
     three(tmp_path)
     first, moved = library(tmp_path, "libgone.so.1"), library(tmp_path, "libmoved.so.1", number=9)
     packaged(tmp_path / "old", first)
     packaged(tmp_path / "old", moved, package="libmoved1")
     packaged(tmp_path / "new", moved, package="libmoved1t64")
     packaged(tmp_path / "new", library(tmp_path, "libnew.so.1"))
-    # debug information in a package of its own, which both sides have
+    # debug information in a package of its own, on both sides
     plain = library(tmp_path, "libdebug.so.1", number=5)
     stripped = split(plain, tmp_path / "debug")
     for side in ("old", "new"):
@@ -202,7 +202,7 @@ def test_the_same_table_on_any_number_of_workers(tmp_path: Path) -> None:
 
 
 def bundle(folder: Path, broken: int = 2, count: int = 5) -> dict[str, str]:
-    """A package of several libraries, one of which breaks, and its answers. One is gone, one is new."""
+    """A package of several libraries, and its answers. One library breaks, one is gone, one is new."""
     for side in ("old", "new"):
         files = [library(folder, f"libpart{number}.so.1", "long" if side == "new" and number == broken else "int", number)
                  for number in range(count)]
@@ -213,7 +213,7 @@ def bundle(folder: Path, broken: int = 2, count: int = 5) -> dict[str, str]:
 
 
 def test_each_library_of_a_package_is_a_task(tmp_path: Path) -> None:
-    """On any number of workers, where a worker dies over one library each time, and where the run goes on."""
+    """On any number of workers, also if one library kills a worker each time, and in a later run that goes on."""
     wanted = bundle(tmp_path)
     assert release(tmp_path, workers=1).status == 1 and answers(tmp_path) == wanted
     # a worker waits for another one to begin a library of the same package
@@ -233,7 +233,7 @@ def test_each_library_of_a_package_is_a_task(tmp_path: Path) -> None:
 
 
 def test_results_that_are_in_pieces_are_judged_again(tmp_path: Path) -> None:
-    """A machine that loses power may leave files of no bytes."""
+    """A machine that loses power may leave empty files."""
     three(tmp_path)
     assert release(tmp_path).status == 1
     found = table(tmp_path)
@@ -262,7 +262,7 @@ esac
 
 
 def test_who_is_hit_by_what_abi_app_says(tmp_path: Path) -> None:
-    """A program `abi` with the command `app`: packages that depend on a broken library, with programs that survive it or do not."""
+    """With the command `app`: packages that depend on a broken library, with programs that survive the break and programs that do not."""
     three(tmp_path)
     (tmp_path / "area.c").write_text("int area(void *);\nint main(void) { return area(0); }\n")
     done("gcc", "-o", tmp_path / "program", tmp_path / "area.c", tmp_path / "lib1.so.1")
@@ -283,7 +283,7 @@ def test_who_is_hit_by_what_abi_app_says(tmp_path: Path) -> None:
     assert "spares 1 package: spared (imports 1, abi app: yes)" in text
     asked = (tmp_path / "asked").read_text().splitlines()
     assert len(asked) == 4
-    # what was asked is kept, and asked again where a library is another one
+    # the answers are kept, and `abi app` is asked again if a library changed
     assert release(tmp_path, wrapper=wrapper).out == ended.out and len((tmp_path / "asked").read_text().splitlines()) == 4
     packaged(tmp_path / "new", library(tmp_path, "lib1.so.1", "short"), version="2")
     assert release(tmp_path, wrapper=wrapper).status == 1 and len((tmp_path / "asked").read_text().splitlines()) == 8
@@ -294,7 +294,7 @@ def test_who_is_hit_by_what_abi_app_says(tmp_path: Path) -> None:
 
 
 def test_a_worker_that_is_killed_loses_nothing(tmp_path: Path) -> None:
-    """Once, and over one library each time."""
+    """A worker is killed once, and then each time that it judges one library."""
     three(tmp_path)
     wrapper = wrapper_of(tmp_path, f"mkdir {tmp_path}/killed 2>/dev/null && kill -9 $worker && sleep 10")
     ended = release(tmp_path, wrapper=wrapper)
@@ -303,14 +303,14 @@ def test_a_worker_that_is_killed_loses_nothing(tmp_path: Path) -> None:
     ended = release(tmp_path, wrapper=wrapper, out="other")
     assert ended.status == 2 and answers(tmp_path, "other") == {**THREE, "lib1 lib1.so.1": "not judged"}, ended
     assert lines(tmp_path, "other")["lib1 lib1.so.1"]["reason"] == "the worker died over it"
-    # twice, and once more where Dask itself gives the task to the next worker before it says that one died
+    # twice, and once more if Dask itself gives the task to the next worker before it reports the death
     assert len((tmp_path / "deaths").read_text()) in (2, 3)
     # the next run tries it again
     assert release(tmp_path, out="other").status == 1 and answers(tmp_path, "other") == THREE
 
 
 def test_a_package_that_waited_at_a_worker_that_died_is_not_blamed(tmp_path: Path) -> None:
-    """Dask gives the first packages to a worker before it begins them."""
+    """Dask queues the first packages at a worker before the worker begins them."""
     three(tmp_path)
     wrapper = wrapper_of(tmp_path, "case \"$*\" in *lib0.so.1*) kill -9 $worker; sleep 10 ;; esac")
     ended = release(tmp_path, "--tries", 1, wrapper=wrapper)
@@ -324,7 +324,7 @@ def tree(root: Path) -> dict[str, bytes]:
 
 @pytest.mark.parametrize("packing", ["gzip", "xz", "zstd", "none"])
 def test_small_packages_are_read_as_all_are(tmp_path: Path, packing: str) -> None:
-    """In memory, in each way in which dpkg-deb packs."""
+    """They are read in memory, with each compression of dpkg-deb."""
     path = deb(tmp_path, "packed", {f"{LIBRARIES}/lib0.so.1": library(tmp_path, "lib0.so.1")}, depends="libc6", packing=packing)
     small = SmallPackage.read(path)
     assert small is not None
@@ -336,7 +336,7 @@ def test_small_packages_are_read_as_all_are(tmp_path: Path, packing: str) -> Non
 
 @pytest.mark.parametrize("packing", ["gzip", "xz", "zstd"])
 def test_packages_that_inflate_to_much_are_no_small_ones(tmp_path: Path, packing: str) -> None:
-    """Zeros, and a file with many names."""
+    """A package of zeros, and one of a file with many hard links."""
     (tmp_path / "zeros").write_bytes(bytes(64 << 20))
     path = deb(tmp_path, "zeros", {"usr/lib/zeros": tmp_path / "zeros"}, packing=packing)
     assert path.stat().st_size < 1 << 20 and SmallPackage.read(path) is None
@@ -363,7 +363,7 @@ def test_a_damaged_package_is_no_small_one(tmp_path: Path) -> None:
 
 
 def test_a_batch_ends_in_time_and_what_is_left_is_done_then(tmp_path: Path, monkeypatch: pytest.MonkeyPatch) -> None:
-    """Its first task is done however long it takes, and no result is lost."""
+    """The first task of a batch is always done, however long it takes, and no result is lost."""
     store = Store(tmp_path / "out")
     os.close(store.open())
     settings = Settings(str(tmp_path), str(tmp_path), str(store.folder), None, "", 0.0, Limits(100, 10))
@@ -382,7 +382,7 @@ def test_a_batch_ends_in_time_and_what_is_left_is_done_then(tmp_path: Path, monk
 
 
 class LostResult:
-    """A task that ended, and did not end when Dask did it once more, since the worker had died that had the result."""
+    """The future of a task that Dask did again, because the worker with the result died, and that failed the second time."""
 
     key, status = "judged-0", "finished"
 
@@ -391,7 +391,7 @@ class LostResult:
         raise KilledWorker(self.key, None, 0)
 
     def release(self) -> None:
-        """Nobody wants it any more."""
+        """Releases the future."""
 
 
 def test_a_result_that_is_lost_with_its_worker_is_made_again(tmp_path: Path) -> None:
@@ -405,14 +405,14 @@ def test_a_result_that_is_lost_with_its_worker_is_made_again(tmp_path: Path) -> 
 
 
 def started(folder: Path, *options: object, wrapper: Path) -> subprocess.Popen[str]:
-    """A run that goes on beside the test."""
+    """Starts a run in the background."""
     command = [TOOL, "old", "new", "--out", "out", *options]
     return subprocess.Popen([str(word) for word in command], cwd=folder, env={**os.environ, "ABI": str(wrapper)}, text=True,
                             stdout=subprocess.PIPE, stderr=subprocess.PIPE)
 
 
 def wait_for(holds: Callable[[], bool], seconds: float = 400) -> None:
-    """Waits until something holds."""
+    """Waits until a condition holds."""
     end = time.monotonic() + seconds
     while not holds():
         assert time.monotonic() < end, "it does not come"
@@ -444,7 +444,7 @@ def test_a_run_that_is_killed_goes_on_when_it_is_started_again(tmp_path: Path) -
 
 @pytest.fixture
 def cluster(tmp_path: Path) -> Iterator[Callable[[], tuple[str, list[subprocess.Popen[bytes]]]]]:
-    """Starts the processes of a cluster, at one address each time: a scheduler and a worker, which knows nothing of this repository."""
+    """Starts the processes of a cluster, always at the same address: a scheduler, and a worker without this repository's modules."""
     with socket.socket() as free:
         free.bind(("127.0.0.1", 0))
         port = free.getsockname()[1]
@@ -465,7 +465,7 @@ def cluster(tmp_path: Path) -> Iterator[Callable[[], tuple[str, list[subprocess.
 
 
 def stop(process: subprocess.Popen[bytes]) -> None:
-    """Kills a process and those that it started."""
+    """Kills a process and its children."""
     if process.poll() is None:
         os.killpg(process.pid, signal.SIGKILL)
         process.wait()
@@ -497,7 +497,7 @@ def test_a_scheduler_that_is_killed_and_started_again(tmp_path: Path, cluster: C
 
 
 def test_a_full_disk_is_a_reason(tmp_path: Path) -> None:
-    """The disk holds no file of a megabyte: one library cannot be unpacked."""
+    """No file may have a megabyte, so one library cannot be unpacked."""
     three(tmp_path)
     large = tmp_path / "lib1.so.1"
     large.write_bytes(large.read_bytes() + os.urandom(1 << 20))
@@ -509,7 +509,7 @@ def test_a_full_disk_is_a_reason(tmp_path: Path) -> None:
     assert release(tmp_path).status == 1 and answers(tmp_path) == THREE
 
 
-# In a mount namespace of its own: `disk` is a file system of so many bytes, and what stands in `disk/out` at the end is kept.
+# Runs in a mount namespace of its own: `disk` is a file system of $1 bytes, $2 of them taken. In the end `disk/out` is copied to `kept`.
 ON_A_DISK = """\
 mount -t tmpfs -o size=$1 tmpfs disk && mkdir disk/out && head -c $2 /dev/zero >disk/filler && shift 2 || exit 64
 status=0
@@ -521,7 +521,7 @@ exit $status
 
 
 def on_a_disk(folder: Path, size: int, filled: int, **environment: str) -> Ended:
-    """What the tool says where results go to a disk of a size, of which so much is taken."""
+    """Runs the tool with its results on a disk of `size` bytes, of which `filled` are taken."""
     (folder / "disk").mkdir()
     ended = release(folder, out="disk/out", before=("unshare", "--map-root-user", "--mount", "env", *(
         f"{name}={value}" for name, value in environment.items()), "sh", "-c", ON_A_DISK, "sh", size, filled))
@@ -530,7 +530,7 @@ def on_a_disk(folder: Path, size: int, filled: int, **environment: str) -> Ended
 
 
 def needs_mounts(folder: Path) -> None:
-    """Leaves a test out where the system lets no program mount a file system in a namespace of its own."""
+    """Skips a test if the system does not let programs mount a file system in a namespace of their own."""
     if run("unshare", "--map-root-user", "--mount", "mount", "-t", "tmpfs", "tmpfs", folder).status != 0:
         pytest.skip("there is no right to mount a file system")
 
@@ -568,7 +568,7 @@ def test_a_table_that_cannot_be_written_is_printed(tmp_path: Path) -> None:
 
 
 def compressed(path: Path, size: int, packed: bytes) -> None:
-    """Makes `.debug_info` of a library a compressed section of a size."""
+    """Turns `.debug_info` of a library into a compressed section that claims this size."""
     objcopy = path.with_suffix(".section")
     objcopy.write_bytes(struct.pack("<IIQQ", 1, 0, size, 1) + packed)
     done("objcopy", "--update-section", f".debug_info={objcopy}", path)
@@ -582,7 +582,7 @@ def compressed(path: Path, size: int, packed: bytes) -> None:
 
 
 def test_libraries_that_ask_for_gigabytes_cost_a_line_each(tmp_path: Path) -> None:
-    """A section that says that it has 10 GB, one that has a gigabyte, and types that ask `abi` for more than 10 GB."""
+    """A section that claims 10 GB, one that has a gigabyte, and types for which `abi` needs more than 10 GB."""
     three(tmp_path)
     says, has = library(tmp_path, "libsays.so.1"), library(tmp_path, "libhas.so.1")
     compressed(says, 10 << 30, zlib.compress(b"\0" * 1000))
@@ -623,7 +623,7 @@ progress.end()
 
 
 def test_progress_is_a_bar_on_a_terminal_and_lines_elsewhere(tmp_path: Path) -> None:
-    """How many are done, the rate, and what is left."""
+    """Both show how many packages are done, the rate, and the time left."""
     command = ["/usr/bin/python3", "-c", PROGRESS]
     environment = {**os.environ, "PYTHONPATH": str(TOOLS), "TERM": "xterm", "COLUMNS": "100"}
     plain = subprocess.run(command, env=environment, capture_output=True, text=True, check=True).stderr.splitlines()
@@ -632,7 +632,7 @@ def test_progress_is_a_bar_on_a_terminal_and_lines_elsewhere(tmp_path: Path) -> 
     with subprocess.Popen(command, env=environment, stderr=other_end) as process:
         os.close(other_end)
         said = b""
-        # Linux says EIO where no process has the other end any more.
+        # Linux reports EIO if no process has the other end open.
         with contextlib.suppress(OSError):
             while part := os.read(terminal, 1 << 16):
                 said += part

@@ -1,4 +1,4 @@
-"""`abi-report`: answers, what changed, rule sections, documents that agree with the text of `abi`, and what ends it."""
+"""`abi-report`: answers, changes, rule sections, documents that agree with the text of `abi`, and failures."""
 
 from __future__ import annotations
 
@@ -26,7 +26,7 @@ def project(tmp_path: Path) -> Project:
 
 
 def changed(project: Project) -> tuple[Path, Path]:
-    """Two builds: a public and a private structure grow, and a function has another name."""
+    """Two builds: a public and a private structure grow, and a function is renamed."""
     old = project.build("old")
     header = HEADER.replace("unsigned avail", "unsigned long avail")
     source = SOURCE.replace("int status;", "int status; long pending;").replace("old_name", "old_name2")
@@ -69,7 +69,7 @@ def test_members_that_only_moved_stand_behind_what_moved_them(project: Project) 
 
 
 def test_places_of_both_libraries_are_below_folders_of_the_same_depth(project: Project) -> None:
-    """The new library has places in its header alone."""
+    """The new library has places only in its header."""
     old = project.build("old")
     new = project.build("new", HEADER.replace("unsigned avail", "unsigned long avail"), SOURCE.replace("old_name", "old_name2"))
     lines = report(old, new).out.splitlines()
@@ -259,7 +259,7 @@ def test_notes_name_all_exports_that_reach_a_type(project: Project, monkeypatch:
 
 
 def test_what_reaches_the_type_of_a_member_may_not_reach_the_structure(project: Project, monkeypatch: pytest.MonkeyPatch) -> None:
-    """Where the structure breaks a rule itself, all exports that reach it are known."""
+    """If the structure itself breaks a rule, all exports that reach it are known."""
     old = project.build("old")
     path = "param 1 / target / member avail"
     records = Records(Entries(old))
@@ -282,7 +282,7 @@ def test_what_reaches_the_type_of_a_member_may_not_reach_the_structure(project: 
 
 
 def test_a_note_counts_for_all_breaks_of_its_two_types(project: Project, monkeypatch: pytest.MonkeyPatch) -> None:
-    """Of each two types there are notes at the first break alone, and none belongs to a break of an export itself."""
+    """For each pair of types only the first break has notes, and none belongs to a break of an export itself."""
     old = project.build("old")
     entries = {"old_entry": 1, "new_entry": 2}
     breaks = [one_break("X5", "table", ""), one_break("L2", "table", "", **entries), one_break("L4", "take", "param 1", **entries),
@@ -294,7 +294,7 @@ def test_a_note_counts_for_all_breaks_of_its_two_types(project: Project, monkeyp
 
 
 def test_the_program_is_asked_for_notes_or_not(project: Project, monkeypatch: pytest.MonkeyPatch) -> None:
-    """They come from a run of their own, beside that of the answer, which leaves them and the digests out."""
+    """Notes come from a run of their own. The run for the answer leaves them and the digests out."""
     old = project.build("old")
     stand_in(project, monkeypatch, breaks=[])
     asked = project.folder / "asked"
@@ -318,7 +318,7 @@ def test_successors_of_notes_stand_in_place_of_a_search(project: Project, monkey
 
 
 def test_notes_of_other_kinds_are_shown_with_the_places_of_their_exports(project: Project, monkeypatch: pytest.MonkeyPatch) -> None:
-    """But for those on names of two types that break a rule."""
+    """Except those on the names of two types that break a rule."""
     old = project.build("old")
     notes = [one_note("idle section", None, None, "line 3"), one_note("object qualifiers", "take", None, None, "const"),
              one_note("defined elsewhere", "give", "param 1 / target", "4 bytes", "8 bytes"),
@@ -385,7 +385,7 @@ def test_names_are_merged_in_the_order_of_both() -> None:
 
 
 def test_a_function_has_the_line_of_its_header_where_a_caller_has_it(tmp_path: Path) -> None:
-    """gcc writes declarations of functions that optimized code calls."""
+    """gcc writes entries for the declarations of functions that optimized code calls."""
     (tmp_path / "take.h").write_text("\nint take(int *number, int more);\nint give(int, int);\n")
     (tmp_path / "take.c").write_text('#include "take.h"\nint take(int *number, int more) { return *number + more; }\n'
                                      "int give(int a, int b) { return a + b; }\n")
@@ -416,7 +416,7 @@ def test_sonames_and_rules_stand_at_the_head(project: Project) -> None:
     assert "The old library has the soname libstream.so.1 and the new one the soname libstream.so.2" in report(old, named).out
 
 
-# A line of the report on some edits, before its places.
+# For some edits, a line of the report without its places.
 _LINES = {
     "a member takes the place of reserved ones":
         "  L7 L2 L11 member reserved: long int [4] -> long int [3], 32 -> 24 bytes, 4 -> 3 elements, byte 8 -> 16",
@@ -454,7 +454,7 @@ def test_documents_of_edits_agree_with_the_text_report_row_by_row(edit: Edit, tm
 
 
 def is_found(records: Records, one: dict[str, Any]) -> bool:
-    """Whether the structure or union of a break is found from its export on, with as few steps."""
+    """Whether a search from the export of a break finds its structure or union, in as few steps."""
     export, wanted = records.export(one["export"]), records.record(one["old_entry"])
     if export is None or wanted is None:
         return True

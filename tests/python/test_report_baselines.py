@@ -18,21 +18,21 @@ def project(tmp_path: Path) -> Project:
 
 
 def test_a_baseline_takes_places_and_rule_sections_from_the_new_library(project: Project) -> None:
-    """It has no line tables; its types are those of the library."""
+    """A baseline has no line tables; its types are those of the library."""
     source = SOURCE.replace("old_name", "gone_name").replace("int status;", "int status; struct limits held;")
     header = HEADER.replace("int low, high;", "long low, high;")
     old, new = project.build("old"), project.build("new", header, source)
     kept = project.folder / "kept.abi"
     assert tool("abi-baseline", old, kept).status == 0
     lines = report(kept, new).out.splitlines()
-    # Here nothing tells what only the new library has.
+    # With a baseline, nothing marks what only the new library has.
     whole = [line.removesuffix(" (new)") for line in report(old, new).out.splitlines()]
     other = [line.replace(str(kept), str(old)) for line in lines]
     assert "struct state  src/stream.c:3" in lines and "    name = state" in lines, lines
     assert [line for line in lines if line.endswith("struct limits grew (include/stream.h:3)")], lines
     assert lines[-1] == (f"  {kept} has no line tables (a baseline has none): files and lines are taken from {new}, where it declares the "
                          "same name")
-    # Only what is gone has no place.
+    # Only a symbol that is gone has no place.
     assert [line for line in whole if line not in other] == [line for line in whole if "old_name" in line], (whole, other)
 
 
@@ -47,7 +47,7 @@ def test_two_baselines_have_no_places(project: Project) -> None:
 
 
 def test_digests_are_those_of_the_files(project: Project, monkeypatch: pytest.MonkeyPatch) -> None:
-    """`abi-json` is told to leave them out."""
+    """The tool makes them, since it has `abi-json` leave them out."""
     old, missing = project.build("old"), project.folder / "missing.so"
     named = [{"input": side, "name": str(path), "sha256": None, "soname": None} for side, path in (("old", old), ("new", missing))]
     stand_in(project, monkeypatch, inputs=named, breaks=[])

@@ -1,4 +1,4 @@
-"""The page of `abi-report`: one file, text from libraries escaped, structure that people and screen readers can follow, many rows."""
+"""The page of `abi-report`: one file, escaped text from libraries, a structure that people and screen readers can follow, many rows."""
 
 from __future__ import annotations
 
@@ -15,7 +15,7 @@ from report_support import HEADER, SOURCE, Project, document, report, stand_in
 _STRUCTURES = 2500
 _BEHIND = 1_000_000
 _MARKUP = "<img src=x onerror=alert(1)>"
-# A tag as long as that, in whose place it comes.
+# A tag of the same length, which the markup replaces.
 _TAG = "t" * len(_MARKUP)
 
 
@@ -36,7 +36,7 @@ class Tags(HTMLParser):
         self._within = tag
 
     def handle_endtag(self, tag: str) -> None:
-        """Leaves an element."""
+        """Notes the end of an element."""
         self._within = ""
 
     def handle_data(self, data: str) -> None:
@@ -45,7 +45,7 @@ class Tags(HTMLParser):
             self._pieces.append(data)
 
     def having(self, tag: str, **attributes: str) -> list[dict[str, str | None]]:
-        """The elements of a tag with these attributes; `of` stands for `class`."""
+        """The elements with this tag and these attributes; `of` stands for `class`."""
         wanted = {name.replace("of", "class"): value for name, value in attributes.items()}
         return [found for name, found in self.found if name == tag and wanted.items() <= found.items()]
 
@@ -148,7 +148,7 @@ def test_parts_of_bars_stand_where_the_bytes_are(project: Project) -> None:
 
 
 def test_each_export_has_its_way_to_the_type(project: Project, monkeypatch: pytest.MonkeyPatch) -> None:
-    """The document says one of them. The others are looked for; of more exports than eight the later ones are named."""
+    """The document has one way. The tool searches for the others, for the first eight exports; it only names the later ones."""
     old = project.build("old")
     new = project.build("new", HEADER.replace("unsigned avail;", "unsigned avail; long more;"))
     made = document(old, new)
@@ -175,7 +175,7 @@ def test_boxes_name_what_made_them_change(project: Project) -> None:
 
 
 def test_a_page_with_5000_rows(project: Project, monkeypatch: pytest.MonkeyPatch) -> None:
-    """By a stand-in for the program, which prints a document of that many breaks."""
+    """A stand-in for the program prints a document of that many breaks."""
     old = project.build("old")
     stand_in(project, monkeypatch, **many_breaks())
     page = page_of(old, old)
@@ -185,7 +185,7 @@ def test_a_page_with_5000_rows(project: Project, monkeypatch: pytest.MonkeyPatch
 
 
 def many_breaks() -> dict[str, object]:
-    """A document of two breaks for each structure, whose entries lie behind those of any library here."""
+    """A document with two breaks for each structure. Their entries have larger offsets than those of any library here."""
     rules = (("L2", "size", "size 16, now 24"), ("L4", "alignment", "alignment 4, now 8"))
     breaks = [{"rule": rule, "name": name, "export": f"use{k}", "steps": ["param 1", "target"], "path": "param 1 / target",
                "detail": detail, "part": None, "was": None, "is": None, "old_entry": _BEHIND + k, "new_entry": _BEHIND + k}

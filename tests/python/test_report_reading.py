@@ -1,4 +1,4 @@
-"""What `abi-report` reads of debug information beside the answer: names as C writes them, layouts, lines; and successors."""
+"""What `abi-report` itself reads of debug information: names as C writes them, layouts and lines; and likely successors."""
 
 from __future__ import annotations
 
@@ -17,7 +17,7 @@ from abi_report.successors import Successors
 
 _STRUCTURES = ROOT / "tests" / "layouts" / "structures.h"
 _BUILDS = [(compiler, version) for compiler in ("gcc", "clang") for version in (4, 5)]
-# Declarations of parameters, as a header has them, and as they are read.
+# Declarations of parameters: as a header writes them, and as the tool writes them.
 _DECLARED = [
     ("int number", "int number"), ("const char *text", "const char *text"), ("char *const text", "char *const text"),
     ("struct s *s", "struct s *s"), ("union u **u", "union u **u"), ("enum e e", "enum e e"), ("number n", "number n"),
@@ -41,12 +41,12 @@ def test_types_are_named_as_c_writes_them(compiler: str, version: int, tmp_path:
 
 
 def turned(words: str) -> str:
-    """Qualifiers in the other order, which means the same."""
+    """The declaration with its qualifiers in the other order, which means the same."""
     return words.replace("const volatile", "volatile const").replace("_Bool", "_Bool")
 
 
 def read(folder: Path, text: str, compiler: str, *options: str) -> Records:
-    """What a library of this source declares."""
+    """Builds a library from this source, and reads what it declares."""
     (folder / "source.c").write_text(text)
     done(compiler, "-shared", "-fPIC", "-g", *options, "-o", "library.so", "source.c", folder=folder)
     return Records(Entries(folder / "library.so"))
@@ -54,7 +54,7 @@ def read(folder: Path, text: str, compiler: str, *options: str) -> Records:
 
 @pytest.mark.parametrize(("compiler", "version"), _BUILDS)
 def test_layouts_are_those_of_abi_layout(compiler: str, version: int, tmp_path: Path) -> None:
-    """The structures with a tag in the sources that tests/layouts.sh holds against pahole."""
+    """The structures with a tag in the sources that tests/layouts.sh compares with pahole."""
     needs(compiler)
     header = _STRUCTURES.read_text()
     tags = list(dict.fromkeys(re.findall(r"^(?:struct|union) (\w+) *\{", header, re.MULTILINE)))
@@ -75,7 +75,7 @@ def test_layouts_are_those_of_abi_layout(compiler: str, version: int, tmp_path: 
 
 
 def layout_lines(records: Records, record: Entry, size: int) -> list[str]:
-    """A layout in the lines of `abi layout`."""
+    """A layout, in the form of the lines of `abi layout`."""
     lines = []
     for room in rooms_of(records.members(record), size):
         word = room.label if room.is_free else f"member {room.label.split('#')[0]}"
@@ -113,7 +113,7 @@ def test_damaged_debug_information_never_ends_the_reading(tmp_path: Path) -> Non
 
 
 def read_all(library: Path) -> None:
-    """Reads what a report would read; only a fault of the units may come."""
+    """Reads what a report would read. Only a fault of the units may be raised."""
     from abi_tools.faults import Fault
 
     try:

@@ -1,2 +1,2 @@
-"""The manual pages of `abi` and `abi-json`, their completions for bash, and the usage text, made from one source, `commands.toml`, and the
-manual pages of the tools in Python, made also of what they print with --help."""
+"""Makes the manual pages of `abi` and `abi-json`, their bash completions and the usage text from one source, `commands.toml`. The manual
+pages of the tools in Python also come from what these print with --help."""

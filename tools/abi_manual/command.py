@@ -21,7 +21,7 @@ SHARE = Path(__file__).resolve().parents[2] / "share"
 
 
 def made() -> dict[str, str]:
-    """The files below share/, with their texts."""
+    """The text of each file below share/."""
     manual = read_manual()
     return {
         "man/man1/abi.1": abi_page(manual), "man/man1/abi-json.1": json_page(manual),
@@ -32,7 +32,7 @@ def made() -> dict[str, str]:
 
 
 def main(arguments: Sequence[str]) -> int:
-    """Writes the files, or says which of them are not as they should be."""
+    """Writes the files or, with --check, says which of them are not as they should be."""
     parser = Arguments("make-manual", _DESCRIPTION, _STATUSES)
     parser.add_argument("--check", action="store_true", help="write nothing, and say which files are not as they should be")
     parser.add_argument("folder", type=Path, nargs="?", default=SHARE, metavar="FOLDER", help="in place of share/")

@@ -37,7 +37,7 @@ complete -o default -F _{function} {program}
 
 
 def completion(manual: Manual, program: str, left_out: Iterable[str] = ()) -> str:
-    """The script that completes the arguments of a program, which does not take the options that are left out."""
+    """The script that completes the arguments of a program. The program does not take the options `left_out`."""
     unwanted = set(left_out)
     cases = [f"    {command.name}) options=\"{_options(command, unwanted)}\" ;;" for command in manual.commands
              if _options(command, unwanted)]
@@ -52,7 +52,7 @@ def _options(command: Command, unwanted: set[str]) -> str:
 
 
 def _replies(choices: list[str]) -> str:
-    """What a value may be; files are completed by bash itself."""
+    """Completes the value of an option; bash itself completes the names of files."""
     if not choices:
         return " return ;;"
     return f"\n            mapfile -t COMPREPLY < <(compgen -W \"{' '.join(choices)}\" -- \"$current\")\n            return\n            ;;"

@@ -1,4 +1,4 @@
-"""Manual pages in the macros of man(7)."""
+"""Manual pages, in the macros of man(7)."""
 
 from __future__ import annotations
 
@@ -9,9 +9,9 @@ from typing import Iterable, Iterator
 from abi_manual.sources import Command, Manual
 
 _WIDTH = 76
-_OPTIONS = "Options may stand anywhere among the arguments, each once, as `--rules` *FILE* or `--rules=`*FILE*. Behind the argument `--` there are none."
+_OPTIONS = "Options may come anywhere among the arguments, each once, as `--rules` *FILE* or `--rules=`*FILE*. After the argument `--` there are none."
 _MARKED = re.compile(r"`([^`]*)`|\*([^*]*)\*")
-# Options of commands that abi-json does not take.
+# Options that abi-json does not take.
 _CHOSEN_BY_JSON = ("report",)
 
 
@@ -55,7 +55,7 @@ def _without(command: Command) -> Command:
 
 
 def head(name: str, brief: str, date: str, source: str = "tools/abi_manual/commands.toml") -> list[str]:
-    """How a page begins."""
+    """The first lines of a page."""
     return [f'.\\" Made by tools/make-manual from {source}.',
             f'.TH {plain(name.upper())} 1 "{date}" "abi" "User Commands"', ".SH NAME", f"{plain(name)} \\- {plain(brief)}"]
 
@@ -70,7 +70,7 @@ def _synopsis(name: str, usages: Iterable[str]) -> Iterator[str]:
 
 
 def words(usage: str) -> str:
-    """The words of a usage line: those in capitals stand for something."""
+    """The words of a usage line, with those in capitals as placeholders."""
     return re.sub(r"\b([A-Z][A-Z0-9_]*)\b", r"\\fI\1\\fR", plain(usage))
 
 
@@ -83,7 +83,7 @@ def paragraphs(text: str) -> Iterator[str]:
 
 
 def sentences(text: str) -> Iterator[str]:
-    """The text with a line for each sentence, since roff sets the blank behind one itself."""
+    """The text with a line for each sentence, since roff itself puts the space after a sentence."""
     for sentence in re.split(r"(?<=[.:]) (?=[A-Z`])", text.strip()):
         for line in textwrap.wrap(_marked(sentence), _WIDTH, break_long_words=False, break_on_hyphens=False):
             yield _guarded(line)

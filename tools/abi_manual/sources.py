@@ -1,4 +1,4 @@
-"""The source, read."""
+"""Reads the source, `commands.toml`."""
 
 from __future__ import annotations
 
@@ -21,18 +21,18 @@ class Option:
 
     @property
     def usage(self) -> str:
-        """How the usage text has it."""
+        """The option as the usage text writes it."""
         return f"[--{self.name} {self.value}]"
 
     @property
     def choices(self) -> list[str]:
-        """The words that its value may be; none where it is a file."""
+        """The words that its value may be; empty if it is a file."""
         return self.value.split("|") if "|" in self.value else []
 
 
 @dataclass(frozen=True)
 class Command:
-    """A command: its name, its options, the files that it takes and the words behind these, and what it does."""
+    """A command: its name, its options, the files that it takes and the words after them, and what it does."""
 
     name: str
     options: tuple[Option, ...]
@@ -42,7 +42,7 @@ class Command:
 
     @property
     def usage(self) -> str:
-        """How the usage text has it, behind the name of the program."""
+        """The command as the usage text writes it, after the name of the program."""
         return " ".join([self.name, *(option.usage for option in self.options), *self.files, *self.words])
 
 
@@ -54,18 +54,18 @@ class Manual:
 
     @cached_property
     def options(self) -> dict[str, Option]:
-        """The options by their names."""
+        """The options, by name."""
         return {one["name"]: Option(one["name"], one["value"], one["text"]) for one in self.source["option"]}
 
     @cached_property
     def commands(self) -> list[Command]:
-        """The commands in their order."""
+        """The commands, in order."""
         return [Command(one["name"], tuple(self.options[name] for name in one["options"]), tuple(one.get("files", ())),
                         tuple(one.get("words", ())), one["text"]) for one in self.source["command"]]
 
     @cached_property
     def tools(self) -> dict[str, Any]:
-        """What stands in the source on each tool in Python, by its name."""
+        """The part of the source on each tool in Python, by name."""
         return {one["name"]: one for one in self.source["tool"]}
 
     def usage(self) -> str:

@@ -1,4 +1,4 @@
-"""Manual pages of the tools in Python, made of what they print with --help."""
+"""Manual pages of the tools in Python, made from what they print with --help."""
 
 from __future__ import annotations
 
@@ -12,11 +12,11 @@ from abi_manual.manual_pages import head, paragraphs, plain, sentences, words
 from abi_manual.sources import Manual
 
 _TOOLS = Path(__file__).resolve().parents[1]
-# So wide that argparse breaks no line.
+# A width at which argparse breaks no line.
 _COLUMNS = "100000"
 _OPTIONS, _STATUSES = "options", "Exit status"
 _HEADING = re.compile(rf"(positional arguments|{_OPTIONS}|{_STATUSES}):(.*)")
-# An argument, an option or a status, and behind blanks what is said of it.
+# An argument, an option or a status, and its description after blanks.
 _ENTRY = re.compile(r"  (\S.*?)(?: {2,}(.*))?")
 _STATUS_IN_LINE = re.compile(r"(\d+) ([^;]+?)(?:;|\.?$)")
 
@@ -44,7 +44,7 @@ def _help(name: str) -> str:
 
 
 def _parts(text: str) -> dict[str, list[str]]:
-    """The lines below each heading; lines that are not indented are no part of a list, and stand below the heading of no name."""
+    """The lines under each heading. Lines that are not indented belong to no list: they are under the empty heading."""
     parts: dict[str, list[str]] = {"": []}
     at = ""
     for line in text.splitlines():
@@ -63,7 +63,7 @@ def _synopsis(usage: str) -> str:
 
 
 def _entries(lines: Iterable[str]) -> Iterator[str]:
-    """The entries of a list; those of which nothing is said are left out, since the usage has them."""
+    """The entries of a list, without those that have no description, since the usage has them."""
     found: list[tuple[str, list[str]]] = []
     for line in lines:
         entry = _ENTRY.fullmatch(line) if not line.startswith("   ") else None
@@ -79,5 +79,5 @@ def _entries(lines: Iterable[str]) -> Iterator[str]:
 
 
 def _sentence(text: str) -> str:
-    """A text with the ends of a sentence."""
+    """A text as a sentence: with a capital letter and a full stop."""
     return f"{text[0].upper()}{text[1:]}{'' if text.endswith('.') else '.'}"

@@ -1,5 +1,4 @@
-"""Whether the programs of a package survive what broke in a library: what `abi app` says of each, where the program has that
-command."""
+"""Whether the programs of a package survive the breaks of a library: runs `abi app` on each, if `abi` has that command."""
 
 from __future__ import annotations
 
@@ -21,12 +20,12 @@ from abi_release.stored_files import Json, Store, app_name, record_name
 from abi_release.unpacked import Unpacked, tree_names, unpacked
 
 _COMMAND = re.compile(r"^(usage:)?\s*abi app ", re.MULTILINE)
-# Of the programs that break, and of the exports by which they do, so many are named.
+# How many of the programs that break are named, and how many of the exports at fault.
 _MOST_NAMED = 20
 
 
 class Ask(NamedTuple):
-    """A task: what broken libraries of two packages, `work`, are to the programs of an old package, `hit`."""
+    """A task: to ask `abi app` whether the programs of the old package `hit` survive broken libraries of the packages `work`."""
 
     hit: Work
     work: Work
@@ -34,22 +33,22 @@ class Ask(NamedTuple):
 
     @property
     def name(self) -> str:
-        """The names of both."""
+        """The names of both packages."""
         return f"{self.hit.name} asks {self.work.name}"
 
     @property
     def library(self) -> str:
-        """None: it is of all at once."""
+        """Empty: this task covers all libraries at once."""
         return ""
 
     @property
     def mark(self) -> str:
-        """What tells this task from all others of a run."""
+        """What identifies this task within a run."""
         return self.name
 
 
 def has_command(abi: Abi) -> bool:
-    """Whether the program has the command `app`."""
+    """Whether `abi` has the command `app`."""
     said = abi.run("--help")
     return _COMMAND.search(f"{said.text}\n{said.notes}") is not None
 
@@ -85,12 +84,12 @@ def _identity(store: Store, work: Work) -> list[str]:
 
 
 def soname_of(library: str) -> str:
-    """The soname of a library, by the name that it has in lines."""
+    """The soname of a library, from its name in a line."""
     return library.rsplit("/", 1)[-1]
 
 
 def _programs(place: Path, folder: Path) -> tuple[Path, Mapping[str, list[str]]]:
-    """The root of an old package, unpacked in the folder where it is no tree, and the files in it that need each library."""
+    """The root of an old package, unpacked to `folder` unless it is a tree, and for each library the files that need it."""
     root = place if place.is_dir() else folder
     if not place.is_dir():
         unpack(place, root)
@@ -99,7 +98,7 @@ def _programs(place: Path, folder: Path) -> tuple[Path, Mapping[str, list[str]]]
 
 @dataclass(frozen=True)
 class _Asking:
-    """A library that programs are asked of."""
+    """Asks `abi app` about one broken library."""
 
     abi: LimitedAbi
     packages: Unpacked
@@ -107,7 +106,7 @@ class _Asking:
     library: str
 
     def answer(self, root: Path, programs: Iterable[str]) -> Json:
-        """What is said of programs below a root: no where it is of one, else that it cannot be told where that is so of one."""
+        """The answer for programs below a root: no if one breaks, else cannot tell if `abi` cannot tell for one, else yes."""
         broken: list[str] = []
         labels: set[str] = set()
         reason = ""
@@ -123,7 +122,7 @@ class _Asking:
         return {**answer, "reason": reason.replace(f"{root}/", "")} if reason else answer
 
     def _of(self, program: Path) -> Answer:
-        """What the program says of one."""
+        """What `abi app` says of one program."""
         pair = self.packages.pairs[self.library]
         old, new = self.packages.kept(pair)
         rules = rule_file_of(self.settings, pair, self.packages)
@@ -132,8 +131,8 @@ class _Asking:
 
 
 def answer_of(store: Store, hit: Json, work: str, identity: list[str], library: str) -> Optional[Json]:
-    """What was said of the programs of an old package, whose record is given, and of a library of two packages; none where that was
-    not asked of these."""
+    """The kept answer for the programs of the old package with the record `hit` and for a library of the packages `work`; None if these
+    versions of the packages were not asked."""
     known = store.json(app_name(hit["name"], work))
     if known is None or known["identity"] != [hit["identity"], identity]:
         return None

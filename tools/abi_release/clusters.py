@@ -1,4 +1,4 @@
-"""The cluster that does the work: one of this machine, or one that exists."""
+"""The Dask cluster that does the work: a local one, or one that is already running."""
 
 from __future__ import annotations
 
@@ -23,14 +23,13 @@ from abi_tools.faults import Fault
 
 _TOOLS = str(Path(__file__).resolve().parent.parent)
 _MEGABYTE = 1 << 20
-# Where Linux has files in memory.
+# Files here stay in memory (Linux).
 _IN_MEMORY = Path("/dev/shm")
-# Seconds that a client may take to leave a cluster.
+# How many seconds a client may take to disconnect.
 _CLOSES_IN = 2
-# What Dask's scheduler keeps of the past, and how it deals: one task a worker at a time, so that only one is suspected when a worker
-# dies, which is reported at once. On a machine that is taken it may last long until a worker is started again, or says that it lives.
-# Workers have a hard limit of memory, so that Dask has no need to spill or to pause. It looks at its loops and processes seldom, since
-# each look takes of what a worker has.
+# The scheduler gives each worker one task at a time, so that only one is suspected when the worker dies, and reports the death at once.
+# It keeps short logs. On a busy machine it may take long until a worker restarts or sends a heartbeat, so the timeouts are long. Workers
+# have a hard memory limit, so Dask need not spill or pause. Dask monitors itself seldom, since monitoring takes the workers' time.
 _LOCAL_SETTINGS = {
     "distributed.comm.timeouts.connect": "5 minutes",
     "distributed.scheduler.worker-ttl": "1 hour",
@@ -51,12 +50,12 @@ _LOCAL_SETTINGS = {
 
 
 class NotStarted(Exception):
-    """This machine's cluster could not be started, as it happens where the machine has too much to do."""
+    """The local cluster did not start, as can happen on an overloaded machine."""
 
 
 @dataclass(frozen=True)
 class LocalChoice:
-    """A cluster of this machine: so many workers, of so many megabytes each, for the folder of a run."""
+    """A local cluster: how many workers it has, how many megabytes each may take, and the folder of the run's results."""
 
     workers: int
     megabytes: int
@@ -64,7 +63,7 @@ class LocalChoice:
 
     @contextlib.contextmanager
     def client(self) -> Iterator[Client]:
-        """The cluster, for a while. Raises NotStarted where it does not start."""
+        """A context with a client of the cluster. Raises NotStarted if the cluster does not start."""
         folder = Path(tempfile.gettempdir(), self._name())
         memory = _IN_MEMORY / self._name()
         for one in (folder, memory):
@@ -74,14 +73,14 @@ class LocalChoice:
             try:
                 yield self._started(parts, folder, memory)
             finally:
-                # What is done is kept; a worker that does not end in time is no reason to lose it.
+                # All results are stored by now, so a worker that does not end in time does no harm.
                 with contextlib.suppress(OSError, TimeoutError, RuntimeError):
                     parts.close()
                 for one in (folder, memory):
                     shutil.rmtree(one, ignore_errors=True)
 
     def _started(self, parts: contextlib.ExitStack, folder: Path, memory: Path) -> Client:
-        """A client of the cluster, both of which `parts` ends."""
+        """Starts the cluster and a client of it. `parts` closes both."""
         try:
             cluster = parts.enter_context(LocalCluster(
                 n_workers=self.workers, threads_per_worker=1, processes=True, dashboard_address=":0",
@@ -93,13 +92,13 @@ class LocalChoice:
         return client
 
     def _name(self) -> str:
-        """The folder where the workers unpack: of this run's own, which the next run of the same results clears."""
+        """The name of the folder where the workers unpack. It belongs to the folder of results, whose next run clears it."""
         mark = hashlib.sha256(os.fsencode(self.out.resolve())).hexdigest()[:16]
         return f"abi-release-{os.getuid()}-{mark}"
 
 
 def _made(folder: Path) -> Optional[str]:
-    """A folder, made; none where that cannot be."""
+    """Makes a folder and returns its name; None if it cannot be made."""
     try:
         folder.mkdir(mode=0o700)
     except OSError:
@@ -109,7 +108,7 @@ def _made(folder: Path) -> Optional[str]:
 
 @dataclass(frozen=True)
 class OtherChoice:
-    """A cluster that exists, at an address; it is waited for so many seconds."""
+    """A running cluster: the address of its scheduler, how many seconds to wait for it, and the folder of the run's results."""
 
     address: str
     patience: float
@@ -117,16 +116,16 @@ class OtherChoice:
 
     @contextlib.contextmanager
     def client(self) -> Iterator[Client]:
-        """The cluster, for a while. Raises a fault where it cannot be reached."""
+        """A context with a client of the cluster. Raises a fault if the scheduler cannot be reached."""
         try:
             client = Client(self.address, timeout=self.patience, set_as_default=False)
-            # The workers find this package below the same name of folder as this machine.
+            # The workers import this package from a folder of the same name as on this machine.
             client.register_worker_callbacks(setup=partial(site.addsitedir, _TOOLS))
         except (OSError, TimeoutError) as error:
             raise Fault(f"the scheduler cannot be reached: {error}") from error
         try:
             yield client
-            # Its workers go on.
+            # The workers go on running, so they remove what they unpacked for this run.
             with contextlib.suppress(OSError, TimeoutError):
                 client.run(let_go_of, str(self.out))
         finally:
@@ -144,7 +143,7 @@ def processors() -> int:
 
 
 def default_megabytes(workers: int) -> int:
-    """A worker's part of half of the memory, as `abi` takes the other half; at most 4 GB."""
+    """A worker's share of half of the memory, since `abi` may take the other half; at most 4 GB."""
     total: Optional[int] = None
     with contextlib.suppress(ValueError, OSError):
         total = os.sysconf("SC_PAGE_SIZE") * os.sysconf("SC_PHYS_PAGES")

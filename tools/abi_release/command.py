@@ -28,25 +28,24 @@ from abi_release.stored_files import Json, Store
 from abi_release.tables import Table, moved, write_json, write_text
 
 _DESCRIPTION = """\
-Says of each library of a release whether the one of the next release may replace it. OLD and NEW are folders of .deb or .rpm files,
+Says of each library of a release whether the one in the next release may replace it. OLD and NEW are folders of .deb or .rpm files,
 as a mirror has them, or of unpacked packages. Packages are paired by name and their libraries by soname; each pair of packages is a
-task on a Dask cluster: one of this machine, or the one at --scheduler, whose machines have the same folders. FOLDER keeps what
-comes of it, so that a second run does only what is missing or changed. `abi` is the one that the variable ABI names, or else the one
-on the PATH.
+task on a Dask cluster: one on this machine, or the one at --scheduler, whose machines have the same folders. FOLDER keeps the results,
+so that a second run does only what is missing or changed. `abi` is the one that the variable ABI names, or else the one on the PATH.
 """
 _STATUSES = """\
-FOLDER/table.txt, release.json and index.html have a line for each library, and for each two packages that could not be read.
+FOLDER/table.txt, release.json and index.html have a line for each library, and for each pair of packages that could not be read.
 Exit status:
   0  yes: each library may be replaced by the new one
   1  no: one may not, or is gone
-  2  it cannot be told of one library, or one was not judged, and no is said of none; also where no library is in both, and where the
+  2  it cannot tell for one library, or one was not judged, and it says no to none; also if no library is on both sides, or if the
      arguments are wrong
 """
 _OUTPUTS = ("table.txt", "release.json", "index.html")
 
 
 def main(arguments: Sequence[str]) -> int:
-    """Judges releases as the arguments say, writes the tables, and answers the worst verdict."""
+    """Judges releases as the arguments say, writes the tables, and returns the worst verdict."""
     given = _parser().parse_args(arguments)
     abi = Abi()
     check_time()
@@ -75,27 +74,27 @@ def _parser() -> Arguments:
     parser = Arguments("abi-release", _DESCRIPTION, _STATUSES, wrong=Verdict.CANNOT_TELL)
     parser.add_argument("old", type=Path, metavar="OLD")
     parser.add_argument("new", type=Path, metavar="NEW")
-    parser.add_argument("--out", type=Path, required=True, metavar="FOLDER", help="where results and tables are kept")
+    parser.add_argument("--out", type=Path, required=True, metavar="FOLDER", help="where to keep results and tables")
     parser.add_argument("--rules", type=Path, metavar="FILE",
                         help="a rule file of abi (default: usr/share/doc/PACKAGE/abi.rules of the new package, or else of the old one)")
     parser.add_argument("--require-types", type=share, default=0.0, metavar="SHARE",
-                        help="how many of 100 compared exports must have types in both libraries (default: one at all)")
+                        help="the percentage of compared exports that must have types in both libraries (default: at least one export)")
     parser.add_argument("--workers", type=_count, default=processors(), metavar="N",
-                        help="how many workers this machine gets (default: one for each processor)")
-    parser.add_argument("--scheduler", metavar="ADDRESS", help="the scheduler of a Dask cluster that does the work in their place")
+                        help="how many workers to start on this machine (default: one for each processor)")
+    parser.add_argument("--scheduler", metavar="ADDRESS", help="the scheduler of a Dask cluster that does the work instead")
     parser.add_argument("--memory", type=_count, metavar="MB",
-                        help="what a worker may take, and each run of abi besides (default: a worker's part of half of the memory)")
+                        help="the memory limit of a worker, and also of each run of abi (default: a worker's share of half of the memory)")
     parser.add_argument("--seconds", type=_count, default=600, metavar="S",
-                        help="the processor time of each run of abi, and of a worker for each library (default: 600)")
+                        help="the processor time limit of each run of abi, and of a worker for each library (default: 600)")
     parser.add_argument("--tries", type=_count, default=2, metavar="N",
-                        help="how often is tried what fails (default: 2); the next run tries it again")
+                        help="how often to try what fails (default: 2); the next run tries it again")
     parser.add_argument("--patience", type=float, default=300.0, metavar="S",
-                        help="how long a run waits for a scheduler or a worker (default: 300)")
+                        help="how long to wait for a scheduler or a worker (default: 300)")
     return parser
 
 
 def _count(text: str) -> int:
-    """A number above 0. Raises an error of arguments if it is none."""
+    """A number above 0. Raises an argument error for any other."""
     value = int(text)
     if value < 1:
         raise argparse.ArgumentTypeError(f"{text} is not above 0")
@@ -103,14 +102,14 @@ def _count(text: str) -> int:
 
 
 def _head(given: argparse.Namespace, settings: Settings) -> Json:
-    """What the tables say of the run."""
+    """What the tables say about the run itself."""
     rules = OF_NOTHING if given.rules is None else digest_of_file(given.rules)
     return {"version": 1, "old": str(given.old), "new": str(given.new), "rules": rules, "program": settings.program,
             "require_types": settings.least_share}
 
 
 def _do(run: Run, tasks: Sequence[Task], what: str) -> None:
-    """Does tasks, and says how far it is."""
+    """Does tasks, and shows progress."""
     if not tasks:
         return
     progress = progress_of(len(tasks), what, sys.stderr)
@@ -140,7 +139,7 @@ def _judge(run: Run, abi: Abi, releases: Sequence[Release], head: Json) -> Verdi
 
 
 def _say_what_was_not_asked(run: Run, asks: Sequence[Ask]) -> None:
-    """Says how many packages could not be asked, and why the first was not."""
+    """Prints how many packages could not be asked, and why the first one could not."""
     failed = [ask.name for ask in asks if ask.name in run.failures]
     if failed:
         print(f"abi-release: {len(failed)} of {len(asks)} packages that need a broken library could not be asked; {failed[0]}: "
@@ -148,13 +147,13 @@ def _say_what_was_not_asked(run: Run, asks: Sequence[Ask]) -> None:
 
 
 def _peak_megabytes() -> float:
-    """What this process took at most, of which the scheduler is a part."""
+    """The peak memory of this process, which includes the scheduler of a local cluster."""
     with open("/proc/self/status", encoding="ascii", errors="replace") as stream:
         return next((int(line.split()[1]) / 1024 for line in stream if line.startswith("VmHWM:")), 0.0)
 
 
 def _write(table: Table, head: Json, store: Store) -> None:
-    """Writes the tables. Where one cannot be written, its text is printed, so that it is not lost."""
+    """Writes the tables. If one cannot be written, prints the text table instead, so that the result is not lost."""
     writers: Sequence[Callable[[TextIO], None]] = (
         lambda stream: write_text(table, stream), lambda stream: write_json(table, head, stream),
         lambda stream: write_page(table, head, stream))
@@ -164,7 +163,7 @@ def _write(table: Table, head: Json, store: Store) -> None:
             store.write(name, writer)
         except OSError as error:
             failed = failed or f"{store.folder / name}: {error.strerror or error}"
-            # One of an earlier run would pass for this one's.
+            # A table of an earlier run would be taken for this run's.
             with contextlib.suppress(OSError):
                 (store.folder / name).unlink(missing_ok=True)
     if failed:

@@ -18,7 +18,7 @@ def digest_of_file(path: Path) -> str:
     """The SHA-256 of a file."""
     digest = hashlib.sha256()
     with path.open("rb", buffering=0) as stream:
-        # No more memory is taken than the file needs.
+        # A small file needs only a small buffer.
         part_size = min(_PART, os.fstat(stream.fileno()).st_size + 1)
         while part := stream.read(part_size):
             digest.update(part)
@@ -26,7 +26,7 @@ def digest_of_file(path: Path) -> str:
 
 
 def digest_of_files(places: Sequence[Path]) -> str:
-    """A digest of files by their names and digests, or of a tree by those of its files; empty where there are none."""
+    """A digest over the names and digests of files, or of all files of a tree; empty if there are none."""
     named = [(place.name, place) for place in places]
     if len(places) == 1 and places[0].is_dir():
         named = [(str(name), places[0] / name) for name in tree_names(places[0])]
@@ -38,7 +38,7 @@ def digest_of_files(places: Sequence[Path]) -> str:
 
 
 def program_digest(path: str) -> str:
-    """The SHA-256 of the program."""
+    """The SHA-256 of the program at `path`."""
     changed = os.stat(path)
     return _digest_at(path, changed.st_mtime_ns, changed.st_size)
 

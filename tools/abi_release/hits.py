@@ -1,4 +1,4 @@
-"""Who is hit by a break: the old packages that depend on a broken library, and those whose programs import what broke."""
+"""Whom a break hits: the old packages that depend on a broken library, and those whose programs import a broken export."""
 
 from __future__ import annotations
 
@@ -13,14 +13,13 @@ from abi_release.stored_files import Json, Store
 from abi_tools.verdicts import Verdict
 
 BROKEN = (Verdict.NO.words(), GONE)
-# Of the exports that one package imports, so many are named.
+# How many of the broken exports that a package imports are named.
 _MOST_NAMED = 20
 
 
 @dataclass
 class _Broken:
-    """A library that is broken, of a record with this name and identity: its exports that are, with a version and without one; none
-    where it is gone."""
+    """A broken library: the name and identity of its record, its old package, and its broken exports (None if the library is gone)."""
 
     work: str
     identity: list[str]
@@ -35,7 +34,7 @@ class _Broken:
         return soname_of(self.library)
 
     def imported(self, imports: Imports) -> Optional[list[str]]:
-        """Which of its broken exports are imported; none where the library is not needed."""
+        """The broken exports among these imports; None if the library is not needed."""
         if self.soname not in imports:
             return None
         if self.exports is None:
@@ -46,7 +45,7 @@ class _Broken:
 
 
 class Hits:
-    """The broken libraries of a run, and who is hit by each: by what `abi app` says, where the store has that, else by names."""
+    """The broken libraries of a run, and the packages that each hits: as `abi app` says if the store has its answer, else by names."""
 
     def __init__(self, store: Store) -> None:
         self._store = store
@@ -83,15 +82,15 @@ class Hits:
                 broken.hit.append({**hit, "app": app} if app else hit)
 
     def _needed(self, imports: Imports, depends: Iterable[str]) -> Iterator[_Broken]:
-        """The broken libraries of which a package may need something, each once."""
+        """The broken libraries that a package may need, each once."""
         found = [broken for package in sorted(depends) for broken in self._by_package[package]]
         found += [broken for soname in imports for broken in self._by_library.get(soname, ())]
         return iter({id(broken): broken for broken in found}.values())
 
     def asks(self, works: Mapping[str, Work]) -> list[Ask]:
-        """What `abi app` can say: of each old package that needs a broken library, those of one package after the other."""
+        """The tasks for `abi app`: one for each old package and each record with broken libraries that it needs, sorted by record."""
         return [Ask(works[hit], works[work], tuple(sorted(libraries))) for (work, hit), libraries in sorted(self._asks.items())]
 
     def of(self, package: str, library: str) -> list[Json]:
-        """Who is hit by the breaks of a library."""
+        """The packages that the breaks of a library hit."""
         return [one for broken in self._by_package.get(package, ()) if broken.library == library for one in broken.hit]

@@ -1,5 +1,5 @@
-"""What a worker does with two packages: unpacks them, judges a pair of libraries that was not judged before, and keeps what came of
-it. Where the packages have several pairs, each is a task of its own."""
+"""What a worker does with two packages: it unpacks them, judges each pair of libraries that was not judged before, and keeps the
+results. If the packages have several pairs, each pair is a task of its own."""
 
 from __future__ import annotations
 
@@ -23,16 +23,16 @@ from abi_release.unpacked import Unpacked, let_go, unpacked
 NOT_JUDGED = "not judged"
 GONE = "gone"
 NEW = "new"
-# How many exports of a broken library are kept, to be held beside what others import.
+# How many broken exports of a library are kept, to compare them with what other packages import.
 _MOST_BROKEN = 10_000
-# What a result rests on beside the digests in its name, and which files it has: no part of a line.
+# Members of a result that are no part of a line: what it rests on besides the digests in its name, and which files it has.
 _GROUND = ("program", "least_share", "unjoined", "files")
 
 
 @dataclass(frozen=True)
 class Settings:
-    """What is the same for all packages of a run: both folders and that of results, the rule file, digests of that and of the program,
-    the share of exports that must have types, and the limits of each process."""
+    """What is the same for all packages of a run: both folders and that of results, the rule file, the digest of the program, the share
+    of exports that must have types, and the limits of each process."""
 
     old: str
     new: str
@@ -43,13 +43,13 @@ class Settings:
     limits: Limits
 
     def places(self, work: Work) -> tuple[tuple[Path, ...], tuple[Path, ...]]:
-        """The files of both sides of two packages."""
+        """The files of both sides."""
         return tuple(Path(self.old, name) for name in work.old), tuple(Path(self.new, name) for name in work.new)
 
 
 class Part(NamedTuple):
-    """A task: to open two packages, and to judge their pair of libraries where they have one; or to judge one pair of many, of packages
-    that were opened with this identity."""
+    """A task. Without a library: open two packages, and judge their libraries unless several are on both sides. With a library: judge
+    this one of several, of packages that were opened with this identity."""
 
     work: Work
     library: str = ""
@@ -62,14 +62,14 @@ class Part(NamedTuple):
 
     @property
     def mark(self) -> str:
-        """What tells this task from all others of a run."""
+        """What identifies this task within a run."""
         return f"{self.work.name}\0{self.library}"
 
 
 class Outcome(NamedTuple):
-    """What came of a task: how many pairs of libraries were judged, how many had been before, how many could not be, and why nothing
-    could be done at all; of packages that were opened, the pairs that are tasks of their own, and the identity; of such a task, the
-    line, or where its result stands."""
+    """The outcome of a task: how many pairs of libraries were judged, how many were kept from earlier, and how many failed; `reason`, if
+    nothing could be done at all; after packages were opened, the pairs that are `left` as tasks of their own, and the identity; after
+    such a task, its line, or the name of its result in place of the line."""
 
     judged: int = 0
     kept: int = 0
@@ -81,14 +81,13 @@ class Outcome(NamedTuple):
 
 
 def done(part: Part, settings: Settings, passed_over: tuple[str, ...] = ()) -> Outcome:
-    """Does a task. Libraries that are passed over made a worker die, and are not tried. Whatever a package holds, this ends with an
-    outcome."""
+    """Does a task. It skips the libraries `passed_over`, which made a worker die. Whatever a package holds, there is an outcome."""
     task = _Task(part, settings, passed_over, Store(Path(settings.out)))
     return guarded(task.outcome, settings, task.store, part.mark)
 
 
 def guarded(task: Callable[[], Outcome], settings: Settings, store: Store, mark: str) -> Outcome:
-    """The outcome of a task, also where it fails."""
+    """The outcome of a task, even if it raises an exception."""
     try:
         store.begin(mark, "")
         if program_digest(LimitedAbi(Path(), settings.limits).path) != settings.program:
@@ -101,7 +100,7 @@ def guarded(task: Callable[[], Outcome], settings: Settings, store: Store, mark:
     except MemoryError:
         return Outcome(reason="memory ran out under the limit of a worker")
     except Exception as error:  # pylint: disable=broad-except
-        # The libraries that read packages raise more than they say, and no package may be lost for it.
+        # The libraries that read packages raise more exceptions than they document, and none may lose a package.
         return Outcome(reason=f"{type(error).__name__}: {error}")
     finally:
         store.end(mark)
@@ -109,19 +108,19 @@ def guarded(task: Callable[[], Outcome], settings: Settings, store: Store, mark:
 
 def identity_of(work: Work, settings: Settings) -> tuple[str, ...]:
     """What the record of two packages rests on: the digests of both sides, of the rule file and of the program, and the settings that
-    count."""
+    change results."""
     rules = settings.rules
     return (*(digest_of_files(places) for places in settings.places(work)), "" if rules is None else digest_of_file(Path(rules)),
             settings.program, str(settings.least_share), *work.only)
 
 
 def rule_file_of(settings: Settings, pair: Pair, packages: Unpacked) -> Optional[Path]:
-    """The rule file for a pair of libraries: that of the run, or that of a package. Raises a fault if a package has several."""
+    """The rule file for a pair of libraries: the run's, or else a package's. Raises a fault if a package has several."""
     return Path(settings.rules) if settings.rules is not None else package_rules(pair, packages.sides, packages.folder)[0]
 
 
 def line_of(library: str, place: str, result: Json) -> Json:
-    """The line of a library whose result stands at a place."""
+    """The line of a library, from its result and the name of that."""
     return {"library": library, **{key: value for key, value in result.items() if key not in _GROUND}, "result": place}
 
 
@@ -132,7 +131,7 @@ def unjudged_line(library: str, reason: str) -> Json:
 
 @dataclass
 class _Task:
-    """A task, and what is done with it."""
+    """A task on a worker."""
 
     part: Part
     settings: Settings
@@ -141,7 +140,7 @@ class _Task:
     counts: Counter[str] = field(default_factory=Counter)
 
     def outcome(self) -> Outcome:
-        """Does what is missing."""
+        """Does the part of the task that is not already stored."""
         work = self.part.work
         workers.allow_more_time(self.settings.limits.seconds)
         if self.part.library:
@@ -168,13 +167,13 @@ class _Task:
         return Outcome(counts["judged"], counts["kept"], counts["failed"], left=left, identity=identity, line=line)
 
     def _is_whole(self, record: Json, identity: tuple[str, ...]) -> bool:
-        """Whether a record is of the same packages, and has all results."""
+        """Whether a record has this identity and all its results are stored."""
         return record["identity"] == list(identity) and all(
             line["answer"] != NOT_JUDGED and ("result" not in line or self.store.result(line["result"]) is not None)
             for line in record["lines"])
 
     def _record(self, packages: Unpacked, identity: tuple[str, ...], lines: list[Json]) -> Json:
-        """What is kept of two packages."""
+        """The record of two packages."""
         versions, depends = [], []
         for places in packages.places:
             version, needed = version_and_depends(places[0], packages.controls.get(places[0])) if places else (None, [])
@@ -184,7 +183,7 @@ class _Task:
                 "imports": imports(packages.sides[0].root, map(Path, packages.names())), "lines": lines}
 
     def _line(self, pair: Pair, packages: Unpacked) -> Json:
-        """What is said of a library of either side."""
+        """The line of a library of either side."""
         if pair.new is None or pair.old is None:
             return _one_sided(pair)
         if pair.name in self.passed_over:
@@ -208,7 +207,7 @@ class _Task:
         return unjudged_line(library, reason)
 
     def _judged_line(self, pair: Pair, packages: Unpacked) -> Json:
-        """The line of a pair of libraries: of an earlier result, or of a new one, which is kept."""
+        """The line of a pair of libraries, from an earlier result or from a new one, which is then stored."""
         rule_file = rule_file_of(self.settings, pair, packages)
         old, new, unjoined = packages.joined(pair)
         try:
@@ -219,7 +218,7 @@ class _Task:
         return line_of(pair.name, place, result)
 
     def _result(self, packages: Unpacked, files: tuple[Path, Path], rule_file: Optional[Path], unjoined: list[str]) -> tuple[str, Json]:
-        """The result of two files, and where it stands."""
+        """The name of the result for two files, and the result."""
         old, new = files
         digests = {"old": digest_of_file(packages.folder / old), "new": digest_of_file(packages.folder / new),
                    "rules": OF_NOTHING if rule_file is None else digest_of_file(rule_file)}
@@ -241,16 +240,16 @@ class _Task:
 
 
 class _NotJudged(Exception):
-    """Why a pair of libraries has no answer that would stay."""
+    """Why a pair of libraries has no lasting answer."""
 
 
 def _one_sided(pair: Pair) -> Json:
-    """The line of a library that one side alone has."""
+    """The line of a library that only one side has."""
     return {"library": pair.name, "answer": GONE if pair.new is None else NEW}
 
 
 def _file(judgement: Judgement) -> tuple[str, bytes]:
-    """Of which kind the text is that is kept of a judgement, and the text; both empty where none is."""
+    """The kind of the text to keep for a judgement (certificate or report), and the text; both are empty if there is none."""
     if judgement.answer is None or judgement.verdict == Verdict.CANNOT_TELL:
         return "", b""
     kind = "certificate" if judgement.verdict == Verdict.YES else "report"
@@ -258,7 +257,7 @@ def _file(judgement: Judgement) -> tuple[str, bytes]:
 
 
 def _said(judgement: Judgement, unjoined: list[str]) -> Json:
-    """A judgement, as it is kept."""
+    """A judgement as it is stored."""
     said: Json = {"answer": judgement.verdict.words()}
     reasons = [*judgement.reasons, *(unjoined if judgement.verdict != Verdict.YES else [])]
     if reasons:

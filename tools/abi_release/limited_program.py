@@ -1,4 +1,4 @@
-"""The program `abi` under limits of memory and time, and what it took."""
+"""Runs the program `abi` under limits of memory and time, and measures what it takes."""
 
 from __future__ import annotations
 
@@ -17,21 +17,21 @@ from typing import BinaryIO, Optional, Sequence
 from abi_tools.abi_program import NO, Abi, Answer
 from abi_tools.faults import ENDED_BY_SIGNAL, Fault
 
-# GNU time: the system counts for a process that Python starts what Python itself took before, so a small process starts it.
+# GNU time. Linux counts the memory of Python itself for a process that Python starts, so a small process starts `abi`.
 _TIME = "/usr/bin/time"
 _MEGABYTE = 1 << 20
-# What `abi` may print.
+# How many bytes `abi` may print.
 _LONGEST_TEXT = 1 << 29
-# Statuses that say something of the inputs (yes or done, no, and a fault), and the one that says that memory ran out.
+# The exit statuses that say something about the inputs (yes or done, no, and a fault), and the one for memory that ran out.
 _TOLD = (0, 1, 2)
 _NO_MEMORY = 4
-# How often its processor time a run may last.
+# A run may last this many times its processor time.
 _WAITS = 20
 
 
 @dataclass(frozen=True)
 class Limits:
-    """What a process may take: megabytes of memory and seconds of processor time."""
+    """The limits of a process: megabytes of memory, and seconds of processor time."""
 
     megabytes: int
     seconds: int
@@ -43,8 +43,8 @@ def check_time() -> None:
         raise Fault(f"there is no {_TIME}: install the package time")
 
 
-# Runs that one shell does, one after another. What each prints ends with a line that begins with a mark which no run knows. The first
-# run decides whether the others are done.
+# One shell does several runs in turn. A line that begins with a random mark, which no run can know, ends the output of each. After each
+# run the shell goes on only if the exit status was 0 or 1.
 _LIMITS = "ulimit -S -v {kilobytes} && ulimit -S -t {seconds} && ulimit -S -f {blocks} && ulimit -S -c 0 || exit 125\n"
 _RUN = """\
 {command}
@@ -57,8 +57,8 @@ _BLOCK = 512
 
 
 class LimitedAbi(Abi):
-    """The program, each run of which is under the limits. It keeps what the runs took, and why one of them says nothing of its
-    inputs."""
+    """The program, each run of which is under the limits. It keeps what the runs took, and `trouble`: why the answer of a run says
+    nothing about its inputs."""
 
     def __init__(self, folder: Path, limits: Limits) -> None:
         super().__init__(folder)
@@ -69,8 +69,8 @@ class LimitedAbi(Abi):
         self.trouble = ""
 
     def check(self, old: Path, new: Path, rules: Optional[Path]) -> Answer:
-        """Its answer to whether a library may replace another one. Where that is a yes or a no, what the program says of the exports
-        of both is known then: to start three processes for each run takes longer than the runs on small libraries."""
+        """Runs `abi check`: may the new library replace the old one? On yes or no, the same shell also runs `abi exports` on both, and
+        the answers are kept for `run`: for small libraries, starting three processes for each run takes longer than the run."""
         options = [] if rules is None else [f"--rules={rules}"]
         runs = [("check", *options, "--", str(old), str(new)), *(("exports", "--", str(library)) for library in (old, new))]
         answers = self._answers(runs)
@@ -78,7 +78,7 @@ class LimitedAbi(Abi):
         return self._told(answers[0])
 
     def run(self, *arguments: str) -> Answer:
-        """What the program says of its arguments."""
+        """Runs the program with these arguments, or returns the answer that `check` kept."""
         known = self._known.pop(arguments, None)
         return self._told(known or self._answers([arguments])[0])
 
@@ -87,7 +87,7 @@ class LimitedAbi(Abi):
         return answer
 
     def _answers(self, runs: Sequence[tuple[str, ...]]) -> list[Answer]:
-        """What the program says in runs, of which the others are not done where the first one answers neither yes nor no."""
+        """The answers of several runs. If one answers neither yes nor no, those after it are left out."""
         limits = self._limits
         mark = os.urandom(16).hex()
         script = _LIMITS.format(kilobytes=_at_most(resource.RLIMIT_AS, limits.megabytes * _MEGABYTE) // 1024,
@@ -95,7 +95,7 @@ class LimitedAbi(Abi):
                                 blocks=_at_most(resource.RLIMIT_FSIZE, _LONGEST_TEXT) // _BLOCK)
         script += _NEXT.join(_RUN.format(command=shlex.join([self.path, *run]), mark=mark) for run in runs)
         out, errors, took = files = _files(self.folder)
-        # GNU time writes to its output by a name.
+        # GNU time opens its output file by name.
         command = [_TIME, "--quiet", "--format=%U %S %M", f"--output=/proc/self/fd/{took.fileno()}", "/bin/sh", "-c", script]
         try:
             with subprocess.Popen(command, stdin=subprocess.DEVNULL, stdout=out, stderr=errors, cwd=self.folder,
@@ -107,13 +107,13 @@ class LimitedAbi(Abi):
                 os.ftruncate(file.fileno(), 0)
                 os.lseek(file.fileno(), 0, os.SEEK_SET)
         if status == -signal.SIGKILL:
-            # What may still write there must not write to those of the next run.
+            # A process that is still writing must not write to the files of the next run.
             del _FILES[os.getpid(), threading.get_ident(), self.folder]
         self._take(said.split())
         return _parted(mark, status, text, notes)
 
     def _waited(self, process: subprocess.Popen[bytes]) -> int:
-        """The exit status of the process; below 0, the signal that ended it."""
+        """The exit status of the process; negative if a signal ended it."""
         if not _ends_within(process, _WAITS * self._limits.seconds):
             os.killpg(process.pid, signal.SIGKILL)
             process.wait()
@@ -121,13 +121,13 @@ class LimitedAbi(Abi):
         return _signal_or_status(process.wait())
 
     def _take(self, took: list[str]) -> None:
-        """Takes what a run took: seconds of its own and of the system, and kilobytes."""
+        """Adds what a run took: seconds of user time and of system time, and kilobytes."""
         if len(took) == 3:
             self.seconds += float(took[0]) + float(took[1])
             self.megabytes = max(self.megabytes, int(took[2]) / 1024)
 
     def _trouble(self, answer: Answer) -> str:
-        """Why an answer says nothing of the inputs; empty where it does."""
+        """Why an answer says nothing about the inputs; empty if it does."""
         if answer.status == _NO_MEMORY:
             return f"abi ran out of memory under its limit of {self._limits.megabytes} MB"
         if answer.status == -signal.SIGXCPU or answer.status == -signal.SIGKILL:
@@ -137,12 +137,12 @@ class LimitedAbi(Abi):
         return ""
 
 
-# The files of each thread for what runs print, and for what they took: to make files takes longer than to empty them.
+# Each thread's files for the output of runs and of GNU time. They are kept, since making files takes longer than emptying them.
 _FILES: dict[tuple[int, int, Path], tuple[BinaryIO, BinaryIO, BinaryIO]] = {}
 
 
 def _files(folder: Path) -> tuple[BinaryIO, BinaryIO, BinaryIO]:
-    """The files of this thread, which have nothing now."""
+    """The files of this thread, which are empty between runs."""
     key = os.getpid(), threading.get_ident(), folder
     if key not in _FILES:
         out, errors, took = (tempfile.TemporaryFile(dir=folder, buffering=0) for _ in range(3))
@@ -151,19 +151,19 @@ def _files(folder: Path) -> tuple[BinaryIO, BinaryIO, BinaryIO]:
 
 
 def _contents(file: BinaryIO) -> str:
-    """What stands in a file."""
+    """The text in a file."""
     size = os.fstat(file.fileno()).st_size
     return os.pread(file.fileno(), size, 0).decode("utf-8", "surrogateescape")
 
 
 def _signal_or_status(status: int) -> int:
-    """An exit status, or below 0 the signal that ended a process, as a shell tells both."""
+    """Turns a shell's status into an exit status, or into the negative number of the signal that ended the process."""
     return ENDED_BY_SIGNAL - status if status > ENDED_BY_SIGNAL else status
 
 
 def _ends_within(process: subprocess.Popen[bytes], seconds: int) -> bool:
-    """Whether a process ends in some seconds. Python's own wait with a limit looks again and again, with up to 50 milliseconds
-    between, which is longer than `abi` takes for a small library."""
+    """Whether a process ends within some seconds. Python's own wait with a timeout polls with pauses of up to 50 milliseconds, which is
+    longer than `abi` takes for a small library."""
     descriptor = os.pidfd_open(process.pid)
     try:
         ready = select.poll()
@@ -174,13 +174,13 @@ def _ends_within(process: subprocess.Popen[bytes], seconds: int) -> bool:
 
 
 def _at_most(limit: int, value: int) -> int:
-    """A value, or what the process may set at most, where that is less."""
+    """The smaller of a value and the hard limit of this process."""
     most = resource.getrlimit(limit)[1]
     return value if most == resource.RLIM_INFINITY else min(value, most)
 
 
 def _parted(mark: str, status: int, text: str, notes: str) -> list[Answer]:
-    """The answers of runs, by the mark that ends each. A run without one was ended, as the status of the shell says."""
+    """The answers of runs, split at the mark that ends each. If the first run has no mark, its status is that of the shell."""
     texts, all_notes = text.split(f"{mark} "), notes.split(f"{mark}\n")
     answers = []
     for number, (said, noted) in enumerate(zip(texts, all_notes)):

@@ -1,4 +1,4 @@
-"""What packages need of others: the packages that they depend on, and what their programs and libraries import."""
+"""What packages need from others: the packages that they depend on, and what their programs and libraries import."""
 
 from __future__ import annotations
 
@@ -14,17 +14,17 @@ from abi_tools.debug_files import DEBUG_FOLDER
 from abi_tools.elf_files import ElfFile
 from abi_tools.faults import Fault
 
-# The first bytes of an ELF-64 file in little endian.
+# The first bytes of a little-endian ELF-64 file.
 _IDENTITY = b"\x7fELF\x02\x01"
-# Under this name stand imports that name no version, and so no library.
+# The key of imports without a version, which therefore name no library.
 ANY_LIBRARY = ""
 
 Imports = dict[str, list[str]]
 
 
 def version_and_depends(package: Path, control: Optional[bytes] = None) -> tuple[str, list[str]]:
-    """The version of a package, and the names of the packages of which one of its `Depends` and `Pre-Depends` speaks; empty for an
-    unpacked tree. The text of its control file may be known. Raises a fault if the package is damaged."""
+    """The version of a package, and all names of packages in its `Depends` and `Pre-Depends`; both empty for an unpacked tree. A caller
+    that already has the text of the control file passes it. Raises a fault if the package is damaged."""
     if control is not None:
         return _of_control(Deb822(control))
     if package.is_dir():
@@ -47,7 +47,7 @@ def _of_control(control: Deb822) -> tuple[str, list[str]]:
 
 
 def _of_rpm(package: Path) -> tuple[str, list[str]]:
-    """The same of a .rpm, where the program `rpm` is there; what it needs are names of packages and of libraries."""
+    """The same of a .rpm, if the program `rpm` is installed. A .rpm requires names of packages and of libraries."""
     try:
         ended = subprocess.run(["rpm", "-qp", "--nosignature", "--qf", r"%{VERSION}-%{RELEASE}\n[%{REQUIRES}\n]", str(package)],
                                stdin=subprocess.DEVNULL, capture_output=True, text=True, errors="replace", check=False)
@@ -58,8 +58,8 @@ def _of_rpm(package: Path) -> tuple[str, list[str]]:
 
 
 def imports(root: Path, names: Iterator[Path]) -> Imports:
-    """What the files of a package import: under each library that one needs, the names with their versions, and under no library
-    the names without one. Files that cannot be read import nothing."""
+    """What the files of a package import: for each library that one needs, the names with their versions, and for ANY_LIBRARY the names
+    without a version. Files that cannot be read import nothing."""
     found: dict[str, set[str]] = {}
     for name in names:
         path = root / name
@@ -77,7 +77,7 @@ def imports(root: Path, names: Iterator[Path]) -> Imports:
 
 
 def files_that_need(root: Path, names: Iterable[PurePosixPath]) -> dict[str, list[str]]:
-    """The files of a package that need each library."""
+    """For each library, the files of a package that need it."""
     found: dict[str, list[str]] = {}
     for name in names:
         for library in imports(root, iter([Path(name)])):
@@ -87,7 +87,7 @@ def files_that_need(root: Path, names: Iterable[PurePosixPath]) -> dict[str, lis
 
 
 def _imported(file: ElfFile) -> Iterator[tuple[str, str]]:
-    """The libraries that a file needs, each without a name, and the names that it imports, with their versions."""
+    """The libraries that a file needs, each with an empty name, and the names that it imports, with their versions."""
     yield from ((library, "") for library in file.needed())
     for name, version in file.imports():
         yield (ANY_LIBRARY, name) if version is None else (version[0], f"{name}@{version[1]}")

@@ -1,4 +1,4 @@
-"""Packages of which each pair of libraries is a task of its own: what came of these tasks, until all are done."""
+"""Packages with several pairs of libraries, each a task of its own: collects the lines of these tasks until all are done."""
 
 from __future__ import annotations
 
@@ -12,27 +12,27 @@ from abi_release.stored_files import Json, Store, opened_name, record_name
 
 @dataclass
 class _Opened:
-    """Two packages: the libraries that are still to come, and the lines of the others."""
+    """Two packages: the libraries that are not done yet, and the lines of the others."""
 
     waiting: set[str]
     lines: list[Json] = field(default_factory=list)
 
 
 class Openings:
-    """The packages that are open now."""
+    """The packages that are open at the moment."""
 
     def __init__(self, store: Store) -> None:
         self._store = store
         self._opened: dict[str, _Opened] = {}
 
     def open(self, work: Work, outcome: Outcome) -> list[Part]:
-        """The tasks of packages that were opened."""
+        """The tasks for packages that a task has just opened."""
         self._opened[work.name] = _Opened(set(outcome.left))
         return [Part(work, library, outcome.identity) for library in outcome.left]
 
     def take(self, part: Part, line: Json) -> bool:
-        """Takes the line of a library, and answers whether it was the last one; then the record is written. Raises what the system
-        says where that fails."""
+        """Takes the line of a library, and returns whether it was the last one. If so, writes the record. Raises OSError if that
+        fails."""
         opened = self._opened[part.name]
         if part.library in opened.waiting:
             opened.waiting.remove(part.library)
@@ -44,7 +44,7 @@ class Openings:
         return True
 
     def _write(self, name: str, lines: Sequence[Json]) -> None:
-        """Writes the record of packages whose lines are all there."""
+        """Writes the record of packages once all lines are there."""
         record = self._store.json(opened_name(name))
         if record is None:
             raise OSError("what was known of the packages is gone")

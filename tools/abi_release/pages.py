@@ -1,4 +1,4 @@
-"""The table as one page that needs no other file."""
+"""The table as one HTML page that needs no other file."""
 
 from __future__ import annotations
 
@@ -11,7 +11,7 @@ from jinja2 import Environment, FileSystemLoader, select_autoescape
 from abi_release.stored_files import Json
 from abi_release.tables import Table
 
-# So many lines stand in one part of the page, which a browser lays out when it is seen.
+# How many lines one part of the page has. A browser lays a part out only when it becomes visible.
 _LINES_OF_A_PART = 100
 _PIECES = 200
 
@@ -27,6 +27,6 @@ def write_page(table: Table, head: Json, stream: TextIO) -> None:
 
 
 def _parts(lines: Iterator[Json]) -> Iterator[list[Json]]:
-    """The lines, in parts."""
+    """Splits the lines into parts."""
     while part := list(itertools.islice(lines, _LINES_OF_A_PART)):
         yield part

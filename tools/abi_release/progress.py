@@ -1,4 +1,4 @@
-"""How far a run is: a bar on a terminal, plain lines otherwise."""
+"""Shows the progress of a run: a bar on a terminal, plain lines elsewhere."""
 
 from __future__ import annotations
 
@@ -10,17 +10,17 @@ _EVERY = 10.0
 
 
 class Progress(Protocol):
-    """How far a run is."""
+    """Shows progress."""
 
     def advance(self) -> None:
-        """One more is done."""
+        """Counts one more task as done."""
 
     def end(self) -> None:
-        """No more is to be said."""
+        """Stops showing progress."""
 
 
 class PlainProgress:
-    """A line now and then."""
+    """Prints a line now and then."""
 
     def __init__(self, total: int, what: str, stream: TextIO) -> None:
         self._total, self._what, self._stream = total, what, stream
@@ -28,7 +28,7 @@ class PlainProgress:
         self._start = self._said = time.monotonic()
 
     def advance(self) -> None:
-        """One more is done."""
+        """Counts one more task as done."""
         self._done += 1
         now = time.monotonic()
         if now - self._said >= _EVERY or self._done == self._total:
@@ -38,11 +38,11 @@ class PlainProgress:
                   f"{(self._total - self._done) / rate:.0f} seconds left", file=self._stream, flush=True)
 
     def end(self) -> None:
-        """No more is to be said."""
+        """Stops showing progress."""
 
 
 class BarProgress:
-    """A bar with the number that is done, the rate and what is left."""
+    """A bar with the number of tasks done, the rate and the time left."""
 
     def __init__(self, total: int, what: str) -> None:
         from rich.console import Console
@@ -56,17 +56,17 @@ class BarProgress:
         self._bar.start()
 
     def advance(self) -> None:
-        """One more is done."""
+        """Counts one more task as done."""
         self._done += 1
         rate = self._done / max(time.monotonic() - self._start, 1e-9)
         self._bar.update(self._task, advance=1, rate=f"{rate:.1f}")
 
     def end(self) -> None:
-        """No more is to be said."""
+        """Stops showing progress."""
         self._bar.stop()
 
 
 def progress_of(total: int, what: str, stream: TextIO) -> Progress:
-    """The way in which people see how far a run is."""
+    """A bar if the stream is a terminal, plain lines otherwise."""
     bar: Optional[Progress] = BarProgress(total, what) if stream.isatty() else None
     return bar or PlainProgress(total, what, stream)

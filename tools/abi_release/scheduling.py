@@ -1,6 +1,6 @@
-"""The tasks of a run: a bounded number of them at a time, each tried again where it failed, and none forgotten. Packages with one pair
-of libraries are one task; those with more are one that opens them, and then one for each pair. What Dask does is a batch of tasks,
-since a task of Dask costs more than the judging of a small library."""
+"""Schedules the tasks of a run: a bounded number at a time, each tried again if it fails, and none lost. Packages with one pair of
+libraries are one task; packages with several are one task that opens them, and then one for each pair. Dask gets batches of tasks,
+since a Dask task costs more than judging a small library."""
 
 from __future__ import annotations
 
@@ -23,18 +23,18 @@ from abi_release.progress import Progress
 from abi_release.stored_files import Json, Store
 from abi_tools.faults import Fault
 
-# How many tasks the scheduler has for each thread of a worker, and at least.
+# How many batches the scheduler has for each worker thread, and how many at least.
 _TASKS_FOR_A_THREAD = 4
 _LEAST_TASKS = 16
-# How many tasks a batch has at most, and how many batches for each thread of a worker are left when batches become smaller. A worker
-# begins no other task of a batch after so many seconds.
+# How many tasks a batch has at most; batches become smaller when fewer than _LEAST_BATCHES full ones are left for each worker thread. A
+# worker begins no further task of a batch after _LONGEST_BATCH seconds.
 _LARGEST_BATCH = 32
 _LEAST_BATCHES = 16
 _LONGEST_BATCH = 5.0
-# How often a cluster that was lost is looked for again.
+# How many clusters a run starts or connects to before it gives up, and how many seconds lie between checks for workers.
 _MOST_CLUSTERS = 10
 _LOOKS_EVERY = 1.0
-# How often the worker may die at which a task waits that has not begun.
+# How many deaths of its worker a task that has not begun survives.
 _MOST_WAITS = 20
 DIED = "the worker died over it"
 
@@ -43,14 +43,14 @@ Task = Part | Ask
 
 
 class Given(NamedTuple):
-    """A task of a batch, and the libraries that are passed over."""
+    """A task of a batch, and the libraries that it skips."""
 
     task: Task
     passed_over: tuple[str, ...]
 
 
 def done_in_turn(batch: Sequence[Given], settings: Settings) -> list[Outcome]:
-    """Does the tasks of a batch, one after another, and answers what came of those for which there was time: of the first at least."""
+    """Does the tasks of a batch in turn, and returns the outcomes of those for which there was time: at least the first."""
     end = time.monotonic() + _LONGEST_BATCH
     outcomes: list[Outcome] = []
     for task, passed_over in batch:
@@ -61,14 +61,14 @@ def done_in_turn(batch: Sequence[Given], settings: Settings) -> list[Outcome]:
 
 
 class Failure(NamedTuple):
-    """Why two packages were not judged, and how often that was tried."""
+    """Why two packages were not judged, and how often they were tried."""
 
     reason: str
     tries: int
 
 
 class _Lost(Exception):
-    """The cluster does no more work; another one may be looked for."""
+    """The cluster is lost; the run may go on with another one."""
 
 
 class _NoWorkers(Exception):
@@ -77,7 +77,7 @@ class _NoWorkers(Exception):
 
 @dataclass
 class Run:
-    """Packages that are judged by a cluster: what came of them is in the store, and what failed is here."""
+    """A run over packages on a cluster. The results are in the store, the failures here."""
 
     settings: Settings
     store: Store
@@ -95,7 +95,7 @@ class Run:
         self._openings = Openings(self.store)
 
     def over(self, tasks: Sequence[Task], progress: Progress) -> None:
-        """Does all tasks, which open packages or ask; those that could not be done are failures then."""
+        """Does all tasks: those that open packages, and those that ask `abi app`. Tasks that cannot be done become failures."""
         left: deque[Task] = deque()
         source = self._source = iter(tasks)
         for _ in range(_MOST_CLUSTERS):
@@ -118,11 +118,11 @@ class Run:
                 progress.advance()
 
     def waiting(self) -> int:
-        """How many tasks were not given out yet."""
+        """How many tasks have not been submitted yet."""
         return operator.length_hint(self._source)
 
     def came_of(self, part: Task, outcome: Outcome) -> "Next":
-        """Takes an outcome, and answers what is to be done then."""
+        """Takes the outcome of a task, and returns what to do next."""
         self.counts["judged"] += outcome.judged
         self.counts["kept"] += outcome.kept
         tried = part.name, part.library
@@ -142,7 +142,7 @@ class Run:
         return self._take_line(part, outcome.line or unjudged_line(part.library, outcome.reason))
 
     def _take_line(self, part: Part, line: Json) -> "Next":
-        """Takes the line of one library of many."""
+        """Takes the line of one of several libraries."""
         try:
             return Next(is_done=self._openings.take(part, line))
         except OSError as error:
@@ -150,8 +150,8 @@ class Run:
             return Next(is_done=True)
 
     def died(self, part: Task) -> "Next":
-        """Takes the death of a worker, and answers what is to be done then: the same again, so often for each library, and without
-        it then. A task that had not begun only waited at the worker."""
+        """Takes the death of the worker that had a task, and returns what to do next. The task is tried again, up to `tries` times for
+        each library, and then without that library. A task that had not begun was only waiting at the worker."""
         begun = self.store.begun(part.mark)
         if begun is None:
             self._waits[part.mark] += 1
@@ -168,14 +168,14 @@ class Run:
         return Next(is_done=True)
 
     def passed_over(self, part: Task) -> tuple[str, ...]:
-        """The libraries over which workers died as often as they are tried."""
+        """The libraries that have made workers die as often as libraries are tried."""
         deaths = self._deaths.get(part.name, Counter())
         return tuple(sorted(library for library, times in deaths.items() if library and times >= self.tries))
 
 
 class Next(NamedTuple):
-    """What is to be done after a task: others at once, others at the end, others that were not tried; and whether its packages are
-    done."""
+    """What to do after a task: tasks to do `first`, tasks to try `again` at the end, the `rest` of its batch, which was not begun; and
+    whether its packages are done."""
 
     first: Sequence[Task] = ()
     again: Sequence[Task] = ()
@@ -184,7 +184,7 @@ class Next(NamedTuple):
 
 
 class _Turn:
-    """A run on one cluster, until that is lost."""
+    """The part of a run that one cluster does, until it is done or the cluster is lost."""
 
     def __init__(self, run: Run, client: Client, source: Iterator[Task], left: deque[Task], progress: Progress) -> None:
         self._run, self._client, self._source, self._left, self._progress = run, client, source, left, progress
@@ -195,7 +195,7 @@ class _Turn:
         self._again: deque[Task] = deque()
 
     def run(self) -> None:
-        """Judges all that is left. Raises _Lost or _NoWorkers where the cluster does not go on; what is left then is in `left`."""
+        """Does all tasks that are left. Raises _Lost or _NoWorkers if the cluster fails; the remaining tasks are then in `left`."""
         watch = _Watch(self._client, self._run.patience)
         try:
             with watch:
@@ -203,7 +203,7 @@ class _Turn:
                 ended = as_completed(self._submitted(self._most()), loop=self._client.loop, raise_errors=False)
                 for number, future in enumerate(ended):
                     self._take(future, watch)
-                    # To ask the scheduler takes as long as a task of its own.
+                    # Asking the scheduler takes as long as a task, so ask rarely.
                     if number % _LEAST_TASKS == 0:
                         self._look_for_threads()
                     for more in self._submitted(max(1, self._most() - len(self._under_way))):
@@ -219,17 +219,17 @@ class _Turn:
         self._threads = max(1, sum(worker["nthreads"] for worker in workers))
 
     def _most(self) -> int:
-        """How many batches the scheduler is to have."""
+        """How many batches the scheduler should have."""
         return max(_LEAST_TASKS, _TASKS_FOR_A_THREAD * self._threads)
 
     def _submitted(self, count: int) -> list[Future]:
-        """The next batches, up to a count."""
+        """Submits the next batches, at most `count`."""
         batches = itertools.takewhile(bool, (self._batch() for _ in range(count)))
         return [self._submit(batch) for batch in batches]
 
     def _batch(self) -> list[Task]:
-        """What is to be done next: libraries of packages that are open, what another cluster left, what was not tried yet, and then
-        what is tried again. A library of many is a batch of its own, and so is what is tried again."""
+        """The next tasks: first libraries of open packages, then tasks that another cluster left, then tasks not tried yet, and last
+        tasks to try again. One of several libraries is a batch of its own, and so is a task to try again."""
         if self._first:
             return [self._first.popleft()]
         waiting = len(self._left) + self._run.waiting()
@@ -254,7 +254,7 @@ class _Turn:
         return future
 
     def _take(self, future: Future, watch: "_Watch") -> None:
-        """Takes what came of a batch."""
+        """Takes the outcome of a batch."""
         if future.status in ("cancelled", "lost"):
             if watch.reason:
                 raise _NoWorkers(watch.reason)
@@ -276,7 +276,7 @@ class _Turn:
                 outcomes = future.result()
                 return [*map(self._run.came_of, batch, outcomes), Next(rest=batch[len(outcomes):])]
             except (KilledWorker, CancelledError) as ended:
-                # Where the worker dies that has the result, Dask does the batch again, and that may end in another way.
+                # If the worker that holds the result dies, Dask does the batch again, and that may fail.
                 error = ended
         if isinstance(error, KilledWorker):
             return [self._run.died(task) for task in batch]
@@ -286,7 +286,7 @@ class _Turn:
 
 
 class _Watch:
-    """Sees to it that a run ends where no worker is left: the tasks are cancelled once none was there for a time."""
+    """Ends a run that has lost its workers: cancels the tasks once there has been no worker for `patience` seconds."""
 
     def __init__(self, client: Client, patience: float) -> None:
         self.reason = ""

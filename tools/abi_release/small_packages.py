@@ -1,5 +1,5 @@
-"""Small .deb files: read once, inflated in memory as far as they may be, and unpacked from there. All that is not small, not plain or
-damaged is left to the reader of all packages, which also says what is wrong."""
+"""Small .deb files: read once, inflated in memory up to a limit, and unpacked from there. A package that is large, unusual or damaged
+is left to the general reader, which also says what is wrong with it."""
 
 from __future__ import annotations
 
@@ -17,16 +17,16 @@ from debian.debfile import DebFile
 from abi_tools.package_sides import Side, libraries
 from abi_tools.unpacking import Package, place_members
 
-# What a package that is read so has at most, packed and with all its files unpacked.
+# The sizes that a small package has at most: packed, with all its files unpacked, and of its control archive.
 _LARGEST_PACKED = 1 << 20
 _LARGEST = 16 << 20
 _LARGEST_CONTROL = 1 << 20
-# What inflating may take beside: the dictionary of `xz -9` has 64 MiB.
+# How much memory inflating .xz may take: the dictionary of `xz -9` has 64 MiB.
 _MOST_FOR_XZ = 80 << 20
-# A wbits of zlib for a file of gzip.
+# zlib's wbits for the gzip format.
 _GZIP = 31
 _CONTROL = "control"
-# What the readers raise where a package is damaged.
+# What the readers raise if a package is damaged.
 _DAMAGED = (ArError, tarfile.TarError, lzma.LZMAError, zlib.error, OSError, EOFError, ValueError, KeyError, StopIteration)
 
 
@@ -40,7 +40,7 @@ class SmallPackage:
 
     @classmethod
     def read(cls, file: Path) -> Optional["SmallPackage"]:
-        """The package; none where it is no small one, or damaged."""
+        """The package; None if it is not small, or damaged."""
         if file.suffix not in (".deb", ".ddeb") or not file.is_file() or file.stat().st_size > _LARGEST_PACKED:
             return None
         try:
@@ -56,27 +56,27 @@ class SmallPackage:
 
 
 def small_side(packages: list[SmallPackage], root: Path) -> Side:
-    """The packages, unpacked. Raises a fault if two bring the same file, or a file lies outside."""
+    """Unpacks the packages below `root`. Raises a fault if two have the same file, or if a file lies outside of `root`."""
     root.mkdir()
     found = [Package(one.file, tuple(place_members(one.archive, root, one.file))) for one in packages]
     return Side(root, tuple(library for package in found for library in libraries(package, root)))
 
 
 def _is_small(archive: tarfile.TarFile) -> bool:
-    """Whether the files of an archive take no more than they may. A file with holes takes more than the archive has, and so does each
-    other name of a file."""
+    """Whether the files of an archive stay below the limit. Sparse files count with their full size, and an archive with hard links is
+    not small, since each name would take as much again."""
     return sum(_LARGEST + 1 if member.islnk() else member.size for member in archive.getmembers()) <= _LARGEST
 
 
 def _archive(package: DebFile, name: str, most: int) -> Optional[tarfile.TarFile]:
-    """An archive of a package, inflated; none where it takes more memory than it may."""
+    """An archive of a package, inflated; None if it takes more memory than it may."""
     member = package.getmember(next(one for one in package.getnames() if one.startswith(name)))
     plain = _inflated(member.read(), member.name.removeprefix(name), most)
     return None if plain is None else tarfile.open(fileobj=io.BytesIO(plain), mode="r:")
 
 
 def _inflated(packed: bytes, suffix: str, most: int) -> Optional[bytes]:
-    """Inflated bytes; none where there are more of them, where something stands behind them, or where nobody knows how."""
+    """The inflated bytes; None if there are more than `most`, if other bytes follow them, or if the compression is unknown."""
     if suffix == "":
         return packed if len(packed) <= most else None
     if suffix == ".gz":
@@ -93,7 +93,7 @@ def _inflated(packed: bytes, suffix: str, most: int) -> Optional[bytes]:
 
 
 def _inflated_zstandard(packed: bytes, most: int) -> Optional[bytes]:
-    """The same of zstd, where its library is there."""
+    """The same for zstd, if its library is installed."""
     try:
         import zstandard  # pylint: disable=import-outside-toplevel
     except ImportError:

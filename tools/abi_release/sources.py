@@ -1,4 +1,4 @@
-"""What the folders of two releases hold: packages or unpacked trees, by their names, and which belongs to which."""
+"""What the folders of two releases hold: packages or unpacked trees, by name, and how they are paired."""
 
 from __future__ import annotations
 
@@ -17,23 +17,23 @@ from abi_tools.faults import Fault
 _SUFFIXES = (".deb", ".ddeb", ".rpm")
 _DEB_NAME = re.compile(r"([^_]+)_([^_]+)_([^_]+)\.d?deb")
 _RPM_NAME = re.compile(r"(.+)-([^-]+-[^-]+)\.([^.]+)\.rpm")
-# Packages for x86-64, and those without code for a processor.
+# Packages for x86-64, and those for all architectures.
 _ARCHITECTURES = ("amd64", "all", "x86_64", "noarch")
-# Packages of debug information, which are read beside those of libraries: of one package, and of several of one source.
+# The suffixes of packages with debug information: for one package, and for several packages of one source.
 _DEBUG_OF_ONE = ("-dbgsym", "-dbg", "-debuginfo")
 _DEBUG_OF_SEVERAL = ("-dbg", "-debuginfo", "-debuginfo-common", "-debugsource")
 _DEBUG = tuple({*_DEBUG_OF_ONE, *_DEBUG_OF_SEVERAL})
-# What stands in the root of an unpacked system or package, and the name of one that is the whole folder.
+# Folders in the root of an unpacked system or package, and the name of a tree that is the whole folder.
 _ROOT_FOLDERS = ("usr", "lib", "lib64", "bin", "opt")
 _ROOT = "root"
-# Between the names of two packages, of which the second brings a library that the first one brought.
+# Stands between the names of two packages if a library moved from the first to the second.
 MOVED = " -> "
 
 
 class Work(NamedTuple):
-    """Two packages of a name, to be judged: of each side the names of files below the side's folder, first that of the package
-    and then those of its debug information, or that of one folder; none where a side has no such package. Where `only` has
-    names, only the libraries of these names are judged."""
+    """Two packages to judge, old and new. Each side has names below its folder: that of the package and then those of its debug
+    information, or that of one tree; or none, if the side has no such package. If `only` is not empty, only the libraries that it
+    names are judged."""
 
     name: str
     old: tuple[str, ...]
@@ -43,7 +43,7 @@ class Work(NamedTuple):
 
 @dataclass(frozen=True)
 class _File:
-    """A file of a package, by its name: the package's name, version and architecture."""
+    """A package file: where it is, and the package's name, version and architecture, all from the name of the file."""
 
     place: str
     name: str
@@ -57,14 +57,14 @@ class _File:
 
 @dataclass
 class Release:
-    """The packages of a folder, with the files of each, and how many files are of other architectures or of older versions."""
+    """The packages of a folder with the files of each, and how many files were skipped: other architectures, and older versions."""
 
     packages: dict[str, tuple[str, ...]] = field(default_factory=dict)
     passed_over: Counter[str] = field(default_factory=Counter)
 
     @classmethod
     def of(cls, folder: Path) -> "Release":
-        """What a folder holds. Raises a fault if that is neither packages nor trees."""
+        """The release in a folder. Raises a fault if the folder holds neither packages nor trees."""
         if not folder.is_dir():
             raise Fault(f"there is no folder {folder}")
         release = cls()
@@ -78,7 +78,7 @@ class Release:
         return release
 
     def _newest(self, files: Iterator[_File]) -> dict[str, _File]:
-        """The newest file of each name, of the architectures that are read."""
+        """The newest file of each package name, for the architectures that are read."""
         found: dict[str, _File] = {}
         for file in files:
             if file.architecture not in _ARCHITECTURES:
@@ -92,7 +92,7 @@ class Release:
         return found
 
     def _take_packages(self, files: dict[str, _File]) -> None:
-        """Puts packages beside those of their debug information: of the package's name, or else those of the same folder and
+        """Joins each package with those of its debug information: those for its own name, or else those of the same folder and
         version."""
         shared: dict[tuple[str, str], list[str]] = {}
         for file in files.values():
@@ -108,13 +108,13 @@ class Release:
 
 
 def works(old: Release, new: Release) -> list[Work]:
-    """The packages of both sides, paired by name, in the order of their names."""
+    """The packages of both sides, paired and sorted by name."""
     return [Work(name, old.packages.get(name, ()), new.packages.get(name, ()))
             for name in sorted({*old.packages, *new.packages})]
 
 
 def _package_files(folder: Path) -> Iterator[str]:
-    """The names of the files of packages below a folder."""
+    """The names of the package files below a folder."""
     for at, folders, files in os.walk(folder):
         folders.sort()
         for name in sorted(files):
@@ -123,7 +123,7 @@ def _package_files(folder: Path) -> Iterator[str]:
 
 
 def _file(place: str) -> _File:
-    """What the name of a file says of its package. A name of another form is that of a package without a version."""
+    """Reads the name of a package file. A name of an unknown form counts as a package without a version."""
     name = os.path.basename(place)
     fields: Optional[re.Match[str]] = _DEB_NAME.fullmatch(name) or _RPM_NAME.fullmatch(name)
     if fields is None:
@@ -132,7 +132,7 @@ def _file(place: str) -> _File:
 
 
 def _is_newer(version: str, other: str) -> bool:
-    """Whether a version is newer than another one, in the order of Debian's versions, or that of texts where one is none."""
+    """Whether a version is newer than another one, in Debian's order, or as text if one is not a Debian version."""
     try:
         return bool(Version(version) > Version(other))
     except ValueError:
@@ -140,7 +140,7 @@ def _is_newer(version: str, other: str) -> bool:
 
 
 def _trees(folder: Path) -> dict[str, tuple[str, ...]]:
-    """The trees of a folder: the folder itself, where it is the root of one, or else each folder in it."""
+    """The trees of a folder: the folder itself if it is the root of one, or else each folder in it."""
     if any((folder / name).is_dir() for name in _ROOT_FOLDERS):
         return {_ROOT: (".",)}
     names = sorted(entry.name for entry in os.scandir(folder) if entry.is_dir() and not entry.name.startswith("."))

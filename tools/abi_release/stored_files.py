@@ -1,4 +1,4 @@
-"""The folder of a run: files that are there whole or not at all, and what earlier runs left in it."""
+"""The folder of a run: its files exist whole or not at all, and later runs find what earlier runs left in it."""
 
 from __future__ import annotations
 
@@ -16,21 +16,21 @@ from abi_tools.faults import Fault
 
 Json = dict[str, Any]
 _PERMISSIONS = 0o644
-# Folders of what a run has begun, which the next run clears.
+# Folders for work in progress, which the next run clears.
 _BEGUN = ("started", "opened", "unfinished")
-# Names of files that are written: no other process has one of these, on no machine.
+# Part of the names of unfinished files: no other process on any machine uses the same.
 _OWN_NAME = os.urandom(8).hex()
 _NUMBERS = itertools.count()
 _SUFFIXES = {"certificate": "cert", "report": "report"}
 
 
 class Store:
-    """A folder with a result for each pair of libraries (`results`), a record for each pair of packages (`packages`), and what a
-    run has begun (`started`, `opened`, `unfinished`).
+    """A folder with a result for each pair of libraries (`results`), a record for each pair of packages (`packages`), the answers of
+    `abi app` (`apps`), and work in progress (`started`, `opened`, `unfinished`).
 
-    A file gets its name once all its bytes are written. Only the tables are forced to the disk, since to wait for the disk at each
-    file takes longer than to judge small libraries: what a machine that lost power left in pieces is told by its form and by the
-    digests in results, and counts as missing.
+    A file gets its name once it is complete. Only the tables are forced to the disk, since waiting for the disk at each file takes
+    longer than judging small libraries. If a machine loses power, a damaged file does not parse or does not match the digests in its
+    result, and counts as missing.
     """
 
     def __init__(self, folder: Path) -> None:
@@ -38,8 +38,8 @@ class Store:
         self._unfinished = folder / "unfinished"
 
     def open(self) -> int:
-        """Makes the folder, takes away what a killed run left unfinished, and answers a lock, which the process keeps. Raises a
-        fault if another run has it."""
+        """Makes the folder, removes what a killed run left unfinished, and returns a lock, which the process keeps. Raises a fault if
+        another run holds it."""
         for name in ("results", "packages", "apps", *_BEGUN):
             (self.folder / name).mkdir(parents=True, exist_ok=True)
         lock = os.open(self.folder / "lock", os.O_RDWR | os.O_CREAT | os.O_CLOEXEC, _PERMISSIONS)
@@ -54,12 +54,12 @@ class Store:
         return lock
 
     def put(self, name: str, contents: bytes) -> None:
-        """Writes a file of the folder: apart, and with its name only once it is written. Raises what the system says where it cannot
-        be written."""
+        """Writes a file of the folder under a temporary name, and renames it once it is complete. Raises OSError if it cannot be
+        written."""
         self._put(name, lambda stream: stream.write(contents), is_forced=False)
 
     def write(self, name: str, writer: Callable[[TextIO], None]) -> None:
-        """Writes a text so, piece by piece, and forces it to the disk."""
+        """Writes a text in the same way, piece by piece, and forces it to the disk."""
 
         def write(stream: BinaryIO) -> None:
             text = io.TextIOWrapper(stream, encoding="utf-8", errors="surrogateescape", write_through=False)
@@ -85,11 +85,11 @@ class Store:
             raise
 
     def put_json(self, name: str, value: Json) -> None:
-        """Writes a value so."""
+        """Writes a value in the same way, as JSON."""
         self.put(name, json.dumps(value, sort_keys=True).encode())
 
     def json(self, name: str) -> Optional[Json]:
-        """A value that stands in a file; none where there is none, or no such value."""
+        """The JSON object in a file; None if there is no file, or no object in it."""
         try:
             value = json.loads((self.folder / name).read_bytes())
         except (OSError, ValueError):
@@ -97,7 +97,7 @@ class Store:
         return value if isinstance(value, dict) else None
 
     def put_result(self, place: str, result: Json, kind: str, text: bytes) -> None:
-        """Writes the result of two libraries, and before it the certificate or report, whose name the result gets."""
+        """Writes the certificate or report of two libraries, and then their result, which names it."""
         files = {}
         if kind:
             result[kind] = f"{place}.{_SUFFIXES[kind]}"
@@ -106,7 +106,7 @@ class Store:
         self.put_json(f"{place}.json", {**result, "files": files})
 
     def result(self, place: str) -> Optional[Json]:
-        """The result of two libraries; none where it is not there, or its certificate or report is not."""
+        """The result of two libraries; None if it, or its certificate or report, is missing or damaged."""
         result = self.json(f"{place}.json")
         if result is None or "files" not in result:
             return None
@@ -120,7 +120,7 @@ class Store:
         return result
 
     def begin(self, task: str, library: str) -> None:
-        """Notes that a task has begun, and which library it judges now, for the case that the worker dies over it."""
+        """Notes that a task has begun, and which library it is judging, in case the worker dies."""
         file = os.open(self._started(task), os.O_WRONLY | os.O_CREAT | os.O_TRUNC | os.O_CLOEXEC, _PERMISSIONS)
         try:
             if library:
@@ -129,7 +129,7 @@ class Store:
             os.close(file)
 
     def begun(self, task: str) -> Optional[str]:
-        """Which library a task was judging: an empty name where it was none yet, and none where the task had not begun."""
+        """The library that a task was judging: empty if it had not come to one, and None if the task had not begun."""
         try:
             return os.fsdecode(Path(self._started(task)).read_bytes())
         except OSError:
@@ -144,12 +144,12 @@ class Store:
         return f"{self.folder}/started/{hashlib.sha256(os.fsencode(task)).hexdigest()}"
 
     def drop(self, name: str) -> None:
-        """Takes a file away."""
+        """Removes a file."""
         (self.folder / name).unlink(missing_ok=True)
 
 
 def _rename(temporary: str, place: str) -> None:
-    """Gives a file its name. A folder of results is made once it is needed."""
+    """Gives a file its name, and makes its folder if it is missing."""
     try:
         os.rename(temporary, place)
     except FileNotFoundError:
@@ -163,15 +163,15 @@ def record_name(work: str) -> str:
 
 
 def opened_name(work: str) -> str:
-    """The file of what is known of two packages while their libraries are judged."""
+    """The file of the unfinished record of two packages, while their libraries are judged."""
     return f"opened/{work}.json"
 
 
 def app_name(hit: str, work: str) -> str:
-    """The file of what the programs of a package are to the libraries of two others."""
+    """The file of the answers of `abi app` for the programs of the package `hit` and the libraries of the packages `work`."""
     return f"apps/{hit} asks {work}.json"
 
 
 def result_name(old: str, new: str, rules: str) -> str:
-    """The file of the result of two libraries under a rule file, by their digests, without its suffix."""
+    """The file, without its suffix, of the result of two libraries under a rule file, by their digests."""
     return f"results/{old[:2]}/{old}-{new}-{rules}"

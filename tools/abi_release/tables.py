@@ -1,4 +1,4 @@
-"""The lines of a run, from its records: as text, and as JSON by `docs/release.schema.json`."""
+"""The lines of a run, from its records, as text and as JSON that follows `docs/release.schema.json`."""
 
 from __future__ import annotations
 
@@ -16,13 +16,13 @@ from abi_release.sources import MOVED, Work
 from abi_release.stored_files import Json, Store, record_name
 from abi_tools.verdicts import Verdict
 
-# What a line measures, which is another thing on each run.
+# The member of a line with measurements, which differ from run to run.
 MEASURED = "measured"
 
 
 def moved(works: Sequence[Work], store: Store, failures: Mapping[str, Failure]) -> list[Work]:
-    """The libraries that another package brings now, as packages to be judged: those that are gone from one package and new in
-    another one, each of one name on both sides."""
+    """The libraries that moved to another package, as pairs of packages to judge: a library moved if exactly one old package lost it and
+    exactly one new package got it."""
     places: dict[str, dict[str, list[int]]] = {GONE: {}, NEW: {}}
     for number, work in enumerate(works):
         record = None if work.name in failures else store.json(record_name(work.name))
@@ -40,8 +40,8 @@ def moved(works: Sequence[Work], store: Store, failures: Mapping[str, Failure]) 
 
 @dataclass
 class Table:
-    """The lines of a run, in the order of the packages and of the libraries in them. It holds no line, but reads them as often as it
-    is asked, and counts them the first time."""
+    """The lines of a run, sorted by package and by library. It holds no lines: it reads them again for each use, and counts them at
+    the start."""
 
     works: Sequence[Work]
     moves: Sequence[Work]
@@ -62,7 +62,7 @@ class Table:
                 self.hits.take_needs(record)
 
     def _records(self) -> Iterator[tuple[Json, Iterator[Json]]]:
-        """The record of each two packages, and the lines of it that count."""
+        """The record of each pair of packages, and its lines that count."""
         for work in sorted((*self.works, *self.moves)):
             failure = self.failures.get(work.name)
             record = None if failure else self.store.json(record_name(work.name))
@@ -74,13 +74,13 @@ class Table:
                 yield record, self._counted(record)
 
     def _counted(self, record: Json) -> Iterator[Json]:
-        """The lines of a record without libraries that moved, whose lines stand in another record."""
+        """The lines of a record, without those of libraries that moved, which have a line in another record."""
         for line in sorted(record["lines"], key=lambda one: str(one["library"])):
             if line["answer"] not in (GONE, NEW) or (record["name"], line["library"]) not in self._moved:
                 yield line
 
     def lines(self) -> Iterator[Json]:
-        """All lines, with who is hit."""
+        """All lines, with the packages that are hit."""
         for record, lines in self._records():
             name = record["name"]
             old, new = record["versions"]
@@ -91,12 +91,12 @@ class Table:
                 yield {**whole, "hit": hit} if hit else whole
 
     def asks(self) -> list[Ask]:
-        """What `abi app` can say of who is hit."""
+        """The tasks that ask `abi app` which packages are hit."""
         return self.hits.asks({work.name: work for work in (*self.works, *self.moves)})
 
     def verdict(self) -> Verdict:
-        """No where one library has it or is gone, else that it cannot be told where that is so of one, or where none was compared,
-        else yes."""
+        """No if one library has that answer or is gone; else cannot tell if one has that answer or was not judged, or if none was
+        compared; else yes."""
         if self.counts[Verdict.NO.words()] or self.counts[GONE]:
             return Verdict.NO
         if self.counts[NOT_JUDGED] or self.counts[Verdict.CANNOT_TELL.words()] or not self.counts[Verdict.YES.words()]:
@@ -104,7 +104,7 @@ class Table:
         return Verdict.YES
 
     def summary(self) -> str:
-        """How many libraries there were of each kind."""
+        """How many lines have each answer."""
         said = ", ".join(f"{count} {word}" for word, count in sorted(self.counts.items()))
         count = sum(self.counts.values())
         return f"{count} line{'s' if count != 1 else ''}{': ' + said if said else ''}"
@@ -115,7 +115,7 @@ def _empty(name: str) -> Json:
 
 
 def text_of(line: Json) -> str:
-    """A line for people."""
+    """A line as text."""
     parts = []
     if "compared" in line:
         parts.append(f"{line['compared']} exports compared, {line['typed']} with types")
@@ -142,7 +142,7 @@ def text_of(line: Json) -> str:
 
 
 def parted_hits(line: Json) -> tuple[list[Json], list[Json]]:
-    """The packages that a break hits, and those that depend on the library but have programs that survive it, as `abi app` says."""
+    """The packages that a break hits, and the packages that it spares: `abi app` says that their programs survive it."""
     parted: tuple[list[Json], list[Json]] = [], []
     for one in line.get("hit", ()):
         parted[one.get("app", {}).get("answer") == Verdict.YES.words()].append(one)
@@ -164,7 +164,7 @@ def write_text(table: Table, stream: TextIO) -> None:
 
 
 def write_json(table: Table, head: Json, stream: TextIO) -> None:
-    """Writes the table as JSON, a line each, with a digest of all lines without what they measure."""
+    """Writes the table as JSON, one line of text for each line, with a digest of all lines without their measurements."""
     digest = hashlib.sha256()
     stream.write(json.dumps(head, sort_keys=True)[:-1] + ', "lines": [')
     for number, line in enumerate(table.lines()):

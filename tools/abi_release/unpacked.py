@@ -1,4 +1,4 @@
-"""Two packages, unpacked on a worker. Each thread keeps the last ones, so that it unpacks once where it judges many of their libraries."""
+"""Two packages, unpacked on a worker. Each thread keeps the last pair, so that it unpacks once to judge many of their libraries."""
 
 from __future__ import annotations
 
@@ -20,8 +20,8 @@ _Key = tuple[str, Work, tuple[str, ...]]
 
 
 class Unpacked:
-    """Two packages on a worker: `work` of a release with these files, and the pairs of their libraries that count. `folder` is where
-    libraries stand that are judged."""
+    """Two packages on a worker: their files, and the pairs of their libraries to judge. In `folder` are the joined libraries that `abi`
+    reads."""
 
     def __init__(self, work: Work, places: Sequence[Sequence[Path]]) -> None:
         self.places = places
@@ -37,7 +37,7 @@ class Unpacked:
         self.pairs = {pair.name: pair for pair in pairs(*self.sides) if not work.only or pair.name in work.only}
 
     def _small_sides(self) -> Optional[tuple[Side, ...]]:
-        """Both sides, unpacked to memory; none where they are not small, or no memory is there for files."""
+        """Both sides, unpacked to memory; None if a package is not small, or if there is no room in memory."""
         memory = workers.memory_folder()
         if memory is None:
             return None
@@ -69,19 +69,20 @@ class Unpacked:
             self._trees = None
 
     def plain(self, reason: str) -> str:
-        """A reason without the names of folders of the worker."""
+        """A reason without the names of the worker's folders."""
         trees = reason if self._trees is None else reason.replace(f"{self._trees.name}/", "")
         return trees.replace(f"{self.folder}/", "")
 
     def joined(self, pair: Pair) -> tuple[Path, Path, list[str]]:
-        """The files of two libraries, joined with their debug information, by their names in the folder, and why that was not done."""
+        """Writes both libraries, joined with their debug information, to the folder. Returns their names in it, and for each library why
+        it could not be joined (empty if it was)."""
         name = pair.name.replace("/", "_")
         reasons = [put_joined(library, side, self.folder / place / name)
                    for library, side, place in zip((pair.old, pair.new), self.sides, _SIDES)]
         return Path(_SIDES[0], name), Path(_SIDES[1], name), reasons
 
     def kept(self, pair: Pair) -> tuple[Path, Path]:
-        """The same files, which stay there."""
+        """The same files, which stay in the folder."""
         files = self._kept.get(pair.name)
         if files is None:
             files = self._kept[pair.name] = self.joined(pair)[:2]
@@ -92,7 +93,7 @@ class Unpacked:
         return tree_names(self.sides[0].root) if self.places[0] else []
 
     def close(self) -> None:
-        """Takes away what was unpacked, and the files in the folder."""
+        """Removes what was unpacked, and the files in the folder."""
         self._drop_trees()
         for folder in (self.folder, *(self.folder / side for side in _SIDES)):
             for entry in os.scandir(folder):
@@ -100,12 +101,12 @@ class Unpacked:
                     os.unlink(entry)
 
 
-# The folder of each thread, in which libraries are judged. To make and remove one for each pair takes longer than to unpack.
+# Each thread's folder for joined libraries. It is kept, since making and removing one for each pair takes longer than unpacking.
 _FOLDERS: dict[tuple[int, int, str], tempfile.TemporaryDirectory[str]] = {}
 
 
 def _work_folder() -> Path:
-    """The folder of this thread, which has no files now."""
+    """The folder of this thread, which has no files at this point."""
     key = os.getpid(), threading.get_ident(), workers.folder()
     if key not in _FOLDERS or not os.path.isdir(_FOLDERS[key].name):
         _FOLDERS[key] = tempfile.TemporaryDirectory(prefix="abi-release-", dir=workers.folder())
@@ -119,8 +120,8 @@ _LAST: dict[int, tuple[_Key, Unpacked]] = {}
 
 
 def unpacked(run: str, work: Work, places: Sequence[Sequence[Path]], identity: Sequence[str]) -> Unpacked:
-    """Two packages, for the run with this folder of results: those that the thread unpacked last, where they are these, as their
-    digests say. Raises a fault if one is damaged."""
+    """Two packages, unpacked for the run with this folder of results. They are reused if the thread unpacked the same ones last, by their
+    digests. Raises a fault if one is damaged."""
     key = (run, work, tuple(identity))
     known = _LAST.get(threading.get_ident())
     if known is None or known[0] != key:
@@ -130,14 +131,14 @@ def unpacked(run: str, work: Work, places: Sequence[Sequence[Path]], identity: S
 
 
 def let_go() -> None:
-    """Takes away what the thread unpacked last."""
+    """Removes what the thread unpacked last."""
     known = _LAST.pop(threading.get_ident(), None)
     if known is not None:
         known[1].close()
 
 
 def let_go_of(run: str) -> None:
-    """Takes away what all threads unpacked last for a run, which is over."""
+    """Removes what all threads unpacked last for a run that is over."""
     for thread, (key, packages) in list(_LAST.items()):
         if key[0] == run:
             del _LAST[thread]
@@ -145,7 +146,7 @@ def let_go_of(run: str) -> None:
 
 
 def _side(places: Sequence[Path], root: Path) -> Side:
-    """The packages of a side, unpacked, or the tree that it is."""
+    """A side: its packages, unpacked, or its tree."""
     if len(places) == 1 and places[0].is_dir():
         package = Package(places[0], tuple(tree_names(places[0])))
         return Side(places[0], tuple(libraries(package, places[0])))

@@ -1,4 +1,4 @@
-"""What holds of a worker's process: where it unpacks packages, and how much memory and time it may take."""
+"""A worker's process: where it unpacks packages, and how much memory and time it may take."""
 
 from __future__ import annotations
 
@@ -14,15 +14,15 @@ _PAGE = resource.getpagesize()
 
 
 class _Own:
-    """Whether the worker belongs to this run alone, so that its process may be limited, and the run's folder in memory."""
+    """Whether the worker belongs to this run alone, so that the run may limit its process; and the run's folder in memory."""
 
     is_limited = False
     memory: Optional[str] = None
 
 
 class LimitPlugin(WorkerPlugin):
-    """Limits a worker of a run's own cluster, which has one thread: so many megabytes beside those that it has at the start, and the
-    time that tasks allow; and tells it where small packages may be unpacked to memory."""
+    """Limits a worker of a run's own cluster, which has one thread: to `megabytes` more than it has at the start, and to the time that
+    tasks allow. Also says where in memory the worker may unpack small packages."""
 
     def __init__(self, megabytes: int, memory: Optional[str]) -> None:
         self.name = "abi-release-limits"
@@ -41,19 +41,19 @@ class LimitPlugin(WorkerPlugin):
 
 
 def allow_more_time(seconds: int) -> None:
-    """Allows the process so many seconds of processor time from now on, where it is limited."""
+    """If the process is limited, allows it this many seconds of processor time from now on."""
     if _Own.is_limited:
         most = resource.getrlimit(resource.RLIMIT_CPU)[1]
         resource.setrlimit(resource.RLIMIT_CPU, (int(time.process_time()) + 1 + seconds, most))
 
 
 def memory_folder() -> Optional[str]:
-    """A folder in memory, which the run takes away; none where there is none."""
+    """A folder in memory, which the run removes; None if there is none."""
     return _Own.memory
 
 
 def folder() -> str:
-    """A folder of the worker, which Dask takes away with it."""
+    """A folder of the worker, which Dask removes when the worker ends."""
     try:
         return str(get_worker().local_directory)
     except ValueError:

@@ -1,4 +1,4 @@
-"""The blocks of a report: one for each changed type, function or export, with what changed and all exports that reach it."""
+"""The blocks of a report: one for each changed type, function or export, with its changes and the exports that reach it."""
 
 from __future__ import annotations
 
@@ -10,14 +10,14 @@ from abi_report.documents import Break, Document, Place
 from abi_report.records import Member
 from abi_report.subjects import GONE_RULES, Described, Side, Subject, Subjects
 
-# What the rows of a rule are about, where they speak of no part of a type.
+# What the rows of a rule are about, if they are not about a part of a type.
 _WORDS = {"L1": "kind of type", "L2": "size", "L3": "sort of number", "L4": "alignment", "L5": "tag", "L11": "elements",
           "L12": "parameters", "L13": "prototype is variadic", "X1": "soname", "X4": "kind of symbol", "X5": "size of the object"}
 _FIXED = {"X2": "the symbol is gone", "X3": "this version of the symbol is gone", "X6": "its type information is gone"}
 _ENUMERATORS = ("L9", "L10")
 _PARTS = ("L6", "L7", "L8")
 _STEP = " / "
-# The heads of lines on how large a type is and how it is aligned.
+# The heads of lines on the size and the alignment of a whole type.
 OF_WHOLE = (_WORDS["L2"], _WORDS["L4"])
 
 
@@ -27,9 +27,9 @@ Pair = tuple[Optional[Member], Optional[Member]]
 
 @dataclass(frozen=True)
 class Line:
-    """What changed in a type: the part of it, its types as C writes them, what is said of it, the breaks that say it (none where it
-    breaks nothing), where the part is declared in the old and in the new library, the part in both libraries where it is a member,
-    and whether another change only moved it."""
+    """A change in a type: the part that changed, its types as C writes them, the words for the change, its breaks (none if it breaks
+    nothing), where the part is declared in the old and the new library, both members if the part is a member, and whether another
+    change only moved it."""
 
     head: str
     types: str
@@ -47,7 +47,7 @@ class Line:
 
     @property
     def text(self) -> str:
-        """The types, and what is said of them."""
+        """The types, and the words for the change."""
         return ", ".join(word for word in (self.types, self.said) if word)
 
     @property
@@ -58,8 +58,8 @@ class Line:
 
 @dataclass
 class Block:
-    """A changed type, function or export: what it is, its breaks with the steps from it to what broke, its lines, and the exports from
-    which it was found among those that reach types of its members."""
+    """A changed type, function or export: its subject, its breaks with the steps from it to what broke, its lines, and those exports
+    reaching types of its members from which a search found the type itself."""
 
     subject: Subject
     found: list[tuple[Break, tuple[str, ...]]] = field(default_factory=list)
@@ -90,7 +90,7 @@ class Block:
 
     @property
     def member_exports(self) -> tuple[str, ...]:
-        """Further exports, which reach types of members, and perhaps by way of other types."""
+        """Further exports, which reach types of its members, but perhaps only through other types."""
         known = set(self.exports)
         return tuple(dict.fromkeys(label for one in self.breaks for label in one.exports if label not in known))
 
@@ -101,12 +101,12 @@ class Block:
 
     @property
     def names_all_exports(self) -> bool:
-        """Whether the document names all exports that reach the type or types of members."""
+        """Whether the document names all exports that reach the type or the types of its members."""
         return all(one.exports for one in self.breaks)
 
     @property
     def ways(self) -> dict[str, tuple[str, ...]]:
-        """The steps to the type, by the exports from which they are known."""
+        """The known ways to the type: for each export, the steps."""
         found: dict[str, tuple[str, ...]] = {}
         for one, rest in self.found:
             found.setdefault(one.export, one.steps[:len(one.steps) - len(rest)])
@@ -114,7 +114,7 @@ class Block:
 
     @property
     def is_gone(self) -> bool:
-        """Whether the block is of a symbol that is gone."""
+        """Whether the block is about a symbol that is gone."""
         return self.subject.kind == "export" and self.first.rule in GONE_RULES
 
     @property
@@ -153,8 +153,8 @@ class Lines:
         self._enumerators = [_enumerators(side, one) for side, one in described]
 
     def all(self) -> list[Line]:
-        """First what is said of the type itself, and then of its parts, also what changed beside the breaks, in the order of their
-        declaration."""
+        """First the lines on the type itself, and then those on its parts, in the order of declaration. Some parts changed without a
+        break."""
         own: list[Line] = []
         parts: dict[str, list[tuple[Break, tuple[str, ...]]]] = {}
         for one, rest in self._block.found:
@@ -168,14 +168,13 @@ class Lines:
         return own + sorted(lines, key=lambda line: order.get(line.head.split(_STEP)[0], len(order)))
 
     def _declared(self) -> list[str]:
-        """The parts of the type in the order of their declaration: those of the old one, and each new one behind the one that stands
-        before it."""
+        """The parts of the type in the order of declaration: the old parts, and each new part after the one that precedes it."""
         members = [[f"member {label}" for label in side] for side in self._members]
         enumerators = [[f"enumerator {name}" for name in side] for side in self._enumerators]
         return [*merged(*members), *merged(*enumerators), "result"]
 
     def _own(self, one: Break) -> Line:
-        """What is said of the type, function or export itself."""
+        """The line on the type, function or export itself."""
         subject = self._block.subject
         places = (subject.old.place, subject.new.place)
         if one.rule in _FIXED:
@@ -183,12 +182,12 @@ class Lines:
         return Line(_WORDS.get(one.rule, one.name), "", _amount(one, change_of(one)) or one.detail, (one,), *places)
 
     def _part(self, head: str, found: Sequence[tuple[Break, tuple[str, ...]]]) -> Line:
-        """What is said of a member, an enumerator, a parameter or a result."""
+        """The line on a member, an enumerator, a parameter or a result."""
         first, rest = found[0]
         label = _member_label(first, rest)
         old, new = (members.get(label or "") for members in self._members)
         rules = {one.rule for one, _ in found}
-        # The size of a part of the member is not its own.
+        # If a part of the member broke, the size in the break is not the member's.
         sizes = "" if len(rest) > 1 else _sizes(old, None if "L6" in rules else new)
         unsaid = ("L6", "L7", "L2") if sizes else ("L6", "L7")
         said = ["gone" if "L6" in rules else "", sizes, *(_said(one, left) for one, left in found if one.rule not in unsaid)]
@@ -203,7 +202,7 @@ class Lines:
             names = [side.type_name(side.entry(offset), offset)
                      for side, offset in zip(self._sides, (one.old_entry, one.new_entry))]
         else:
-            # The width of a bit field that changed is said beside its type.
+            # If the width of a bit field changed, the line says so in other words, so its type has no width.
             names = [None if member is None else member.type_name if one.rule == "L8" else member.declaration for member in (old, new)]
         first, second = names
         if first is not None and (second is not None or one.rule == "L6"):
@@ -211,8 +210,8 @@ class Lines:
         return ""
 
     def _beside(self, heads: set[str]) -> Iterable[Line]:
-        """The members that no break names and whose size changed, since a report has a break of two types once; and those that only
-        the new type has, which break nothing by themselves."""
+        """The members whose size changed but that no break names, since a report has a break of two types only once; and the members
+        that only the new type has, which break nothing by themselves."""
         before, after = self._members
         if self._block.subject.kind != "record" or not before or not after:
             return
@@ -247,7 +246,7 @@ def _enumerators(side: Side, described: Described) -> dict[str, int]:
 
 
 def merged(old: Sequence[str], new: Sequence[str]) -> list[str]:
-    """The names of both: the old ones in their order, and each new one behind the one that stands before it."""
+    """The names of both: the old ones in order, and each new one after the name that precedes it."""
     order = list(old)
     known = set(old)
     for before, name in zip(["", *new], new):
@@ -275,7 +274,7 @@ def _member_label(one: Break, rest: Sequence[str]) -> Optional[str]:
 
 
 def _amount(one: Break, change: Change) -> str:
-    """What was and is, as people say it for a rule."""
+    """The old and the new value, in words that fit the rule."""
     if one.rule == "L4":
         words = ["none" if value in ("0", None) else f"{value} bytes" for value in (change.was, change.now)]
         return " -> ".join(words)
@@ -283,7 +282,7 @@ def _amount(one: Break, change: Change) -> str:
 
 
 def _said(one: Break, rest: Sequence[str]) -> str:
-    """What a break says of a part beside its types and its place."""
+    """What a break says of a part besides its types and its place."""
     change = change_of(one)
     amount = _amount(one, change)
     if one.rule == "L8":
@@ -305,7 +304,7 @@ def _places(old: Optional[Member], new: Optional[Member]) -> tuple[Optional[Plac
 
 
 def _place_of_member(found: Iterable[tuple[Break, tuple[str, ...]]], old: Optional[Member], new: Optional[Member]) -> str:
-    """Where a member stood and stands."""
+    """The place of a member in both structures."""
     for one, _ in found:
         change = change_of(one)
         if one.rule == "L7" and change.was is not None and change.now is not None:
@@ -316,7 +315,7 @@ def _place_of_member(found: Iterable[tuple[Break, tuple[str, ...]]], old: Option
 
 
 def _sizes(old: Optional[Member], new: Optional[Member]) -> str:
-    """How large a member was and is; nothing of bit fields, whose types have their widths, and of what has no size."""
+    """The sizes of a member in both libraries. Empty for bit fields, whose types show their widths, and for members without a size."""
     found = [member.width for member in (old, new) if member is not None and not member.is_bit_field and member.width]
     if not found:
         return ""

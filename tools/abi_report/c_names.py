@@ -9,20 +9,20 @@ from abi_report.entries import Entries, Entry
 _TAGGED = {"structure_type": "struct", "union_type": "union", "enumeration_type": "enum"}
 _QUALIFIERS = {"const_type": "const", "volatile_type": "volatile", "restrict_type": "restrict", "atomic_type": "_Atomic"}
 _FUNCTIONS = ("subroutine_type", "subprogram")
-# Types are written so deep; what lies deeper is left out.
+# Types are written to this depth; deeper parts are left out.
 _DEEPEST = 24
 _LEFT_OUT = "..."
 
 
 class Names:
-    """The names of the types of a library."""
+    """Writes the types of a library as C does."""
 
     def __init__(self, entries: Entries) -> None:
         self._entries = entries
         self._typedefs: dict[int, dict[int, str]] = {}
 
     def of(self, offset: Optional[int], inner: str = "") -> str:
-        """The type whose entry begins at an offset, none being void, as C declares `inner` to be of that type."""
+        """A declaration of `inner` with the type whose entry is at the offset; None stands for void."""
         return self._declared(offset, inner, _DEEPEST)
 
     def prototype(self, function: Entry) -> str:
@@ -46,7 +46,7 @@ class Names:
         return _joined(self.plain(entry), inner)
 
     def plain(self, entry: Entry) -> str:
-        """A type that has a name of its own: a tag with its keyword, or one word. One without a tag is named by a typedef of it."""
+        """A type with a name of its own: a keyword and a tag, or one word. A type without a tag gets the name of a typedef of it."""
         keyword = _TAGGED.get(entry.tag)
         if keyword is None:
             return entry.name or _LEFT_OUT
@@ -95,7 +95,7 @@ class Names:
 
 
 def count_of(subrange: Entry) -> Optional[int]:
-    """How many elements a dimension of an array has, where that is known."""
+    """How many elements a dimension of an array has, if that is known."""
     count = subrange.number("count")
     if count is not None:
         return count

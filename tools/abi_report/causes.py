@@ -1,4 +1,4 @@
-"""Which types changed by themselves, and which only because they hold others that did."""
+"""Which types changed by themselves, and which only because they hold other types that changed."""
 
 from __future__ import annotations
 
@@ -9,11 +9,11 @@ from abi_report.documents import Place
 from abi_report.entries import Entry
 from abi_report.subjects import Described, Side
 
-# Rules of functions that break where a type is passed elsewhere.
+# Rules that a function breaks if a type is passed in another place.
 _OF_PLACES = ("L14",)
 _DEEPEST = 64
 
-# How a type of the old library is known in all units: its name, and its place where the library says any.
+# What identifies a type of the old library across units: its name, and its place if the library has places.
 _Key = tuple[str, Optional[Place]]
 
 
@@ -29,14 +29,14 @@ class Causes:
         self._held = {id(block): list(self._held_by(block)) for block in blocks}
 
     def ordered(self) -> list[Block]:
-        """The blocks: first of what changed by itself, then of what changed because of that, and each behind those that it holds."""
+        """The blocks: first those that changed by themselves, then those that changed because of them; each after those that it holds."""
         found: dict[int, Block] = {}
         for block in self._blocks:
             self._visit(block, found)
         return sorted(found.values(), key=lambda block: not self.is_own(block))
 
     def _visit(self, block: Block, found: dict[int, Block]) -> None:
-        """Adds what a block holds, and it behind that."""
+        """Adds the blocks that a block holds, and then the block."""
         waiting = [block]
         entered: set[int] = set()
         while waiting:
@@ -56,11 +56,11 @@ class Causes:
         return not self._held[id(block)] or any(self._is_own_line(line) for line in block.lines)
 
     def _is_own_line(self, line: Line) -> bool:
-        """Whether a line is more than what a changed type below it makes."""
+        """Whether a line is more than the consequence of a changed type inside."""
         return line.head not in OF_WHOLE and not line.is_moved and self._type_of(line) is None
 
     def of(self, block: Block) -> list[Block]:
-        """The blocks of what changed by itself and is held by this one, also by way of others."""
+        """The blocks that changed by themselves and that this one holds, directly or through others."""
         found: dict[int, Block] = {}
         waiting = list(self._held[id(block)])
         entered = {id(block)}
@@ -76,7 +76,7 @@ class Causes:
         return list(found.values())
 
     def word(self, block: Block) -> str:
-        """What a type did, of which others changed."""
+        """The verb for a type that made others change: grew, shrank or changed."""
         sizes = [side.records.size(described.offset) if side.records is not None else 0
                  for side, described in ((self._old, block.subject.old), (self._new, block.subject.new))]
         if not all(sizes) or sizes[0] == sizes[1]:
@@ -86,7 +86,7 @@ class Causes:
     # ---- what is held by value
 
     def _held_by(self, block: Block) -> Iterator[Block]:
-        """The blocks of types that are parts of a type, or that a function takes or gives by value."""
+        """The blocks of types that a type has as parts, or that a function takes or returns by value."""
         entry = block.subject.old.entry
         if block.subject.kind == "function":
             found: Iterable[Optional[Block]] = map(self._type_at, _passed(self._old, entry) if entry is not None else ())
@@ -95,7 +95,7 @@ class Causes:
         yield from {id(one): one for one in found if one is not None and one is not block}.values()
 
     def _type_of(self, line: Line) -> Optional[Block]:
-        """The block of the type of a member that is declared as before and has another size."""
+        """The block of a member's type, if the member is declared as before and has another size."""
         old, new = line.members
         if old is None or new is None or old.declaration != new.declaration or old.width == new.width:
             return None

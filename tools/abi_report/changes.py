@@ -1,6 +1,6 @@
-"""What a break says changed: the part of the type, what it was and is, and in which unit.
+"""What a break says has changed: the part of the type, its old and new value, and their unit.
 
-The members `part`, `was` and `is` of a document say it. Where it has none, the words of the row do, whose form
+The members `part`, `was` and `is` of a document say it. If a break has none, the words of its row do, whose form
 docs/SPECIFICATION.md fixes.
 """
 
@@ -13,7 +13,7 @@ from typing import Optional
 from abi_report.documents import Break
 
 _BITS_OF_BYTE = 8
-# The unit of the numbers in the rows of each rule, and what stands before them.
+# The unit of the numbers in the rows of each rule.
 _UNITS = {"L2": "bytes", "L4": "bytes", "L7": "bits", "L8": "bits", "L10": "number", "L11": "count", "L12": "count", "X5": "bytes"}
 _PARTED = re.compile(r"(?P<words>.*?) ?(?P<was>[^ ]+), now (?P<now>[^ ]+)")
 _PARTS = {"L6": re.compile(r"member (?P<part>.*) gone"), "L9": re.compile(r"enumerator (?P<part>.*) gone"),
@@ -24,7 +24,7 @@ _NONE = "none"
 
 @dataclass(frozen=True)
 class Change:
-    """What changed: the part of the type, where it is one; what that was and is, where the break says it; the unit."""
+    """A change: the part of the type, if it is one; its old and new value, if the break says them; and the unit."""
 
     part: Optional[str]
     was: Optional[str]
@@ -33,7 +33,7 @@ class Change:
 
     @property
     def amount(self) -> str:
-        """What was and is, with the unit; `none` where there is nothing on one side."""
+        """The old and the new value with the unit; `none` stands for a missing value."""
         if self.was is None and self.now is None:
             return ""
         return f"{self.was or _NONE} -> {self.now or _NONE}{_suffix(self.unit)}"
@@ -44,7 +44,7 @@ def _suffix(unit: str) -> str:
 
 
 def change_of(one: Break) -> Change:
-    """What a break says changed."""
+    """What a break says has changed."""
     values = [value for value in (one.was, one.now) if value is not None]
     if values:
         was, now = (None if value is None else value.value for value in (one.was, one.now))
@@ -64,13 +64,13 @@ def _part(one: Break) -> Optional[str]:
 
 
 def _before_numbers(detail: str) -> str:
-    """What stands before what was."""
+    """The words before the old value."""
     found = _PARTED.fullmatch(detail)
     return detail if found is None else found["words"]
 
 
 def bit_place(bits: int) -> str:
-    """The place of a bit in a structure, in bytes where that is whole."""
+    """The place of a bit in a structure: a byte if the bit begins one, else a bit."""
     return f"byte {bits // _BITS_OF_BYTE}" if bits % _BITS_OF_BYTE == 0 else f"bit {bits}"
 
 
@@ -82,7 +82,7 @@ def size_of_bits(bits: int) -> str:
 
 
 def moved(was: str, now: str) -> str:
-    """Two places of a member, counted in bits."""
+    """The move of a member between two places, which are counted in bits."""
     old, new = int(was), int(now)
     if old % _BITS_OF_BYTE == 0 and new % _BITS_OF_BYTE == 0:
         return f"byte {old // _BITS_OF_BYTE} -> {new // _BITS_OF_BYTE}"

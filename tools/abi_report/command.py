@@ -13,22 +13,22 @@ from abi_tools.verdicts import Verdict
 from abi_report.runs import AbiJson, Digests
 
 _DESCRIPTION = """\
-Says whether a new build of a library may replace an old one, and what changed: a block for each changed type, with the lines of
-the source to look at and exports that reach it. The answer is that of `abi-json`, which the variable ABI_JSON names, or else the
-one on the PATH; for some answers `abi` is needed too (the variable ABI, or the PATH).
+Says whether a new build of a library may replace an old one, and what changed: a block for each changed type, with the lines of the
+source to look at and the exports that reach it. The answer comes from `abi-json`: the one that the variable ABI_JSON names, or else the
+one on the PATH. Some answers also need `abi` (the variable ABI, or the PATH).
 """
 _STATUSES = """\
 Exit status:
   0  yes: the new library may replace the old one
   1  no: the report says what changed
-  2  it cannot be told, and the first line says why: an input is refused or missing, or the answer would not rest on types, as
-     abi-gate says; also where the arguments are wrong
+  2  it cannot tell, and the first line says why: an input is refused or missing, or the answer would not rest on types, as for
+     abi-gate; also if the arguments are wrong
 """
 _FORMATS = ("text", "json", "html")
 
 
 def main(arguments: Sequence[str]) -> int:
-    """Reports as the arguments say, and answers the verdict."""
+    """Reports as the arguments say, and returns the verdict."""
     given = _parser().parse_args(arguments)
     inputs = [path for path in (given.old, given.new, given.rules) if path is not None]
     if given.certificate is not None:
@@ -37,7 +37,7 @@ def main(arguments: Sequence[str]) -> int:
         raise Fault(f"there is no folder {given.headers} of headers")
     with AbiJson().started(given.old, given.new, given.rules, not (given.fast or given.quiet)) as running:
         digests = None if given.quiet or given.format == "text" else Digests(inputs)
-        # The program judges while Python takes in the rest of this tool and begins to read the libraries.
+        # The program judges while Python imports the rest of this tool and begins to read the libraries.
         from abi_report.reporting import Wanted, reported
 
         wanted = Wanted(given.old, given.new, given.headers, given.require_types, given.certificate, given.format, given.quiet)
@@ -46,18 +46,18 @@ def main(arguments: Sequence[str]) -> int:
 
 def _parser() -> Arguments:
     parser = Arguments("abi-report", _DESCRIPTION, _STATUSES, wrong=Verdict.CANNOT_TELL)
-    parser.add_argument("--rules", type=Path, metavar="FILE", help="a rule file of abi: what is not compared")
+    parser.add_argument("--rules", type=Path, metavar="FILE", help="a rule file of abi, which says what is not compared")
     parser.add_argument("--headers", type=Path, metavar="FOLDER",
-                        help="the public headers: types that none of them declares are not seen by callers, and get a rule section")
+                        help="the public headers: callers do not see types that none of them declares, and these get a rule section")
     parser.add_argument("--format", choices=_FORMATS, default="text", metavar="FORMAT",
-                        help="text (as it is without this option), json (the document of abi-json with what belongs together), or "
-                             "html (one page that needs no other file)")
+                        help="text (the default), json (the document of abi-json, with the blocks of the report), or html (one page that "
+                             "needs no other file)")
     parser.add_argument("--fast", action="store_true",
-                        help="leave out the notes on what no rule judges, and which other exports a change reaches, which take time")
-    parser.add_argument("--quiet", action="store_true", help="the answer alone, in one line")
+                        help="leave out what takes time: the notes on what no rule judges, and the other exports that a change reaches")
+    parser.add_argument("--quiet", action="store_true", help="print only the answer, in one line")
     parser.add_argument("--require-types", type=share, default=0.0, metavar="SHARE",
-                        help="how many of 100 compared exports must have types in both libraries (default: one at all)")
-    parser.add_argument("--certificate", type=Path, metavar="FILE", help="where the certificate of a yes is kept")
+                        help="the percentage of compared exports that must have types in both libraries (default: at least one export)")
+    parser.add_argument("--certificate", type=Path, metavar="FILE", help="keep the certificate of a yes in this file")
     parser.add_argument("old", type=Path, metavar="OLD")
     parser.add_argument("new", type=Path, metavar="NEW")
     return parser

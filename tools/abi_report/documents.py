@@ -1,4 +1,4 @@
-"""The documents of `abi-json`, read."""
+"""Reads the documents of `abi-json`."""
 
 from __future__ import annotations
 
@@ -15,24 +15,24 @@ Json = dict[str, Any]
 FORMAT = 1
 # The exit statuses of yes and no.
 _JUDGED = (0, 1)
-# The kinds of notes that belong to breaks: another export that leads to types which break a rule, and what may have come in the place
-# of an export that is gone.
+# The kinds of notes that belong to breaks: another export that reaches the types of a break, and a likely successor of an export that
+# is gone.
 _AFFECTED = "affected export"
 SUCCESSOR = "likely successor"
-# The kind of notes on names of types, which say nothing beside the breaks of the same two types.
+# The kind of notes on names of types. A break of the same two types makes such a note redundant.
 _NAMES = "name of type"
 # How a space within a name is printed.
 _SPACE = "\\x20"
-# What stands in front of the row to which a note of the first kind belongs.
+# The word before the row to which a note of the first kind belongs.
 _AS = "as "
-# Rules of exports, which speak of no types.
+# The first letter of the rules on exports, which are not about types.
 _OF_EXPORTS = "X"
 
 
 @dataclass(frozen=True)
 class Place:
-    """A file of the source, a line in it, and whether a function or an object is defined there, where it is known to be declared
-    nowhere else."""
+    """A file of the source and a line in it. `is_definition` says that a function or object is defined there, and that no declaration of
+    it is known."""
 
     file: str
     line: int
@@ -41,7 +41,7 @@ class Place:
 
 @dataclass(frozen=True)
 class Value:
-    """What was or is: a number or a word, and the unit of a number."""
+    """An old or new value: a number with its unit, or a word."""
 
     value: str
     unit: str
@@ -49,9 +49,9 @@ class Value:
 
 @dataclass(frozen=True)
 class Break:
-    """A break of the report: the rule and its plain name, the export, the steps to the types, what a row says, and the entries
-    of both types. `part`, `was`, `now` and `exports` are there where the document has them: the member, parameter or the like, what it
-    was and is, and all exports that reach both types."""
+    """A break of the report: the rule and its plain name, the export, the steps to the types, the words of the row, and the entries of
+    both types. If the document has them, also `part` (the member, parameter or the like), `was` and `now` (its old and new value), and
+    `exports` (all exports that reach both types)."""
 
     rule: str
     name: str
@@ -82,7 +82,7 @@ class Break:
 
     @property
     def types(self) -> tuple[object, ...]:
-        """By what breaks of the same two types are known."""
+        """A key that is equal for breaks of the same two types."""
         return (self.place,) if self.old_entry is None else (self.old_entry, self.new_entry)
 
     @property
@@ -93,8 +93,8 @@ class Break:
 
 @dataclass(frozen=True)
 class Note:
-    """Something beside the answer: a sentence; or a change that no rule judges, with its kind, the export and the path where it is,
-    and what was and is."""
+    """A note: a sentence; or a change that no rule judges, with its kind, the export and the path where it is, and the old and the new
+    value."""
 
     sentence: str = ""
     kind: str = ""
@@ -119,7 +119,7 @@ class Note:
 
 @dataclass(frozen=True)
 class Document:
-    """A document, whole, with its breaks and the notes that are shown. The exports that a change reaches are with the breaks."""
+    """A whole document, with its breaks and the notes to show. Each break has the exports that reach its types."""
 
     whole: Json
     breaks: tuple[Break, ...] = ()
@@ -137,26 +137,26 @@ class Document:
 
     @property
     def text(self) -> str:
-        """What `abi` prints where there are no breaks."""
+        """The text that `abi` prints if there are no breaks."""
         return str(self.whole.get("text") or "")
 
     @cached_property
     def inputs(self) -> Mapping[str, Json]:
-        """The inputs by what they are to the command."""
+        """The inputs, by their role in the command."""
         return {one["input"]: one for one in self.whole["inputs"]}
 
     def place(self, side: str, entry: Optional[int]) -> Optional[Place]:
-        """Where the type of an entry is declared, where the document says it."""
+        """Where the type of an entry is declared, if the document says so."""
         found = ((self.whole.get("places") or {}).get(side) or {}).get(str(entry))
         return None if found is None else Place(str(found["file"]), int(found["line"]))
 
     def type_name(self, side: str, entry: Optional[int]) -> Optional[str]:
-        """The type of an entry as C writes it, where the document says it."""
+        """The type of an entry as C writes it, if the document says so."""
         found = ((self.whole.get("types") or {}).get(side) or {}).get(str(entry))
         return None if found is None else str(found)
 
     def counted(self, side: str) -> Optional[tuple[int, int]]:
-        """How many exports with a size a library has, and how many of them have types."""
+        """How many exports with a nonzero size a library has, and how many of them have types."""
         found = (self.whole.get("untyped") or {}).get(side)
         return None if found is None else (int(found["all"]), int(found["all"]) - int(found["untyped"]))
 
@@ -177,14 +177,14 @@ def _note(found: Json) -> Note:
 
 
 def _shown(breaks: Sequence[Break], notes: Sequence[Note]) -> list[Note]:
-    """The notes without those on names of two types that break a rule."""
+    """The notes, without those on the names of types that a break is about."""
     places = {one.place for one in breaks}
     broken = {(note.was, note.now) for note in notes if note.kind == _NAMES and note.place in places}
     return [note for note in notes if note.kind != _NAMES or (note.was, note.now) not in broken]
 
 
 def _with_exports(breaks: Sequence[Break], notes: Sequence[Json]) -> tuple[Break, ...]:
-    """The breaks with all exports that lead to their types. Of each two types there are notes on the others at the first row."""
+    """The breaks with all exports that reach their types. Notes name the other exports, at the first row on the same two types."""
     others: dict[str, list[str]] = {}
     for note in notes:
         if note["kind"] == _AFFECTED:
@@ -197,7 +197,7 @@ def _with_exports(breaks: Sequence[Break], notes: Sequence[Json]) -> tuple[Break
 
 
 def _parsed(text: bytes) -> Json:
-    """The document in a text. Raises a fault if that is none of a format that is known."""
+    """Parses a document. Raises a fault if it is not a document of the known format."""
     try:
         whole: Json = json.loads(text.decode("utf-8", "replace"))
         if whole["format"] != FORMAT:
@@ -208,8 +208,8 @@ def _parsed(text: bytes) -> Json:
 
 
 def read_document(running: Running) -> Document:
-    """The document that a run prints, with the notes where two libraries were judged. Raises a fault if it is none of a format that is
-    known."""
+    """The document that a run prints, with the notes if two libraries were judged. Raises a fault if it is not a document of the known
+    format."""
     whole = _parsed(running.printed())
     if whole.get("status") in _JUDGED and (notes := running.noted()) is not None:
         whole["side_notes"] = _parsed(notes).get("side_notes")

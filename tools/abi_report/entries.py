@@ -1,7 +1,7 @@
-"""Entries of debug information, read one at a time by their offsets in `.debug_info`.
+"""Entries of debug information (DIEs), read one at a time by their offsets in `.debug_info`.
 
-The answer never rests on what is read here: it serves names and lines for people. What is damaged or of an unknown form is not
-there.
+The answer never rests on what this module reads: it provides names and lines for people. It skips what is damaged or has an unknown
+form.
 """
 
 from __future__ import annotations
@@ -31,30 +31,30 @@ _NUMBERS = {"DW_FORM_data1": 1, "DW_FORM_data2": 2, "DW_FORM_data4": 4, "DW_FORM
 _INDEXES = {"DW_FORM_strx1": 1, "DW_FORM_strx2": 2, "DW_FORM_strx3": 3, "DW_FORM_strx4": 4}
 _TEXTS = {"DW_FORM_strp": ".debug_str", "DW_FORM_line_strp": ".debug_line_str"}
 _BLOCKS = {"DW_FORM_block1": 1, "DW_FORM_block2": 2, "DW_FORM_block4": 4}
-# Where the offsets of texts begin in `.debug_str_offsets` behind its header (DWARF 5, 7.26), where a unit does not say it.
+# Where the string offsets begin in `.debug_str_offsets`, after its header (DWARF 5, 7.26), if a unit does not say so.
 _FIRST_TEXT_OFFSET = 8
-# How often a name is looked for in `.debug_str`, and its offset in `.debug_info`.
+# How many occurrences of a name in `.debug_str` are tried, and how many of its offset in `.debug_info`.
 _MOST_TEXTS = 64
 _MOST_PLACES = 4096
-# For how many names declarations are looked for, and in how many units.
+# For how many names a declaration is searched, and in how many units.
 _MOST_DECLARED = 256
 _MOST_USERS = 8
-# How many bytes the code of an abbreviation has in front of a name.
+# How many bytes the abbreviation code before a name may have.
 _CODE_SIZES = (1, 2, 3)
-# The expression of a variable's place begins so (DWARF 5, 7.7.1, DW_OP_addr).
+# The first byte of the location of a variable: DW_OP_addr (DWARF 5, 7.7.1).
 _AT_ADDRESS = b"\x03"
-# A number behind all addresses.
+# Larger than any address.
 _BEHIND = 1 << 65
 
 Value = Union[int, str, bytes]
-# What reading damaged bytes raises.
+# The exceptions that damaged bytes cause while they are read.
 BROKEN = (*DAMAGED, Fault, RecursionError)
 
 
 @dataclass(frozen=True)
 class Entry:
-    """An entry: where it begins, its unit, the name of its tag without `DW_TAG_`, the values of its attributes by their names
-    without `DW_AT_`, where it ends, and whether entries below it follow there."""
+    """An entry: where it begins, its unit, its tag without `DW_TAG_`, the values of its attributes by name without `DW_AT_`, where it
+    ends, and whether its children follow there."""
 
     offset: int
     unit: Unit
@@ -64,19 +64,19 @@ class Entry:
     has_children: bool
 
     def number(self, name: str) -> Optional[int]:
-        """The value of an attribute, where it is a number."""
+        """The value of an attribute, if it is a number."""
         value = self.values.get(name)
         return value if isinstance(value, int) else None
 
     @property
     def name(self) -> Optional[str]:
-        """The name, where the entry has one."""
+        """The name, if the entry has one."""
         value = self.values.get("name")
         return value if isinstance(value, str) else None
 
     @property
     def kind(self) -> Optional[int]:
-        """The offset of its type; none for void."""
+        """The offset of its type; None for void."""
         return self.number("type")
 
 
@@ -85,7 +85,7 @@ _ATTRIBUTE_NAMES = {number: name.removeprefix("DW_AT_") for name, number in ATTR
 
 
 def _signed(data: bytes, at: int) -> tuple[int, int]:
-    """The signed number of variable length (SLEB128) at a place, and where it ends."""
+    """The signed LEB128 number at an offset, and the offset of its end."""
     value, end = read_number(data, at)
     bits = 7 * (end - at)
     return value - (1 << bits) if bits < 64 and value >> (bits - 1) & 1 else value, end
@@ -109,7 +109,7 @@ class Entries:
         self._declarations: dict[str, Optional[Entry]] = {}
 
     def prepare(self) -> None:
-        """Reads by what exports are found."""
+        """Reads the tables by which exports are found."""
         _ = self._addresses, self._code
 
     def unit_at(self, offset: int) -> Optional[Unit]:
@@ -119,7 +119,7 @@ class Entries:
         return unit if unit is not None and unit.entries <= offset < unit.end else None
 
     def at(self, offset: Optional[int]) -> Optional[Entry]:
-        """The entry at an offset, where one can be read there."""
+        """The entry at an offset, if one can be read there."""
         if offset is None:
             return None
         if offset not in self._read:
@@ -136,7 +136,7 @@ class Entries:
             return None
 
     def _decoded(self, unit: Unit, offset: int) -> Optional[Entry]:
-        """The entry at an offset of a unit; none where a list ends there."""
+        """The entry at an offset of a unit; None if a list of children ends there."""
         code, at = read_number(self.info, offset)
         if code == 0:
             return None
@@ -158,7 +158,7 @@ class Entries:
         return values, at
 
     def _value(self, unit: Unit, form: str, at: int) -> tuple[Optional[Value], int]:
-        """The value of a form at a place, where it is one that serves here, and where it ends."""
+        """The value of a form at an offset (None if this tool does not use the form), and the offset of its end."""
         data = self.info
         if form in _REFERENCES:
             end = at + _REFERENCES[form]
@@ -177,7 +177,7 @@ class Entries:
         return self._other(unit, form, at)
 
     def _other(self, unit: Unit, form: str, at: int) -> tuple[Optional[Value], int]:
-        """The same of the forms of variable size, and of those that say nothing here."""
+        """The same for the forms of variable size, and for those that this tool does not use."""
         data = self.info
         if form == "DW_FORM_flag_present":
             return 1, at
@@ -204,14 +204,14 @@ class Entries:
         return shown(contents[offset:contents.index(0, offset)])
 
     def _indexed(self, unit: Unit, index: int) -> Optional[str]:
-        """The text of an index; its unit says where its offsets begin."""
+        """The string at an index; its unit says where the string offsets begin."""
         if unit.start not in self._bases:
             self._bases[unit.start] = self._base(unit)
         at = self._bases[unit.start] + 4 * index
         return self._text(".debug_str", _FOUR.unpack_from(self.sections[".debug_str_offsets"], at)[0])
 
     def _base(self, unit: Unit) -> int:
-        """Where the offsets of a unit's texts begin: its root says it, in a form of four bytes."""
+        """Where the string offsets of a unit begin: its root says so, in a form of four bytes."""
         code, at = read_number(self.info, unit.entries)
         for one in self._tables.at(unit.table)[code].attributes:
             form = FORM_NAMES.get(one.form, "")
@@ -222,7 +222,7 @@ class Entries:
         return _FIRST_TEXT_OFFSET
 
     def children(self, entry: Entry) -> Iterator[Entry]:
-        """The entries one level below an entry, as far as they can be read."""
+        """The children of an entry, up to the first that cannot be read."""
         if not entry.has_children:
             return
         at: Optional[int] = entry.end
@@ -234,7 +234,7 @@ class Entries:
             at = self._behind(child)
 
     def _behind(self, entry: Entry) -> Optional[int]:
-        """Where the entry's next sibling begins, or their list ends."""
+        """Where the entry's next sibling begins, or where the list of siblings ends."""
         if not entry.has_children:
             return entry.end
         sibling = entry.number("sibling")
@@ -256,15 +256,15 @@ class Entries:
         return self.at(unit.entries)
 
     def named(self, name: str, tags: tuple[str, ...]) -> Iterator[Entry]:
-        """The entries that have a name and one of the tags: those at the addresses of the dynamic symbols of that name, or else those
-        below the roots of units."""
+        """The entries with this name and one of the tags: those at the addresses of the dynamic symbols with that name, or else those
+        directly below the roots of units."""
         addresses = self._addresses.get(name, ())
         chosen = list(filter(None, map(self._unit_of, sorted(addresses))))
         direct = [entry for unit in chosen for entry in self._named_in(unit, name) if entry.tag in tags and _is_at(entry, addresses)]
         yield from direct or self._below_roots(chosen, name, tags) or self._below_roots(self._units_with(name), name, tags)
 
     def declaration(self, name: str) -> Optional[Entry]:
-        """The declaration of a function or an object in a unit that uses it, where one of the first units with that name has one."""
+        """The declaration of a function or an object in a unit that uses it, if one of the first units with that name has one."""
         if self._has_indexes:
             return None
         if name not in self._declarations and len(self._declarations) < _MOST_DECLARED:
@@ -277,25 +277,24 @@ class Entries:
 
     @property
     def _has_indexes(self) -> bool:
-        """Whether texts have indexes, so that the bytes of an entry do not show the place of its name."""
+        """Whether entries refer to strings by index, so that a search for the bytes of a name cannot find them."""
         return ".debug_str_offsets" in self.sections
 
     def _named_in(self, unit: Unit, name: str) -> Iterator[Entry]:
-        """What may be entries of a unit that have a name: where the bytes of a name stand behind what may be a code, as gcc writes
-        it."""
+        """The entries of a unit with this name, found by its bytes: gcc writes the name right after the abbreviation code."""
         places = () if self._has_indexes else (place for wanted in self._bytes_of(name)
                                                for place in _found(self.info, wanted, unit.entries, unit.end))
         entries = (self.at(place - size) for place in places for size in _CODE_SIZES)
         return (one for one in entries if one is not None and one.name == name)
 
     def _bytes_of(self, name: str) -> list[bytes]:
-        """How a name stands in an entry: itself, or the offset of a text in `.debug_str`."""
+        """The bytes that an entry may have for a name: the name itself, or the offset of a string in `.debug_str`."""
         wanted = name.encode("ascii", "replace") + b"\0"
         texts = self.sections.get(".debug_str", b"")
         return [wanted, *map(_FOUR.pack, itertools.islice(_found(texts, wanted, 0, len(texts)), _MOST_TEXTS))]
 
     def _index(self, unit: Unit) -> dict[str, list[Entry]]:
-        """The entries below the root of a unit, by their names."""
+        """The entries directly below the root of a unit, by name."""
         if unit.start not in self._indexes:
             found: dict[str, list[Entry]] = {}
             root = self.root(unit)
@@ -308,7 +307,7 @@ class Entries:
     # ---- units
 
     def _unit_of(self, address: int) -> Optional[Unit]:
-        """The unit whose code has an address, or that has a variable there."""
+        """The unit whose code includes an address, or that has a variable there."""
         number = bisect.bisect_right(self._code, (address, _BEHIND)) - 1
         if number >= 0 and address < self._code[number][1]:
             return self._unit_from(self._code[number][2])
@@ -329,7 +328,7 @@ class Entries:
 
     @cached_property
     def _code(self) -> list[tuple[int, int, int]]:
-        """The code of the units: each range with its end and where its unit begins, by `.debug_aranges`, or else by the roots."""
+        """The start and end of each range of code, and where its unit begins, from `.debug_aranges` or else from the roots."""
         try:
             found = sorted(listed_code(self.sections.get(".debug_aranges", b"")))
         except BROKEN:
@@ -344,7 +343,7 @@ class Entries:
                 continue
 
     def _units_with(self, name: str) -> list[Unit]:
-        """The units whose bytes may name a text. Where texts have indexes, all."""
+        """The units whose bytes may refer to a name. All units, if they refer to strings by index."""
         if self._has_indexes:
             return self._units
         places = (place for wanted in self._bytes_of(name)
@@ -362,12 +361,12 @@ def _is_at(entry: Entry, addresses: Collection[int]) -> bool:
 
 
 def _is_declared(entry: Entry) -> bool:
-    """Whether an entry declares a function or an object of another unit."""
+    """Whether an entry is the external declaration of a function or an object."""
     return entry.tag in ("subprogram", "variable") and {"declaration", "external", "decl_file", "decl_line"} <= entry.values.keys()
 
 
 def _found(data: bytes, wanted: bytes, start: int, end: int) -> Iterator[int]:
-    """Where bytes stand in a part of others."""
+    """The offsets of `wanted` in a part of `data`."""
     at = data.find(wanted, start, end)
     while at >= 0:
         yield at

@@ -1,4 +1,4 @@
-"""The verdict on two libraries: what `abi-json` says of them, and whether that rests on types, as `abi-gate` asks."""
+"""The verdict on two libraries: the answer of `abi-json`, and whether it rests on types, judged as `abi-gate` does."""
 
 from __future__ import annotations
 
@@ -15,14 +15,14 @@ from abi_report.documents import Break, Document
 
 Result = TypeVar("Result")
 
-# Of what the other rules say it can be that the debug information has no types.
+# Rules whose breaks never come from missing types, unlike those of the other rules.
 _CERTAIN = ("X1", "X2", "X3", "X4", "X5")
 
 
 @dataclass(frozen=True)
 class Judged:
-    """A verdict, the reasons where it cannot be told, and of a yes how many exports were compared and how many of these have types
-    in both libraries."""
+    """A verdict, the reasons if the tool cannot tell, and for a yes how many exports were compared and how many of them have types in
+    both libraries."""
 
     verdict: Verdict
     reasons: tuple[str, ...] = ()
@@ -49,25 +49,25 @@ def judge_document(document: Document, old: Path, new: Path, least_share: float)
 
 
 def _is_certain(one: Break) -> bool:
-    """Whether a break cannot come from missing types: one of the export itself, or one behind a step, which types lead to."""
+    """Whether a break cannot come from missing types: it is about the export itself, or has steps, which only types provide."""
     return one.rule in _CERTAIN or (one.rule.startswith("L") and bool(one.steps))
 
 
 def _text(document: Document) -> str:
-    """What `abi check` prints."""
+    """The text that `abi check` would print."""
     if document.status == YES:
         return document.text
     return "".join(f"{line}\n" for line in ("no", *(one.row for one in document.breaks)))
 
 
 def labels_of(old: Path, new: Path) -> list[list[str]]:
-    """The labels of the exports of both libraries; none where they cannot be read."""
+    """The labels of the exports of both libraries; empty if they cannot be read."""
     return _at_once(_labels, old, new)
 
 
 def _at_once(read: Callable[[Path], Result], old: Path, new: Path) -> list[Result]:
-    """What reading both libraries gives, each in a thread of its own."""
-    # Most answers of no need no threads.
+    """Reads both libraries, each in a thread of its own."""
+    # Imported here, since most noes need no threads.
     from concurrent.futures import ThreadPoolExecutor
 
     with ThreadPoolExecutor() as pool:

@@ -1,4 +1,4 @@
-"""The layouts of a structure in both libraries beside each other, with holes, and with what changed marked."""
+"""The layouts of a structure in both libraries side by side, with holes and with the changes marked."""
 
 from __future__ import annotations
 
@@ -12,13 +12,13 @@ from abi_report.subjects import Described, Side, Subject
 HOLE = "hole"
 PADDING = "padding"
 BITS_OF_BYTE = 8
-# Where names are more, they are put beside each other in the order of the old ones alone.
+# Above this number of names, the rows are matched in the order of the old names alone.
 _MOST_MATCHED = 2000
 
 
 @dataclass(frozen=True)
 class Room:
-    """Bits of a structure: those of a member, or those of a hole or the padding at its end, which have no type."""
+    """Some bits of a structure: a member, or a hole or the padding at the end, which have no type."""
 
     label: str
     bit: int
@@ -28,7 +28,7 @@ class Room:
 
     @property
     def place(self) -> str:
-        """Which bytes these are, or which bits where they are no whole bytes."""
+        """Which bytes these are, or which bits if they are not whole bytes."""
         last = self.bit + self.width - 1
         byte, first = divmod(self.bit, BITS_OF_BYTE)
         if first or self.width % BITS_OF_BYTE:
@@ -45,8 +45,7 @@ class Room:
 
 @dataclass(frozen=True)
 class Row:
-    """What stands beside each other: the room in the old and in the new library, and how both differ (`same`, `changed`, `moved`,
-    `gone` or `added`)."""
+    """A row: the room in the old and in the new library, and how they differ (`same`, `changed`, `moved`, `gone` or `added`)."""
 
     old: Optional[Room]
     new: Optional[Room]
@@ -77,7 +76,7 @@ def _overlap(rooms: Sequence[Room]) -> bool:
 
 
 def layouts_of(subject: Subject, old: Side, new: Side) -> Optional[Layouts]:
-    """The layouts of a structure or union in both libraries, where both can be read."""
+    """The layouts of a structure or union in both libraries, if both can be read."""
     if old.records is None or new.records is None or subject.kind != "record":
         return None
     before, after = _described(old, subject.old), _described(new, subject.new)
@@ -98,14 +97,14 @@ def _described(side: Side, described: Described) -> Optional[tuple[int, list[Roo
 
 
 def rooms_of(members: Sequence[Member], size: int) -> list[Room]:
-    """The rooms of a structure of so many bytes, in the order of their first bits: its members, and the holes between them where
-    no members share bits."""
+    """The rooms of a structure of `size` bytes, in the order of their first bits: its members and, if no members share bits, the holes
+    between them."""
     rooms = sorted((Room(one.label, one.bit, one.width, one.declaration) for one in members), key=_order)
     if _overlap(rooms) or any(room.bit + room.width > BITS_OF_BYTE * size for room in rooms):
         return rooms
     free: list[Room] = []
     at = 0
-    # Members without bits, as arrays without a count, end no hole.
+    # Members without bits, such as arrays without a count, end no hole.
     for room in rooms:
         if room.width and room.bit > at:
             free.append(Room(HOLE, at, room.bit - at, is_free=True))
@@ -117,12 +116,12 @@ def rooms_of(members: Sequence[Member], size: int) -> list[Room]:
 
 
 def _order(room: Room) -> tuple[int, bool]:
-    """Rooms stand by their first bits, and those without bits before others."""
+    """Sorts rooms by their first bits, and those without bits before others."""
     return room.bit, room.width != 0
 
 
 def _beside(old: Sequence[Room], new: Sequence[Room]) -> list[Row]:
-    """The rooms beside each other: members of one name are in one row, where their order allows it."""
+    """The rooms side by side: members of the same name share a row if their order allows it."""
     before, after = [room.label for room in old], [room.label for room in new]
     if max(len(before), len(after)) > _MOST_MATCHED:
         return _by_name(old, new)
@@ -137,7 +136,7 @@ def _beside(old: Sequence[Room], new: Sequence[Room]) -> list[Row]:
 
 
 def _unlike(old: Sequence[Room], new: Sequence[Room], before: set[str], after: set[str]) -> list[Row]:
-    """Rooms that have no partner beside them."""
+    """The rows of rooms without a match in order."""
     rows = [Row(room, None, _state_alone(room, after, "gone")) for room in old]
     return rows + [Row(None, room, _state_alone(room, before, "added")) for room in new]
 

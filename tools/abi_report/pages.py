@@ -1,4 +1,4 @@
-"""A report as one page that needs no other file."""
+"""A report as one HTML page that needs no other file."""
 
 from __future__ import annotations
 
@@ -17,19 +17,19 @@ from abi_report.texts_shown import counted
 from abi_report.ways import Steps, Ways
 
 _PIECES = 200
-# So many rows of layouts stand in a page; of further structures `abi layout` prints them.
+# How many rows of layouts a page has. For further structures it names the `abi layout` command that prints them.
 _MOST_ROWS = 3_000
-# Layouts of more rooms get no bar, whose parts could not be told apart.
+# Layouts of more rooms get no bar, since its parts would be too small.
 _MOST_PARTS = 64
-# So many exports are named again although an earlier block has the same ones; so many are seen before a click, and so many stand in
-# a page.
+# Blocks with fewer exports than this name them even if an earlier block has the same ones; how many exports are visible before a click;
+# and how many names of exports a page has before it shortens the lists.
 _NAMED_AGAIN = 12
 _SEEN = 8
 _MOST_NAMES = 200_000
 
 
 class Page:
-    """What the page asks of a report."""
+    """What the page template needs from a report."""
 
     def __init__(self, report: Report) -> None:
         self.report = report
@@ -39,7 +39,7 @@ class Page:
                                       if not report.is_of_itself(block)])
 
     def layouts(self, block: Block) -> Optional[Layouts]:
-        """Both layouts of a block's structure, as long as the page has room for them."""
+        """Both layouts of a block's structure, if the page still has room for them."""
         if self._rows > _MOST_ROWS:
             return None
         found = layouts_of(block.subject, self.report.old, self.report.new)
@@ -47,32 +47,32 @@ class Page:
         return found
 
     def layout_words(self, block: Block) -> Optional[str]:
-        """The words that print a layout for which the page has no room, behind those for the program and the library."""
+        """The last words of the command that prints a layout for which the page has no room, after the program and the library."""
         entry = block.subject.old.entry
         return entry.name if entry is not None and entry.tag in RECORDS and block.subject.kind == "record" else None
 
     def has_bar(self, layouts: Layouts) -> bool:
-        """Whether layouts are drawn, too."""
+        """Whether the layouts are also drawn as bars."""
         return len(layouts.rows) <= _MOST_PARTS and max(layouts.old_size, layouts.new_size) > 0 and not layouts.overlaps
 
     def share(self, layouts: Layouts, size: int) -> str:
-        """How much of the page's width a layout of so many bytes takes, beside the other one."""
+        """How much of the page's width the bar of a layout of `size` bytes takes, relative to the larger of both."""
         return f"{100 * size / max(layouts.old_size, layouts.new_size):.4g}%"
 
     def cell(self, room: Room, size: int) -> str:
-        """Where a room stands in the bar of a layout of so many bytes."""
+        """The place and width of a room in the bar of a layout of `size` bytes."""
         bits = size * BITS_OF_BYTE
         return f"left:{100 * room.bit / bits:.6g}%;width:{100 * room.width / bits:.6g}%"
 
     def named(self, exports: Sequence[str]) -> Sequence[str]:
-        """Those of some exports that are named: all, as long as the page has room for them."""
+        """The exports to name: all of them, if the page still has room."""
         if self._names > _MOST_NAMES:
             return exports[:_SEEN]
         self._names += len(exports)
         return exports
 
     def way(self, block: Block, export: str) -> Optional[Steps]:
-        """The steps from an export to the type of a block, where they are known."""
+        """The steps from an export to the type of a block, if they are known."""
         return self._ways.of(block, export)
 
     def same(self, block: Block) -> Optional[Block]:
@@ -81,21 +81,21 @@ class Page:
 
 
 class _Kept(FileSystemBytecodeCache):
-    """The compiled template, kept beside the compiled modules, where these are."""
+    """Keeps the compiled template beside the compiled modules, if Python keeps these."""
 
     def load_bytecode(self, bucket: Bucket) -> None:
-        """Takes it in, where it is there."""
+        """Loads the compiled template, if there is one."""
         with suppress(OSError):
             super().load_bytecode(bucket)
 
     def dump_bytecode(self, bucket: Bucket) -> None:
-        """Keeps it, where that can be done."""
+        """Stores the compiled template, if that is possible."""
         with suppress(OSError):
             super().dump_bytecode(bucket)
 
 
 def page_writer() -> Callable[[Report, TextIO], None]:
-    """What writes the page of a report piece by piece."""
+    """A function that writes the page of a report piece by piece."""
     folder = Path(__file__).resolve().parent
     environment = Environment(loader=FileSystemLoader(folder), trim_blocks=True, lstrip_blocks=True,
                               autoescape=select_autoescape(default=True, default_for_string=True),

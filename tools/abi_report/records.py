@@ -1,5 +1,5 @@
-"""Structures, unions and functions as the debug information describes them: members with their places, paths that are walked, and
-lines in the source."""
+"""Structures, unions and functions as the debug information describes them: members with their places, the types at the end of paths,
+and lines in the source."""
 
 from __future__ import annotations
 
@@ -22,8 +22,8 @@ _PLUS_CONSTANT = 0x23
 
 @dataclass(frozen=True)
 class Member:
-    """A member of a structure or union: its name, and which of its name it is; its first bit and how many it has; the offset of its
-    type's entry, and the type as C writes it; whether it is a bit field; and the line of its declaration."""
+    """A member of a structure or union: its name, and which one of that name it is; its first bit and its width in bits; the offset of
+    its type's entry, and the type as C writes it; whether it is a bit field; and where it is declared."""
 
     name: str
     number: int
@@ -36,12 +36,12 @@ class Member:
 
     @property
     def label(self) -> str:
-        """How a report names it."""
+        """The name of the member in a report."""
         return self.name if self.number == 1 else f"{self.name}#{self.number}"
 
     @property
     def declaration(self) -> str:
-        """Its type, with the width of a bit field."""
+        """The type as C writes it, with the width if it is a bit field."""
         return f"{self.type_name} : {self.width}" if self.is_bit_field else self.type_name
 
 
@@ -65,7 +65,7 @@ class Records:
     # ---- types
 
     def core(self, offset: Optional[int]) -> Optional[Entry]:
-        """The type under typedefs and qualifiers."""
+        """The type without its typedefs and qualifiers."""
         entry = self.entries.at(offset)
         for _ in range(_DEEPEST):
             if entry is None or entry.tag not in _WRAPPERS:
@@ -74,12 +74,12 @@ class Records:
         return None
 
     def record(self, offset: Optional[int]) -> Optional[Entry]:
-        """The structure or union under typedefs and qualifiers, where that is what there is."""
+        """The structure or union behind typedefs and qualifiers; None if it is another type."""
         entry = self.core(offset)
         return entry if entry is not None and entry.tag in RECORDS else None
 
     def size(self, offset: Optional[int], depth: int = _DEEPEST) -> int:
-        """How many bytes a type has; 0 where that is not known."""
+        """How many bytes a type has; 0 if that is not known."""
         entry = self.core(offset)
         if entry is None or depth == 0:
             return 0
@@ -99,7 +99,7 @@ class Records:
     # ---- members
 
     def members(self, record: Entry) -> list[Member]:
-        """The members in the order of the source. Those of a nameless structure or union stand in its place."""
+        """The members in the order of the source. The members of a nameless structure or union take its place."""
         if record.offset not in self._members:
             found: list[Member] = []
             self._add_members(record, 0, found, _DEEPEST)
@@ -128,7 +128,7 @@ class Records:
         return Member(name, number, bit, width, entry.kind, self.names.of(entry.kind), "bit_size" in entry.values, self.place(entry))
 
     def _bits(self, member: Entry) -> tuple[int, int]:
-        """The first bit of a member in its structure, and how many bits it has (DWARF 5, 5.7.6; DWARF 4, 5.5.6)."""
+        """The first bit of a member in its structure, and its width in bits (DWARF 5, 5.7.6; DWARF 4, 5.5.6)."""
         at = _location(member)
         width = member.number("bit_size")
         if width is None:
@@ -150,7 +150,7 @@ class Records:
         return min(found, key=lambda one: ("declaration" in one.values, "external" not in one.values)) if found else None
 
     def walk(self, export: Entry, steps: Sequence[str]) -> Optional[Entry]:
-        """The type to which steps lead from an export's type."""
+        """The type at the end of the steps from an export."""
         entry = export if export.tag == "subprogram" else self.entries.at(export.kind)
         for step in steps:
             core = self.core(entry.offset) if entry is not None else None
@@ -175,8 +175,8 @@ class Records:
     # ---- the source
 
     def place(self, entry: Entry) -> Optional[Place]:
-        """Where an entry is declared, as far as that is known. Of a function or an object that is defined: where a unit that uses it
-        has it declared, or else where it is defined."""
+        """Where an entry is declared, if that is known. For the definition of a function or an object: where a unit that uses it
+        declares it, or else where it is defined."""
         own = self._own_place(entry)
         if own is None or not is_definition(entry):
             return own
@@ -184,7 +184,7 @@ class Records:
         return (self._own_place(declared) if declared is not None else None) or replace(own, is_definition=True)
 
     def _own_place(self, entry: Entry) -> Optional[Place]:
-        """The place that an entry says."""
+        """The place in the entry's own attributes."""
         file, line = entry.number("decl_file"), entry.number("decl_line")
         if file is None or not line:
             return None
@@ -193,7 +193,7 @@ class Records:
         return None if name is None else Place(name, line)
 
     def _files_of(self, entry: Entry) -> list[Optional[str]]:
-        """The files of an entry's unit by their numbers."""
+        """The files of an entry's unit, by number."""
         start = entry.unit.start
         if start not in self._files:
             root = self.entries.root(entry.unit)
@@ -207,7 +207,7 @@ class Records:
 
 
 def is_definition(entry: Entry) -> bool:
-    """Whether an entry is a function or an object that is defined, and not declared alone."""
+    """Whether an entry defines a function or an object, and not only declares it."""
     return entry.tag in _DEFINED and "declaration" not in entry.values
 
 

@@ -1,4 +1,4 @@
-"""A report of a document, made and written."""
+"""Makes and writes the report of a document."""
 
 from __future__ import annotations
 
@@ -19,14 +19,14 @@ from abi_report.runs import Digests, Running
 from abi_report.subjects import Library
 
 Write = Callable[[Report], None]
-# The document, and its member `report`.
+# Two levels have a line for each member: the document, and its member `report`.
 _OPENED = 2
 
 
 @dataclass(frozen=True)
 class Wanted:
-    """What the arguments ask for: both libraries, the folder of the public headers, the least share of exports with types, where the
-    certificate is kept, the form, and whether the answer alone is wanted."""
+    """What the arguments ask for: both libraries, the folder of the public headers, the least share of exports with types, the file for
+    the certificate, the form, and whether to print the answer alone."""
 
     old: Path
     new: Path
@@ -38,7 +38,7 @@ class Wanted:
 
 
 def reported(running: Running, digests: Optional[Digests], wanted: Wanted) -> Verdict:
-    """Writes the report of a run, and answers the verdict."""
+    """Writes the report of a run, and returns the verdict."""
     write = writer_of(wanted.form, wanted.quiet)
     libraries = (Library(wanted.old), Library(wanted.new))
     if not wanted.quiet:
@@ -56,16 +56,16 @@ def reported(running: Running, digests: Optional[Digests], wanted: Wanted) -> Ve
 
 
 def _put_digests(document: Document, digests: Digests) -> None:
-    """Adds the digests of the inputs, which `abi-json` was told to leave out."""
+    """Adds the digests of the inputs, which `abi-json` left out as requested."""
     for one in document.whole["inputs"]:
         one["sha256"] = one["sha256"] or digests.of(one["name"])
 
 
 def writer_of(form: str, quiet: bool) -> Write:
-    """What writes a report in a form to standard output."""
+    """A function that writes a report in this form to standard output."""
     if form == "json" and not quiet:
         return _write_document
-    # What another form needs is not taken in.
+    # Only the modules for this form are imported.
     if form == "html" and not quiet:
         from abi_report.pages import page_writer
 

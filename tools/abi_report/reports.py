@@ -1,4 +1,4 @@
-"""A report: the verdict, the blocks, and what stands beside them, as data that the text, the page and the document show."""
+"""A report: the verdict, the blocks and all else that the text, the page and the document show, as data."""
 
 from __future__ import annotations
 
@@ -23,7 +23,7 @@ from abi_report.ways import Ways
 # A place of the old library, and one of the new library.
 Places = tuple[Optional[Place], Optional[Place]]
 
-# The places of so many notes of a kind are shown.
+# How many notes of a kind are shown with their places.
 _PLACED = 20
 _DEFINED = "defined at "
 _NO_LABELS: Sequence[list[str]] = ([], [])
@@ -32,7 +32,7 @@ _KINDS = {"record": "type", "type": "type", "function": "function"}
 
 @dataclass(frozen=True)
 class Gone:
-    """A symbol that is gone, and what may have come in its place."""
+    """A symbol that is gone, and its likely successors."""
 
     block: Block
     successors: tuple[str, ...]
@@ -54,7 +54,7 @@ class Report:
 
     @property
     def answer(self) -> str:
-        """The answer in words, as people read it first."""
+        """The answer in a word or two, as the report begins."""
         return self.judged.verdict.words()
 
     @cached_property
@@ -69,7 +69,7 @@ class Report:
 
     @cached_property
     def sonames(self) -> str:
-        """What the sonames mean for programs of the old library, where one of both has one."""
+        """What the sonames mean for programs built with the old library, if a library has one."""
         found = [self.document.inputs.get(side.side, {}).get("soname") for side in (self.old, self.new)]
         if self.judged.verdict == Verdict.CANNOT_TELL or not any(found):
             return ""
@@ -85,11 +85,11 @@ class Report:
 
     @cached_property
     def types(self) -> list[Block]:
-        """The blocks of types and functions, each behind those of its causes."""
+        """The blocks of types and functions, each after those of its causes."""
         return self.causes.ordered()
 
     def because(self, block: Block) -> list[tuple[Block, str]]:
-        """The causes of a change, each with what is said of it behind its name."""
+        """The causes of a change, each with the words that follow its name."""
         found = []
         for cause in self.causes.of(block) if block.subject.kind in _KINDS else ():
             place = self.places(cause.subject.old.place, cause.subject.new.place)
@@ -97,12 +97,12 @@ class Report:
         return found
 
     def because_word(self, block: Block) -> str:
-        """What stands in front of the causes."""
+        """The word before the causes."""
         return "also because" if self.causes.is_own(block) else "because"
 
     @cached_property
     def has_ways(self) -> bool:
-        """Whether steps lead from an export to a type that is shown."""
+        """Whether the report shows steps from an export to a type."""
         return any(block.steps for block in self.types)
 
     @cached_property
@@ -112,7 +112,7 @@ class Report:
 
     @cached_property
     def others(self) -> list[Block]:
-        """The blocks of the library and of exports that are there still."""
+        """The blocks of the library and of exports that still exist."""
         return [block for block in self.blocks if block.subject.kind not in _KINDS and not block.is_gone]
 
     @cached_property
@@ -123,13 +123,13 @@ class Report:
             return []
         noted = self._noted()
         unnoted = sum(block.first.export not in noted for block in blocks)
-        # Without a symbol to search for, the exports are not read.
+        # The exports are read only if a successor must be searched for.
         old, new = labels_of(self.old.path, self.new.path) if unnoted else _NO_LABELS
         search = Successors(old, new, unnoted)
         return [Gone(block, tuple(noted.get(block.first.export) or search.of(block.first.export))) for block in blocks]
 
     def _noted(self) -> dict[str, list[str]]:
-        """The likely successors that notes name, by the exports that are gone."""
+        """The likely successors in the notes, for each export that is gone."""
         found: dict[str, list[str]] = {}
         for note in self.document.notes:
             if note.kind == SUCCESSOR:
@@ -138,7 +138,7 @@ class Report:
 
     @cached_property
     def notes(self) -> list[tuple[str, list[Note]]]:
-        """The notes by their kinds; sentences have none."""
+        """The notes, by kind; the kind of sentences is empty."""
         found: dict[str, list[Note]] = {}
         if self.judged.verdict != Verdict.CANNOT_TELL or self.document.breaks:
             for note in self.document.notes:
@@ -147,13 +147,13 @@ class Report:
         return list(found.items())
 
     def note_places(self, notes: Sequence[Note]) -> list[str]:
-        """Where the exports of notes of a kind are declared, of the first ones."""
+        """Where the exports of notes of a kind are declared, for the first notes."""
         places = [self.places(*self._places_of(note.export)) if note.export else "" for note in notes[:_PLACED]]
         return places + [""] * (len(notes) - len(places))
 
     @cached_property
     def found(self) -> str:
-        """What was found, in numbers."""
+        """The numbers of changes and breaks, in words."""
         types = sum(_KINDS[block.subject.kind] == "type" for block in self.types)
         exports = sum(block.subject.kind == "export" for block in self.others)
         counts = [(types, "type"), (len(self.types) - types, "function"), (exports, "export")]
@@ -165,7 +165,7 @@ class Report:
 
     @cached_property
     def compared(self) -> list[str]:
-        """What was compared and had types, in numbers."""
+        """How many exports were compared, and how many have types, in words."""
         words = []
         if self.judged.compared is not None:
             words.append(f"{counted(self.judged.compared, 'export')} compared, {self.judged.typed:,} with types in both libraries")
@@ -176,7 +176,7 @@ class Report:
         return [*words, *self._without_places()]
 
     def _without_places(self) -> Iterator[str]:
-        """Which libraries do not say where their sources declare anything, and where the places in this report come from then."""
+        """Says which libraries have no line tables, and where the places in the report come from in that case."""
         lacking = [side for side in (self.old, self.new) if not side.says_places] if self.blocks else []
         if len(lacking) == 1:
             other = self.new if lacking[0] is self.old else self.old
@@ -186,7 +186,7 @@ class Report:
             yield "neither library has line tables (baselines have none): there are no files and lines, and no rule sections"
 
     def section(self, block: Block) -> Optional[str]:
-        """The rule section of a block whose type callers do not see."""
+        """The rule section for a block whose type callers do not see."""
         return rule_section(block, self.headers)
 
     @cached_property
@@ -196,16 +196,16 @@ class Report:
 
     @property
     def unnamed(self) -> str:
-        """A sentence that not all exports that changes reach are named, where that is so."""
+        """A sentence to say that the report does not name all exports that reach a change; empty if it does."""
         is_complete = all(block.names_all_exports for block in self.blocks)
         return "" if is_complete else " Of the exports that a change reaches, only the first is named here."
 
     def is_of_itself(self, block: Block) -> bool:
-        """Whether a block is of a function or an export that no other one is known to reach."""
+        """Whether a block is about a function or an export, and no other export is known to reach it."""
         return block.subject.kind == "export" or (block.subject.kind == "function" and block.exports == (block.first.export,))
 
     def same_exports(self, block: Block, least: int) -> Optional[Block]:
-        """The first block before this one that has the same exports, of which there are so many at least."""
+        """The first block before this one that has the same exports, if there are at least `least` of them."""
         exports = (*block.exports, "", *block.member_exports)
         if len(exports) <= least:
             return None
@@ -213,7 +213,7 @@ class Report:
         return None if first is block else first
 
     def rule_name(self, rule: str) -> str:
-        """What a break of a rule is, in plain words."""
+        """The plain name of a rule."""
         return self._rule_names.get(rule, rule)
 
     @cached_property
@@ -231,20 +231,20 @@ class Report:
         return old, new
 
     def was_at(self, block: Block) -> tuple[str, str]:
-        """Where the export of a block's first break was: what stands in front of the place, and the place."""
+        """Where the export of a block's first break was: the words before the place, and the place."""
         place = self.place(self.old, self.export_places(block)[0]) or ""
         words = _DEFINED if place.startswith(_DEFINED) else "at "
         return (f"; it was {words}", place.removeprefix(_DEFINED)) if place else ("", "")
 
     @cached_property
     def a_place(self) -> str:
-        """The first place that is shown of a type, as an example."""
+        """The first place of a type in the report, as an example."""
         places = (self.place(self.new, block.subject.new.place) for block in self.types)
         return next(filter(None, places), "")
 
     @cached_property
     def folders(self) -> list[tuple[str, str]]:
-        """Below which folder the places of each library are, and the words that name the library where that of both is not the same."""
+        """The folder above all places of each library, and words that name the library if the folders differ."""
         found = [(self._folders[side.side], f" ({side.path})") for side in (self.old, self.new) if self._folders[side.side]]
         return [(found[0][0], "")] if len(found) == 2 and found[0][0] == found[1][0] else found
 
@@ -254,16 +254,15 @@ class Report:
         return sorted(self._rule_names.items(), key=lambda one: (one[0][0] != "X", int(one[0][1:])))
 
     def line_places(self, block: Block) -> list[str]:
-        """Where the part of each line is declared, if that is another place than the block's."""
+        """Where the part of each line is declared, if that is not the block's place."""
         old, new = block.subject.old.place, block.subject.new.place
-        # Of a part that one library alone has, that library's place counts.
+        # If only one library has the part, only that library's place counts.
         own = [self.places(line.old_place and old, line.new_place and new) for line in block.lines]
         found = [self.places(line.old_place, line.new_place) if line.head else "" for line in block.lines]
         return ["" if one == other else one for one, other in zip(found, own)]
 
     def place(self, side: Side, place: Optional[Place]) -> Optional[str]:
-        """A place as it is shown: without the folder that all places of the library have in common, and with the word that it is of a
-        definition."""
+        """A place as the report shows it: without the folder that all places of the library share, and marked if it is a definition."""
         if place is None:
             return None
         folder = self._folders[side.side]
@@ -271,7 +270,8 @@ class Report:
         return f"{_DEFINED if place.is_definition else ''}{file}:{place.line}"
 
     def places(self, old: Optional[Place], new: Optional[Place]) -> str:
-        """Two places, one where they are the same; one that only one library has says which, unless the other one says no places."""
+        """Both places, or one if they are the same. A place that only one library has names that library, unless the other library has no
+        places at all."""
         first, second = self.place(self.old, old), self.place(self.new, new)
         if first is not None and second is not None:
             return first if first == second else f"{first}, now {second}"
@@ -336,7 +336,7 @@ class Report:
 
 
 def _roots(old: Optional[Place], new: Optional[Place]) -> tuple[Optional[str], Optional[str]]:
-    """The folders in which two places lie, or those above, where the places have folders of the same names: so that both are shown
+    """The folders in which two places lie. If the last folders have the same names, the folders above them, so that both places look
     alike."""
     paths = [None if place is None else PurePosixPath(place.file).parent for place in (old, new)]
     first, second = paths
@@ -346,7 +346,7 @@ def _roots(old: Optional[Place], new: Optional[Place]) -> tuple[Optional[str], O
 
 
 def _are_alike(paths: set[str]) -> bool:
-    """Whether paths have a folder in common: all are absolute, or none is."""
+    """Whether paths can have a folder in common: all are absolute, or none is."""
     return bool(paths) and len({path.startswith("/") for path in paths}) == 1
 
 

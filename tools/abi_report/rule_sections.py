@@ -12,26 +12,26 @@ from abi_report.documents import Place
 from abi_report.subjects import Described
 
 _SORTS = {"structure_type": "struct", "union_type": "union", "enumeration_type": "enum"}
-# Names that mean in a rule file what they mean in C.
+# Names that mean the same in a rule file as in C.
 _PLAIN = re.compile(r"[A-Za-z_][A-Za-z0-9_$.]*")
-# What a file of the source is called that is no header.
+# The suffixes of source files that are not headers.
 _SOURCES = (".c", ".s", ".S")
 
 
 class Headers:
-    """Which types callers see: those that are declared in a public header. Where no folder of these is given, only a type that is
-    declared in a `.c` file is known not to be seen."""
+    """Which types callers see: those that a public header declares. Without a folder of public headers, only a type declared in a source
+    file such as `.c` is known to be hidden."""
 
     def __init__(self, folder: Optional[Path] = None) -> None:
-        """Finds the headers. A type counts as public, too, where a header of the same name is there, since headers are mostly
-        installed somewhere else than where the library is built."""
+        """Finds the headers. A type counts as public if its header has the same file name as a public one, since headers are usually
+        installed in another folder than the one where the library is built."""
         self.folder = folder
         self._names: set[str] = set()
         if folder is not None:
             self._names = {name for _, _, names in os.walk(folder, followlinks=True) for name in names}
 
     def hides(self, place: Optional[Place]) -> bool:
-        """Whether callers do not see what is declared at a place. What has no place counts as seen."""
+        """Whether callers do not see what is declared at this place. Without a place it counts as visible."""
         if place is None:
             return False
         file = PurePosixPath(place.file)
@@ -41,7 +41,7 @@ class Headers:
 
 
 def rule_section(block: Block, headers: Headers) -> Optional[str]:
-    """The section that leaves the type of a block out, where callers do not see it and only pointers lead to it."""
+    """The section that leaves out the type of a block, if callers do not see it and reach it only through pointers."""
     name = _selector(block.subject.old)
     if block.subject.kind != "record" or name is None or not headers.hides(_place(block)):
         return None
@@ -51,7 +51,7 @@ def rule_section(block: Block, headers: Headers) -> Optional[str]:
 
 
 def _place(block: Block) -> Optional[Place]:
-    """Where the old type is declared; where the old library does not say it, where the new one declares the type of that name."""
+    """Where the old library declares the type or, if it has no places, where the new one declares the type of that name."""
     old, new = block.subject.old, block.subject.new
     return old.place or (new.place if new.name == old.name else None)
 

@@ -1,4 +1,4 @@
-"""Runs of `abi-json`, begun before the rest of this tool is taken in, and the digests of the inputs beside them."""
+"""Starts `abi-json` before Python imports the rest of this tool, and computes the digests of the inputs meanwhile."""
 
 from __future__ import annotations
 
@@ -11,15 +11,15 @@ from typing import Mapping, Optional, Sequence
 
 from abi_tools.faults import Fault
 
-# The variables by which notes on what no rule judges, and digests of the inputs, are asked for.
+# The variables that ask for notes on what no rule judges, and for digests of the inputs.
 _NOTES = "ABI_NOTES"
 _DIGESTS = "ABI_DIGESTS"
-# The command that makes these notes alone.
+# The command that makes only these notes.
 _NOTES_ALONE = "notes"
 
 
 class _Run:
-    """A process of the program, whose output is taken in while others work."""
+    """A process of the program, whose output a thread reads."""
 
     def __init__(self, words: Sequence[str], environment: Mapping[str, str]) -> None:
         self._process = subprocess.Popen(words, stdin=subprocess.DEVNULL, stdout=subprocess.PIPE, stderr=subprocess.PIPE,
@@ -32,13 +32,13 @@ class _Run:
         self._printed, self._said = self._process.communicate()
 
     def end(self) -> None:
-        """Ends it, where nobody waits for it any more."""
+        """Kills the process if it is still running."""
         if self._process.poll() is None:
             self._process.kill()
         self._reader.join()
 
     def printed(self) -> bytes:
-        """What it prints. Raises a fault if that is nothing."""
+        """What the process prints. Raises a fault if it prints nothing."""
         self._reader.join()
         status = self._process.returncode
         if status < 0:
@@ -50,8 +50,7 @@ class _Run:
 
 
 class Running:
-    """A run of the program that judges, and one beside it that makes the notes, where these are wanted. Both are ended where nobody waits
-    for them any more."""
+    """A run of the program that judges and, if notes are wanted, one beside it that makes them. Leaving the context ends both."""
 
     def __init__(self, check: _Run, notes: Optional[_Run]) -> None:
         self._check = check
@@ -69,7 +68,7 @@ class Running:
         return self._check.printed()
 
     def noted(self) -> Optional[bytes]:
-        """The document of the notes, where they are wanted. Raises a fault if the program prints none."""
+        """The document of the notes, if they are wanted. Raises a fault if the program prints none."""
         return None if self._notes is None else self._notes.printed()
 
 
@@ -77,7 +76,7 @@ class AbiJson:
     """The program: the one that the variable ABI_JSON names, or else `abi-json` on the PATH."""
 
     def __init__(self) -> None:
-        """Finds it. Raises a fault if there is none."""
+        """Finds the program. Raises a fault if there is none."""
         named = os.environ.get("ABI_JSON") or "abi-json"
         found = shutil.which(named)
         if found is None:
@@ -85,25 +84,25 @@ class AbiJson:
         self._path = os.path.abspath(found)
 
     def started(self, old: Path, new: Path, rules: Optional[Path], with_notes: bool) -> Running:
-        """A run that judges two libraries, and has notes on what no rule judges or none. It leaves the digests to this tool."""
+        """Starts a run that judges two libraries and, if wanted, one for notes on what no rule judges. This tool makes the digests."""
         words = [*([] if rules is None else [f"--rules={rules}"]), "--", str(old), str(new)]
-        # What takes longer begins first.
+        # The longer run starts first.
         notes = _Run([self._path, _NOTES_ALONE, *words], {}) if with_notes else None
         return Running(_Run([self._path, "check", *words], {_NOTES: "0", _DIGESTS: "0"}), notes)
 
 
 class Digests:
-    """The SHA-256 of files, taken while others work."""
+    """The SHA-256 of files, computed in threads."""
 
     def __init__(self, paths: Sequence[Path]) -> None:
-        """Begins."""
+        """Starts the threads."""
         self._found: dict[str, Optional[str]] = {}
         self._readers = [threading.Thread(target=self._read, args=(path,), daemon=True) for path in paths]
         for one in self._readers:
             one.start()
 
     def _read(self, path: Path) -> None:
-        # Text needs no digests.
+        # Imported here, since a report as text needs no digests.
         import hashlib
 
         try:
@@ -114,7 +113,7 @@ class Digests:
             self._found[str(path)] = None
 
     def of(self, name: str) -> Optional[str]:
-        """The digest of a file in hexadecimal, where it could be read."""
+        """The digest of a file in hexadecimal, if it could be read."""
         for one in self._readers:
             one.join()
         return self._found.get(name)

@@ -1,4 +1,4 @@
-"""The files of the source that a unit names by numbers: the header of its line program (DWARF 5, 6.2.4; DWARF 4, 6.2.4)."""
+"""The source files that a unit refers to by number, from the header of its line program (DWARF 5, 6.2.4; DWARF 4, 6.2.4)."""
 
 from __future__ import annotations
 
@@ -13,11 +13,11 @@ from abi_report.texts_shown import shown
 
 _TWO = struct.Struct("<H")
 _FOUR = struct.Struct("<I")
-# What an entry of a table says (DWARF 5, 6.2.4.1): DW_LNCT_path and DW_LNCT_directory_index.
+# The content types of table entries that count here (DWARF 5, 6.2.4.1): DW_LNCT_path and DW_LNCT_directory_index.
 _PATH = 1
 _FOLDER = 2
 _LATEST = 5
-# The sizes of the forms that entries of files have beside texts.
+# The sizes of the forms of file entries that are not strings.
 _SIZES = {"DW_FORM_data1": 1, "DW_FORM_data2": 2, "DW_FORM_data4": 4, "DW_FORM_data8": 8, "DW_FORM_data16": 16}
 _TEXTS = {"DW_FORM_strp": ".debug_str", "DW_FORM_line_strp": ".debug_line_str"}
 
@@ -26,7 +26,8 @@ Names = list[Optional[str]]
 
 
 def file_names(sections: Sections, offset: int, home: str) -> Names:
-    """The names of the files by their numbers, each in its directory, and these in `home`. Raises what reading damaged bytes raises."""
+    """The file names, by number. Directories are resolved, relative ones below `home`. Raises one of `entries.BROKEN` if bytes are
+    damaged."""
     data = sections[".debug_line"]
     version = _TWO.unpack_from(data, offset + 4)[0]
     if version > _LATEST:
@@ -39,7 +40,7 @@ def file_names(sections: Sections, offset: int, home: str) -> Names:
 
 
 def _earlier(data: bytes, at: int, home: str) -> Names:
-    """The tables up to version 4: names that end with a 0 byte, up to an empty one. Both count from 1."""
+    """The tables up to version 4: strings with a terminating zero, ended by an empty one. Both tables count from 1."""
     folders = [""]
     while data[at]:
         end = data.index(0, at)
@@ -56,7 +57,7 @@ def _earlier(data: bytes, at: int, home: str) -> Names:
 
 
 def _later(sections: Sections, data: bytes, at: int, home: str) -> Names:
-    """The tables of version 5, whose entries have the forms that stand before them. Both count from 0."""
+    """The tables of version 5: the forms of the entries precede the entries. Both tables count from 0."""
     folders, at = _table(sections, data, at)
     files, at = _table(sections, data, at)
     return [_joined(home, str(folders[_number(one.get(_FOLDER))][_PATH]), str(one[_PATH])) for one in files]

@@ -1,7 +1,7 @@
-"""To which type each break belongs.
+"""Which type each break belongs to: its subject.
 
-A person looks at the innermost structure or union on the way to what broke, since its declaration is what to read: a member
-`block` whose type grew is a change of the structure that holds it. Where there is none on the way, it is the type itself, or the
+The subject is the innermost structure or union on the way to what broke, since a reader must look at its declaration: if the type of a
+member grew, that is a change of the structure with the member. If there is none on the way, the subject is the type itself, or the
 function.
 """
 
@@ -20,14 +20,14 @@ from abi_report.records import Records, is_definition
 # Rules of exports and of the library.
 EXPORT_RULES = ("X1", "X2", "X3", "X4", "X5", "X6")
 GONE_RULES = ("X2", "X3")
-# Where the kind or the tag changed, the declaration that names the type is what changed.
+# If the kind or the tag of a type changed, the change is in the declaration that names the type.
 _OF_HOLDERS = ("L1", "L5")
 _FUNCTIONS = ("subprogram", "subroutine_type")
 
 
 @dataclass(frozen=True)
 class Described:
-    """A type of one library: its entry where it could be read, the offset, its name as C writes it and its place."""
+    """A type of one library: its entry (if it could be read), the entry's offset, its name as C writes it, and its place."""
 
     entry: Optional[Entry]
     offset: Optional[int]
@@ -36,27 +36,27 @@ class Described:
 
 
 class Library:
-    """What the debug information of a library says, read where it is asked for."""
+    """The debug information of a library, read when it is first used."""
 
     def __init__(self, path: Path) -> None:
         self.path = path
 
     @cached_property
     def records(self) -> Optional[Records]:
-        """What the library declares, where that can be read. What gives its bytes only once is left to `abi-json`."""
+        """What the library declares, if that can be read. A file that can be read only once, such as a pipe, is left to `abi-json`."""
         try:
             return Records(Entries(self.path)) if self.path.is_file() else None
         except (*BROKEN, OSError):
             return None
 
     def prepare(self) -> None:
-        """Reads what each report needs."""
+        """Reads what every report needs."""
         if self.records is not None:
             self.records.entries.prepare()
 
     @cached_property
     def says_places(self) -> bool:
-        """Whether the library says where its source declares anything: not if it lacks line tables, as a baseline does."""
+        """Whether the library says where its source declares things: not if it lacks line tables, as a baseline does."""
         return self.records is None or not self.records.entries.info or ".debug_line" in self.records.entries.sections
 
 
@@ -73,17 +73,17 @@ class Side:
 
     @property
     def records(self) -> Optional[Records]:
-        """What the library declares, where that can be read."""
+        """What the library declares, if that can be read."""
         return self._library.records
 
     @property
     def says_places(self) -> bool:
-        """Whether the library says where its source declares anything."""
+        """Whether the library says where its source declares things."""
         return self._library.says_places
 
     @property
     def names(self) -> Optional[Names]:
-        """The names of its types."""
+        """The names of the library's types."""
         return self.records.names if self.records is not None else None
 
     def entry(self, offset: Optional[int]) -> Optional[Entry]:
@@ -97,33 +97,33 @@ class Side:
         return self._exports[label]
 
     def walk(self, label: str, steps: Sequence[str]) -> Optional[Entry]:
-        """The type to which steps lead from an export."""
+        """The type at the end of the steps from an export."""
         export = self.export(label)
         if export is None or self.records is None:
             return None
         return self.records.walk(export, steps)
 
     def record(self, label: str, steps: Sequence[str]) -> Optional[Entry]:
-        """The structure or union to which steps lead from an export."""
+        """The structure or union at the end of the steps from an export."""
         found = self.walk(label, steps)
         return self.records.record(found.offset) if found is not None and self.records is not None else None
 
     def place(self, entry: Optional[Entry], offset: Optional[int]) -> Optional[Place]:
-        """Where a type is declared: by the document, or else by the debug information."""
+        """Where a type is declared, from the document or else from the debug information."""
         said = self._document.place(self.side, offset)
         if entry is None or self.records is None or (said is not None and not is_definition(entry)):
             return said
         return self.records.place(entry) or said
 
     def type_name(self, entry: Optional[Entry], offset: Optional[int]) -> Optional[str]:
-        """A type as C writes it: by the document, or else by the debug information."""
+        """A type as C writes it, from the document or else from the debug information."""
         said = self._document.type_name(self.side, offset)
         if said is not None or entry is None or self.names is None:
             return said
         return self.names.prototype(entry) if entry.tag == "subprogram" else self.names.of(entry.offset)
 
     def described(self, offset: Optional[int]) -> Described:
-        """The type of an entry; in place of typedefs and qualifiers of a structure, union or enumeration that itself."""
+        """The type at an offset. Typedefs and qualifiers of a structure, union or enumeration are skipped."""
         if offset not in self._described:
             self._described[offset] = self._described_at(offset)
         return self._described[offset]
@@ -141,8 +141,8 @@ class Side:
 
 @dataclass(frozen=True)
 class Subject:
-    """What breaks belong to: its kind (`record`, `type`, `function`, `export` or `library`), both types, and the name by which
-    breaks are put together."""
+    """What breaks belong to: the kind (`record`, `type`, `function`, `export` or `library`), both types, and the key by which breaks are
+    grouped."""
 
     kind: str
     old: Described
@@ -156,7 +156,7 @@ class Subjects:
     def __init__(self, old: Side, new: Side, breaks: Sequence[Break]) -> None:
         self.old = old
         self.new = new
-        # The structures that breaks of their own name, by export and path.
+        # Breaks of structures themselves name these structures: their entries, by export and path.
         self._known = {(one.export, one.steps): (one.old_entry, one.new_entry) for one in breaks if one.old_entry is not None}
 
     def of(self, one: Break) -> tuple[Subject, tuple[str, ...]]:
@@ -178,7 +178,7 @@ class Subjects:
         return core is not None and core.tag in ("structure_type", "union_type", "enumeration_type")
 
     def _record(self, export: str, steps: tuple[str, ...]) -> Optional[Subject]:
-        """The structure or union at a path, where both libraries have one."""
+        """The structure or union at a path, if both libraries have one."""
         offsets = self._known.get((export, steps), (None, None))
         sides = [self._described_record(side, export, steps, offset) for side, offset in zip((self.old, self.new), offsets)]
         old, new = sides
@@ -205,7 +205,7 @@ class Subjects:
 
 
 def _of_export(one: Break) -> Subject:
-    """The export or the library that a rule of exports speaks of."""
+    """The export or the library that a rule on exports is about."""
     nothing = Described(None, None, None, None)
     if one.rule == "X1":
         return Subject("library", nothing, nothing, ("library",))
@@ -213,12 +213,12 @@ def _of_export(one: Break) -> Subject:
 
 
 def _record_key(old: Described, new: Described) -> tuple[object, ...]:
-    """Types of one name and place are one for people, also where they are several entries."""
+    """The key of a structure: types with the same name and place are one to the reader, even if they have several entries."""
     if old.name is None or (old.place is None and new.place is None):
         return ("record", old.offset, new.offset)
     return ("record", old.name, old.place, new.name, new.place)
 
 
 def _last_record(steps: Sequence[str]) -> Optional[int]:
-    """Where the last step to a member stands."""
+    """The index of the last step to a member."""
     return next((at for at in range(len(steps) - 1, -1, -1) if steps[at].startswith("member ")), None)

@@ -1,23 +1,23 @@
-"""What may have come in the place of a symbol that is gone."""
+"""The likely successors of a symbol that is gone."""
 
 from __future__ import annotations
 
 from difflib import get_close_matches
 from typing import Iterable
 
-# How many names are shown, and how near they must be, of 1.
+# How many names are shown, and how similar they must be (1 is equal).
 _MOST = 3
 _NEAR = 0.7
-# How many pairs of names are compared by letters; beyond it only those that begin or end alike.
+# Up to this many pairs of names are compared by letters. With more pairs, only a name that begins or ends with the other one counts.
 _MOST_COMPARED = 400_000
 _LEAST_COMMON = 4
 
 
 class Successors:
-    """The exports of a new library, as successors of those that are gone from the old one."""
+    """Finds successors among the exports of the new library."""
 
     def __init__(self, old: Iterable[str], new: Iterable[str], gone: int) -> None:
-        """Takes the labels of both, and how many are gone."""
+        """Takes the labels of both libraries, and how many exports are gone."""
         self._by_name: dict[str, list[str]] = {}
         for label in new:
             self._by_name.setdefault(base(label), []).append(label)
@@ -26,7 +26,7 @@ class Successors:
         self._compares = gone * len(self._added) <= _MOST_COMPARED
 
     def of(self, label: str) -> list[str]:
-        """The likely successors: the same name in another version, or else names that were added and are near."""
+        """The likely successors: the same name in another version, or else added names that are similar."""
         name = base(label)
         if name in self._by_name:
             return self._by_name[name][:_MOST]
@@ -43,6 +43,6 @@ def base(label: str) -> str:
 
 
 def _extends(one: str, other: str) -> bool:
-    """Whether one of two names has the other within it, at an end of it."""
+    """Whether one of two names begins or ends with the other."""
     shorter, longer = sorted((one, other), key=len)
     return len(shorter) >= _LEAST_COMMON and (longer.startswith(shorter) or longer.endswith(shorter))

@@ -1,4 +1,4 @@
-"""A report as text: with colours on a terminal, and without them elsewhere."""
+"""A report as text: with colours on a terminal, without them elsewhere."""
 
 from __future__ import annotations
 
@@ -12,7 +12,7 @@ from abi_report.documents import Note
 from abi_report.reports import Report
 from abi_report.texts_shown import counted
 
-# A piece of a line: the text, and how it looks on a terminal, in the words of rich.
+# A piece of a line: the text, and its style on a terminal, as a style of rich.
 Piece = tuple[str, str]
 Words = Sequence[Piece]
 
@@ -20,9 +20,9 @@ _COLOURS = {Verdict.YES: "bold green", Verdict.NO: "bold red", Verdict.CANNOT_TE
 _RULES_WIDTH = 7
 _WIDTH = 110
 _WAYS = "Below, `f / param 1 / target` is what the first parameter of f points to."
-# So many exports are named again although an earlier block has the same ones.
+# Blocks with fewer exports than this name them even if an earlier block has the same ones.
 _NAMED_AGAIN = 12
-# So many exports that reach a type, and so many notes of a kind, are shown.
+# How many of the exports that reach a type, and how many notes of a kind, are shown.
 _NAMED = 12
 _NOTED = 10
 
@@ -38,7 +38,7 @@ def write_text(report: Report, stream: TextIO, quiet: bool) -> None:
 
 
 def _write_coloured(lines: Iterable[Words], stream: TextIO) -> None:
-    # Without a terminal this library is not needed.
+    # Imported here, since only a terminal needs it.
     from rich.console import Console
     from rich.text import Text
 
@@ -89,7 +89,7 @@ def _block(report: Report, block: Block) -> Iterator[Words]:
 
 
 def _reached(report: Report, block: Block) -> Iterator[Words]:
-    """The exports that reach a type, and the way to it from the first one."""
+    """The exports that reach a type, and the way from the first one to it."""
     same = report.same_exports(block, _NAMED_AGAIN)
     if report.is_of_itself(block):
         return
@@ -105,7 +105,7 @@ def _reached(report: Report, block: Block) -> Iterator[Words]:
 
 
 def _because(report: Report, block: Block) -> Iterator[Words]:
-    """What made a type change that did not change by itself."""
+    """What made a type change, if it did not change by itself."""
     found = report.because(block)
     if found:
         words = " and ".join(f"{cause.title} {said}" for cause, said in found)
@@ -113,13 +113,13 @@ def _because(report: Report, block: Block) -> Iterator[Words]:
 
 
 def _wrapped(text: str, first: str, later: str) -> Iterator[Words]:
-    """A text in lines, with what stands before the first one and before later ones."""
+    """Wraps a text into lines, with one prefix for the first line and another for the others."""
     for line in textwrap.wrap(text, _WIDTH, initial_indent=first, subsequent_indent=later, break_long_words=False, break_on_hyphens=False):
         yield [(line, "")]
 
 
 def _named_exports(block: Block) -> str:
-    """The exports that reach a type, and how many they are."""
+    """The exports that reach a type, and their number."""
     names, others = _cut(block.exports), block.member_exports
     if not block.names_all_exports:
         return f"reached by {names}, and perhaps by others"
@@ -150,7 +150,7 @@ def _gone(report: Report) -> Iterator[Words]:
 
 
 def _of_kind(report: Report, kind: str, notes: Sequence[Note]) -> Iterator[str]:
-    """The first notes of a kind with the places of their exports, and how many more there are."""
+    """The first notes of a kind, with the places of their exports, and how many more there are."""
     for note, place in zip(notes[:_NOTED], report.note_places(notes)):
         yield f"{f'{kind}: ' if kind else ''}{note.text}{f'  {place}' if place else ''}"
     if len(notes) > _NOTED:

@@ -1,4 +1,4 @@
-"""By which steps exports lead to types that changed, where a document does not say it: searched for in the types of the old library."""
+"""The steps from exports to types that changed. If a document does not have them, they are searched for in the old library's types."""
 
 from __future__ import annotations
 
@@ -11,7 +11,7 @@ from abi_report.records import RECORDS, Records
 from abi_report.subjects import Side
 
 Steps = tuple[str, ...]
-# So many types are looked at in all, and so many from one export.
+# How many types a search visits in all, and how many from one export.
 _MOST_TYPES = 20_000
 _MOST_OF_EXPORT = 4_000
 _FUNCTIONS = ("subprogram", "subroutine_type")
@@ -36,11 +36,11 @@ class Ways:
             self._search(export, blocks)
 
     def of(self, block: Block, export: str) -> Optional[Steps]:
-        """The steps from an export to the type of a block, where they are known."""
+        """The steps from an export to the type of a block, if they are known."""
         return self._found.get((export, id(block)))
 
     def _search(self, export: str, blocks: Sequence[Block]) -> None:
-        """Looks for the types of blocks from an export on, the nearest first."""
+        """Searches for the types of blocks from an export, the nearest first."""
         records, start = self._side.records, self._side.export(export)
         if records is None or start is None:
             return
@@ -55,7 +55,7 @@ class Ways:
 
 
 class _Sought:
-    """The blocks whose types are still to be found."""
+    """The blocks whose types have not been found yet."""
 
     def __init__(self, blocks: Sequence[Block]) -> None:
         self._by_offset: dict[int, list[Block]] = {}
@@ -72,7 +72,7 @@ class _Sought:
         return bool(self._left)
 
     def taken(self, entry: Entry) -> list[Block]:
-        """The blocks of an entry, in its own unit or by its tag and name in another one, that were not taken before."""
+        """Takes and returns the blocks that an entry matches: by its offset, or by its tag and name if it is in another unit."""
         found = self._by_offset.get(entry.offset) or self._by_name.get((entry.tag, entry.name or "")) or []
         new = [block for block in found if id(block) in self._left]
         self._left -= {id(block) for block in new}
@@ -80,7 +80,7 @@ class _Sought:
 
 
 def reached(records: Records, start: Entry, limit: int) -> Iterator[tuple[Entry, Steps]]:
-    """The entries of the types to which an export leads, each with the steps to it: the nearest first, and at most so many."""
+    """The entries of the types that an export reaches, each with the steps to it: the nearest first, and at most `limit`."""
     first = start.offset if start.tag == "subprogram" else start.kind
     waiting: deque[tuple[Optional[int], Steps]] = deque([(first, ())])
     seen: set[int] = set()
@@ -95,7 +95,7 @@ def reached(records: Records, start: Entry, limit: int) -> Iterator[tuple[Entry,
 
 
 def _below(records: Records, entry: Entry) -> Iterator[tuple[Steps, Optional[int]]]:
-    """The types one step below a type; a typedef or qualifier takes no step."""
+    """The types one step from a type; a typedef or qualifier takes no step."""
     if entry.tag == "pointer_type":
         yield ("target",), entry.kind
     elif entry.tag == "array_type":

@@ -1,4 +1,4 @@
-"""What stands around the program `abi`: files as distributions ship them, made into files that it reads.
+"""The tools around the program `abi`: they turn files as distributions ship them into files that it can read.
 
-Nothing here judges a library. `abi` does, and what it says is shown.
+Nothing here judges a library. `abi` does, and the tools show its answer.
 """

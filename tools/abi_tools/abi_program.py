@@ -1,4 +1,4 @@
-"""The program `abi`, run, and what it prints, read."""
+"""Runs the program `abi` and reads what it prints."""
 
 from __future__ import annotations
 
@@ -18,7 +18,7 @@ _DONE = 0
 
 @dataclass(frozen=True)
 class Answer:
-    """What the program said: its exit status (below 0: the signal that ended it), the text, and the sentences for people."""
+    """One run of the program: its exit status (negative if a signal ended it), its standard output, and its standard error."""
 
     status: int
     text: str
@@ -26,17 +26,17 @@ class Answer:
 
     @property
     def rows(self) -> list[str]:
-        """The rows of a report, behind the line `no`."""
+        """The rows of a report, after the line `no`."""
         return self.text.splitlines()[1:]
 
     @property
     def bound(self) -> list[tuple[int, int]]:
-        """What a certificate says of exports: the numbers of the old symbols and of those to which they bind."""
+        """The bindings of a certificate: the number of each old symbol, and of the new symbol to which it binds."""
         lines = (line.split() for line in self.text.splitlines())
         return [(int(words[1]), int(words[2])) for words in lines if words[:1] == ["bind"]]
 
     def why(self) -> str:
-        """Why there is neither a yes nor a no, in the program's own words where it said any."""
+        """Why there is neither a yes nor a no, in the program's own words if it printed any."""
         if self.status < 0:
             return f"the signal {-self.status} ended abi"
         said = "; ".join(line.removeprefix("abi: ") for line in self.notes.splitlines()) or self.text.strip()
@@ -45,7 +45,7 @@ class Answer:
 
 @dataclass(frozen=True)
 class Export:
-    """A line of `abi exports`: the symbol's number, its label, its kind, its size, and what is said of its type."""
+    """A line of `abi exports`: the symbol's number, label, kind and size, and what the line says about its type."""
 
     number: int
     label: str
@@ -60,16 +60,16 @@ class Export:
 
     @property
     def may_lack_types(self) -> bool:
-        """Whether the type is one that is read where debug information has no types: `void f(void)`, or void."""
+        """Whether the type is one that `abi` also reads from debug information without types: `void f(void)`, or void."""
         return self.said in ("params - result none", "is void")
 
 
 class Abi:
-    """The program: the one that the variable ABI names, or else `abi` on the PATH. It works in a folder, from which the names of
-    libraries count."""
+    """The program: the one that the variable ABI names, or else `abi` on the PATH. It runs in a folder, to which the names of
+    libraries are relative."""
 
     def __init__(self, folder: Path = Path()) -> None:
-        """Finds it. Raises a fault if there is none."""
+        """Finds the program. Raises a fault if there is none."""
         named = os.environ.get("ABI") or "abi"
         found = shutil.which(named)
         if found is None:
@@ -78,19 +78,19 @@ class Abi:
         self.folder = folder
 
     def run(self, *arguments: str) -> Answer:
-        """What the program says of its arguments."""
+        """Runs the program with these arguments."""
         ended = subprocess.run([self.path, *arguments], stdin=subprocess.DEVNULL, capture_output=True, check=False,
                                cwd=self.folder)
         text, notes = (part.decode("utf-8", "surrogateescape") for part in (ended.stdout, ended.stderr))
         return Answer(ended.returncode, text, notes)
 
     def check(self, old: Path, new: Path, rules: Optional[Path]) -> Answer:
-        """Its answer to whether a library may replace another one."""
+        """Runs `abi check`: may the new library replace the old one?"""
         options = [] if rules is None else [f"--rules={rules}"]
         return self.run("check", *options, "--", str(old), str(new))
 
     def exports(self, library: Path) -> list[Export]:
-        """What a library exports. Raises a fault, in the program's words, if it cannot be read."""
+        """The exports of a library. Raises a fault, in the program's words, if the library cannot be read."""
         answer = self.run("exports", "--", str(library))
         if answer.status != _DONE:
             raise Fault(answer.why())

@@ -1,4 +1,4 @@
-"""The arguments of the tools."""
+"""The command line arguments of the tools."""
 
 from __future__ import annotations
 
@@ -9,7 +9,7 @@ from abi_tools.faults import WRONG_ARGUMENTS
 
 
 class Arguments(argparse.ArgumentParser):
-    """A parser of arguments, which ends the program with a status of its own where they are wrong."""
+    """An argument parser that ends the program with a chosen exit status if the arguments are wrong."""
 
     def __init__(self, tool: str, description: str, statuses: str, wrong: int = WRONG_ARGUMENTS) -> None:
         super().__init__(prog=tool, description=description, epilog=statuses, allow_abbrev=False,
@@ -22,7 +22,7 @@ class Arguments(argparse.ArgumentParser):
 
 
 def share(text: str) -> float:
-    """A share of 100. Raises ValueError if it is none."""
+    """A percentage, from 0 to 100. Raises ValueError for any other text."""
     value = float(text.removesuffix("%"))
     if not 0 <= value <= 100:
         raise argparse.ArgumentTypeError(f"{text} is no share of 100")

@@ -12,15 +12,15 @@ from abi_tools.elf_files import ElfFile
 from abi_tools.output_file import clear_output, write_whole
 
 _DESCRIPTION = """\
-Writes what `abi` reads of a library to a file that a project can keep in its repository: `abi` judges it as it judges the library
-(the same exports, binds and reports; its digest is its own). Code and data are left out, and debug information is as it was, but
-inflated.
+Writes what `abi` reads of a library to a file, the baseline, that a project can keep in its repository. `abi` judges the baseline as it
+judges the library (the same exports, binds and reports), but it has a digest of its own. Code and data are left out; debug information
+is unchanged, but inflated.
 """
 _STATUSES = "Exit status: 0 written; 1 not written, and a sentence says why; 64 wrong arguments."
 
 
 def main(arguments: Sequence[str]) -> int:
-    """Writes the baseline as the arguments say, and answers 0. Raises a fault if that cannot be done."""
+    """Writes the baseline as the arguments say, and returns 0. Raises a fault if that cannot be done."""
     parser = Arguments("abi-baseline", _DESCRIPTION, _STATUSES)
     parser.add_argument("library", type=Path, metavar="LIB")
     parser.add_argument("output", type=Path, metavar="OUT")

@@ -1,4 +1,4 @@
-"""The interface of a library, kept: what `abi` reads of it, and nothing else."""
+"""Baselines: files that keep what `abi` reads of a library, and nothing else."""
 
 from __future__ import annotations
 
@@ -10,19 +10,18 @@ from abi_tools.elf_writing import sections_alone
 from abi_tools.faults import Fault
 from abi_tools.supplementary import DebugSections, leads_out
 
-# The types of the sections that `abi` finds by their types (gABI, "Section Header", and GNU symbol versions): dynamic symbols, the
-# dynamic table, and versions that are defined, needed, and of symbols.
+# The types of the sections that `abi` finds by type (gABI, "Section Header", and GNU symbol versioning).
 _KINDS = {"dynamic symbols": 11, "dynamic table": 6, "defined versions": 0x6FFFFFFD, "needed versions": 0x6FFFFFFE,
           "versions of symbols": 0x6FFFFFFF}
-# The sections that it finds by their names: entries, what they refer to, and where code begins.
+# The sections that it finds by name: the entries, the sections that they refer to, and where code begins.
 _NAMES = (".debug_info", ".debug_abbrev", ".debug_str", ".debug_line_str", ".debug_str_offsets", ".debug_addr", ".debug_rnglists",
           ".debug_ranges")
-# Which build the interface is of.
+# This note says which build the baseline comes from.
 _BUILD_ID = ".note.gnu.build-id"
 
 
 def baseline(library: ElfFile) -> bytes:
-    """The smallest file that `abi` judges as it judges the library. Raises a fault if the library is no shared object, is damaged,
+    """The smallest file that `abi` judges as it judges the library. Raises a fault if the library is not a shared object, is damaged,
     or refers to a supplementary file."""
     if not library.is_shared_object:
         raise Fault(f"{library.path} is no shared object for x86-64")
@@ -33,7 +32,7 @@ def baseline(library: ElfFile) -> bytes:
 
 
 def _kept(library: ElfFile) -> Iterator[tuple[Section, bytes]]:
-    """The sections that are kept, in their order, with inflated contents."""
+    """The sections that a baseline keeps, in order, with inflated contents."""
     for number in sorted(set(_chosen(library))):
         section = library.sections[number]
         name = section.name.replace(".zdebug_", ".debug_", 1)
@@ -41,7 +40,7 @@ def _kept(library: ElfFile) -> Iterator[tuple[Section, bytes]]:
 
 
 def _chosen(library: ElfFile) -> Iterator[int]:
-    """The numbers of the first section of each kind and name, and of the tables of strings that they name."""
+    """The numbers of the first section of each kind and name, and of the string tables that they link to."""
     for kind in _KINDS.values():
         section = next((one for one in library.sections if one.kind == kind), None)
         if section is not None:

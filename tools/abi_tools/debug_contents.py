@@ -1,4 +1,4 @@
-"""The sections of debug information of a file, each read where it is asked for."""
+"""The debug sections of a file, each read when it is first used."""
 
 from __future__ import annotations
 
@@ -8,10 +8,10 @@ from abi_tools.elf_files import ElfFile
 
 
 class DebugContents(Mapping[str, bytes]):
-    """The contents of the sections by their names, inflated."""
+    """The inflated contents of the sections, by name."""
 
     def __init__(self, file: ElfFile) -> None:
-        """Inflates those that are compressed. Raises a fault if that cannot be done."""
+        """Inflates the compressed sections. Raises a fault if one cannot be inflated."""
         self._file = file
         self._headers = file.debug_headers()
         self._read = {name: file.contents(header) for name, header in self._headers.items() if header.is_compressed}

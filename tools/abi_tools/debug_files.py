@@ -1,5 +1,5 @@
-"""Where debug files and supplementary files lie below a folder, as the system's lie below `/`, and whether they belong to a
-library."""
+"""Finds debug files and supplementary files below a folder, as debuggers find the system's below `/`, and checks whether they belong
+to a library."""
 
 from __future__ import annotations
 
@@ -14,16 +14,16 @@ from abi_tools.faults import Fault
 DEBUG_FOLDER = PurePosixPath("/usr/lib/debug")
 # Where `dwz` puts supplementary files in the packages of Debian and Fedora.
 _SUPPLEMENTARY_FOLDER = DEBUG_FOLDER / ".dwz"
-# As many links as the system follows for one name.
+# The system follows as many symbolic links for one name.
 _MOST_LINKS = 40
 
 
 class NoDebugFile(Fault):
-    """That there is no debug file of a library."""
+    """A library has no debug file."""
 
 
 def below(root: Path, name: PurePosixPath) -> Optional[Path]:
-    """The file or folder that a name leads to where `root` is the folder `/`, also through links; none where there is none."""
+    """The file or folder that a name leads to, also through links, if `root` stands for `/`; None if there is none."""
     at = root
     parts = [part for part in reversed(name.parts) if part != "/"]
     links = 0
@@ -46,13 +46,13 @@ def below(root: Path, name: PurePosixPath) -> Optional[Path]:
 
 
 def _by_build_id(build_id: bytes) -> PurePosixPath:
-    """The name of the debug file, or the supplementary file, with a build id."""
+    """The name of the debug file or supplementary file with this build id."""
     digits = build_id.hex()
     return DEBUG_FOLDER / ".build-id" / digits[:2] / f"{digits[2:]}.debug"
 
 
 def _named_below(root: Path, folder: PurePosixPath, name: str) -> Iterator[Path]:
-    """The files of a name anywhere below a folder, in order."""
+    """All files with this name below a folder, in order."""
     start = below(root, folder)
     if start is None or not start.is_dir():
         return
@@ -63,8 +63,8 @@ def _named_below(root: Path, folder: PurePosixPath, name: str) -> Iterator[Path]
 
 
 def _by_link(library: Path, name: str, root: Path) -> Iterator[Path]:
-    """Where a debug file that `.gnu_debuglink` names may lie: where debuggers look for it, and below a folder that is not the
-    system's, anywhere in the folder of debug files."""
+    """Where the debug file that `.gnu_debuglink` names may lie: where debuggers look for it and, if `root` is not `/`, anywhere in
+    the folder of debug files below `root`."""
     folder = library.resolve().parent
     yield folder / name
     yield folder / ".debug" / name
@@ -77,8 +77,8 @@ def _by_link(library: Path, name: str, root: Path) -> Iterator[Path]:
 
 
 def disagreement(library: ElfFile, debug: ElfFile) -> Optional[str]:
-    """Why a debug file does not belong to a library, in a sentence; none where it does: where both have the same build id, or,
-    where one has none, `.gnu_debuglink` has the CRC-32 of the debug file."""
+    """A sentence that says why a debug file does not belong to a library; None if it does. It belongs if both have the same build id
+    or, if one has no build id, if `.gnu_debuglink` has the CRC-32 of the debug file."""
     if library.build_id is not None and debug.build_id is not None:
         if library.build_id == debug.build_id:
             return None
@@ -96,8 +96,8 @@ def disagreement(library: ElfFile, debug: ElfFile) -> Optional[str]:
 
 
 def debug_file(library: ElfFile, root: Path) -> ElfFile:
-    """The debug file of a library below a folder, by the build id or by `.gnu_debuglink`. Raises a fault if there is none of
-    the library's build."""
+    """The debug file of a library below a folder, found by build id or by `.gnu_debuglink`. Raises a fault if there is none of the
+    library's build."""
     root = root.resolve()
     candidates = []
     if library.build_id is not None:
@@ -120,7 +120,7 @@ def debug_file(library: ElfFile, root: Path) -> ElfFile:
 
 
 def _nowhere(library: ElfFile, root: Path) -> str:
-    """That there is no debug file, and how it may be found."""
+    """Says that there is no debug file, and what to do about it."""
     if library.build_id is None and library.debug_link is None:
         return f"{library.path} has neither a build id nor a section .gnu_debuglink: name its debug file"
     names = [] if library.build_id is None else [str(_by_build_id(library.build_id))]
@@ -130,8 +130,8 @@ def _nowhere(library: ElfFile, root: Path) -> str:
 
 
 def supplementary_file(debug: ElfFile, link: SupplementaryLink, root: Path) -> ElfFile:
-    """The supplementary file that a debug file names, below a folder, or below the one in which the debug file's
-    `usr/lib/debug` lies. Raises a fault if there is none, or none with the build id that is named."""
+    """The supplementary file that a debug file names, found below `root` or below the folder that holds the debug file's own
+    `usr/lib/debug`. Raises a fault if there is none, or none with the build id that the debug file names."""
     found = []
     for candidate in _supplementary_places(debug.path.resolve(), link, root.resolve()):
         if candidate is None or not candidate.is_file():

@@ -1,7 +1,7 @@
 """Which code of a library has debug information with types.
 
 Compilers write no types at level 1 (`gcc -g1`, `clang -gline-tables-only`): `abi` then reads each function as `void f(void)`, or
-finds none. A unit whose entries have neither types nor prototypes, and import no other unit, is taken for one of level 1.
+finds none. A unit counts as level 1 if its entries have neither types nor prototypes and import no other unit.
 """
 
 from __future__ import annotations
@@ -23,18 +23,19 @@ _IMPORTS = TAGS["DW_TAG_imported_unit"]
 
 @dataclass(frozen=True)
 class Code:
-    """The addresses of the code of units, in order; `is_all` where those of one unit could not be read, so that it may be any."""
+    """The address ranges of the code of some units, in order. `is_all` is set if the ranges of one unit could not be read: then any
+    address may belong to it."""
 
     ranges: tuple[Range, ...] = ()
     is_all: bool = False
 
     def has(self, address: int) -> bool:
-        """Whether an address may be one of them."""
+        """Whether an address may be in this code."""
         number = bisect.bisect_right(self.ranges, (address, _BEHIND)) - 1
         return self.is_all or (number >= 0 and address < self.ranges[number][1])
 
 
-# An end behind all addresses.
+# Larger than any address.
 _BEHIND = 1 << 65
 
 
@@ -42,7 +43,7 @@ class Levels:
     """The code that has debug information with types, and the code that has some without types."""
 
     def __init__(self, file: ElfFile) -> None:
-        """Reads which units have types. Raises a fault if the debug information is damaged where that is read."""
+        """Finds out which units have types. Raises a fault if this meets damaged debug information."""
         self._sections = DebugContents(file)
         self._tables = Tables(self._sections.get(".debug_abbrev", b""), f"{file.path}: .debug_abbrev")
         where = f"{file.path}: .debug_info"
@@ -51,7 +52,7 @@ class Levels:
 
     @cached_property
     def has_types(self) -> bool:
-        """Whether a unit has types."""
+        """Whether any unit has types."""
         return any(has_types for _, has_types in self._units)
 
     @cached_property
@@ -69,27 +70,27 @@ class Levels:
         return Code(_joined(one for part in found for one in part or ()), any(part is None for part in found))
 
     def _code_of(self, unit: Unit) -> Optional[list[Range]]:
-        """The code of a unit; none where that cannot be read."""
+        """The code of a unit; None if it cannot be read."""
         try:
             return code_of(self._sections, unit, self._tables.at(unit.table))
         except DAMAGED:
             return None
 
     def reason(self) -> str:
-        """Why exports have no types, as it is said of a library."""
+        """Why exports have no types, as a predicate to the name of the library."""
         if self.untyped.is_all or self.untyped.ranges:
             return "has debug information without types (of level 1, -g1, or of assembler)"
         return "has no debug information of them" if self.has_types else "has no debug information"
 
 
 def _has_types(section: bytes, unit: Unit, table: Table, where: str) -> bool:
-    """Whether an entry of a unit has types; entries behind the first such one are not read."""
+    """Whether an entry of a unit has types. Reads no entries after the first such one."""
     used = (table[code] for code in codes_used(section, unit, table, where) if code in table)
     return any(one.tag == _IMPORTS or any(two.attribute in _SHOWS_TYPES for two in one.attributes) for one in used)
 
 
 def _joined(ranges: Iterable[Range]) -> tuple[Range, ...]:
-    """The ranges in order; those that touch each other are one."""
+    """The ranges in order; ranges that touch or overlap are merged."""
     found: list[Range] = []
     for start, end in sorted(ranges):
         if found and start <= found[-1][1]:

@@ -1,4 +1,4 @@
-"""Abbreviations of DWARF (DWARF 5, 7.5.3), and what a pass over the entries of a unit has to do for each of them."""
+"""DWARF abbreviations (DWARF 5, 7.5.3), and what a pass over the entries of a unit does for each of them."""
 
 from __future__ import annotations
 
@@ -10,10 +10,10 @@ from typing import Callable, Iterator, Mapping, NamedTuple, Optional, Union
 from abi_tools.faults import Fault
 
 Bytes = Union[bytes, bytearray]
-# How to step over a value: it takes the section and where the value begins, and answers where it ends.
+# Steps over a value: takes the section and the offset of the value, and returns the offset of its end.
 Step = Callable[[Bytes, int], int]
 
-# The forms from 1 on (DWARF 5, 7.5.6); `-` is a number that no form has. Those of GNU stand behind them.
+# The forms from 1 on (DWARF 5, 7.5.6); `-` is a number that no form has. The GNU forms follow.
 _FORMS_FROM_1 = """addr - block2 block4 data2 data4 data8 string block block1 data1 flag sdata strp udata ref_addr ref1 ref2 ref4 ref8
     ref_udata indirect sec_offset exprloc flag_present strx addrx ref_sup4 strp_sup data16 line_strp ref_sig8 implicit_const
     loclistx rnglistx ref_sup8 strx1 strx2 strx3 strx4 addrx1 addrx2 addrx3 addrx4""".split()
@@ -21,26 +21,26 @@ _GNU_FORMS = {"GNU_ref_alt": 0x1F20, "GNU_strp_alt": 0x1F21}
 _FORMS = {**{name: number for number, name in enumerate(_FORMS_FROM_1, 1) if name != "-"}, **_GNU_FORMS}
 FORMS: Mapping[str, int] = {f"DW_FORM_{name}": number for name, number in _FORMS.items()}
 FORM_NAMES: Mapping[int, str] = {number: name for name, number in FORMS.items()}
-# The tags that the tools ask for (DWARF 5, 7.5.3, table 7.3).
+# The tags that the tools use (DWARF 5, 7.5.3, table 7.3).
 TAGS: Mapping[str, int] = {f"DW_TAG_{name}": number for name, number in {
     "array_type": 0x01, "enumeration_type": 0x04, "formal_parameter": 0x05, "member": 0x0D, "pointer_type": 0x0F, "compile_unit": 0x11,
     "structure_type": 0x13, "subroutine_type": 0x15, "typedef": 0x16, "union_type": 0x17, "unspecified_parameters": 0x18,
     "subrange_type": 0x21, "base_type": 0x24, "const_type": 0x26, "enumerator": 0x28, "subprogram": 0x2E, "variable": 0x34,
     "volatile_type": 0x35, "restrict_type": 0x37, "imported_unit": 0x3D, "atomic_type": 0x47}.items()}
-# The attributes that the tools ask for (DWARF 5, 7.5.4, table 7.5).
+# The attributes that the tools use (DWARF 5, 7.5.4, table 7.5).
 ATTRIBUTES: Mapping[str, int] = {f"DW_AT_{name}": number for name, number in {
     "sibling": 0x01, "location": 0x02, "name": 0x03, "byte_size": 0x0B, "bit_offset": 0x0C, "bit_size": 0x0D, "stmt_list": 0x10,
     "low_pc": 0x11, "high_pc": 0x12, "comp_dir": 0x1B, "const_value": 0x1C, "prototyped": 0x27, "upper_bound": 0x2F, "count": 0x37,
     "data_member_location": 0x38, "decl_file": 0x3A, "decl_line": 0x3B, "declaration": 0x3C, "external": 0x3F, "type": 0x49,
     "ranges": 0x55, "data_bit_offset": 0x6B, "str_offsets_base": 0x72, "addr_base": 0x73, "rnglists_base": 0x74}.items()}
-# The most bytes of a number of variable length, as `abi` reads it.
+# The longest LEB128 number that `abi` reads, in bytes.
 _LONGEST_NUMBER = 10
 _TWO = struct.Struct("<H")
 _FOUR = struct.Struct("<I")
 
 
 def read_number(data: Bytes, at: int) -> tuple[int, int]:
-    """The number of variable length (ULEB128) at a place, and where it ends. Raises IndexError if it does not end."""
+    """The unsigned LEB128 number at an offset, and the offset of its end. Raises IndexError if it does not end."""
     value = data[at]
     at += 1
     if value < 0x80:
@@ -56,7 +56,7 @@ def read_number(data: Bytes, at: int) -> tuple[int, int]:
 
 
 def padded_number(value: int, length: int) -> bytes:
-    """The number of variable length in exactly so many bytes."""
+    """The number as unsigned LEB128 in exactly `length` bytes."""
     parts = [value >> 7 * place & 0x7F for place in range(length)]
     return bytes([part | 0x80 for part in parts[:-1]] + parts[-1:])
 
@@ -87,8 +87,8 @@ STEPS: Mapping[str, Step] = {
 }
 
 
-# The sizes of the forms whose values all have one, in the 32-bit format and for addresses of eight bytes (DWARF 5, 7.5.6). That of
-# DW_FORM_ref_addr is another one in version 2.
+# The sizes of the forms with a fixed size, in the 32-bit format and for addresses of eight bytes (DWARF 5, 7.5.6). In version 2
+# DW_FORM_ref_addr has another size.
 _SIZES: Mapping[str, int] = {
     form: size
     for size, forms in {
@@ -106,12 +106,12 @@ _SIZES: Mapping[str, int] = {
 
 
 def fixed_sizes(version: int) -> dict[str, int]:
-    """The sizes of the forms whose values all have one, in units of a version of DWARF."""
+    """The sizes of the forms with a fixed size, in units of a version of DWARF."""
     return {**_SIZES, "DW_FORM_ref_addr": 8} if version == 2 else dict(_SIZES)
 
 
 class AttributeForm(NamedTuple):
-    """One attribute of an abbreviation: its number, its form, and where the form stands in the section."""
+    """One attribute of an abbreviation: its number, its form, and the offsets in the section where the form begins and ends."""
 
     attribute: int
     form: int
@@ -120,7 +120,7 @@ class AttributeForm(NamedTuple):
 
 
 class Abbreviation(NamedTuple):
-    """The tag of entries, the forms of their attributes, and whether each has a list of entries below it."""
+    """An abbreviation: the tag, the attributes with their forms, and whether its entries have children."""
 
     tag: int
     attributes: tuple[AttributeForm, ...]
@@ -132,17 +132,17 @@ Table = Mapping[int, Abbreviation]
 _NUMBER = rb"[\x80-\xff]{0,%d}[\x00-\x7f]" % (_LONGEST_NUMBER - 1)
 _ZERO = rb"\x80{0,%d}\x00" % (_LONGEST_NUMBER - 1)
 _CONSTANT = rb"\x%02x" % FORMS["DW_FORM_implicit_const"]
-# An attribute and its form, which are not both 0; behind one form stands a value.
+# An attribute and its form, which are not both 0. A value follows DW_FORM_implicit_const.
 _ATTRIBUTE = rb"(?!%b%b)%b(?:%b%b|(?!%b)%b)" % (_ZERO, _ZERO, _NUMBER, _CONSTANT, _NUMBER, _CONSTANT, _NUMBER)
-# The code of an abbreviation, its tag, the byte of children, and the attributes with the pair of zeros that ends them.
+# The code of an abbreviation, its tag, the byte DW_CHILDREN, and the attributes with the pair of zeros that ends them.
 _ABBREVIATION = re.compile(rb"(%b)%b[\x00-\xff](?:%b)*%b%b" % (_NUMBER, _NUMBER, _ATTRIBUTE, _ZERO, _ZERO))
 
 
 class ReadTable(Table):
-    """The table of abbreviations at a place, by their codes. Each is read where it is asked for, since units use few of them."""
+    """The table of abbreviations at an offset, by code. Each is read when it is first used, since a unit uses few of them."""
 
     def __init__(self, section: bytes, at: int) -> None:
-        """Finds where the abbreviations begin. Raises IndexError if the table does not end in the section."""
+        """Finds the offsets of the abbreviations. Raises IndexError if the table does not end in the section."""
         self._section = section
         self._places: dict[int, int] = {}
         self._read: dict[int, Abbreviation] = {}
@@ -186,13 +186,13 @@ def _read_attributes(section: Bytes, at: int) -> tuple[AttributeForm, ...]:
 
 @dataclass(frozen=True)
 class Shifts:
-    """What is added to values: to those of forms, by name, and to those of `DW_AT_stmt_list`."""
+    """The amounts to add to values: by the name of the form, and `line` for values of `DW_AT_stmt_list`."""
 
     forms: Mapping[str, int]
     line: int = 0
 
     def of(self, attribute: AttributeForm, form: str) -> int:
-        """What is added to a value of the attribute."""
+        """The amount to add to values of this attribute."""
         if attribute.attribute == ATTRIBUTES["DW_AT_stmt_list"]:
             return self.line
         return self.forms.get(form, 0)
@@ -200,8 +200,8 @@ class Shifts:
 
 @dataclass(frozen=True)
 class Run:
-    """Values that stand at fixed places behind each other, and the value of variable size behind them, where there is one:
-    how many bytes they have, what is added where among them, and how to step over that value."""
+    """Consecutive values of fixed size, perhaps followed by one of variable size: how many bytes the fixed values have, what is added
+    to them and where, and how to step over the value of variable size."""
 
     size: int
     added: tuple[tuple[int, int], ...]
@@ -209,7 +209,7 @@ class Run:
 
 
 def plan(abbreviation: Abbreviation, sizes: Mapping[str, int], shifts: Shifts) -> tuple[Run, ...]:
-    """The runs of an entry's values. Raises a fault if a form is unknown or is not joined."""
+    """The runs of an entry's values. Raises a fault if a form is unknown or cannot be joined."""
     runs = []
     size = 0
     added: list[tuple[int, int]] = []

@@ -1,4 +1,4 @@
-"""Units of `.debug_info` and `.debug_types`: their headers, and a pass over their entries that changes values in place."""
+"""The units of `.debug_info` and `.debug_types`: their headers, and a pass over their entries that changes values in place."""
 
 from __future__ import annotations
 
@@ -12,20 +12,20 @@ from abi_tools.faults import Fault
 
 _FOUR = struct.Struct("<I")
 _TWO = struct.Struct("<H")
-# A length from here on is no length; the greatest opens the 64-bit format (DWARF 5, 7.4).
+# Lengths from this value on are reserved; the largest one starts the 64-bit format (DWARF 5, 7.4).
 _RESERVED_LENGTHS = 0xFFFFFFF0
 _LENGTH_OF_64 = 0xFFFFFFFF
 VERSIONS = (2, 3, 4, 5)
-# What stands behind the offset of the abbreviations by the type of a unit of version 5 (DWARF 5, 7.5.1): nothing; a signature
-# and an offset; the id of split debug information.
+# How many bytes follow the offset of the abbreviations, by the type of a unit of version 5 (DWARF 5, 7.5.1): none; those of a type
+# signature and a type offset; those of the id of split debug information.
 _MORE_BYTES = {1: 0, 2: 12, 3: 0, 4: 8, 5: 8, 6: 12}
 _TYPE_UNIT_MORE = 12
 
 
 @dataclass(frozen=True)
 class Unit:
-    """The header of a unit: where it begins, where its entries begin and end, its version, and where it has the offset of its
-    abbreviations, and which one that is."""
+    """The header of a unit: where the unit begins, where its entries begin and end, its version, where the header has the offset of
+    the abbreviations, and that offset."""
 
     start: int
     entries: int
@@ -36,8 +36,8 @@ class Unit:
 
 
 def units(section: Bytes, where: str, of_types: bool = False) -> Iterator[Unit]:
-    """The units of a section, `.debug_types` or another one. Raises a fault, which names `where`, at the first one that is
-    damaged, of another version than 2 to 5, or in the 64-bit format."""
+    """The units of a section; `of_types` says that it is `.debug_types`. Raises a fault, which names `where`, at the first unit that
+    is damaged, not of version 2 to 5, or in the 64-bit format."""
     at = 0
     while at < len(section):
         try:
@@ -75,7 +75,7 @@ def _more_bytes(kind: int) -> int:
 
 
 class Tables:
-    """The tables of abbreviations of a section, each read once."""
+    """The abbreviation tables of a section, each read once."""
 
     def __init__(self, section: Bytes, where: str) -> None:
         self._section = bytes(section)
@@ -93,7 +93,7 @@ class Tables:
 
 
 class Pass:
-    """A pass over the entries of units, which adds to the values of forms."""
+    """A pass over the entries of units that adds to their values."""
 
     def __init__(self, tables: Tables, shifts: Shifts, where: str) -> None:
         self._tables = tables
@@ -103,8 +103,7 @@ class Pass:
         self._plans: dict[tuple[int, int], dict[int, tuple[Run, ...]]] = {}
 
     def over(self, section: bytearray, unit: Unit) -> None:
-        """Changes the values of a unit's entries in place. Raises a fault if an entry is damaged, or has a form that is not
-        read."""
+        """Changes the values of a unit's entries in place. Raises a fault if an entry is damaged or has an unknown form."""
         runs = self._plans.setdefault((unit.table, unit.version), {})
         table = self._tables.at(unit.table)
         sizes = self._sizes.setdefault(unit.version, fixed_sizes(unit.version))
@@ -117,14 +116,14 @@ def _planned(table: Table, sizes: dict[str, int], shifts: Shifts, code: int) -> 
 
 
 def codes_used(section: Bytes, unit: Unit, table: Table, where: str) -> Iterator[int]:
-    """The codes of the abbreviations that the entries of a unit have, each where it is met first. Raises a fault where an entry is
-    damaged, or has a form that is not read."""
+    """The abbreviation codes that the entries of a unit use, each once, in the order of first use. Raises a fault if an entry is
+    damaged or has an unknown form."""
     return _checked_pass(section, unit, {}, partial(_planned, table, fixed_sizes(unit.version), Shifts({})), where)
 
 
 def _checked_pass(section: Bytes, unit: Unit, runs: dict[int, tuple[Run, ...]],
                   planned: Callable[[int], tuple[Run, ...]], where: str) -> Iterator[int]:
-    """A pass over the entries of a unit, with a fault where one is damaged."""
+    """A pass over the entries of a unit. Raises a fault if one is damaged."""
     try:
         yield from _over_entries(section, unit, runs, planned)
     except (IndexError, ValueError, KeyError, struct.error) as error:
@@ -135,9 +134,9 @@ def _checked_pass(section: Bytes, unit: Unit, runs: dict[int, tuple[Run, ...]],
 
 def _over_entries(section: Bytes, unit: Unit, runs: dict[int, tuple[Run, ...]],
                   planned: Callable[[int], tuple[Run, ...]]) -> Iterator[int]:
-    """Passes over the entries of a unit, and tells each code where it is met first; `runs` has what was planned before."""
+    """Passes over the entries of a unit, and yields each abbreviation code at its first use. `runs` has the runs planned before."""
     read = _FOUR.unpack_from
-    # Values are written where the section can be: where something is added to them.
+    # Only a pass that adds to values writes, and its section is a bytearray.
     write: Callable[..., None] = _FOUR.pack_into
     at, end = unit.entries, unit.end
     while at < end:

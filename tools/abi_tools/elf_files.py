@@ -1,5 +1,5 @@
-"""ELF files as the tools read them: sections with their contents, and by what a file names another one. A section is read where its
-contents are asked for."""
+"""ELF files as the tools read them: sections and their contents, dynamic symbols, and links to other files. The contents of a section
+are read when they are used."""
 
 from __future__ import annotations
 
@@ -14,7 +14,7 @@ from typing import Iterator, NamedTuple, Optional
 from abi_tools.faults import Fault
 from abi_tools.inflating import SHF_COMPRESSED, inflate, inflate_old
 
-# What reading raises where bytes are damaged.
+# The exceptions that damaged bytes cause while they are read.
 DAMAGED = (struct.error, UnicodeDecodeError, IndexError, KeyError, AttributeError, TypeError, ValueError, OverflowError)
 
 _MAGIC = b"\x7fELF"
@@ -23,7 +23,7 @@ _CLASS_AT, _CLASS_64 = 4, 2
 _ORDER_AT, _LITTLE_ENDIAN = 5, 1
 ET_DYN = 3
 EM_X86_64 = 62
-# Numbers that say that the count or number stands in the first section (gABI, "ELF Header").
+# Escape values: the real count or number is in the first section header (gABI, "ELF Header").
 _PN_XNUM = 0xFFFF
 _SHN_XINDEX = 0xFFFF
 SHT_NULL = 0
@@ -35,7 +35,7 @@ SHT_DYNSYM = 11
 _SHT_GNU_VERNEED = 0x6FFFFFFE
 _SHT_GNU_VERSYM = 0x6FFFFFFF
 _SHN_UNDEF = 0
-# Version indexes of symbols without the bit that hides one; vn_version, vn_cnt, vn_file, vn_aux and vn_next; vna_hash, vna_flags,
+# The bits of a version index without the hidden bit; vn_version, vn_cnt, vn_file, vn_aux and vn_next; vna_hash, vna_flags,
 # vna_other, vna_name and vna_next (GNU symbol versioning).
 _VERSION_INDEX = 0x7FFF
 _INDEX = struct.Struct("<H")
@@ -45,18 +45,18 @@ _NEEDED_VERSION = struct.Struct("<IHHII")
 _DYNAMIC_ENTRY = struct.Struct("<qQ")
 _DT_NULL, _DT_NEEDED, _DT_SONAME = 0, 1, 14
 _SYMBOL = struct.Struct("<IBBHQQ")
-# namesz, descsz and type of a note, whose parts begin at multiples of four bytes (gABI, "Note Section").
+# namesz, descsz and type of a note; its parts are aligned to four bytes (gABI, "Note Section").
 _NOTE = struct.Struct("<III")
 _GNU = b"GNU\0"
 _NT_GNU_BUILD_ID = 3
 # p_offset and p_filesz of a segment
 _SEGMENT = struct.Struct("<8xQ16xQ16x")
-# The lengths of build ids: those of hashes, of a UUID, and what a linker is told.
+# The lengths that a build id may have: a hash, a UUID, or the bytes given to the linker.
 _BUILD_ID_LENGTHS = range(1, 65)
 
 
 class Header(NamedTuple):
-    """The header of an ELF-64 file (gABI, "ELF Header"), behind `e_ident`."""
+    """The header of an ELF-64 file (gABI, "ELF Header"), after `e_ident`."""
 
     kind: int
     machine: int
@@ -78,7 +78,8 @@ _HEADER = struct.Struct("<16xHHIQQQIHHHHHH")
 
 @dataclass(frozen=True)
 class Section:
-    """A section's number in its file and its header (gABI, "Section Header"), with the name in place of its offset."""
+    """A section: its number in the file, and the fields of its header (gABI, "Section Header"), with the name itself in place of the
+    name's offset."""
 
     number: int
     name: str
@@ -101,7 +102,7 @@ class Section:
 
     @property
     def is_debug(self) -> bool:
-        """Whether the section is one of debug information, compressed or not."""
+        """Whether this is a debug section, compressed or not."""
         return self.name.startswith((".debug_", ".zdebug_"))
 
     @property
@@ -110,14 +111,14 @@ class Section:
         return bool(self.flags & SHF_COMPRESSED) or self.name.startswith(".zdebug_")
 
     def header(self, name: int) -> bytes:
-        """The header as it stands in a file, where the name stands at the offset `name`."""
+        """The bytes of the header in a file that has the section's name at the offset `name`."""
         return self.LAYOUT.pack(name, self.kind, self.flags, self.address, self.offset, self.size, self.link, self.info,
                                 self.alignment, self.entry_size)
 
 
 @dataclass(frozen=True)
 class DebugLink:
-    """What `.gnu_debuglink` says: the name of the debug file, and the CRC-32 of its bytes."""
+    """The contents of `.gnu_debuglink`: the name of the debug file, and the CRC-32 of its bytes."""
 
     name: str
     checksum: int
@@ -125,17 +126,17 @@ class DebugLink:
 
 @dataclass(frozen=True)
 class SupplementaryLink:
-    """What `.gnu_debugaltlink` or `.debug_sup` says: the name of the supplementary file, and its build id or checksum."""
+    """The contents of `.gnu_debugaltlink` or `.debug_sup`: the name of the supplementary file, and its build id or checksum."""
 
     name: str
     checksum: bytes
 
 
 class ElfFile:
-    """An ELF-64 file in the order of bytes of x86-64, whose sections all lie in it."""
+    """A little-endian ELF-64 file. All its sections lie inside it."""
 
     def __init__(self, path: Path) -> None:
-        """Reads the headers. Raises a fault if there is no file, or it is damaged or of another class or order of bytes."""
+        """Reads the headers. Raises a fault if the file is missing or damaged, or of another class or byte order."""
         self.path = path
         if not path.is_file():
             raise Fault(f"there is no file {path}")
@@ -172,13 +173,13 @@ class ElfFile:
         header = Header(*_HEADER.unpack(start))
         is_64 = start[_CLASS_AT] == _CLASS_64
         if is_64 and header.sections_at + header.section_size * header.sections > self.size:
-            raise Fault(f"{self.path} is cut short: its table of sections ends behind the end of the file")
+            raise Fault(f"{self.path} is cut short: its table of sections extends past the end of the file")
         if not is_64 or start[_ORDER_AT] != _LITTLE_ENDIAN:
             raise Fault(f"{self.path} is no ELF-64 file in little endian")
         return header
 
     def _read_sections(self) -> Iterator[Section]:
-        """The sections with their names. The counts that are too large for the header stand in the first section."""
+        """The sections with their names. A count that is too large for the file header is in the first section header."""
         header, layout = self.header, Section.LAYOUT
         if not header.sections_at:
             return
@@ -205,7 +206,7 @@ class ElfFile:
 
     @cached_property
     def names_number(self) -> int:
-        """The number of the section with the names of sections."""
+        """The number of the section that holds the section names."""
         number = self.header.names
         if number != _SHN_XINDEX:
             return number
@@ -216,10 +217,10 @@ class ElfFile:
             raise Fault(f"{self.path} has no sections")
         for section in self.sections:
             if section.holds_bytes and section.offset + section.size > self.size:
-                raise Fault(f"{self.path} is cut short: its section {section.name} ends behind the end of the file")
+                raise Fault(f"{self.path} is cut short: its section {section.name} extends past the end of the file")
 
     def segments_end(self) -> int:
-        """Where the last byte of the headers of segments and of segments ends. Raises a fault if the headers are damaged."""
+        """Where the program headers and the segments end in the file. Raises a fault if the program headers are damaged."""
         header = self.header
         count = self.sections[0].info if header.segments == _PN_XNUM else header.segments
         try:
@@ -230,18 +231,18 @@ class ElfFile:
         return max([header.segments_at + len(table), *(sum(row) for row in rows)])
 
     def first(self, name: str) -> Optional[Section]:
-        """The first section of the name that has bytes, where there is one."""
+        """The first section of this name that has bytes; None if there is none."""
         return next((section for section in self.sections if section.name == name and section.holds_bytes), None)
 
     def _of_kind(self, kind: int) -> Iterator[Section]:
         return (section for section in self.sections if section.kind == kind)
 
     def raw(self, section: Section) -> bytes:
-        """The bytes of a section as they stand in the file."""
+        """The bytes of a section as they are in the file."""
         return self._bytes(section.offset, section.size) if section.holds_bytes else b""
 
     def contents(self, section: Section) -> bytes:
-        """The bytes of a section, inflated where they are compressed. Raises a fault if that cannot be done."""
+        """The bytes of a section, inflated if they are compressed. Raises a fault if they cannot be inflated."""
         where = f"{self.path}: the section {section.name}"
         if section.flags & SHF_COMPRESSED:
             return inflate(self.raw(section), where)
@@ -250,7 +251,7 @@ class ElfFile:
         return self.raw(section)
 
     def debug_headers(self) -> dict[str, Section]:
-        """The first section of debug information of each name, in their order, under the names of uncompressed sections."""
+        """The first debug section of each name, in the order of the file. `.zdebug_` names become `.debug_` names."""
         found: dict[str, Section] = {}
         for section in self.sections:
             if section.is_debug and section.holds_bytes:
@@ -258,7 +259,7 @@ class ElfFile:
         return found
 
     def debug_sections(self) -> dict[str, tuple[Section, bytes]]:
-        """The same with inflated contents. Raises a fault if a section cannot be inflated."""
+        """The same sections with their inflated contents. Raises a fault if a section cannot be inflated."""
         return {name: (section, self.contents(section)) for name, section in self.debug_headers().items()}
 
     @property
@@ -268,7 +269,7 @@ class ElfFile:
 
     @cached_property
     def build_id(self) -> Optional[bytes]:
-        """The build id, where the file has one. Raises a fault if the note is damaged."""
+        """The build id, if the file has one. Raises a fault if the note is damaged."""
         for section in self._of_kind(_SHT_NOTE):
             if section.name != ".note.gnu.build-id":
                 continue
@@ -282,7 +283,7 @@ class ElfFile:
 
     @property
     def debug_link(self) -> Optional[DebugLink]:
-        """What `.gnu_debuglink` says, where the file has it. Raises a fault if it is damaged."""
+        """The contents of `.gnu_debuglink`, if the file has it. Raises a fault if the section is damaged."""
         parted = self._named_file(".gnu_debuglink")
         if parted is None:
             return None
@@ -293,7 +294,8 @@ class ElfFile:
 
     @property
     def supplementary_link(self) -> Optional[SupplementaryLink]:
-        """What `.gnu_debugaltlink` says, or else `.debug_sup`, where the file has one. Raises a fault if it is damaged."""
+        """The contents of `.gnu_debugaltlink`, or else of `.debug_sup`, if the file has one of them. Raises a fault if the section is
+        damaged."""
         parted = self._named_file(".gnu_debugaltlink")
         if parted is None:
             standard = self._standard_link()
@@ -305,14 +307,14 @@ class ElfFile:
 
     @property
     def checksums(self) -> list[bytes]:
-        """What a supplementary file can be known by: its build id, and the checksum in its `.debug_sup`, where it has them. Raises
-        a fault if one is damaged."""
+        """What identifies a supplementary file: its build id, and the checksum in its `.debug_sup`, if it has them. Raises a fault if
+        one is damaged."""
         standard = self._standard_link()
         own = [standard[1].checksum] if standard is not None and standard[0] else []
         return own if self.build_id is None else [self.build_id, *own]
 
     def _standard_link(self) -> Optional[tuple[bool, SupplementaryLink]]:
-        """What `.debug_sup` says (DWARF 5, 7.3.6): whether the file is a supplementary one, and the name and the checksum."""
+        """The contents of `.debug_sup` (DWARF 5, 7.3.6): whether the file is a supplementary one, and the name and the checksum."""
         section = self.first(".debug_sup")
         if section is None:
             return None
@@ -324,7 +326,7 @@ class ElfFile:
         return contents[2] != 0, link
 
     def _named_file(self, name: str) -> Optional[tuple[str, bytes]]:
-        """The name of a file that a section begins with, and what stands behind it."""
+        """The file name at the beginning of a section, and the bytes after it."""
         section = self.first(name)
         if section is None:
             return None
@@ -335,20 +337,20 @@ class ElfFile:
 
     @property
     def is_shared_object(self) -> bool:
-        """Whether the file is of the type and for the machine that `abi` reads."""
+        """Whether the file has the type and the machine that `abi` reads."""
         return (self.header.kind, self.header.machine) == (ET_DYN, EM_X86_64)
 
     @property
     def soname(self) -> Optional[str]:
-        """The soname, where the file has one. Raises a fault if the dynamic table is damaged."""
+        """The soname, if the file has one. Raises a fault if the dynamic table is damaged."""
         return next((text for tag, text in self._dynamic_texts() if tag == _DT_SONAME), None)
 
     def needed(self) -> list[str]:
-        """The libraries that the file needs, by DT_NEEDED. Raises a fault if the dynamic table is damaged."""
+        """The libraries that the file needs (DT_NEEDED). Raises a fault if the dynamic table is damaged."""
         return [text for tag, text in self._dynamic_texts() if tag == _DT_NEEDED]
 
     def _dynamic_texts(self) -> Iterator[tuple[int, str]]:
-        """The entries of the dynamic table that name something: the tag, and the name."""
+        """The tag and the name of each DT_NEEDED and DT_SONAME entry."""
         try:
             for section in self._of_kind(_SHT_DYNAMIC):
                 for tag, value in _DYNAMIC_ENTRY.iter_unpack(self.raw(section)):
@@ -360,8 +362,8 @@ class ElfFile:
             raise Fault(f"{self.path}: the dynamic table is damaged") from error
 
     def imports(self) -> Iterator[tuple[str, Optional[tuple[str, str]]]]:
-        """The names of the undefined dynamic symbols, with the file and the version that each needs, where it needs one. Raises a fault
-        if a table is damaged."""
+        """The names of the undefined dynamic symbols, each with the file and version that it needs, if it needs one. Raises a fault if a
+        table is damaged."""
         try:
             texts, symbols = self._symbols()
             indexes = [index & _VERSION_INDEX for section in self._of_kind(_SHT_GNU_VERSYM)
@@ -375,7 +377,7 @@ class ElfFile:
             raise Fault(f"{self.path}: a table of dynamic symbols or of their versions is damaged") from error
 
     def _needed_versions(self) -> Iterator[tuple[int, tuple[str, str]]]:
-        """The versions that the file needs of others, by their indexes: the file and the version (GNU symbol versioning)."""
+        """The versions that the file needs from other files, by index: the other file and the version (GNU symbol versioning)."""
         for section in self._of_kind(_SHT_GNU_VERNEED):
             data, texts = self.raw(section), self.raw(self.sections[section.link])
             at = 0
@@ -389,11 +391,11 @@ class ElfFile:
                 at += following
 
     def symbol_values(self) -> list[int]:
-        """The values of the dynamic symbols, by their numbers. Raises a fault if the table is damaged."""
+        """The values of the dynamic symbols, by number. Raises a fault if the table is damaged."""
         return [symbol[4] for symbol in self._symbols()[1]]
 
     def symbol_addresses(self) -> dict[str, set[int]]:
-        """The values of the dynamic symbols by their names, without those that are 0. Raises a fault if the table is damaged."""
+        """The nonzero values of the dynamic symbols, by name. Raises a fault if the table is damaged."""
         texts, symbols = self._symbols()
         found: dict[str, set[int]] = {}
         for name, _, _, _, value, _ in symbols:
@@ -402,7 +404,7 @@ class ElfFile:
         return found
 
     def _symbols(self) -> tuple[bytes, list[tuple[int, ...]]]:
-        """The texts with the names of the dynamic symbols, and the symbols."""
+        """The string table of the dynamic symbols, and the symbols."""
         try:
             for section in self._of_kind(SHT_DYNSYM):
                 return self.raw(self.sections[section.link]), list(_SYMBOL.iter_unpack(self.raw(section)))
@@ -412,12 +414,13 @@ class ElfFile:
 
 
 def _text(texts: bytes, at: int) -> str:
-    """The text at an offset of a string table. Raises ValueError if it does not end."""
+    """The string at an offset of a string table. Raises ValueError if it does not end."""
     return texts[at:texts.index(b"\0", at)].decode("utf-8", "surrogateescape")
 
 
 def _notes(section: bytes) -> Iterator[tuple[bytes, int, bytes]]:
-    """The notes of a section: the name with its end, the type and what is described. Raises ValueError if one does not end in it."""
+    """The notes of a section: the name with its terminating zero, the type, and the descriptor. Raises ValueError if a note does not
+    end in the section."""
     at = 0
     while at < len(section):
         name_size, size, kind = _NOTE.unpack_from(section, at)
@@ -430,5 +433,5 @@ def _notes(section: bytes) -> Iterator[tuple[bytes, int, bytes]]:
 
 
 def _up(size: int) -> int:
-    """The size with what stands behind it up to a multiple of four."""
+    """The size, rounded up to a multiple of four."""
     return size + -size % 4

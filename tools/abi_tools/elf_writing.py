@@ -1,4 +1,4 @@
-"""ELF files as the tools write them: a library with sections added behind it, and a file of sections alone."""
+"""ELF files as the tools write them: a library with sections added at its end, and a file of sections alone."""
 
 from __future__ import annotations
 
@@ -10,17 +10,17 @@ from abi_tools.elf_files import ElfFile, SHT_NULL, SHT_PROGBITS, Section
 from abi_tools.faults import Fault
 from abi_tools.inflating import SHF_COMPRESSED
 
-# Fields of the header of an ELF-64 file (gABI, "ELF Header"), by their offsets.
+# Fields of the header of an ELF-64 file (gABI, "ELF Header"), with their offsets.
 _PROGRAM_HEADERS_AT = struct.Struct("<Q"), 32
 _SECTION_HEADERS_AT = struct.Struct("<Q"), 40
 # e_phentsize, e_phnum, e_shentsize, e_shnum, e_shstrndx
 _COUNTS_AT = struct.Struct("<HHHHH"), 54
 _ENTRY_POINT_AT = struct.Struct("<Q"), 24
 _FILE_HEADER_SIZE = 64
-# From this number on, the count of sections stands elsewhere.
+# From this number on, the count of sections is not in the file header.
 _RESERVED_NUMBERS = 0xFF00
 _TABLE_ALIGNMENT = 8
-# A page: sections that are not loaded need no larger alignment.
+# One page: sections that are not loaded need no larger alignment.
 _LARGEST_ALIGNMENT = 4096
 _SHT_STRTAB = 3
 _NONE = Section(0, "", SHT_NULL, 0, 0, 0, 0, 0, 0, 0, 0)
@@ -28,32 +28,32 @@ _NONE = Section(0, "", SHT_NULL, 0, 0, 0, 0, 0, 0, 0, 0)
 
 @dataclass(frozen=True)
 class AddedSection:
-    """A section that is written: the header of one that it stands for, and its contents."""
+    """A section to add: its contents, and a section whose header it takes."""
 
     like: Section
     contents: bytes
 
     def placed(self, offset: int) -> Section:
-        """Its header, where it stands at the offset."""
+        """The header of the section, placed at the offset."""
         return replace(self.like, kind=SHT_PROGBITS, flags=self.like.flags & ~SHF_COMPRESSED, address=0, offset=offset,
                        size=len(self.contents), link=0, info=0)
 
 
 def _pad(image: bytearray, alignment: int) -> None:
-    """Brings the image to a length that is a multiple of the alignment."""
+    """Pads the image to a multiple of the alignment."""
     image.extend(bytes(-len(image) % min(max(alignment, 1), _LARGEST_ALIGNMENT)))
 
 
 def _kept_end(library: ElfFile, kept: Sequence[Section]) -> int:
-    """Where the last byte of the library's headers, segments and kept sections ends."""
+    """Where the library's headers, segments and kept sections end in the file."""
     ends = [_FILE_HEADER_SIZE, library.segments_end()]
     ends += [section.offset + section.size for section in kept if section.holds_bytes]
     return min(max(ends), len(library.data))
 
 
 def with_sections(library: ElfFile, dropped: Collection[str], added: Sequence[AddedSection]) -> bytes:
-    """The library with sections added behind all others, which keep their numbers and places. Those of the names `dropped`
-    have no contents, name and type any more. Raises a fault if there are too many sections."""
+    """The library with sections added after all others. The other sections keep their numbers and offsets, but those named in
+    `dropped` lose their contents, name and type. Raises a fault if there are too many sections."""
     kept = [_NONE if section.name in dropped else section for section in library.sections]
     if len(kept) + len(added) >= _RESERVED_NUMBERS:
         raise Fault(f"{library.path} has too many sections")
@@ -69,7 +69,7 @@ def with_sections(library: ElfFile, dropped: Collection[str], added: Sequence[Ad
 
 
 def sections_alone(library: ElfFile, sections: Sequence[tuple[Section, bytes]]) -> bytes:
-    """A file that has the sections, in this order and with the links between them, and no segments."""
+    """A file of these sections, in this order and with the links between them, and without segments."""
     image = bytearray(library.data[:_FILE_HEADER_SIZE])
     _PROGRAM_HEADERS_AT[0].pack_into(image, _PROGRAM_HEADERS_AT[1], 0)
     _ENTRY_POINT_AT[0].pack_into(image, _ENTRY_POINT_AT[1], 0)
@@ -86,7 +86,7 @@ def sections_alone(library: ElfFile, sections: Sequence[tuple[Section, bytes]]) 
 
 
 def _write_table(image: bytearray, sections: Sequence[Section], names_number: int, first_names: bytes) -> None:
-    """Appends the names of the sections, behind `first_names`, and their headers, and says so in the file's header."""
+    """Appends the section names, after `first_names`, and the section headers, and updates the file header."""
     names = bytearray(first_names)
     places: dict[str, int] = {}
     for section in sections:

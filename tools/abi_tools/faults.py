@@ -1,4 +1,4 @@
-"""How the tools fail: with one sentence on standard error, and a status."""
+"""How the tools fail: with one sentence on standard error, and an exit status."""
 
 from __future__ import annotations
 
@@ -6,24 +6,24 @@ import signal
 import sys
 from typing import Callable, NoReturn, Sequence
 
-# The exit status of wrong arguments, as that of `abi` (EX_USAGE of sysexits.h).
+# The exit status for wrong arguments, the same as that of `abi` (EX_USAGE of sysexits.h).
 WRONG_ARGUMENTS = 64
-# The status of a program that a signal ends, as shells count it, is this and the number of the signal.
+# A shell reports a program that a signal ended with this status plus the number of the signal.
 ENDED_BY_SIGNAL = 128
 
 
 class Fault(Exception):
-    """What a tool cannot do, and why, in one sentence."""
+    """A sentence that says what a tool cannot do, and why."""
 
 
 def _end(number: int, _frame: object) -> NoReturn:
-    """Ends the program in good order, so that what it has begun is taken away."""
+    """Ends the program in an orderly way, so that temporary files are removed."""
     sys.exit(ENDED_BY_SIGNAL + number)
 
 
 def run_tool(tool: str, main: Callable[[Sequence[str]], int], arguments: Sequence[str], fault_status: int = 1) -> int:
-    """Runs `main`, and answers its status; where it raises a fault or an error of the system, a sentence is printed on
-    standard error, and `fault_status` is the answer."""
+    """Runs `main` and returns its exit status. If it raises a fault or a system error, prints a sentence on standard error and
+    returns `fault_status`."""
     for number in (signal.SIGTERM, signal.SIGINT, signal.SIGHUP):
         signal.signal(number, _end)
     try:

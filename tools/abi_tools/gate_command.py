@@ -15,26 +15,26 @@ from abi_tools.output_file import clear_output, write_whole
 from abi_tools.verdicts import Verdict
 
 _DESCRIPTION = """\
-Runs `abi check` on a library that was released and a new build of it, for a build that must stop where the new one may not replace
-the old one, or where that cannot be told. `abi` is the one that the variable ABI names, or else the one on the PATH.
+Runs `abi check` on a released library and a new build of it, to stop a build if the new library may not replace the old one, or if it
+cannot tell. `abi` is the one that the variable ABI names, or else the one on the PATH.
 """
 _STATUSES = """\
 Exit status:
   0  yes: the new library may replace the old one
   1  no: the report of abi is printed, and on standard error the command that shows the changed types
-  2  it cannot be told, and a line says why: an input is refused or missing, exports lost their types with the debug information
-     (stripped, -g1), nothing was compared, no types were compared, or fewer than --require-types asks for; also where the
+  2  it cannot tell, and a line says why: an input is refused or missing, exports lost their types with the debug information
+     (stripped, -g1), nothing was compared, no types were compared, or fewer than --require-types asks for; also if the
      arguments are wrong
 """
 
 
 def main(arguments: Sequence[str]) -> int:
-    """Judges as the arguments say, prints the answer, and answers the verdict."""
+    """Judges as the arguments say, prints the answer, and returns the verdict."""
     parser = Arguments("abi-gate", _DESCRIPTION, _STATUSES, wrong=Verdict.CANNOT_TELL)
-    parser.add_argument("--rules", type=Path, metavar="FILE", help="a rule file of abi: what is not compared")
+    parser.add_argument("--rules", type=Path, metavar="FILE", help="a rule file of abi, which says what is not compared")
     parser.add_argument("--require-types", type=share, default=0.0, metavar="SHARE",
-                        help="how many of 100 compared exports must have types in both libraries (default: one at all)")
-    parser.add_argument("--certificate", type=Path, metavar="FILE", help="where the certificate of a yes is kept")
+                        help="the percentage of compared exports that must have types in both libraries (default: at least one export)")
+    parser.add_argument("--certificate", type=Path, metavar="FILE", help="keep the certificate of a yes in this file")
     parser.add_argument("old", type=Path, metavar="OLD")
     parser.add_argument("new", type=Path, metavar="NEW")
     given = parser.parse_args(arguments)
@@ -48,7 +48,7 @@ def main(arguments: Sequence[str]) -> int:
 
 
 def _judged(given: argparse.Namespace) -> Judgement:
-    """The verdict. Where the old file is missing, the reason says how the first one is made."""
+    """The verdict. If the old file is missing, the reason says how to make the first one."""
     if not given.old.exists():
         reason = f"there is no file {given.old}: `abi-baseline LIBRARY FILE` keeps the interface of a released library in a file"
         return Judgement(Verdict.CANNOT_TELL, (reason,), None)

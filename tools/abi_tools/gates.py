@@ -1,7 +1,7 @@
-"""Whether a new library may take the place of an old one, for a gate that can also say that it cannot be told.
+"""Whether a new library may replace an old one, for a gate with a third verdict: cannot tell.
 
-`abi` judges. What is added here is whether its answer rests on types at all: where there is no debug information, or only that of
-level 1, a yes says little, and a no may come from the missing types alone.
+`abi` judges. This module adds whether its answer rests on types at all: without debug information, or with that of level 1 alone, a
+yes says little, and a no may come from the missing types alone.
 """
 
 from __future__ import annotations
@@ -21,7 +21,7 @@ from abi_tools.verdicts import Verdict
 
 @dataclass(frozen=True)
 class Library:
-    """A library, its exports as `abi` reads them, and which code has types."""
+    """A library: its exports as `abi` reads them, which code has types, and the values of its dynamic symbols."""
 
     path: Path
     exports: dict[int, Export]
@@ -30,7 +30,7 @@ class Library:
 
     @classmethod
     def read(cls, abi: Abi, path: Path) -> "Library":
-        """Reads it. Raises a fault if `abi` does not read it."""
+        """Reads a library. Raises a fault if `abi` cannot read it."""
         exports = {export.number: export for export in abi.exports(path)}
         file = ElfFile(abi.folder / path)
         return cls(path, exports, Levels(file), file.symbol_values())
@@ -41,7 +41,7 @@ class Library:
         return {export.label: export for export in self.exports.values()}
 
     def lacks_types(self, export: Export) -> bool:
-        """Whether the type of an export is one that is read because its debug information has no types."""
+        """Whether `abi` reads the type of an export only because its debug information has no types."""
         if not export.may_lack_types:
             return False
         return export.said == "is void" or self.levels.untyped.has(self.values[export.number])
@@ -51,21 +51,21 @@ class Library:
         return export.is_typed and not self.lacks_types(export)
 
     def is_described(self, export: Export) -> bool:
-        """Whether there is debug information with types of the code of a function, or, of an object, of any code."""
+        """Whether there is debug information with types: for a function, of its code; for an object, of any code."""
         if export.kind in ("FUNC", "NOTYPE"):
             return self.levels.typed.has(self.values[export.number])
         return self.levels.has_types
 
     def typed_count(self) -> tuple[int, int]:
-        """How many exports have types, and of how many: those of a size above 0."""
+        """How many of the exports with a size above 0 have types, and how many such exports there are."""
         counted = [export for export in self.exports.values() if export.size]
         return sum(self.has_types(export) for export in counted), len(counted)
 
 
 @dataclass(frozen=True)
 class Judgement:
-    """A verdict, the reasons where it cannot be told, what `abi` said, and how many exports were compared and had types in both
-    libraries."""
+    """A verdict, the reasons if the gate cannot tell, the answer of `abi`, how many exports were compared, how many of them had types in
+    both libraries, and both libraries if they could be read."""
 
     verdict: Verdict
     reasons: tuple[str, ...]
@@ -77,8 +77,8 @@ class Judgement:
 
 
 def judge(abi: Abi, old_path: Path, new_path: Path, rules: Optional[Path], least_share: float = 0.0) -> Judgement:
-    """The verdict on two libraries, where at least a share (of 100) of the compared exports must have types. What `abi` does not
-    read, and what ends it, is a verdict that it cannot be told."""
+    """The verdict on two libraries. At least `least_share` percent of the compared exports must have types. If `abi` refuses an input
+    or dies, the gate cannot tell."""
     answer = abi.check(old_path, new_path, rules)
     if answer.status not in (YES, NO):
         return Judgement(Verdict.CANNOT_TELL, (answer.why(),), answer)
@@ -90,12 +90,12 @@ def judge(abi: Abi, old_path: Path, new_path: Path, rules: Optional[Path], least
 
 
 def judge_answer(answer: Answer, old: Library, new: Library, least_share: float = 0.0) -> Judgement:
-    """The same of a yes or a no that `abi` has said, and of both libraries."""
+    """The same verdict, from an answer yes or no of `abi` and from both libraries."""
     return _of_no(answer, old, new) if answer.status == NO else _of_yes(answer, old, new, least_share)
 
 
 def _of_yes(answer: Answer, old: Library, new: Library, least_share: float) -> Judgement:
-    """The verdict where `abi` said yes."""
+    """The verdict if `abi` said yes."""
     bound = [(old.exports[one], new.exports[two]) for one, two in answer.bound]
     counted = [(one, two) for one, two in bound if one.size]
     typed = sum(old.has_types(one) and new.has_types(two) for one, two in counted)
@@ -114,7 +114,7 @@ def _of_yes(answer: Answer, old: Library, new: Library, least_share: float) -> J
 
 
 def _of_no(answer: Answer, old: Library, new: Library) -> Judgement:
-    """The verdict where `abi` said no: it cannot be told where all rows come from missing types."""
+    """The verdict if `abi` said no: the gate cannot tell if all rows come from missing types."""
     doubtful = [row for row in answer.rows if _is_doubtful(row, old, new)]
     if len(doubtful) < len(answer.rows):
         return Judgement(Verdict.NO, (), answer, old=old, new=new)
@@ -130,8 +130,8 @@ def _of_no(answer: Answer, old: Library, new: Library) -> Judgement:
 
 
 def _is_doubtful(row: str, old: Library, new: Library) -> bool:
-    """Whether a row of the report comes from missing types: an export whose type is gone, be it with the debug information or because
-    the compiler folded equal functions, or one whose type is read from debug information without types."""
+    """Whether a row of the report comes from missing types: the type of the export is gone, either with the debug information or
+    because the compiler folded equal functions, or `abi` read it from debug information without types."""
     rule, label = row.split(" ", 2)[:2]
     first, second = old.by_label.get(label.rstrip(":")), new.by_label.get(label.rstrip(":"))
     if first is None or second is None:
@@ -140,11 +140,11 @@ def _is_doubtful(row: str, old: Library, new: Library) -> bool:
 
 
 def _lost(count: int, why: str) -> str:
-    """That exports lost their types, and why."""
+    """Says how many exports lost their types, and why."""
     return f"the types of {counted(count, 'export')} are gone: {why}"
 
 
 def _without_types(old: Library, new: Library) -> str:
-    """Which library has no types, and why."""
+    """Says which library has no types, and why."""
     untyped = [library for library in (old, new) if not library.typed_count()[0]] or [old, new]
     return ", and ".join(f"{one.path} {one.levels.reason()}" for one in untyped)

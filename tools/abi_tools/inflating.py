@@ -1,4 +1,4 @@
-"""Compressed sections: those of the gABI ("Section Compression"; zlib and zstd), and those of older tools (`.zdebug_`)."""
+"""Compressed sections: those of the gABI ("Section Compression", zlib and zstd), and those of older tools (`.zdebug_`)."""
 
 from __future__ import annotations
 
@@ -12,16 +12,16 @@ SHF_COMPRESSED = 0x800
 _COMPRESSION_HEADER = struct.Struct("<IIQQ")
 _ZLIB = 1
 _ZSTD = 2
-# An older section begins with these bytes and its size, the highest byte first.
+# A `.zdebug_` section begins with these bytes, followed by its size in big endian.
 _OLD_MAGIC = b"ZLIB"
 _OLD_HEADER = struct.Struct(">4sQ")
-# A file that is larger is refused by `abi`, so what is larger is not inflated.
+# `abi` refuses larger files, so larger sections are not inflated.
 LARGEST = 1 << 32
 
 
 def inflate(contents: bytes, where: str) -> bytes:
-    """The contents of a section that has the flag SHF_COMPRESSED. Raises a fault, which names `where`, if they are damaged or
-    compressed in another way than zlib and zstd."""
+    """The contents of a section with the flag SHF_COMPRESSED, inflated. Raises a fault, which names `where`, if they are damaged or
+    compressed by neither zlib nor zstd."""
     if len(contents) < _COMPRESSION_HEADER.size:
         raise Fault(f"{where} is cut short inside its compression header")
     kind, _, size, _ = _COMPRESSION_HEADER.unpack_from(contents)
@@ -29,7 +29,7 @@ def inflate(contents: bytes, where: str) -> bytes:
 
 
 def inflate_old(contents: bytes, where: str) -> bytes:
-    """The contents of a section whose name begins with `.zdebug_`. Raises a fault if they are damaged."""
+    """The contents of a section whose name begins with `.zdebug_`, inflated. Raises a fault if they are damaged."""
     if len(contents) < _OLD_HEADER.size or not contents.startswith(_OLD_MAGIC):
         raise Fault(f"{where} does not begin as a compressed section does")
     _, size = _OLD_HEADER.unpack_from(contents)
@@ -58,7 +58,7 @@ def _inflated_zlib(packed: bytes, size: int, where: str) -> bytes:
 
 
 def _inflated_zstd(packed: bytes, size: int, where: str) -> bytes:
-    # Without such a section this library is not needed.
+    # Imported here, since only sections compressed by zstd need it.
     import zstandard
 
     try:

@@ -10,16 +10,16 @@ from abi_tools.joining import join
 from abi_tools.output_file import clear_output, write_whole
 
 _DESCRIPTION = """\
-Joins a library with the debug information that its distribution ships apart, in one file that `abi` reads: debug sections are put
-in place and inflated, and what stands in a supplementary file (dwz -m) is put in. Without DEBUG_FILE the debug file is looked for
-below FOLDER, by the library's build id and by .gnu_debuglink; a library that has debug information itself needs none. The debug
-file must be of the library's build. OUTPUT is there at the end exactly where the status is 0.
+Joins a library with the debug information that its distribution ships separately, in one file that `abi` reads: debug sections are put
+in place and inflated, and the contents of a supplementary file (dwz -m) are merged in. Without DEBUG_FILE it looks for the debug file
+below FOLDER, by the library's build id and by .gnu_debuglink; a library with debug information of its own needs none. The debug file
+must be of the library's build. OUTPUT exists at the end if and only if the exit status is 0.
 """
 _STATUSES = "Exit status: 0 joined; 1 not joined, and a sentence says why; 64 wrong arguments."
 
 
 def main(arguments: Sequence[str]) -> int:
-    """Joins as the arguments say, and answers 0. Raises a fault if that cannot be done."""
+    """Joins as the arguments say, and returns 0. Raises a fault if that cannot be done."""
     parser = Arguments("join-debug", _DESCRIPTION, _STATUSES)
     parser.add_argument("--root", type=Path, default=Path("/"), metavar="FOLDER",
                         help="the folder of an unpacked package with its usr/lib/debug (default: /)")

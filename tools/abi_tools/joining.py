@@ -1,4 +1,4 @@
-"""A library, its debug file and the supplementary file that they name, made into one file that `abi` reads."""
+"""Joins a library, its debug file and the supplementary file that they name into one file that `abi` reads."""
 
 from __future__ import annotations
 
@@ -12,14 +12,14 @@ from abi_tools.elf_writing import AddedSection, with_sections
 from abi_tools.faults import Fault
 from abi_tools.supplementary import DebugSections, leads_out, merge
 
-# Sections that name another file; once all is in one file, they go.
+# Sections that name another file. A joined file needs none of them.
 _LINKS = (".gnu_debuglink", ".gnu_debugaltlink", ".debug_sup")
 
 
 def join(library_path: Path, root: Path, debug_path: Optional[Path] = None) -> bytes:
-    """The library with its debug information in it, uncompressed. The debug file is the one that is named, or the library
-    itself where it has debug information, or the one that is found below `root`, where the supplementary file is looked for,
-    too. Raises a fault if a file is missing, damaged, of another build, or has debug information that cannot be joined."""
+    """The library with its debug information in it, uncompressed. The debug file is `debug_path`, or the library itself if it has
+    debug information, or else the one found below `root`. The supplementary file is also looked for below `root`. Raises a fault if a
+    file is missing, damaged, of another build, or has debug information that cannot be joined."""
     library = ElfFile(library_path)
     debug = _debug_of(library, root, debug_path)
     if not debug.has_debug_information:
@@ -59,12 +59,12 @@ def _supplementary_of(library: ElfFile, debug: ElfFile, root: Path) -> ElfFile:
 
 
 def _written(library: ElfFile, headers: dict[str, Section], contents: dict[str, bytes]) -> bytes:
-    """The library with the sections in place of those of debug information that it has."""
+    """The library with these sections in place of its own debug sections."""
     dropped = {section.name for section in library.sections if section.is_debug or section.name in _LINKS}
     added = [AddedSection(_named(headers[name], name), part) for name, part in contents.items() if name not in _LINKS]
     return with_sections(library, dropped, added)
 
 
 def _named(header: Section, name: str) -> Section:
-    """The header with another name: a section that was compressed had one of its own."""
+    """The header with this name, since a compressed section may have had another one."""
     return replace(header, name=name)

@@ -1,4 +1,4 @@
-"""Files that are there whole or not at all."""
+"""Writes output files so that they exist whole or not at all."""
 
 from __future__ import annotations
 
@@ -9,14 +9,14 @@ from typing import Sequence
 
 from abi_tools.faults import Fault
 
-# What a file system answers that has no files without a name.
+# The errors of file systems without O_TMPFILE.
 _NO_UNNAMED_FILES = (errno.EOPNOTSUPP, errno.EISDIR, errno.EINVAL, errno.ENOENT)
 _PERMISSIONS = 0o666
 
 
 def clear_output(output: Path, inputs: Sequence[Path]) -> None:
-    """Takes away what an earlier run left at `output`, so that a file stands there only where this run succeeds. Raises a
-    fault where `output` is one of the inputs, or no file that can be replaced."""
+    """Removes the `output` of an earlier run, so that the file exists only if this run succeeds. Raises a fault if `output` is one of
+    the inputs, or is not a file that can be replaced."""
     if not output.parent.is_dir():
         raise Fault(f"there is no folder {output.parent} for {output.name}")
     if not output.exists() and not output.is_symlink():
@@ -29,8 +29,8 @@ def clear_output(output: Path, inputs: Sequence[Path]) -> None:
 
 
 def write_whole(output: Path, contents: bytes) -> None:
-    """Writes the file. It gets its name once all bytes are in it, so that a run that is killed leaves no half of it. Raises
-    what the system says where it cannot be written."""
+    """Writes the file. It gets its name only when it is complete, so that a killed run leaves no partial file. Raises OSError if it
+    cannot be written."""
     try:
         file = os.open(output.parent, os.O_TMPFILE | os.O_WRONLY, _PERMISSIONS)
     except OSError as error:
@@ -46,14 +46,14 @@ def write_whole(output: Path, contents: bytes) -> None:
 
 
 def _write_all(file: int, contents: bytes) -> None:
-    """Writes all bytes, in as many calls as the system asks for."""
+    """Writes all bytes, in as many calls as this takes."""
     left = memoryview(contents)
     while left:
         left = left[os.write(file, left):]
 
 
 def _name(file: int, output: Path) -> None:
-    """Gives the file without a name its name, in place of a file that has it."""
+    """Gives the unnamed file its name, and replaces a file of that name."""
     folder = os.open(output.parent, os.O_PATH | os.O_DIRECTORY)
     try:
         output.unlink(missing_ok=True)
@@ -63,8 +63,8 @@ def _name(file: int, output: Path) -> None:
 
 
 def _write_and_rename(output: Path, contents: bytes) -> None:
-    """The same, by a temporary file beside the output."""
-    # Few file systems need it.
+    """Writes the file by way of a temporary file beside the output."""
+    # Imported here, since few file systems need it.
     import tempfile
 
     file, temporary = tempfile.mkstemp(prefix=f".{output.name}.", dir=output.parent)

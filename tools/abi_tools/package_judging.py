@@ -1,4 +1,4 @@
-"""What is said of each library of two sets of packages."""
+"""Judges each library of two sets of packages."""
 
 from __future__ import annotations
 
@@ -18,14 +18,14 @@ from abi_tools.package_sides import PackagedLibrary, Pair, Side, package_rules
 from abi_tools.verdicts import Verdict
 
 
-# How a note of `abi` begins.
+# The prefix of a note of `abi`.
 _NOTE = "abi: note: "
 
 
 @dataclass(frozen=True)
 class Line:
-    """What is said of a library in a line, what that means for all packages (nothing of a library that is new or left out), and the
-    notes of `abi` on it."""
+    """The line printed for a library, its first words, its verdict (none for a library that is new or left out), and the notes of `abi`
+    on it."""
 
     text: str
     word: str
@@ -35,9 +35,9 @@ class Line:
 
 @dataclass(frozen=True)
 class Judging:
-    """How libraries are judged: the program, which works in the folder `work`; both sides; the folder of certificates; the folder where
-    joined libraries are kept that broke, if they are; the rule file that is named; the share of exports that must have types; and the
-    sonames of libraries that are not judged."""
+    """How libraries are judged: the folder `work`, in which `abi` runs; both sides; the folder for certificates; the folder for the
+    joined libraries of a no, if they are kept; the rule file of the command line; the share of exports that must have types; and the
+    sonames of libraries that are left out."""
 
     work: Path
     sides: tuple[Side, Side]
@@ -48,7 +48,7 @@ class Judging:
     left_out: tuple[str, ...]
 
     def line(self, pair: Pair) -> Line:
-        """What is said of a library of either side."""
+        """The line of a library of either side."""
         if pair.soname in self.left_out:
             return Line(f"left out {pair.name}", "left out", None)
         if pair.new is None and pair.old is not None:
@@ -61,7 +61,7 @@ class Judging:
             return Line(f"cannot tell {pair.name}: {fault}", Verdict.CANNOT_TELL.words(), Verdict.CANNOT_TELL)
 
     def _judged(self, pair: Pair) -> Line:
-        """What is said of a library that both sides have."""
+        """The line of a library that both sides have."""
         name = pair.name.replace("/", "_")
         rules, said_of_rules = (self.rules, "") if self.rules else package_rules(pair, self.sides, self.work)
         reasons = [put_joined(library, side, self.work / folder / name)
@@ -77,7 +77,7 @@ class Judging:
         return Line(f"{word} {pair.name}: {'; '.join(parts)}", word, judgement.verdict, _notes(judgement))
 
     def _keep(self, name: str, judgement: Judgement) -> Sequence[str]:
-        """Keeps the certificate of a yes or the report of a no, and takes away what an earlier run kept."""
+        """Keeps the certificate of a yes or the report of a no, and removes what an earlier run kept."""
         for suffix in (".cert", ".report"):
             (self.certificates / f"{name}{suffix}").unlink(missing_ok=True)
         if judgement.answer is None or judgement.verdict == Verdict.CANNOT_TELL:
@@ -88,8 +88,8 @@ class Judging:
         return [f"{kind} {place}"]
 
     def _keep_libraries(self, name: str, verdict: Verdict, rules: Optional[Path]) -> Sequence[str]:
-        """Keeps both joined libraries of a no, with the rule file, and answers the command that shows what broke. Takes away what an
-        earlier run kept."""
+        """Keeps both joined libraries of a no, with the rule file, and returns the command that shows what broke. Removes what an earlier
+        run kept."""
         if self.keep is None:
             return []
         libraries = [self.keep / side / name for side in ("old", "new")]
@@ -108,8 +108,8 @@ class Judging:
 
 
 def put_joined(library: Optional[PackagedLibrary], side: Side, output: Path) -> str:
-    """Puts a library, joined with its debug information, where it is judged. Where that cannot be joined the library stands there as
-    it was shipped, and the answer says why."""
+    """Writes a library, joined with its debug information, to `output`, where `abi` reads it. If they cannot be joined, writes the
+    library as it was shipped, and returns the reason."""
     assert library is not None
     output.parent.mkdir(exist_ok=True)
     try:
@@ -124,7 +124,7 @@ def put_joined(library: Optional[PackagedLibrary], side: Side, output: Path) -> 
 
 
 def _outcome(judgement: Judgement) -> str:
-    """What came of a comparison, in words."""
+    """The outcome of a comparison, in words."""
     if judgement.verdict == Verdict.YES:
         return f"{judgement.compared} exports compared, {judgement.typed} with types"
     if judgement.verdict == Verdict.NO and judgement.answer is not None:
@@ -141,14 +141,13 @@ def _types(judgement: Judgement) -> list[str]:
 
 
 def _notes(judgement: Judgement) -> tuple[str, ...]:
-    """What `abi` saw and did not judge, which it says where the variable ABI_NOTES asks for it."""
+    """The notes of `abi` on what it saw and did not judge. It prints them if the variable ABI_NOTES asks for them."""
     lines = judgement.answer.notes.splitlines() if judgement.answer is not None else []
     return tuple(line.removeprefix(_NOTE) for line in lines if line.startswith(_NOTE))
 
 
 def worst(lines: Sequence[Line]) -> Verdict:
-    """The verdict on all packages: no where one library has it, else that it cannot be told where that is so of one, or where none was
-    compared, else yes."""
+    """The verdict on all packages: no if one library has it; else cannot tell if one library has it or none was compared; else yes."""
     verdicts = {line.verdict for line in lines}
     if Verdict.NO in verdicts:
         return Verdict.NO

@@ -1,4 +1,4 @@
-"""The libraries of two sets of packages, old and new, and which belongs to which."""
+"""The libraries of the old and the new packages, and how they are paired."""
 
 from __future__ import annotations
 
@@ -13,7 +13,7 @@ from abi_tools.elf_files import ElfFile, SHT_DYNSYM
 from abi_tools.faults import Fault
 from abi_tools.unpacking import Package, unpack
 
-# The start of a header of an ELF-64 file in little endian, and its type and machine: ET_DYN and EM_X86_64.
+# The first bytes of a little-endian ELF-64 file, and its type and machine: ET_DYN and EM_X86_64.
 _IDENTITY = b"\x7fELF\x02\x01"
 _TYPE_AND_MACHINE = b"\x03\x00\x3e\x00"
 _TYPE_AT = 16
@@ -22,7 +22,7 @@ _HEADER = 20
 
 @dataclass(frozen=True)
 class PackagedLibrary:
-    """A library of a package: its name from `/` on, its file, its soname or else its file's name, and its package."""
+    """A library of a package: its name in the package, its unpacked file, its soname (or else its file name), and the package."""
 
     name: PurePosixPath
     path: Path
@@ -32,22 +32,22 @@ class PackagedLibrary:
 
 @dataclass(frozen=True)
 class Side:
-    """Packages that are unpacked below one folder, and their libraries."""
+    """One side of the comparison: the libraries of packages that are unpacked below one folder."""
 
     root: Path
     libraries: tuple[PackagedLibrary, ...]
 
     @classmethod
     def unpacked(cls, files: Sequence[Path], root: Path) -> "Side":
-        """Unpacks the packages. Raises a fault if one is damaged, or two bring the same file."""
+        """Unpacks the packages. Raises a fault if one is damaged, or if two have the same file."""
         root.mkdir()
         packages = [unpack(file, root) for file in files]
         return cls(root, tuple(library for package in packages for library in libraries(package, root)))
 
 
 def libraries(package: Package, root: Path) -> Iterator[PackagedLibrary]:
-    """The shared libraries that a package brings: files of the right type and machine with dynamic symbols, whose name has `.so` in
-    it, or that have a soname. Debug files are none."""
+    """The shared libraries of a package: files of the right type and machine that have dynamic symbols, and that have a soname or `.so`
+    in their name. Debug files do not count."""
     for name in package.names:
         path = root / name
         if PurePosixPath("/", name).is_relative_to(DEBUG_FOLDER) or path.is_symlink() or not _may_be_library(path):
@@ -66,8 +66,8 @@ def _may_be_library(path: Path) -> bool:
 
 @dataclass(frozen=True)
 class Pair:
-    """A library of the old packages and the one of the new packages that takes its place; one of them is missing where it is gone, or
-    new. The name is the soname, or, where one side has it several times, the folder and the soname."""
+    """A library of the old packages and the one of the new packages that replaces it. `new` is None if the library is gone, and `old` is
+    None if it is new. The name is the soname or, if one side has it several times, the folder and the soname."""
 
     name: str
     old: Optional[PackagedLibrary]
@@ -75,12 +75,12 @@ class Pair:
 
     @property
     def soname(self) -> str:
-        """The soname, or the name of the file where there is none."""
+        """The soname, or the file name if there is none."""
         return next((library.soname for library in (self.old, self.new) if library is not None), self.name)
 
 
 def pairs(old: Side, new: Side) -> list[Pair]:
-    """The libraries of both sides, paired by soname, in the order of their names."""
+    """The libraries of both sides, paired by soname and sorted by name."""
     counts = [Counter(library.soname for library in side.libraries) for side in (old, new)]
     several = {soname for count in counts for soname, number in count.items() if number > 1}
     named = [{_key(library, several): library for library in side.libraries} for side in (old, new)]
@@ -89,13 +89,13 @@ def pairs(old: Side, new: Side) -> list[Pair]:
 
 
 def _key(library: PackagedLibrary, several: set[str]) -> str:
-    """What a library is paired by. Where a soname stands several times, its folder, and a name that is not the soname, tell which."""
+    """What a library is paired by: the soname, with the folder in front if the soname occurs several times on one side."""
     return str(library.name.parent / library.soname) if library.soname in several else library.soname
 
 
 def package_rules(pair: Pair, sides: Sequence[Side], folder: Path) -> tuple[Optional[Path], str]:
-    """The rule file that the package of the new library brings, or else that of the old one, unpacked, and what is said of it.
-    Raises a fault if a package brings several, or one that cannot be unpacked."""
+    """The rule file in the package of the new library, or else in that of the old one, inflated, and a text that names it. Raises a
+    fault if a package has several, or one that cannot be inflated."""
     for library, side, said in ((pair.new, sides[1], "new"), (pair.old, sides[0], "old")):
         name = library.package.rules if library is not None else None
         if name is None:

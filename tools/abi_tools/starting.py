@@ -1,18 +1,18 @@
-"""How the scripts beside this package start: a missing library of Debian gets a sentence, not a trace."""
+"""Starts the scripts beside this package. A missing Python library gets a sentence with its Debian package, not a traceback."""
 
 from __future__ import annotations
 
 import importlib
 import sys
 
-# The libraries that do not come with Python, and the packages of Debian that bring them.
+# The libraries that do not come with Python, and their Debian packages.
 PACKAGES = {"debian": "python3-debian", "zstandard": "python3-zstandard",
             "dask": "python3-dask", "distributed": "python3-distributed", "jinja2": "python3-jinja2", "rich": "python3-rich"}
 
 
 def start(tool: str, module: str, fault_status: int = 1, package: str = "abi_tools") -> int:
-    """Runs `main` of the module of this package, or of another one, with the arguments of the command line, and answers its status;
-    `fault_status` where it cannot be done. Some libraries are taken in only where they are needed."""
+    """Runs `main` of a module of `package` with the arguments of the command line, and returns its exit status, or `fault_status` if a
+    library is missing. Modules import some libraries only when they need them."""
     try:
         from abi_tools.faults import run_tool
 

@@ -1,8 +1,8 @@
-"""Debug information and the supplementary file that it refers to (`dwz -m`), made into one.
+"""Joins debug information with the supplementary file that it refers to (`dwz -m`).
 
-A form that leads into the supplementary file has as many bytes as the form that leads to the same section of the file itself,
-so the form is replaced in `.debug_abbrev`, in as many bytes, and the value grows by the length of the file's own section. The
-sections of the supplementary file stand behind the file's own, and the values of its own forms grow likewise.
+The sections of the supplementary file are appended to the file's own sections. A value that refers to the supplementary file is as
+long as one that refers to the same section of the file itself. So the form is replaced in `.debug_abbrev`, in the same number of
+bytes, and the value is increased by the length of the file's own section. The values of the supplementary file are increased alike.
 """
 
 from __future__ import annotations
@@ -15,7 +15,7 @@ from abi_tools.dwarf_tables import FORM_NAMES, FORMS, Shifts, padded_number
 from abi_tools.dwarf_units import Pass, Tables, units
 from abi_tools.faults import Fault
 
-# The forms that lead into a supplementary file, and those that lead to the same section of the file itself.
+# The forms that refer to a supplementary file, and those that refer to the same section of the file itself.
 REPLACED: Mapping[str, str] = {
     "DW_FORM_GNU_ref_alt": "DW_FORM_ref_addr",
     "DW_FORM_ref_sup4": "DW_FORM_ref_addr",
@@ -24,9 +24,9 @@ REPLACED: Mapping[str, str] = {
 }
 _EIGHT_BYTES = "DW_FORM_ref_sup8"
 _TEXTS = ("DW_FORM_GNU_strp_alt", "DW_FORM_strp_sup")
-# The sections that grow by those of the supplementary file. The others of the file itself stay as they are.
+# The sections to which those of the supplementary file are appended. The file's other sections stay as they are.
 _GROWING = (".debug_info", ".debug_abbrev", ".debug_str", ".debug_line_str", ".debug_line")
-# Sections of the file itself that lead into the supplementary file by other ways than forms.
+# Sections of the file itself that refer to the supplementary file by other means than forms.
 LEFT_OUT = (".debug_macro",)
 _FOUR = struct.Struct("<I")
 _LARGEST = (1 << 32) - 16
@@ -34,7 +34,7 @@ _LARGEST = (1 << 32) - 16
 
 @dataclass(frozen=True)
 class DebugSections:
-    """The contents of sections by their names, and the file that they come from."""
+    """The contents of sections by name, and the file that they come from."""
 
     file: str
     contents: Mapping[str, bytes]
@@ -45,7 +45,7 @@ class DebugSections:
 
 
 def leads_out(own: DebugSections) -> bool:
-    """Whether an entry may lead into a supplementary file: whether a form does. Raises a fault if units are damaged."""
+    """Whether any form in the abbreviations refers to a supplementary file. Raises a fault if units are damaged."""
     tables = Tables(own.contents.get(".debug_abbrev", b""), f"{own.file}: .debug_abbrev")
     for name in (".debug_info", ".debug_types"):
         for unit in units(own.contents.get(name, b""), f"{own.file}: {name}", name == ".debug_types"):
@@ -56,8 +56,8 @@ def leads_out(own: DebugSections) -> bool:
 
 
 def merge(own: DebugSections, supplementary: DebugSections) -> dict[str, bytes]:
-    """The sections of a file, by name, with those of its supplementary file in them. Raises a fault if either is damaged, in
-    the 64-bit format of DWARF, has forms that are not read, or both are too long together."""
+    """The sections of a file, by name, with those of its supplementary file appended. Raises a fault if either file is damaged, in the
+    64-bit format of DWARF, or has unknown forms, or if both together are too long."""
     if ".debug_types" in supplementary.contents:
         raise Fault(f"{supplementary.file} has a section .debug_types, which is not read")
     for name in _GROWING:
@@ -71,7 +71,7 @@ def merge(own: DebugSections, supplementary: DebugSections) -> dict[str, bytes]:
 
 
 def _own_part(own: DebugSections) -> dict[str, bytes]:
-    """The file's own sections, with forms that stay inside and values that lead to what is appended."""
+    """The file's own sections, with forms and values that refer to the appended sections."""
     texts, entries = own.length(".debug_str"), own.length(".debug_info")
     shifts = Shifts({form: texts if form in _TEXTS else entries for form in REPLACED})
     tables = Tables(own.contents[".debug_abbrev"], f"{own.file}: .debug_abbrev")
@@ -90,7 +90,7 @@ def _own_part(own: DebugSections) -> dict[str, bytes]:
 
 
 def _check_forms(tables: Tables, table: int, version: int, where: str) -> None:
-    """Raises a fault if a form leads out in a way for which there is none of as many bytes."""
+    """Raises a fault if a form refers to the supplementary file and has no replacement of the same size."""
     forms = {FORM_NAMES.get(one.form) for abbreviation in tables.at(table).values() for one in abbreviation.attributes}
     if _EIGHT_BYTES in forms:
         raise Fault(f"{where} has values of the form {_EIGHT_BYTES}, which are not joined")
@@ -99,7 +99,7 @@ def _check_forms(tables: Tables, table: int, version: int, where: str) -> None:
 
 
 def _inside_forms(section: bytes, tables: Tables) -> bytes:
-    """The abbreviations with the forms that stay inside, each in as many bytes as the one that it replaces."""
+    """The abbreviations with forms that refer to the file itself, each in as many bytes as the form that it replaces."""
     changed = bytearray(section)
     for table in tables.read.values():
         for abbreviation in table.values():
@@ -111,7 +111,7 @@ def _inside_forms(section: bytes, tables: Tables) -> bytes:
 
 
 def _supplementary_part(own: DebugSections, supplementary: DebugSections) -> dict[str, bytes]:
-    """What is appended to the file's own sections: those of the supplementary file, with values that grow."""
+    """The sections to append to the file's own: those of the supplementary file, with increased values."""
     where = f"{supplementary.file}: .debug_info"
     shifts = Shifts({"DW_FORM_ref_addr": own.length(".debug_info"), "DW_FORM_strp": own.length(".debug_str"),
                      "DW_FORM_line_strp": own.length(".debug_line_str")}, own.length(".debug_line"))

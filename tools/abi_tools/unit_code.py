@@ -1,4 +1,4 @@
-"""At which addresses the code of a unit lies: what its root says of that, also by lists of ranges."""
+"""The address ranges of a unit's code, from its root entry and the range lists that it names."""
 
 from __future__ import annotations
 
@@ -11,33 +11,33 @@ from abi_tools.dwarf_units import Unit
 _FOUR = struct.Struct("<I")
 _EIGHT = struct.Struct("<Q")
 _PAIR = struct.Struct("<QQ")
-# unit_length, version, debug_info_offset, address_size and segment_selector_size; pairs begin behind them at a multiple of their size.
+# unit_length, version, debug_info_offset, address_size and segment_selector_size. Pairs follow, at a multiple of their size.
 _ADDRESSES_OF_UNIT = struct.Struct("<IHIBB")
 _VERSION_OF_LISTS = 5
-# In a list up to version 4 this opens another base address (DWARF 4, 2.17.3).
+# In a list up to version 4 this value sets another base address (DWARF 4, 2.17.3).
 _LARGEST_ADDRESS = (1 << 64) - 1
 # The kinds of entries of a list of version 5 (DWARF 5, 7.25).
 _END, _BASE_INDEX, _INDEXES, _INDEX_LENGTH, _OFFSETS, _BASE, _ADDRESSES = range(7)
-# Where the offsets and addresses begin behind a header where a root does not say it (DWARF 5, 7.27 and 7.28).
+# Where the addresses and offsets begin, after the header, if the root does not say so (DWARF 5, 7.27 and 7.28).
 _FIRST_ADDRESS = 8
 _FIRST_LIST = 12
 _INDEX_FORMS = ("DW_FORM_addrx", "DW_FORM_addrx1", "DW_FORM_addrx2", "DW_FORM_addrx3", "DW_FORM_addrx4")
 
 Range = tuple[int, int]
 Sections = Mapping[str, bytes]
-# The forms and values of a root's attributes.
+# The forms and values of the root's attributes.
 Values = Mapping[int, tuple[str, int]]
 
 
 def code_of(sections: Sections, unit: Unit, table: Table) -> list[Range]:
-    """The addresses of a unit's code, each range with its end. Raises what reading damaged bytes raises."""
+    """The start and end of each range of a unit's code. Raises one of `elf_files.DAMAGED` if bytes are damaged."""
     root = Root(sections, unit, _values(sections[".debug_info"], unit, table))
     return list(root.ranges())
 
 
 def listed_code(section: bytes) -> Iterator[tuple[int, int, int]]:
-    """The ranges of code in `.debug_aranges` (DWARF 5, 6.1.2), each with its end and where its unit begins. Raises what reading damaged
-    bytes raises."""
+    """The start and end of each range of code in `.debug_aranges` (DWARF 5, 6.1.2), and where its unit begins. Raises one of
+    `elf_files.DAMAGED` if bytes are damaged."""
     at = 0
     while at < len(section):
         length, _, unit, size, segment = _ADDRESSES_OF_UNIT.unpack_from(section, at)
@@ -49,7 +49,7 @@ def listed_code(section: bytes) -> Iterator[tuple[int, int, int]]:
 
 
 def _values(section: bytes, unit: Unit, table: Table) -> Values:
-    """The attributes of a unit's root that are numbers."""
+    """The attributes of a unit's root entry, as numbers."""
     code, at = read_number(section, unit.entries)
     sizes = fixed_sizes(unit.version)
     found = {}
@@ -63,7 +63,7 @@ def _values(section: bytes, unit: Unit, table: Table) -> Values:
 
 
 class Root:
-    """What the root of a unit says of addresses."""
+    """What the root entry of a unit says about addresses."""
 
     def __init__(self, sections: Sections, unit: Unit, values: Values) -> None:
         self._sections = sections
@@ -71,7 +71,7 @@ class Root:
         self._values = values
 
     def ranges(self) -> Iterator[Range]:
-        """The addresses of the code."""
+        """The ranges of the code."""
         if self._has("ranges"):
             yield from self._listed()
         elif self._has("high_pc"):
@@ -92,11 +92,11 @@ class Root:
         return self._indexed(value) if form in _INDEX_FORMS else value
 
     def _indexed(self, index: int) -> int:
-        """The address of an index."""
+        """The address at an index of `.debug_addr`."""
         return int(_EIGHT.unpack_from(self._sections[".debug_addr"], self._number("addr_base", _FIRST_ADDRESS) + 8 * index)[0])
 
     def _listed(self) -> Iterator[Range]:
-        """The ranges of the list that the root names."""
+        """The ranges in the list that the root names."""
         form, at = self._values[ATTRIBUTES["DW_AT_ranges"]]
         base = self._address("low_pc") if self._has("low_pc") else 0
         if self._unit.version < _VERSION_OF_LISTS:
@@ -120,7 +120,7 @@ class Root:
             yield self._range(kind, base, start, end)
 
     def _range(self, kind: int, base: int, start: int, end: int) -> Range:
-        """A range of an entry of a list."""
+        """The range that an entry of a list describes."""
         if kind == _OFFSETS:
             return base + start, base + end
         if kind == _INDEXES:
@@ -129,7 +129,7 @@ class Root:
 
 
 def _earlier(section: bytes, at: int, base: int) -> Iterator[Range]:
-    """A list up to version 4: pairs of addresses, up to one of zeros."""
+    """A list up to version 4: pairs of addresses, ended by a pair of zeros."""
     while True:
         start, end = _PAIR.unpack_from(section, at)
         at += _PAIR.size
@@ -142,5 +142,5 @@ def _earlier(section: bytes, at: int, base: int) -> Iterator[Range]:
 
 
 def _address_at(section: bytes, at: int) -> tuple[int, int]:
-    """The address at a place, and where it ends."""
+    """The address at an offset, and the offset of its end."""
     return int(_EIGHT.unpack_from(section, at)[0]), at + _EIGHT.size

@@ -1,4 +1,4 @@
-"""Packages of distributions, unpacked as far as the tools read them."""
+"""Unpacks the packages of distributions: the files that the tools read, and no others."""
 
 from __future__ import annotations
 
@@ -20,23 +20,23 @@ from abi_tools.faults import Fault
 _DEB_MAGIC = b"!<arch>\n"
 _RPM_MAGIC = b"\xed\xab\xee\xdb"
 _ELF_MAGIC = b"\x7fELF"
-# The rule file that a package brings in its folder of documentation, packed or not.
+# The rule file in a package's folder of documentation, compressed or not.
 _RULES = ("abi.rules", "abi.rules.gz")
 _DOCUMENTATION = PurePosixPath("usr/share/doc")
-# What a file of a package may have, once it is inflated: `abi` reads no more than 256 MiB, and debug information may stand apart.
+# The largest inflated file of a package, in bytes: `abi` reads no more than 256 MiB, and debug information may be in a file of its own.
 _LARGEST_FILE = 1 << 32
 
 
 @dataclass(frozen=True)
 class Package:
-    """A package that is unpacked: its file, and the names of the files and links that it brought."""
+    """An unpacked package: its file, and the names of the files and links in it."""
 
     file: Path
     names: tuple[PurePosixPath, ...]
 
     @property
     def rules(self) -> Optional[PurePosixPath]:
-        """The name of the rule file that it brings, where there is one. Raises a fault if there are several."""
+        """The name of its rule file, if it has one. Raises a fault if it has several."""
         found = [name for name in self.names if name.name in _RULES and name.parent.parent == _DOCUMENTATION]
         if len(found) > 1:
             raise Fault(f"{self.file} brings several rule files: {', '.join(map(str, found))}")
@@ -44,8 +44,8 @@ class Package:
 
 
 def unpack(file: Path, root: Path) -> Package:
-    """Unpacks a package below `root`, as far as the tools read it: ELF files, links and rule files. Raises a fault if it is no
-    package or damaged."""
+    """Unpacks what the tools read of a package below `root`: ELF files, links and rule files. Raises a fault if it is damaged or not a
+    package."""
     if not file.is_file():
         raise Fault(f"there is no package {file}")
     with file.open("rb") as stream:
@@ -58,7 +58,7 @@ def unpack(file: Path, root: Path) -> Package:
 
 
 def _parts(name: str, file: Path) -> PurePosixPath:
-    """The name of a file of a package, from the folder `/` on. Raises a fault if it leads out of it."""
+    """The name of a file of a package, relative to `/`. Raises a fault if it leads out of that folder."""
     parts = [part for part in PurePosixPath(name).parts if part not in ("/", ".")]
     if ".." in parts:
         raise Fault(f"{file} brings a file that lies outside of its folder: {name}")
@@ -66,7 +66,7 @@ def _parts(name: str, file: Path) -> PurePosixPath:
 
 
 def _folder(root: Path, name: PurePosixPath, file: Path) -> Path:
-    """The folder of a name below `root`, made where it is missing, and through links as `root` were the folder `/`."""
+    """The folder of a name below `root`, made if it is missing. Links are followed as if `root` were `/`."""
     at = root
     for part in name.parts:
         step = at / part
@@ -82,22 +82,22 @@ def _folder(root: Path, name: PurePosixPath, file: Path) -> Path:
 
 
 def _unpack_deb(file: Path, root: Path) -> Iterator[PurePosixPath]:
-    """Unpacks a .deb, and yields what it brought."""
+    """Unpacks a .deb, and yields the names of the files and links in it."""
     try:
         with DebFile(filename=str(file)) as package:
             yield from place_members(package.data.tgz(), root, file)
     except (ArError, DebError, tarfile.TarError, lzma.LZMAError, zlib.error, EOFError, ValueError) as error:
         raise Fault(f"{file} is damaged: {error}") from error
     except OSError as error:
-        # The library that reads the archive raises some of its own; one of the system has a number.
+        # The library that reads the archive raises OSError, too; only an error of the system has a number.
         if error.errno is not None:
             raise
         raise Fault(f"{file} is damaged: {error}") from error
 
 
 def place_members(archive: tarfile.TarFile, root: Path, file: Path) -> Iterator[PurePosixPath]:
-    """Puts the members of an archive, which the package `file` brings, below `root`, and yields the names of those that the tools
-    read. Raises a fault if one lies outside, or stands there already."""
+    """Puts the members of an archive of the package `file` below `root`, and yields the names of those that the tools read. Raises a
+    fault if a member lies outside of `root`, or exists there already."""
     for member in archive:
         name = _parts(member.name, file)
         if _place(archive, member, _folder(root, name.parent, file) / name.name, file):
@@ -105,7 +105,7 @@ def place_members(archive: tarfile.TarFile, root: Path, file: Path) -> Iterator[
 
 
 def _place(archive: tarfile.TarFile, member: tarfile.TarInfo, place: Path, file: Path) -> bool:
-    """Puts a member of an archive in its place, where the tools read it; answers whether it did."""
+    """Puts a member of an archive in its place if the tools read it, and returns whether they do."""
     if member.issym():
         if not place.is_symlink() and not place.exists():
             place.symlink_to(member.linkname)
@@ -127,7 +127,7 @@ def _place(archive: tarfile.TarFile, member: tarfile.TarInfo, place: Path, file:
 
 
 def _unpack_rpm(file: Path, root: Path) -> list[PurePosixPath]:
-    """Unpacks a .rpm by bsdtar, which refuses names that lead out of the folder, and answers what it brought."""
+    """Unpacks a .rpm with bsdtar, which refuses names that lead out of the folder, and returns the names of the files and links in it."""
     if shutil.which("bsdtar") is None:
         raise Fault("there is no bsdtar to unpack a .rpm: install the package libarchive-tools")
     listed = _ran(["bsdtar", "-tf", str(file.resolve())], file)
@@ -138,7 +138,7 @@ def _unpack_rpm(file: Path, root: Path) -> list[PurePosixPath]:
 
 
 def _refuse_second(names: Iterable[PurePosixPath], root: Path, file: Path) -> None:
-    """Raises a fault where a library stands already in the place of one of the files."""
+    """Raises a fault if another package has already put a library in the place of one of the files."""
     for name in names:
         place = root / name
         if place.is_file() and not place.is_symlink() and place.read_bytes().startswith(_ELF_MAGIC):

@@ -6,12 +6,12 @@ import enum
 
 
 class Verdict(enum.IntEnum):
-    """The exit statuses of a gate."""
+    """A verdict, which is also the exit status of a gate."""
 
     YES = 0
     NO = 1
     CANNOT_TELL = 2
 
     def words(self) -> str:
-        """How people read it."""
+        """The verdict in words."""
         return self.name.lower().replace("_", " ")
