@@ -36,9 +36,11 @@ from abi_tools.package_sides import PackagedLibrary, Side  # noqa: E402
 
 _ARCHIVE = "http://deb.debian.org/debian"
 _FIELD = re.compile(r"^([A-Z][A-Za-z0-9-]*): (.*)$", re.MULTILINE)
-_NOTE = re.compile(r"abi: note: ([a-z -]+)(?:: and (\d+) more$|:|$)")
-# Where libraries lie. What lies further down is loaded by its place, and is passed over.
-_FOLDERS = ("lib/x86_64-linux-gnu", "usr/lib/x86_64-linux-gnu", "usr/lib")
+# A note by its kind, or how many more there are of a kind. The last two lines count exports, and are no notes.
+_NOTE = re.compile(r"abi: note: (?!exports (?:of|with) )([a-z -]+)(?:: and (\d+) more$|:|$)")
+# Where libraries lie, also the one to which a link of alternatives leads and the plugins of libmp3splt. What lies in other folders is
+# loaded by its place, and is passed over.
+_FOLDERS = ("lib/x86_64-linux-gnu", "usr/lib/x86_64-linux-gnu", "usr/lib", "usr/lib/libpsm1", "usr/lib/libmp3splt0")
 # Seconds of processor time that abidiff gets for a pair, and the status of a process that takes more.
 _LONGEST = 200
 _TOO_LONG = -signal.SIGXCPU
