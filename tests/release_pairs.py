@@ -36,9 +36,11 @@ from abi_tools.package_sides import PackagedLibrary, Side  # noqa: E402
 
 _ARCHIVE = "http://deb.debian.org/debian"
 _FIELD = re.compile(r"^([A-Z][A-Za-z0-9-]*): (.*)$", re.MULTILINE)
-_NOTE = re.compile(r"abi: note: ([a-z -]+)(?:: and (\d+) more$|:|$)")
-# The folders of libraries. Files further down are plugins that programs load by path, and are skipped.
-_FOLDERS = ("lib/x86_64-linux-gnu", "usr/lib/x86_64-linux-gnu", "usr/lib")
+# A note by its kind, or how many more there are of a kind. The last two lines count exports, and are not notes.
+_NOTE = re.compile(r"abi: note: (?!exports (?:of|with) )([a-z -]+)(?:: and (\d+) more$|:|$)")
+# The folders of libraries, with the one to which a link of alternatives leads, and that of the plugins of libmp3splt. Files in other
+# folders are plugins that programs load by path, and are skipped.
+_FOLDERS = ("lib/x86_64-linux-gnu", "usr/lib/x86_64-linux-gnu", "usr/lib", "usr/lib/libpsm1", "usr/lib/libmp3splt0")
 # How many seconds of processor time abidiff gets for a pair, and the status of a process that takes more.
 _LONGEST = 200
 _TOO_LONG = -signal.SIGXCPU
