@@ -1,4 +1,4 @@
--- Arguments as lists of bytes, and the form of those that request help.
+-- Arguments as lists of bytes, and the form of an argument that requests help.
 use Rattle.std.specs.Prelude.{◌≡◌, ◌≢◌, ℕ, List, ◌∷◌, ◌++◌, map, Some, codes, true, ◌⊎◌, option_map, option_and_then, slice_get, ◌==◌}
 use Rattle.std.specs.Borrow.{Bor}
 use Rattle.std.specs.List.{list_any}
