@@ -101,6 +101,9 @@ for package in abi_tools abi_report abi_release; do
     mkdir "$prefix/lib/abi/tools/$package"
     install -m 644 "$root/tools/$package"/*.* "$prefix/lib/abi/tools/$package"
 done
+# Compiles the modules and the template of the page, since users may not write there. The tools also run without.
+(cd "$prefix/lib/abi/tools" && unset PYTHONDONTWRITEBYTECODE && /usr/bin/python3 -m compileall -q . &&
+    /usr/bin/python3 -c 'from abi_report.pages import page_writer; page_writer()') >/dev/null 2>&1 || true
 echo "installed the tools in $prefix/lib/abi/tools, with links in $prefix/bin"
 
 (cd "$root/share" && find . -type f -print) | while IFS= read -r file; do

@@ -6,8 +6,8 @@ Makes a library of COUNT structures (2,500 by default), builds it with gcc, and 
 breaks four rules in each. Or else it takes two libraries OLD and NEW; NEW may not replace OLD. Prints the seconds of `abi check`, of
 `abi-json check` without digests, with digests, and with notes on what no rule judges, of `abi-json notes`, and of `tools/abi-report` for
 the document and the page, with and without notes: the least of five runs, by the clock and by the processor, each also as a multiple of
-the time of `abi check`.
-The page is then in `bench/made/report/page.html`.
+the time of `abi check`. The commands take turns, so that other work on the machine slows all of them alike.
+Python keeps its compiled modules, as it does by default. The page is then in `bench/made/report/page.html`.
 """
 
 from __future__ import annotations
@@ -70,6 +70,7 @@ def main() -> int:
     given = parser.parse_args()
     abi, abi_json = given.programs
     os.environ.update(ABI=abi, ABI_JSON=abi_json)
+    os.environ.pop("PYTHONDONTWRITEBYTECODE", None)
     _MADE.mkdir(parents=True, exist_ok=True)
     old, new = given.libraries or (str(built(name, kind, given.structures)) for name, kind in (("old", "int"), ("new", "long")))
     measure(abi, abi_json, old, new)
@@ -79,25 +80,28 @@ def main() -> int:
 def measure(abi: str, abi_json: str, old: str, new: str) -> None:
     """Prints a line for each program and its options."""
     report = str(_TOP / "tools" / "abi-report")
+    commands: tuple[tuple[str, list[str], str, dict[str, str]], ...] = (
+        ("abi check", [abi, "check"], "rows", {"ABI_NOTES": "0"}),
+        ("ABI_DIGESTS=0 abi-json check", [abi_json, "check"], "undigested.json", {"ABI_NOTES": "0", "ABI_DIGESTS": "0"}),
+        ("abi-json check", [abi_json, "check"], "json", {"ABI_NOTES": "0"}),
+        ("abi-json notes", [abi_json, "notes"], "notes.json", {}),
+        ("ABI_NOTES=1 abi-json check", [abi_json, "check"], "noted.json", {"ABI_NOTES": "1"}),
+        ("abi-report", [report], "text", {}),
+        ("abi-report --format json --fast", [report, "--format", "json", "--fast"], "fast.json", {}),
+        ("abi-report --format json", [report, "--format", "json"], "report.json", {}),
+        ("abi-report --format html --fast", [report, "--format", "html", "--fast"], "fast.html", {}),
+        ("abi-report --format html", [report, "--format", "html"], "page.html", {}))
+    times: dict[str, list[tuple[float, float]]] = {}
+    for _ in range(_RUNS):
+        for name, command, output, variables in commands:
+            status = 0 if command[-1] == "notes" else 1
+            times.setdefault(name, []).append(timed([*command, old, new], _MADE / output, variables, status))
     first: tuple[float, ...] = ()
-    for name, command, output, variables in (
-            ("abi check", [abi, "check"], "rows", {"ABI_NOTES": "0"}),
-            ("ABI_DIGESTS=0 abi-json check", [abi_json, "check"], "undigested.json", {"ABI_NOTES": "0", "ABI_DIGESTS": "0"}),
-            ("abi-json check", [abi_json, "check"], "json", {"ABI_NOTES": "0"}),
-            ("abi-json notes", [abi_json, "notes"], "notes.json", {}),
-            ("ABI_NOTES=1 abi-json check", [abi_json, "check"], "noted.json", {"ABI_NOTES": "1"}),
-            ("abi-report", [report], "text", {}),
-            ("abi-report --format json --fast", [report, "--format", "json", "--fast"], "fast.json", {}),
-            ("abi-report --format json", [report, "--format", "json"], "report.json", {}),
-            ("abi-report --format html --fast", [report, "--format", "html", "--fast"], "fast.html", {}),
-            ("abi-report --format html", [report, "--format", "html"], "page.html", {})):
-        status = 0 if command[-1] == "notes" else 1
-        times = [timed([*command, old, new], _MADE / output, variables, status) for _ in range(_RUNS)]
-        size = (_MADE / output).stat().st_size
-        least = tuple(min(one[number] for one in times) for number in (0, 1))
+    for name, _, output, _ in commands:
+        least = tuple(min(one[number] for one in times[name]) for number in (0, 1))
         first = first or least
         clock, processor = (f"{own:.2f} s ({own / other:.2f})" for own, other in zip(least, first))
-        print(f"{name}: {clock}, {processor} of the processor, {size:,} bytes")
+        print(f"{name}: {clock}, {processor} of the processor, {(_MADE / output).stat().st_size:,} bytes")
 
 
 if __name__ == "__main__":

@@ -30,7 +30,7 @@ refused() {
         tried=$((tried + 1))
         if [ "$ended" -eq 4 ] && [ ! -s got ]; then
             out=$((out + 1))
-            [ ! -s errors ] || [ "$(cat errors)" = "abi: out of memory, or past a limit (LIMITS in abi(1))" ] ||
+            [ ! -s errors ] || [ "$(cat errors)" = "abi: out of memory" ] ||
                 fail "$name: without request $call it says: $(cat errors)"
         elif [ "$ended" -ne "$status" ] || ! cmp -s want got; then
             fail "$name: without request $call status $ended: $(head -c 100 got)"

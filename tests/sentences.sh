@@ -95,7 +95,7 @@ C
 gcc -shared -fPIC -o once.so once.c
 preload=$PWD/once.so says 3 "plain.so: reading failed" exports plain.so
 output=/dev/full says 6 "writing failed" exports plain.so
-limit=32768 says 4 "out of memory, or past a limit (LIMITS in abi(1))" trial 50000
+limit=32768 says 4 "out of memory" trial 50000
 truncate -s 268435457 long.so
 says 2 "long.so: it is longer than 256 MiB" exports long.so
 

@@ -9,11 +9,12 @@ import os
 import sys
 from pathlib import Path
 
-from . import collide, entries, layouts, names, pairs, ruled
+from . import certified, collide, entries, layouts, names, noted, pairs, rings, ruled
 from .cases import Kind
 from .measure import HEAD, Row, run_case
 
-ALL = [*entries.KINDS, *layouts.KINDS, *pairs.KINDS, *names.KINDS, *ruled.KINDS, *collide.KINDS]
+ALL = [*entries.KINDS, *layouts.KINDS, *pairs.KINDS, *rings.KINDS, *names.KINDS, *ruled.KINDS, *certified.KINDS, *noted.KINDS]
+ALL += collide.KINDS
 RUNS = int(os.environ.get("RUNS", "3"))
 
 

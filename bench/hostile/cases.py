@@ -6,11 +6,13 @@ from dataclasses import dataclass, field
 
 @dataclass(frozen=True)
 class Case:
-    """Files by name, the words of the command to measure, and those of a command that runs before it and writes the file `made`."""
+    """Files by name, the words of the command to measure, and those of a command that runs before it and writes the file `made`. The
+    command prints notes if they are wanted."""
 
     files: dict[str, bytes]
     words: list[str]
     before: list[str] = field(default_factory=list)
+    with_notes: bool = False
 
     def size(self) -> int:
         return sum(len(contents) for contents in self.files.values())
@@ -39,6 +41,11 @@ def against_itself(contents: bytes) -> Case:
 def against(old: bytes, new: bytes) -> Case:
     """`abi check` of two libraries."""
     return Case({"old": old, "new": new}, ["check", "old", "new"])
+
+
+def noted(old: bytes, new: bytes) -> Case:
+    """`abi check` of two libraries, with notes."""
+    return Case({"old": old, "new": new}, ["check", "old", "new"], with_notes=True)
 
 
 def applied(app: bytes, library: bytes) -> Case:

@@ -5,9 +5,9 @@ import tempfile
 from pathlib import Path
 
 from .cases import Case, Kind, against_itself, listed
-from .dwarf import AT_LANGUAGE, C99, DATA1, FLAT_CALL, STRUCTURE, TYPE_UNIT, Abbreviation, Info, table
+from .dwarf import AT_LANGUAGE, C99, COMPILE_UNIT, DATA1, FLAT_CALL, NAMED, STRUCTURE, TYPE_UNIT, Abbreviation, Info, table
 from .elf import Symbol, image, symbol_sections
-from .encode import u8, u64
+from .encode import short_name, u8, u32, u64
 from .library import library
 
 SEED = 0x243F6A8885A308D3
@@ -77,8 +77,37 @@ def names_that_collide(count: int) -> Case:
     return against_itself(image(symbol_sections(symbols, bytes(names))))
 
 
+# A text of nine bytes and more is hashed by products whose last factor is that of its last eight bytes, combined with a fixed number.
+# For these bytes it is 0, so the hash is 0, whatever stands before them.
+LAST_BYTES = u64(0x9E3779B97F4A7C15)
+
+
+def shapes_that_collide(count: int) -> Case:
+    """Typedefs whose names all end with the bytes that make the hash of a shape 0."""
+    info = Info()
+    info.begin()
+    number = info.number()
+    typedefs = [info.add(NAMED, short_name(place).encode() + LAST_BYTES + b"\0", u32(number)) for place in range(count)]
+    info.function(0x1000, *typedefs)
+    info.close()
+    info.end()
+    return against_itself(library(info, [0x1000]))
+
+
+def codes_that_collide(count: int) -> Case:
+    """Abbreviations whose codes collide in a map by code."""
+    tables = table([Abbreviation(1, COMPILE_UNIT, False, ((AT_LANGUAGE, DATA1),))])[:-1]
+    tables += b"".join(Abbreviation(code, STRUCTURE, False).spelled() for code in colliding(count))
+    info = Info()
+    info.begin(root=u8(1) + u8(C99))
+    info.end()
+    return listed(library(info, [], abbreviations=tables + b"\0"))
+
+
 KINDS = [
     Kind("colliding_addresses", "n functions at addresses that collide in a map", addresses_that_collide, 30000),
     Kind("colliding_signatures", "n type units with signatures that collide in a map", signatures_that_collide, 30000),
+    Kind("colliding_shapes", "n typedefs whose names end with the bytes that make all hashes equal", shapes_that_collide, 2000),
+    Kind("colliding_codes", "n abbreviations with codes that collide in a map", codes_that_collide, 10000),
     Kind("colliding_names", "n symbols with names that collide in a map", names_that_collide, 30000),
 ]

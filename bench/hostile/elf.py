@@ -12,6 +12,7 @@ SHT_DYNSYM = 11
 SHT_GNU_VERDEF = 0x6FFFFFFD
 SHT_GNU_VERNEED = 0x6FFFFFFE
 SHT_GNU_VERSYM = 0x6FFFFFFF
+DT_NEEDED = 1
 DT_SONAME = 14
 GLOBAL_FUNCTION = 0x12
 HEADER_SIZE = 64
@@ -82,9 +83,10 @@ class Symbol:
     value: int
     size: int = 1
     info: int = GLOBAL_FUNCTION
+    section: int = 1
 
     def spelled(self) -> bytes:
-        return u32(self.name_at) + bytes([self.info, 0]) + u16(1) + u64(self.value) + u64(self.size)
+        return u32(self.name_at) + bytes([self.info, 0]) + u16(self.section) + u64(self.value) + u64(self.size)
 
 
 def symbol_sections(symbols: list[Symbol], names: bytes) -> list[Section]:
@@ -99,6 +101,13 @@ def symbol_sections(symbols: list[Symbol], names: bytes) -> list[Section]:
 def soname_section(name_at: int) -> Section:
     """A dynamic table with a soname."""
     table = u64(DT_SONAME) + u64(name_at) + bytes(16)
+    return Section(b".dynamic", SHT_DYNAMIC, table, link=2, entry_size=16)
+
+
+def needed_section(name_at: int, count: int, soname_at: int = 0) -> Section:
+    """A dynamic table that asks for the same file again and again, and a soname if there is one."""
+    own = u64(DT_SONAME) + u64(soname_at) if soname_at else b""
+    table = own + (u64(DT_NEEDED) + u64(name_at)) * count + bytes(16)
     return Section(b".dynamic", SHT_DYNAMIC, table, link=2, entry_size=16)
 
 

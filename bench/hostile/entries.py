@@ -8,6 +8,7 @@ from .dwarf import (
     AT_EXTERNAL,
     AT_LANGUAGE,
     AT_LOW_PC,
+    AT_NAME,
     AT_RANGES,
     AT_TYPE,
     ADDR,
@@ -15,10 +16,13 @@ from .dwarf import (
     DATA1,
     ENUMERATION,
     ENUMERATOR,
+    CONST_TYPE,
+    FLAG,
     FLAG_PRESENT,
     FREE,
     FUNCTION,
     IMPLICIT,
+    LEXICAL_BLOCK,
     MEMBER,
     PARAMETER,
     POINTER,
@@ -26,6 +30,11 @@ from .dwarf import (
     REF4,
     SEC_OFFSET,
     SHARED,
+    STRING,
+    STRUCT,
+    STRUCTURE,
+    SUBROUTINE,
+    DATA4,
     UNIT,
     AT_BYTE_SIZE,
     UDATA,
@@ -33,7 +42,7 @@ from .dwarf import (
     Info,
     table,
 )
-from .encode import u8, u16, u32, u64, uleb
+from .encode import short_name, u8, u16, u32, u64, uleb
 from .library import addresses, library
 
 ROOT = Abbreviation(UNIT, COMPILE_UNIT, True, ((AT_LANGUAGE, DATA1),))
@@ -145,8 +154,8 @@ def pairs_of_ranges(count: int) -> Case:
     return listed(library(info, [0x1000], further, {".debug_ranges": lists}))
 
 
-def one_origin(count: int) -> Case:
-    """Functions that all take their parameters from one origin, which has equally many."""
+def of_one_origin(count: int, child: int) -> Case:
+    """Functions that all take their parameters from one origin, which has equally many children with the tag `child`."""
     info = Info()
     info.begin()
     origin = info.add(FREE)
@@ -160,10 +169,19 @@ def one_origin(count: int) -> Case:
     info.end()
     further = [
         Abbreviation(FREE, FUNCTION, True, ((AT_DECLARATION, FLAG_PRESENT),)),
-        Abbreviation(FREE + 1, PARAMETER, False),
+        Abbreviation(FREE + 1, child, False),
         Abbreviation(FREE + 2, FUNCTION, False, ((AT_LOW_PC, ADDR), (AT_ABSTRACT_ORIGIN, REF4))),
     ]
     return listed(library(info, values, further))
+
+
+def one_origin(count: int) -> Case:
+    return of_one_origin(count, PARAMETER)
+
+
+def beside_parameters(count: int) -> Case:
+    """The same with children that are no parameters, so that no limit counts them."""
+    return of_one_origin(count, MEMBER)
 
 
 def one_address(count: int) -> Case:
@@ -276,6 +294,109 @@ def asked_names(count: int) -> Case:
     return listed(library(info, [0x1000], [Abbreviation(FREE, POINTER, False, pairs)]))
 
 
+def long_number(number: int) -> bytes:
+    """A number below 128 as an unsigned LEB128 of ten bytes, which is the most."""
+    return u8(number | 0x80) + b"\x80" * 8 + b"\0"
+
+
+def long_numbers(count: int) -> Case:
+    """Pointers whose type comes after an empty name and as many attributes without bytes as a unit may have. These have long numbers,
+    so each look-up of the type reads them."""
+    info = Info()
+    info.begin()
+    whole = info.number()
+    info.function(0x1000, *[info.add(FREE, b"\0", u32(whole)) for _ in range(count)])
+    info.close()
+    info.end()
+    beside = uleb(AT_NAME) + uleb(STRING) + (long_number(AT_EXTERNAL) + long_number(FLAG_PRESENT)) * 310
+    own = uleb(FREE) + uleb(POINTER) + u8(0) + beside + uleb(AT_TYPE) + uleb(REF4) + b"\0\0"
+    return listed(library(info, [0x1000], abbreviations=table(SHARED)[:-1] + own + b"\0"))
+
+
+# An attribute that the program does not use: the producer of a unit.
+AT_PRODUCER = 0x25
+
+
+def core_behind_text(count: int) -> Case:
+    """Typedefs of a structure that has its size and whether it is a declaration behind a long text."""
+    info = Info()
+    info.begin()
+    whole = info.add(FREE, b"t" * (20 * count) + b"\0", u32(8), u8(0))
+    info.close()
+    info.function(0x1000, *[info.typedef("", whole) for _ in range(count)])
+    info.close()
+    info.end()
+    pairs = ((AT_PRODUCER, STRING), (AT_BYTE_SIZE, DATA4), (AT_DECLARATION, FLAG))
+    return listed(library(info, [0x1000], [Abbreviation(FREE, STRUCTURE, True, pairs)]))
+
+
+def origin_behind_text(count: int) -> Case:
+    """Members that take their type from one other member, which has it behind a long text."""
+    info = Info()
+    info.begin()
+    number = info.number()
+    origin = info.add(FREE, b"t" * (20 * count) + b"\0", u32(number))
+    whole = info.add(STRUCT, u32(8))
+    for _ in range(count):
+        info.add(FREE + 1, b"m\0", u32(origin))
+    info.close()
+    info.function(0x1000, info.pointer(whole))
+    info.close()
+    info.end()
+    further = [
+        Abbreviation(FREE, MEMBER, False, ((AT_PRODUCER, STRING), (AT_TYPE, REF4))),
+        Abbreviation(FREE + 1, MEMBER, False, ((AT_NAME, STRING), (AT_ABSTRACT_ORIGIN, REF4))),
+    ]
+    return listed(library(info, [0x1000], further))
+
+
+def typedefs_of_blocks(count: int) -> Case:
+    """Typedefs of a function type with equally many children that are no parameters."""
+    info = Info()
+    info.begin()
+    called = info.add(FREE)
+    info.bytes += u8(FREE + 1) * (20 * count)
+    info.close()
+    info.function(0x1000, *[info.pointer(info.typedef("", called)) for _ in range(count)])
+    info.close()
+    info.end()
+    further = [Abbreviation(FREE, SUBROUTINE, True), Abbreviation(FREE + 1, LEXICAL_BLOCK, False)]
+    return listed(library(info, [0x1000], further))
+
+
+def one_origin_of_blocks(count: int) -> Case:
+    """Functions of one origin with equally many children that are no parameters."""
+    info = Info()
+    info.begin()
+    origin = info.add(FREE)
+    info.bytes += u8(FREE + 1) * (40 * count)
+    info.close()
+    values = addresses(count)
+    for value in values:
+        info.add(FREE + 2, u64(value), u32(origin))
+    info.close()
+    info.end()
+    further = [
+        Abbreviation(FREE, FUNCTION, True, ((AT_DECLARATION, FLAG_PRESENT),)),
+        Abbreviation(FREE + 1, LEXICAL_BLOCK, False),
+        Abbreviation(FREE + 2, FUNCTION, False, ((AT_LOW_PC, ADDR), (AT_ABSTRACT_ORIGIN, REF4))),
+    ]
+    return listed(library(info, values, further))
+
+
+def chained_qualifiers(count: int) -> Case:
+    """Qualified types of a chain of 500 qualified types. None has a name."""
+    info = Info()
+    info.begin()
+    inner = info.number()
+    for _ in range(500):
+        inner = info.add(FREE, u32(inner))
+    info.function(0x1000, *[info.add(FREE, u32(inner)) for _ in range(count)])
+    info.close()
+    info.end()
+    return listed(library(info, [0x1000], [Abbreviation(FREE, CONST_TYPE, False, ((AT_TYPE, REF4),))]))
+
+
 def attributes(count: int) -> Case:
     """A root with `count` attributes without bytes."""
     info = Info()
@@ -305,12 +426,19 @@ KINDS = [
     Kind("ends_of_ranges", "n functions whose range lists are the ends of one of n base addresses", ends_of_ranges, 4000),
     Kind("pairs_of_ranges", "the same in version 4 of DWARF", pairs_of_ranges, 8000),
     Kind("one_origin", "n functions of one origin with n parameters", one_origin, 800),
+    Kind("beside_parameters", "n functions of one origin with n children that are no parameters", beside_parameters, 4000),
     Kind("one_address", "n exports at one function of n parameters", one_address, 4000),
     Kind("parameters", "one function of n parameters of one byte", parameters, 100000),
     Kind("enumerators", "an enumeration of n enumerators of one byte", enumerators, 100000),
     Kind("pointers", "n pointers of two bytes", pointers, 100000),
     Kind("leaves", "n entries of one byte, by abi entries", leaves, 1000000),
     Kind("nested", "n entries of one byte, each inside the one before", nested, 500000),
+    Kind("long_numbers", "n pointers behind 310 attributes whose numbers have ten bytes", long_numbers, 5000),
+    Kind("core_behind_text", "n typedefs of a structure that has its size behind a text of 20 n bytes", core_behind_text, 3000),
+    Kind("origin_behind_text", "n members that take their type from a member with a text of 20 n bytes", origin_behind_text, 3000),
+    Kind("typedefs_of_blocks", "n typedefs of a type of functions with 20 n children that are no parameters", typedefs_of_blocks, 1000),
+    Kind("one_origin_of_blocks", "n functions of one origin with 40 n children that are no parameters", one_origin_of_blocks, 500),
+    Kind("chained_qualifiers", "n qualified types of a chain of 500 qualified types", chained_qualifiers, 5000),
     Kind("attributes", "a root with n attributes without bytes", attributes, 500000),
     Kind("units", "n units of 13 bytes", units, 100000),
     Kind("abbreviations", "n abbreviations of six bytes with codes far apart", abbreviations, 200000),

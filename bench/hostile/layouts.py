@@ -117,6 +117,31 @@ def typedefs(count: int) -> Case:
     return against_itself(library(info, [ADDRESS]))
 
 
+def padded_typedefs(count: int, padding: int, member: str = "") -> bytes:
+    """Typedefs of a structure with equally many members, in a file with some bytes more, so that it may have as many parts."""
+    info = Info()
+    info.begin()
+    number = info.number()
+    whole = info.add(STRUCT, u32(4 * count))
+    for place in range(count):
+        info.field(member + short_name(place), number, 4 * place)
+    info.close()
+    info.function(ADDRESS, *[info.typedef(short_name(place), whole) for place in range(count)])
+    info.close()
+    info.end()
+    return library(info, [ADDRESS], more={".padding": bytes(padding)})
+
+
+def copied_typedefs(count: int) -> Case:
+    """As many typedefs and members as a file may have, by `abi check` against itself, which copies the library."""
+    return against_itself(padded_typedefs(count, count * count // 2))
+
+
+def spelled_typedefs(count: int) -> Case:
+    """The same against a file with one byte more."""
+    return against(padded_typedefs(count, count * count // 2), padded_typedefs(count, count * count // 2 + 1))
+
+
 def broken_typedefs(count: int) -> Case:
     """The same, but in the new library the members are at other places."""
     files = []
@@ -135,12 +160,12 @@ def broken_typedefs(count: int) -> Case:
     return against(files[0], files[1])
 
 
-def chained_names(count: int) -> Case:
-    """Typedefs of a chain of 500 typedefs."""
+def typedefs_of_chain(links: int, count: int) -> Case:
+    """Typedefs of a chain of so many typedefs."""
     info = Info()
     info.begin()
     inner = info.number()
-    for _ in range(500):
+    for _ in range(links):
         inner = info.typedef("", inner)
     info.function(ADDRESS, *[info.typedef("", inner) for _ in range(count)])
     info.close()
@@ -148,6 +173,12 @@ def chained_names(count: int) -> Case:
     return against_itself(library(info, [ADDRESS]))
 
 
+def chained_names(count: int) -> Case:
+    """Typedefs of a chain of 500 typedefs."""
+    return typedefs_of_chain(500, count)
+
+
+STRUCTURE_NAMED = FREE + 1
 FURTHER = [
     Abbreviation(FREE, MEMBER, False, ((AT_NAME, STRP), (AT_TYPE, REF4), (AT_LOCATION, DATA4))),
     Abbreviation(FREE + 1, STRUCTURE, True, ((AT_NAME, STRP), (AT_BYTE_SIZE, DATA4))),
@@ -168,6 +199,23 @@ def member_names(count: int) -> Case:
     info.close()
     info.end()
     return against_itself(library(info, [ADDRESS], FURTHER, {".debug_str": b"n" * (20 * count) + b"\0"}))
+
+
+def overlapping_names(count: int) -> Case:
+    """`abi layout` of a structure whose members all have one long name, overlap, and end outside. Each byte of the name is printed as
+    four."""
+    info = Info()
+    info.begin()
+    number = info.number()
+    whole = info.add(STRUCTURE_NAMED, u32(1), u32(2))
+    for _ in range(count):
+        info.add(FREE, u32(3), u32(number), u32(0))
+    info.close()
+    info.function(ADDRESS, info.pointer(whole))
+    info.close()
+    info.end()
+    strings = b"\0s\0" + b"\1" * 1000 + b"\0"
+    return Case({"old": library(info, [ADDRESS], FURTHER, {".debug_str": strings})}, ["layout", "old", "s"])
 
 
 def long_tag(count: int) -> Case:
@@ -293,9 +341,12 @@ KINDS = [
     Kind("declared_names", "n functions of one name of 40 n bytes", declared_names, 4000),
     Kind("typedefs_of_functions", "n typedefs of a type of functions with n parameters", typedefs_of_functions, 800),
     Kind("typedefs", "n typedefs of a structure of n members", typedefs, 700),
+    Kind("copied_typedefs", "n typedefs of a structure of n members, and n n / 2 bytes beside", copied_typedefs, 700),
+    Kind("spelled_typedefs", "the same against a library with one byte more", spelled_typedefs, 700),
     Kind("broken_typedefs", "the same, and each member at another place in the new library", broken_typedefs, 300),
     Kind("chained_names", "n typedefs of a chain of 500 typedefs", chained_names, 3000),
     Kind("member_names", "a structure of n members of one name of 20 n bytes", member_names, 1000),
+    Kind("overlapping_names", "a structure of n members of one name of 1,000 bytes that overlap, by abi layout", overlapping_names, 500),
     Kind("long_tag", "n typedefs of a structure with a name of 20 n bytes", long_tag, 1500),
     Kind("behind_long_name", "n breaks behind a member with a name of 10 n bytes", behind_long_name, 1500),
     Kind("alike_names", "n alike typedefs of a structure of n members, by abi verify", alike_names, 800),

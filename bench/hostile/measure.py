@@ -2,6 +2,7 @@
 
 import math
 import os
+import re
 import subprocess
 from dataclasses import dataclass
 from pathlib import Path
@@ -24,11 +25,13 @@ SHORT = 0.08
 
 @dataclass(frozen=True)
 class Run:
-    """A run: its exit status, or the signal that ended it; its seconds of processor time; and its peak memory in bytes."""
+    """A run: its exit status, or the signal that ended it; its seconds of processor time; its peak memory in bytes; and, if the status
+    is 4, the words of the limit that the program names, or that it ran out of memory without a limit."""
 
     status: str
     seconds: float
     memory: int
+    limit: str = ""
 
 
 @dataclass(frozen=True)
@@ -74,26 +77,40 @@ class Row:
             f"{large.memory / 1e6:.1f}",
             f"{self.bytes_a_byte():.0f}",
             large.status if small.status == large.status else f"{small.status}, {large.status}",
+            large.limit if small.limit in ("", large.limit) else f"{small.limit}; {large.limit}",
             ", ".join(self.overs()),
         ]
         return "| " + " | ".join(cells) + " |"
 
 
-HEAD = """| Made file | Bytes | Half of it, s | s | Ratio | Peak memory, MB | Bytes a byte | Status | Over |
-|---|---|---|---|---|---|---|---|---|"""
+HEAD = """| Made file | Bytes | Half of it, s | s | Ratio | Peak memory, MB | Bytes a byte | Status | Limit | Over |
+|---|---|---|---|---|---|---|---|---|---|"""
 
 
-def limited(words: list[str], output: str) -> Run:
+OUT_OF_MEMORY = 4
+
+
+def limit_told(said: str) -> str:
+    """The words of the limit in what a program prints on standard error."""
+    found = re.search(r"past the limit on (.*) \(LIMITS in ", said)
+    if found:
+        return found.group(1)
+    return "out of memory" if "out of memory" in said else "no words"
+
+
+def limited(words: list[str], output: str, with_notes: bool = False) -> Run:
     """One run of a command under limits of memory and processor time."""
+    environment = {**os.environ, "ABI_NOTES": str(int(with_notes))}
     limits = ["prlimit", f"--as={MOST_MEMORY}", f"--cpu={MOST_SECONDS}", "--core=0"]
     timed = ["/usr/bin/time", "-o", "times", "-f", "%U %S %M %x"]
     with open(output, "wb") as to:
-        subprocess.run(timed + limits + words, stdout=to, stderr=subprocess.DEVNULL, check=False)
+        ran = subprocess.run(timed + limits + words, stdout=to, stderr=subprocess.PIPE, env=environment, check=False)
     lines = Path("times").read_text().splitlines()
     user, system, kilobytes, status = lines[-1].split()
     if lines[0].startswith("Command terminated by signal"):
         status = "signal " + lines[0].split()[-1]
-    return Run(status, float(user) + float(system), 1024 * int(kilobytes))
+    limit = limit_told(ran.stderr.decode(errors="replace")) if status == str(OUT_OF_MEMORY) else ""
+    return Run(status, float(user) + float(system), 1024 * int(kilobytes), limit)
 
 
 def run_case(program: str, case: Case, runs: int) -> Run:
@@ -102,10 +119,11 @@ def run_case(program: str, case: Case, runs: int) -> Run:
         Path(name).write_bytes(contents)
     if case.before:
         limited([program, *case.before], "made")
-    least = limited([program, *case.words], os.devnull)
+    words = [program, *case.words]
+    least = limited(words, os.devnull, case.with_notes)
     for _ in range(runs - 1):
         if least.seconds > 1:
             break
-        again = limited([program, *case.words], os.devnull)
+        again = limited(words, os.devnull, case.with_notes)
         least = again if again.seconds < least.seconds else least
     return least

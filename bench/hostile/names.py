@@ -1,8 +1,20 @@
 """Generated libraries whose names and versions are long, share their bytes, or are many with the same name."""
 
-from .cases import Case, Kind, against, against_itself, applied, listed
-from .elf import SHT_PROGBITS, Section, Symbol, image, need_section, symbol_sections, version_sections
-from .encode import short_name
+from .cases import Case, Kind, against, against_itself, applied, listed, noted
+from .elf import (
+    SHT_GNU_VERNEED,
+    SHT_GNU_VERSYM,
+    SHT_PROGBITS,
+    Section,
+    Symbol,
+    image,
+    need_section,
+    needed_section,
+    soname_section,
+    symbol_sections,
+    version_sections,
+)
+from .encode import short_name, u16, u32
 
 MOST_VERSIONS = 32766
 
@@ -80,6 +92,53 @@ def listed_ends(count: int) -> Case:
     return listed(suffixes(count))
 
 
+def ends_of(text: bytes, count: int) -> bytes:
+    """Symbols whose names are all the ends of some texts that differ in their last letters."""
+    names = bytearray(b"\0")
+    symbols = []
+    for number in range(count // len(text)):
+        start = len(names)
+        names += text + short_name(number).encode() + b"\0"
+        symbols += [Symbol(start + place, 0x1000) for place in range(len(text))]
+    return image(symbol_sections(symbols, bytes(names)))
+
+
+def gone_ends(count: int) -> Case:
+    """Symbols with long names that share their bytes, each printed as four; all are gone in the new library."""
+    return against(ends_of(b"\1" * 2500, count), ends_of(b"\1", 1))
+
+
+def added_ends(count: int) -> Case:
+    """The same names the other way round, with notes: all are new."""
+    return noted(ends_of(b"\1", 1), ends_of(b"\1" * 2500, count))
+
+
+def needed_names(count: int) -> Case:
+    """An application that asks for a file with a long name again and again, and never for the library."""
+    names = b"\0" + b"n" * (16 * count) + b"\0"
+    app = image([*symbol_sections([], names), needed_section(1, count)])
+    library = image([*symbol_sections([], b"\0s\0"), soname_section(1)])
+    return applied(app, library)
+
+
+def lacking_names(count: int) -> Case:
+    """An application whose imports have long names that share their bytes, each printed as four; the library lacks all of them."""
+    strings = bytearray(b"\0s\0v\0")
+    symbols = []
+    for number in range(count // 2500):
+        start = len(strings)
+        strings += b"\1" * 2500 + short_name(number).encode() + b"\0"
+        symbols += [Symbol(start + place, 0, section=0) for place in range(2500)]
+    need = u16(1) + u16(1) + u32(1) + u32(16) + u32(0) + u32(0) + u16(0) + u16(2) + u32(3) + u32(0)
+    app = [
+        *symbol_sections(symbols, bytes(strings)),
+        Section(b".gnu.version", SHT_GNU_VERSYM, u16(0) + u16(2) * len(symbols), link=1, entry_size=2),
+        Section(b".gnu.version_r", SHT_GNU_VERNEED, need, link=2, info=1),
+        needed_section(1, 1),
+    ]
+    return applied(image(app), image([*symbol_sections([], b"\0s\0"), soname_section(1)]))
+
+
 def hidden_names(count: int) -> Case:
     """Local symbols that all have the same long name."""
     names = b"\0" + b"s" * (20 * count) + b"\0"
@@ -104,6 +163,10 @@ KINDS = [
     Kind("shared_needs", "n needs that share one list of n auxiliary entries, by abi app", shared_needs, 30000),
     Kind("shared_ends", "n symbols whose names are the ends of one text of n bytes", shared_ends, 5000),
     Kind("listed_ends", "the same, by abi exports", listed_ends, 5000),
+    Kind("gone_ends", "n symbols whose names are the ends of texts of 2,500 bytes, and all are gone", gone_ends, 5000),
+    Kind("added_ends", "the same the other way round, with notes", added_ends, 5000),
+    Kind("needed_names", "an application that needs n times a file with a name of 16 n bytes, by abi app", needed_names, 5000),
+    Kind("lacking_names", "n imports whose names are the ends of texts of 2,500 bytes, all lacking, by abi app", lacking_names, 5000),
     Kind("hidden_names", "n local symbols whose names are one text of 20 n bytes", hidden_names, 5000),
     Kind("section_names", "n sections whose names are one text of 20 n bytes", section_names, 2000),
 ]

@@ -75,7 +75,9 @@ def _pair_figures(library: str, changed: Optional[str], abi: str, nodes: dict[in
     figures = {"visits": pairs.visits(nodes, certificate), "compared": pairs.compared_parts(nodes, certificate)}
     figures["listing"] = pairs.listing_bytes(pairs.run(abi, "exports", library), library)
     if changed is not None:
-        figures["report"] = pairs.report_bytes(pairs.run(abi, "check", library, changed), library, changed)
+        report = pairs.run(abi, "check", library, changed)
+        figures["report"] = pairs.report_bytes(report, library, changed)
+        figures["breaks"] = pairs.broken_rules(nodes, report)
     return figures | _composed_figures(library, certificate, abi)
 
 
@@ -85,7 +87,11 @@ def _composed_figures(library: str, certificate: str, abi: str) -> Figures:
         copy.write(certificate)
         copy.flush()
         composed = pairs.run(abi, "compose", library, library, library, copy.name, copy.name)
-    return {"lines": pairs.composed_lines(composed), "certificate": pairs.composed_bytes(composed)}
+    return {
+        "joins": pairs.joined_lines(certificate),
+        "lines": pairs.composed_lines(composed),
+        "certificate": pairs.composed_bytes(composed),
+    }
 
 
 def measured(library: str, changed: Optional[str], programs: Programs) -> Figures:
@@ -102,11 +108,11 @@ def is_over(figures: Figures, row: Row) -> bool:
 
 
 def print_table(columns: dict[str, Figures]) -> None:
-    print("| What is counted | Limit | " + " | ".join(columns) + " |")
-    print("|---" * (len(columns) + 2) + "|")
+    print("| What is counted | Words | Limit | " + " | ".join(columns) + " |")
+    print("|---" * (len(columns) + 3) + "|")
     for row in ROWS:
         cells = (str(figures.get(row.name, "none")) for figures in columns.values())
-        print(f"| {row.counted} | {row.limit} | " + " | ".join(cells) + " |")
+        print(f"| {row.counted} | {row.words} | {row.limit} | " + " | ".join(cells) + " |")
 
 
 def print_others(columns: dict[str, Figures]) -> None:

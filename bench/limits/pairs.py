@@ -3,12 +3,15 @@
 from __future__ import annotations
 
 import subprocess
+from collections import Counter
 from pathlib import Path
 
 from .figures import Figure, allowed, constant
 from .graphs import Node, parts
 
 _EXPLORING = "pair_explorer/src/exploring.rt"
+_BUDGET = "pair_rules/src/part_budget.rt"
+_JOINS = "cert_compose/src/fitting.rt"
 _ROOM = "pair_compare/src/reports/room.rt"
 _LISTING = "listings/src/exports/lines.rt"
 _COMPOSING = "library_check/src/composing.rt"
@@ -37,7 +40,21 @@ def visits(nodes: dict[int, Node], certificate: str) -> Figure:
 def compared_parts(nodes: dict[int, Node], certificate: str) -> Figure:
     """The parts of the types of each pair, for a library against itself."""
     found = sum(len(nodes[old].parts) + len(nodes[new].parts) for old, new in pair_lines(certificate))
-    return Figure(found, allowed(_EXPLORING, "PARTS_A_PART", 2 * parts(nodes), "PARTS_AT_LEAST"))
+    return Figure(found, allowed(_BUDGET, "PARTS_A_PART", 2 * parts(nodes), "PARTS_AT_LEAST"))
+
+
+def broken_rules(nodes: dict[int, Node], report: str) -> Figure:
+    """The rows on types, each of which is a broken rule. The other library counts as one of as many types."""
+    found = sum(line.startswith("L") for line in report.splitlines()[1:])
+    return Figure(found, allowed(_EXPLORING, "BREAKS_A_TYPE", 2 * len(nodes), "BREAKS_AT_LEAST"))
+
+
+def joined_lines(certificate: str) -> Figure:
+    """The lines that are looked at when a certificate is composed with itself: for each line the type between, and the lines from it."""
+    lines = pair_lines(certificate)
+    behind = Counter(old for old, _ in lines)
+    found = sum(1 + behind[new] for _, new in lines)
+    return Figure(found, allowed(_JOINS, "JOINS_A_LINE", 2 * len(lines), "JOINS_AT_LEAST"))
 
 
 def report_bytes(report: str, old: str, new: str) -> Figure:

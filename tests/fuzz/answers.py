@@ -1,8 +1,9 @@
 """What the program may answer: named statuses, each with a well-formed text (docs/SPECIFICATION.md, "Answers", "The texts")."""
 
 import re
+import signal
 
-from .faults import OF_INPUT, REFUSALS
+from .faults import LIMITS, OF_INPUT, REFUSALS
 from .runs import Answer
 
 YES, NO, UNREADABLE, NO_MEMORY, REFUSED = 0, 1, 2, 4, 5
@@ -32,6 +33,7 @@ PATH = STEP + rb"(?: / " + STEP + rb")*"
 ROW = re.compile(rb"(?:X[1-6]|L1[0-4]|L[1-9]) " + SHOWN + rb"(?: " + PATH + rb")?: [ -~]+")
 FAULT = re.compile(rb"unreadable (old|new|rules|certificate|library) (" + NUMBER + rb") ([A-Za-z0-9]+) (" + NUMBER + rb")\n")
 REFUSAL = re.compile(rb"refused (" + NUMBER + rb") ([A-Za-z]+) (" + NUMBER + rb")\n")
+PAST_LIMIT = re.compile(rb"abi: past the limit on ([a-z ]+) \(LIMITS in abi\(1\)\)")
 CERTIFICATE = re.compile(
     rb"yes 2\nold [0-9a-f]{64}\nnew [0-9a-f]{64}\nrules [0-9a-f]{64}\n"
     rb"(?:bind N N\n)*(?:alike old N N\n)*(?:alike new N N\n)*(?:pair N N (?:direct|pointer)\n)*end\n".replace(b"N", NUMBER)
@@ -88,16 +90,22 @@ def is_text(command: str, status: int, answer: Answer) -> bool:
     return False
 
 
+def is_on_memory(line: bytes) -> bool:
+    """Whether the line says that memory ran out, or which limit would be passed."""
+    past = PAST_LIMIT.fullmatch(line)
+    return line == b"abi: out of memory" or (past is not None and past[1].decode() in LIMITS)
+
+
 def are_sentences(status: int, errors: bytes, command: str) -> bool:
-    """Whether standard error goes with the status: one sentence if an input is unreadable or memory ran out, one on a refused
-    certificate, notes with the answers of `check` and `verify`, and otherwise nothing."""
+    """Whether standard error goes with the status: one sentence if an input is unreadable, at most one if memory ran out or a limit
+    would be passed, one on a refused certificate, notes with the answers of `check` and `verify`, and otherwise nothing."""
     found = lines(errors)
     if found is None or not all(line.startswith(b"abi: ") for line in found):
         return False
     if status == UNREADABLE:
         return len(found) == 1
     if status == NO_MEMORY:
-        return len(found) <= 1
+        return len(found) <= 1 and all(is_on_memory(line) for line in found)
     if status == REFUSED:
         return len(found) >= 1
     return not found or command in ("check", "verify")
@@ -105,6 +113,8 @@ def are_sentences(status: int, errors: bytes, command: str) -> bool:
 
 def complaint(command: str, answer: Answer) -> str | None:
     """What is wrong with the answer of a command; None if nothing is."""
+    if answer.status in (-signal.SIGPROF, -signal.SIGKILL):
+        return f"{command} did not end in time"
     if answer.status < 0:
         return f"{command} ended by signal {-answer.status}"
     if answer.status not in STATUSES[command]:

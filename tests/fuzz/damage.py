@@ -3,6 +3,7 @@
 import random
 import struct
 from dataclasses import dataclass, field
+from functools import cached_property
 
 from .parts import Image, Part, apart
 
@@ -29,11 +30,16 @@ LARGE = (2**32, 2**60, 2**61, 2**63 - 1, 2**63, 2**64 - 1)
 
 @dataclass
 class Base:
-    """A sound library: its bytes, and the offsets of its entries."""
+    """A sound library: its bytes, the offsets of its entries, and the file that holds it."""
 
     name: str
     contents: bytes
     entries: list[int] = field(default_factory=list)
+    file: str = ""
+
+    @cached_property
+    def image(self) -> Image:
+        return apart(self.contents)
 
 
 def number_near(rng: random.Random, old: int, most: int) -> int:
@@ -168,13 +174,13 @@ def splice(rng: random.Random, image: Image, other: Image) -> None:
 
 def rebuilt(rng: random.Random, base: Base, bases: list[Base]) -> bytes:
     """The library, with sections of other contents or sizes."""
-    image = apart(base.contents)
+    image = base.image.copy()
     info = image.named(".debug_info")
     before = len(info.contents) if info else 0
     for _ in range(rng.randint(1, 3)):
         match rng.randrange(6):
             case 0:
-                splice(rng, image, apart(rng.choice(bases).contents))
+                splice(rng, image, rng.choice(bases).image)
             case 1:
                 change_reference(rng, image, base)
             case 2:
@@ -191,7 +197,7 @@ def rebuilt(rng: random.Random, base: Base, bases: list[Base]) -> bytes:
 def in_place(rng: random.Random, base: Base) -> bytes:
     """The library, with changes that move nothing."""
     body = bytearray(base.contents)
-    sections = apart(base.contents)
+    sections = base.image
     for _ in range(rng.choice((1, 1, 1, 2, 4))):
         part = chosen_part(rng, sections)
         if part is None or rng.randrange(6) == 0:

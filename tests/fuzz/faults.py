@@ -1,4 +1,5 @@
-"""The numbers and names of faults and refusals (docs/SPECIFICATION.md, "Faults", "Rule files", "Certificates")."""
+"""The numbers and names of faults and refusals (docs/SPECIFICATION.md, "Faults", "Rule files", "Certificates"), and of limits
+(docs/LIMITS.md)."""
 
 HEADERS = {
     1: "ShortFile",
@@ -69,6 +70,36 @@ REFUSALS = {
     75: "Root",
     76: "Rule",
     77: "Partner",
+}
+# What limits count, in the words of docs/LIMITS.md.
+LIMITS = {
+    "dynamic symbols",
+    "version definitions",
+    "version needs",
+    "names of exports",
+    "names under which exports are declared",
+    "range lists",
+    "abbreviation tables",
+    "attributes of a unit",
+    "types that exports reach",
+    "members and parameters",
+    "enumerators",
+    "parts by which types are compared",
+    "letters of the names of types and parts",
+    "names of types",
+    "steps to the leaves of types passed by value",
+    "pairs of types",
+    "parts of pairs of types",
+    "broken rules of types",
+    "bytes of a report",
+    "bytes of a listing",
+    "bytes of a soname",
+    "weight of patterns",
+    "pair lines of a composed certificate",
+    "bytes of a composed certificate",
+    "work and bytes of notes",
+    "tests of sections",
+    "exports that reach a break",
 }
 LIBRARIES = HEADERS | SYMBOLS | ENTRIES | SAID | LONG
 # The faults that each input may have.

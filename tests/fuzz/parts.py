@@ -23,6 +23,10 @@ class Image:
     header: bytearray
     parts: list[Part]
 
+    def copy(self) -> "Image":
+        parts = [Part(part.fields.copy(), part.contents.copy(), part.name) for part in self.parts]
+        return Image(self.header.copy(), parts)
+
     def named(self, name: str) -> Part | None:
         for part in self.parts:
             if part.name == name:
@@ -43,7 +47,7 @@ class Image:
         return bytes(body) + b"".join(HEADER.pack(*part.fields) for part in self.parts)
 
 
-def text_at(table: bytes, at: int) -> str:
+def text_at(table: bytearray, at: int) -> str:
     return table[at : table.find(b"\0", at)].decode("latin-1")
 
 
@@ -57,5 +61,5 @@ def apart(contents: bytes) -> Image:
         bytes_of = b"" if fields[1] in (0, NOBITS) else contents[fields[4] : fields[4] + fields[5]]
         parts.append(Part(fields, bytearray(bytes_of), ""))
     for part in parts:
-        part.name = text_at(bytes(parts[names].contents), part.fields[0])
+        part.name = text_at(parts[names].contents, part.fields[0])
     return Image(bytearray(contents[:64]), parts)

@@ -3,11 +3,15 @@
 import os
 import resource
 import signal
-from collections.abc import Callable
 from dataclasses import dataclass
+from pathlib import Path
 from types import FrameType
 
+from .server import Server
+
 SECONDS = 20
+# After how many runs a process is replaced by a fresh one.
+MOST_RUNS = 2000
 
 
 @dataclass(frozen=True)
@@ -28,10 +32,12 @@ def ring(_number: int, _frame: FrameType | None) -> None:
 
 
 class Runner:
-    """Starts the program again and again. Its output goes into the same two files each time."""
+    """Runs the program again and again. Its output goes into the same two files each time."""
 
-    def __init__(self, program: str, memory: int) -> None:
+    def __init__(self, program: str, again: Path, memory: int) -> None:
         self.program = program
+        self.again = again
+        self.server: Server | None = None
         self.output = os.open("output", os.O_RDWR | os.O_CREAT | os.O_TRUNC)
         self.errors = os.open("errors", os.O_RDWR | os.O_CREAT | os.O_TRUNC)
         self.runs = 0
@@ -41,16 +47,39 @@ class Runner:
         if memory:
             resource.setrlimit(resource.RLIMIT_AS, (memory, memory))
 
-    def start(self, words: list[str]) -> int:
-        for file in (self.output, self.errors):
-            os.ftruncate(file, 0)
-            os.lseek(file, 0, os.SEEK_SET)
-        actions = [(os.POSIX_SPAWN_DUP2, self.output, 1), (os.POSIX_SPAWN_DUP2, self.errors, 2)]
-        return os.posix_spawn(self.program, [self.program, *words], os.environ, file_actions=actions)
+    def run_all(self, commands: list[tuple[str, ...]]) -> list[Answer]:
+        """The answers to these commands, of a process that has answered others before. If a command ends the process, a new process
+        answers those after it."""
+        answers: list[Answer] = []
+        while len(answers) < len(commands):
+            answers += self.run_some(commands[len(answers) :])
+        self.runs += len(answers)
+        return answers
 
-    def run(self, *words: str) -> Answer:
+    def run_some(self, commands: list[tuple[str, ...]]) -> list[Answer]:
+        """The answers to the first commands, up to one that ends the process."""
+        self.empty()
+        if self.server is None:
+            self.server = Server(self.program, self.again, self.output, self.errors)
+        records = self.server.records(commands)
+        output, errors = self.written(self.output), self.written(self.errors)
+        if len(records) < len(commands) or self.server.runs >= MOST_RUNS:
+            ended = self.server.ended()
+            self.server = None
+            if len(records) < len(commands):
+                records.append((ended, len(output), len(errors)))
+        answers, at, beside = [], 0, 0
+        for status, end, end_beside in records:
+            answers.append(Answer(status, output[at:end], errors[beside:end_beside]))
+            at, beside = end, end_beside
+        return answers
+
+    def run_alone(self, *words: str) -> Answer:
+        """The answer of a process of its own."""
         self.runs += 1
-        process = self.start(list(words))
+        self.empty()
+        actions = [(os.POSIX_SPAWN_DUP2, self.output, 1), (os.POSIX_SPAWN_DUP2, self.errors, 2)]
+        process = os.posix_spawn(self.program, [self.program, *words], os.environ, file_actions=actions)
         signal.setitimer(signal.ITIMER_REAL, SECONDS)
         try:
             _, ended = os.waitpid(process, 0)
@@ -60,9 +89,12 @@ class Runner:
         signal.setitimer(signal.ITIMER_REAL, 0)
         return Answer(os.waitstatus_to_exitcode(ended), self.written(self.output), self.written(self.errors))
 
+    def empty(self) -> None:
+        """Empties the two files."""
+        for file in (self.output, self.errors):
+            os.ftruncate(file, 0)
+            os.lseek(file, 0, os.SEEK_SET)
+
     @staticmethod
     def written(file: int) -> bytes:
         return os.pread(file, os.fstat(file).st_size, 0)
-
-
-Run = Callable[..., Answer]

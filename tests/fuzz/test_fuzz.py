@@ -1,11 +1,19 @@
 """Tests of the judge of answers and of the random changes. They run under pytest, or as python3 -m fuzz.test_fuzz."""
 
+import contextlib
 import random
+import signal
+import subprocess
+import tempfile
+from pathlib import Path
+
+from hostile.layouts import typedefs
 
 from . import damage, texts
 from .answers import complaint
+from .faults import LIMITS
 from .parts import apart
-from .runs import Answer
+from .runs import MOST_RUNS, Answer, Runner
 from .trials import agree_with_entries, same_fault
 
 DIGEST = b"0" * 64
@@ -16,7 +24,8 @@ GOOD = [
     ("check", Answer(0, CERTIFICATE, b"abi: a note\n")),
     ("check", Answer(1, b"no\nX2 f: gone\nL7 f@@V param 1 / member \\x20#2: member y at bit 32, now 64\n", b"")),
     ("check", Answer(2, b"unreadable new 36 TooDeep 12\n", SENTENCE)),
-    ("check", Answer(4, b"", b"abi: out of memory, or past a limit (LIMITS in abi(1))\n")),
+    ("check", Answer(4, b"", b"abi: out of memory\n")),
+    ("check", Answer(4, b"", b"abi: past the limit on pairs of types (LIMITS in abi(1))\n")),
     ("check", Answer(4, b"", b"")),
     ("verify", Answer(0, b"accepted\n", b"")),
     ("verify", Answer(5, b"refused 72 Bindings 3\n", b"abi: c: the certificate does not prove that b may replace a\n")),
@@ -33,6 +42,9 @@ BAD = [
     ("check", Answer(2, b"unreadable old 50 BadText 12\n", SENTENCE)),
     ("check", Answer(2, b"unreadable new 36 TooDeep 12\n", b"")),
     ("check", Answer(4, b"yes", b"")),
+    ("check", Answer(4, b"", b"abi: past the limit on pears (LIMITS in abi(1))\n")),
+    ("check", Answer(-27, b"", b"")),
+    ("check", Answer(4, b"", b"abi: out of memory, or past a limit\n")),
     ("verify", Answer(1, b"no\n", b"")),
     ("verify", Answer(5, b"refused 71 Bindings 3\n", b"")),
     ("exports", Answer(0, b"5 f FUNC 34 params rdi result rax", b"")),
@@ -50,6 +62,13 @@ def test_good_answers() -> None:
 def test_bad_answers() -> None:
     for command, answer in BAD:
         assert complaint(command, answer) is not None, (command, answer)
+
+
+def test_limits_of_the_page_are_known() -> None:
+    page = Path(__file__).resolve().parents[2] / "docs" / "LIMITS.md"
+    table = page.read_text().split("| What is counted | Words |")[1].split("\n\n")[0]
+    words = {row.split(" | ")[1] for row in table.splitlines()[2:]}
+    assert len(words) > 20 and words <= LIMITS, words - LIMITS
 
 
 def unreadable(which: str, fault: str) -> Answer:
@@ -71,9 +90,46 @@ def test_entries_ask_less() -> None:
     assert not agree_with_entries(unreadable("library", "36 TooDeep 7"), unreadable("library", "9 SectionRange 1"))
 
 
-def made() -> damage.Base:
-    from hostile.layouts import typedefs
+# Prints the arguments that main and a constructor are given, and ends with their number, unless the first one is `fall`.
+PROGRAM = """
+#include <signal.h>
+#include <stdio.h>
+#include <string.h>
+static int kept;
+static char **words;
+__attribute__((constructor)) static void keep(int count, char **given) { kept = count; words = given; }
+int main(int count, char **given)
+{
+    for (int i = 1; i < kept; i++)
+        dprintf(1, "%s\\n", words[i]);
+    dprintf(2, "%d\\n", count);
+    if (count > 1 && strcmp(given[1], "fall") == 0)
+        raise(SIGSEGV);
+    return count;
+}
+"""
 
+
+def built(options: list[str], output: str, source: str) -> Path:
+    subprocess.run(["gcc", "-O1", *options, "-o", output, source], check=True)
+    return Path(output).resolve()
+
+
+def test_one_process_answers_again() -> None:
+    again = Path(__file__).with_name("again.c").resolve()
+    with tempfile.TemporaryDirectory() as folder, contextlib.chdir(folder):
+        Path("program.c").write_text(PROGRAM)
+        runner = Runner(str(built([], "program", "program.c")), built(["-shared", "-fPIC"], "again.so", str(again)), 0)
+        asked = [("a", "b"), (), ("fall", "c"), ("d",)]
+        fallen = Answer(-signal.SIGSEGV, b"fall\nc\n", b"3\n")
+        wanted = [Answer(3, b"a\nb\n", b"3\n"), Answer(1, b"", b"1\n"), fallen, Answer(2, b"d\n", b"2\n")]
+        assert runner.run_all(asked) == wanted
+        assert [runner.run_alone(*words) for words in asked] == wanted
+        assert runner.run_all([("e",)] * (MOST_RUNS + 1)) == [Answer(2, b"e\n", b"2\n")] * (MOST_RUNS + 1)
+        assert runner.run_all([("f",)]) == [Answer(2, b"f\n", b"2\n")]
+
+
+def made() -> damage.Base:
     return damage.Base("made", typedefs(5).files["old"], [12, 14, 17])
 
 

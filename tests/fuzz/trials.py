@@ -1,38 +1,40 @@
-"""Trials of one input each: which commands run on it, and which answers must agree."""
+"""Trials of one input each: which commands run on it, and which answers must agree.
+
+A trial is a generator. It yields commands that may run in any order, and is sent their answers, each of which goes with its command.
+"""
 
 import hashlib
 import random
+from collections.abc import Generator
 from dataclasses import dataclass
 from pathlib import Path
 
 from . import damage, texts
-from .answers import NO, NO_MEMORY, UNREADABLE, YES, complaint, fault_of
+from .answers import NO, NO_MEMORY, UNREADABLE, YES, fault_of
 from .faults import ENTRIES, HEADERS, SYMBOLS
-from .runs import Answer, Runner
+from .runs import Answer
+
+# The files of a small library, and of another one.
+SMALL, OTHER = "a", "b"
+
+Words = tuple[str, ...]
+Trial = Generator[list[Words], list[Answer], None]
 
 
 class Wrong(Exception):
     """A wrong answer: what is wrong, and the files that show it."""
 
-    def __init__(self, what: str, words: list[str]) -> None:
+    def __init__(self, what: str, words: Words) -> None:
         super().__init__(f"{what}\n    abi {' '.join(words)}")
+        self.words = words
 
 
 @dataclass
-class Bench:
-    """What trials share: the program, the sound libraries, and a small library with a certificate, for rule files and certificates."""
+class Sound:
+    """What trials share: the sound libraries, and a small library with a certificate, for rule files and certificates."""
 
-    runner: Runner
     bases: list[damage.Base]
     certificate: bytes
-
-    def answer(self, *words: str) -> Answer:
-        """The answer to a command. Raises Wrong if it is not a valid answer."""
-        answer = self.runner.run(*words)
-        what = complaint(words[0], answer)
-        if what:
-            raise Wrong(what, list(words))
-        return answer
 
 
 def number_of(answer: Answer) -> int | None:
@@ -59,68 +61,75 @@ def agree_with_entries(exports: Answer, entries: Answer) -> bool:
     return listed is None
 
 
-def library(bench: Bench, rng: random.Random) -> None:
-    """A damaged library: all commands must name the same fault; without a fault, it must be able to replace itself."""
-    base, contents = damage.damaged(rng, bench.bases)
-    Path("x").write_bytes(contents)
-    Path("y").write_bytes(base.contents)
-    exports = bench.answer("exports", "x")
-    entries = bench.answer("entries", "x")
-    itself = bench.answer("check", "x", "x")
-    words, which = (["check", "x", "y"], "old") if rng.randrange(2) else (["check", "y", "x"], "new")
-    other = bench.answer(*words)
-    if any(answer.status == NO_MEMORY for answer in (exports, entries, itself, other)):
+def library(sound: Sound, rng: random.Random, slot: int) -> Trial:
+    """A damaged library: all commands must name the same fault; without a fault, it must be able to replace itself. A library with a
+    fault is checked either as the old one or as the new one, since the fault is found before the other library matters."""
+    base, contents = damage.damaged(rng, sound.bases)
+    file = f"x{slot}"
+    Path(file).write_bytes(contents)
+    old, new, which = (file, base.file, "old") if rng.randrange(2) else (base.file, file, "new")
+    exports, entries, other = yield [("exports", file), ("entries", file), ("check", old, new)]
+    if NO_MEMORY not in (exports.status, entries.status) and not agree_with_entries(exports, entries):
+        raise Wrong(f"entries says {entries.output!r}, and exports {exports.output[:100]!r}", ("entries", file))
+    must_agree(exports, other, ("check", old, new), which)
+    if exports.status == UNREADABLE:
         return
-    if not agree_with_entries(exports, entries):
-        raise Wrong(f"entries says {entries.output!r}, and exports {exports.output[:100]!r}", ["entries", "x"])
-    if not same_fault(exports, itself, "old"):
-        raise Wrong(f"check says {itself.output[:100]!r}, and exports {exports.output[:100]!r}", ["check", "x", "x"])
-    if not same_fault(exports, other, which):
-        raise Wrong(f"check says {other.output[:100]!r}, and exports {exports.output[:100]!r}", words)
+    words = ("check", file, file)
+    (itself,) = yield [words]
+    must_agree(exports, itself, words, "old")
     if itself.status == NO:
-        raise Wrong("a library may not replace itself", ["check", "x", "x"])
+        raise Wrong("a library may not replace itself", words)
     if itself.status == YES and rng.randrange(8) == 0:
-        accepted(bench, itself, ["verify", "x", "x", "c"])
+        yield from accepted(itself, (file, file), slot)
 
 
-def accepted(bench: Bench, made: Answer, words: list[str]) -> None:
-    """Checks that `verify` accepts a certificate that the program made."""
-    Path("c").write_bytes(made.output)
-    answer = bench.answer(*words)
+def must_agree(exports: Answer, check: Answer, words: Words, which: str) -> None:
+    """Raises Wrong if a check of the library does not name the fault that `exports` names."""
+    if NO_MEMORY not in (exports.status, check.status) and not same_fault(exports, check, which):
+        raise Wrong(f"check says {check.output[:100]!r}, and exports {exports.output[:100]!r}", words)
+
+
+def accepted(made: Answer, words: Words, slot: int) -> Trial:
+    """Checks that `verify` accepts a certificate that the program made of these words."""
+    Path(f"c{slot}").write_bytes(made.output)
+    asked = ("verify", *words, f"c{slot}")
+    (answer,) = yield [asked]
     if answer.status not in (YES, NO_MEMORY):
-        raise Wrong(f"a certificate that was made is not accepted: {answer.output!r}", words)
+        raise Wrong(f"a certificate that was made is not accepted: {answer.output!r}", asked)
 
 
-def rule_file(bench: Bench, rng: random.Random) -> None:
+def rule_file(rng: random.Random, slot: int) -> Trial:
     """A rule file: if it is sound, the certificate must have its digest, and `verify` must accept it."""
     contents = texts.rules(rng)
-    Path("r").write_bytes(contents)
-    words = ["check", "--rules", "r", "a", rng.choice("ab")]
-    answer = bench.answer(*words)
+    Path(f"r{slot}").write_bytes(contents)
+    words = ("--rules", f"r{slot}", SMALL, rng.choice((SMALL, OTHER)))
+    (answer,) = yield [("check", *words)]
     if answer.status != YES:
         return
     if b"rules " + hashlib.sha256(contents).hexdigest().encode() not in answer.output:
-        raise Wrong("the certificate has another digest of the rule file", words)
+        raise Wrong("the certificate has another digest of the rule file", ("check", *words))
     if rng.randrange(4) == 0:
-        accepted(bench, answer, ["verify", *words[1:], "c"])
+        yield from accepted(answer, words, slot)
 
 
-def certificate(bench: Bench, rng: random.Random) -> None:
+def certificate(sound: Sound, rng: random.Random, slot: int) -> Trial:
     """A certificate with random changes. `verify` must never accept it for another pair of libraries."""
-    Path("c").write_bytes(texts.certificate(rng, bench.certificate))
-    bench.answer("verify", "a", "a", "c")
-    words = ["verify", "a", "b", "c"]
-    if bench.answer(*words).status == YES:
+    file = f"c{slot}"
+    Path(file).write_bytes(texts.certificate(rng, sound.certificate))
+    words = ("verify", SMALL, OTHER, file)
+    _, other = yield [("verify", SMALL, SMALL, file), words]
+    if other.status == YES:
         raise Wrong("the certificate of other libraries is accepted", words)
 
 
-def trial(bench: Bench, seed: str, number: int) -> None:
-    """The input with this number: of ten inputs, seven are libraries, two are rule files, and one is a certificate."""
+def trial(sound: Sound, seed: str, number: int, slot: int) -> Trial:
+    """The input with this number: of ten inputs, seven are libraries, two are rule files, and one is a certificate. Its files have the
+    slot in their names, and no other trial that is under way has this slot."""
     rng = random.Random(f"{seed} {number}")
     match number % 10:
         case 0:
-            certificate(bench, rng)
+            return certificate(sound, rng, slot)
         case 1 | 2:
-            rule_file(bench, rng)
+            return rule_file(rng, slot)
         case _:
-            library(bench, rng)
+            return library(sound, rng, slot)

@@ -13,7 +13,7 @@ from conftest import ROOT, TOOLS, abi, done, needs, run
 from abi_manual.command import SHARE, made
 from abi_manual.sources import read_manual
 
-_TEXT = ROOT / "crates" / "abi_top" / "src" / "text.rt"
+_TEXT = ROOT / "crates" / "cli_args" / "src" / "commands.rt"
 _PAGES = ["man/man1/abi.1", "man/man1/abi-json.1"]
 _COMPLETIONS = ["abi", "abi-json"]
 
@@ -127,4 +127,7 @@ esac
         assert ended.status == 0 and ended.out.startswith(f"usage: {tool}"), ended
     for name, text in made().items():
         assert (prefix / "share" / name).read_text() == text
-    assert not list(prefix.rglob("__pycache__"))
+    # Users may not write there, so the modules are compiled.
+    installed = prefix / "lib" / "abi" / "tools" / "abi_report"
+    assert {path.name.split(".")[0] for path in (installed / "__pycache__").glob("*.pyc")} == {path.stem for path in installed.glob("*.py")}
+    assert list((installed / "__pycache__").glob("*.cache"))

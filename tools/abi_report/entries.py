@@ -36,7 +36,7 @@ _FIRST_TEXT_OFFSET = 8
 # How many occurrences of a name in `.debug_str` are tried, and how many of its offset in `.debug_info`.
 _MOST_TEXTS = 64
 _MOST_PLACES = 4096
-# For how many names a declaration is searched, and in how many units.
+# For how many names a declaration is searched; and in how many units with a name an entry is searched, if their bytes do not lead to it.
 _MOST_DECLARED = 256
 _MOST_USERS = 8
 # How many bytes the abbreviation code before a name may have.
@@ -107,6 +107,8 @@ class Entries:
         self._bases: dict[int, int] = {}
         self._indexes: dict[int, dict[str, list[Entry]]] = {}
         self._declarations: dict[str, Optional[Entry]] = {}
+        self._names: dict[str, list[bytes]] = {}
+        self._places: dict[str, list[int]] = {}
 
     def prepare(self) -> None:
         """Reads the tables by which exports are found."""
@@ -256,12 +258,15 @@ class Entries:
         return self.at(unit.entries)
 
     def named(self, name: str, tags: tuple[str, ...]) -> Iterator[Entry]:
-        """The entries with this name and one of the tags: those at the addresses of the dynamic symbols with that name, or else those
-        directly below the roots of units."""
+        """The entries with this name and one of the tags: those at the addresses of the dynamic symbols with that name, or else the
+        external ones in the units there, or in all units, or else those directly below the roots of the units there or of the first
+        other units with the name. The names of symbols that are aliases lead to declarations."""
         addresses = self._addresses.get(name, ())
         chosen = list(filter(None, map(self._unit_of, sorted(addresses))))
-        direct = [entry for unit in chosen for entry in self._named_in(unit, name) if entry.tag in tags and _is_at(entry, addresses)]
-        yield from direct or self._below_roots(chosen, name, tags) or self._below_roots(self._units_with(name), name, tags)
+        near = [entry for unit in chosen for entry in self._named_in(unit, name) if entry.tag in tags]
+        yield from ([entry for entry in near if _is_at(entry, addresses)] or list(filter(_is_external, near))
+                    or [entry for entry in self._named_anywhere(name) if entry.tag in tags and _is_external(entry)]
+                    or self._below_roots(chosen, name, tags) or self._below_roots(self._units_with(name)[:_MOST_USERS], name, tags))
 
     def declaration(self, name: str) -> Optional[Entry]:
         """The declaration of a function or an object in a unit that uses it, if one of the first units with that name has one."""
@@ -282,16 +287,48 @@ class Entries:
 
     def _named_in(self, unit: Unit, name: str) -> Iterator[Entry]:
         """The entries of a unit with this name, found by its bytes: gcc writes the name right after the abbreviation code."""
-        places = () if self._has_indexes else (place for wanted in self._bytes_of(name)
-                                               for place in _found(self.info, wanted, unit.entries, unit.end))
-        entries = (self.at(place - size) for place in places for size in _CODE_SIZES)
-        return (one for one in entries if one is not None and one.name == name)
+        if self._has_indexes:
+            return
+        for wanted in self._bytes_of(name):
+            for place in _found(self.info, wanted, unit.entries, unit.end):
+                yield from self._before(place, name)
+
+    def _named_anywhere(self, name: str) -> Iterator[Entry]:
+        """The entries of all units with this name, found by its bytes and in the order of the units."""
+        for place in self._places_of(name):
+            yield from self._before(place, name)
+
+    def _before(self, place: int, name: str) -> Iterator[Entry]:
+        """The entry with this name whose abbreviation code ends at a place, if there is one."""
+        entries = (self.at(place - size) for size in _CODE_SIZES)
+        return (one for one in entries if one is not None and one.name == name and self._is_sound(one))
+
+    def _is_sound(self, entry: Entry) -> bool:
+        """Whether there is an entry for the type, and the sibling lies in the unit: other bytes may look like a name by chance."""
+        sibling = entry.number("sibling")
+        if sibling is not None and not entry.offset < sibling <= entry.unit.end:
+            return False
+        return entry.kind is None or self.at(entry.kind) is not None
 
     def _bytes_of(self, name: str) -> list[bytes]:
-        """The bytes that an entry may have for a name: the name itself, or the offset of a string in `.debug_str`."""
-        wanted = name.encode("ascii", "replace") + b"\0"
-        texts = self.sections.get(".debug_str", b"")
-        return [wanted, *map(_FOUR.pack, itertools.islice(_found(texts, wanted, 0, len(texts)), _MOST_TEXTS))]
+        """The bytes that an entry may have for a name: the name itself, or the offset of a string in `.debug_str`. A string that is the
+        end of another one counts only if there is no other."""
+        if name not in self._names:
+            wanted = name.encode("ascii", "replace") + b"\0"
+            texts = self.sections.get(".debug_str", b"")
+            whole = [at + 1 for at in _found(texts, b"\0" + wanted, 0, len(texts))] + [0] * texts.startswith(wanted)
+            places = whole or _found(texts, wanted, 0, len(texts))
+            self._names[name] = [wanted, *map(_FOUR.pack, itertools.islice(places, _MOST_TEXTS))]
+        return self._names[name]
+
+    def _places_of(self, name: str) -> list[int]:
+        """The offsets in `.debug_info` of the bytes for a name, in order."""
+        if self._has_indexes:
+            return []
+        if name not in self._places:
+            self._places[name] = sorted(place for wanted in self._bytes_of(name) for place in
+                                        itertools.islice(_found(self.info, wanted, 0, len(self.info)), _MOST_PLACES))
+        return self._places[name]
 
     def _index(self, unit: Unit) -> dict[str, list[Entry]]:
         """The entries directly below the root of a unit, by name."""
@@ -346,10 +383,8 @@ class Entries:
         """The units whose bytes may refer to a name. All units, if they refer to strings by index."""
         if self._has_indexes:
             return self._units
-        places = (place for wanted in self._bytes_of(name)
-                  for place in itertools.islice(_found(self.info, wanted, 0, len(self.info)), _MOST_PLACES))
-        found = {unit.start: unit for unit in map(self.unit_at, places) if unit is not None}
-        return [found[start] for start in sorted(found)]
+        found = {unit.start: unit for unit in map(self.unit_at, self._places_of(name)) if unit is not None}
+        return list(found.values())
 
 
 def _is_at(entry: Entry, addresses: Collection[int]) -> bool:
@@ -358,6 +393,11 @@ def _is_at(entry: Entry, addresses: Collection[int]) -> bool:
     if isinstance(place, bytes):
         return place[:1] == _AT_ADDRESS and int.from_bytes(place[1:], "little") in addresses
     return entry.number("low_pc") in addresses
+
+
+def _is_external(entry: Entry) -> bool:
+    """Whether other units can refer to the function or object of an entry."""
+    return "external" in entry.values
 
 
 def _is_declared(entry: Entry) -> bool:

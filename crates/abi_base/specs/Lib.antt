@@ -1,6 +1,7 @@
 pub mod Causes
 pub mod Dwarf
 pub mod Elf
+pub mod Efforts
 pub mod Fault
 pub mod Files
 pub mod GnuVersions

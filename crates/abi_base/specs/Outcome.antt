@@ -19,7 +19,12 @@ first (Some fault ∷ others) = Some fault
 -- The refusal is the fault of the definition, or memory ran out.
 abbrev pub Refuses : Refusal → Option Fault → Type 0
 Refuses (refusal.Fault answered) fault = fault ≡ Some answered
-Refuses refusal.NoMemory fault = Unit {0}
+Refuses (refusal.NoMemory cause) fault = Unit {0}
+
+-- The result is not that memory ran out.
+abbrev pub TakesNoMemory : {T : Type 0} → Result T Refusal → Type 0
+TakesNoMemory (Err (refusal.NoMemory cause)) = ⊥
+TakesNoMemory result = Unit {0}
 
 -- The result is Ok exactly where there is no fault, and else this fault, unless memory runs out.
 abbrev pub Judges : {T : Type 0} → Result T Refusal → Option Fault → Type 0
@@ -47,4 +52,4 @@ or_end (Some x) e = Ok x
 abbrev pub Gives : {T : Type 0} → Result T Refusal → Result T Fault → Type 0
 Gives (Ok x) read = read ≡ Ok x
 Gives (Err (refusal.Fault answered)) read = read ≡ Err answered
-Gives (Err refusal.NoMemory) read = Unit {0}
+Gives (Err (refusal.NoMemory cause)) read = Unit {0}

@@ -36,7 +36,7 @@ abbrev pub NextIs : {X : Type 0} → Run X (Option Fault) → Result (Option X) 
 NextIs old (Ok (Some x)) new = old ≡ put_front x new
 NextIs old (Ok None) new = (old ≡ ended None) × (new ≡ old)
 NextIs old (Err (refusal.Fault f)) new = (old ≡ ended (Some f)) × (new ≡ old)
-NextIs old (Err refusal.NoMemory) new = new ≡ old
+NextIs old (Err (refusal.NoMemory cause)) new = new ≡ old
 
 -- The same as a relation, without a bound: these items follow from a state, one step each, and then this end.
 abbrev pub Chain : {S X E : Type 0} → (S → Result (X × S) E) → S → List X → E → Type 0

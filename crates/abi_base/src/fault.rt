@@ -1,13 +1,20 @@
 // The faults of inputs, and the reasons for which a call gives up.
 ghost use Rattle.std.specs.Prelude.{◌≡◌};
 ghost use Rattle.abi_base.specs.Fault.{fault_number, fault_name};
+ghost use Rattle.abi_base.specs.declared.fault.NoMemory.TheVariants.{Allocation};
 ghost use Rattle.abi_base.specs.declared.fault.Refusal.TheVariants.{NoMemory as OutOfMemory};
 
+use crate::Limit;
 use std::alloc::{AllocError, AllocFailed};
 
-/// Memory ran out.
+/// Memory ran out, or a count would pass its limit. Neither is a fault of the input.
 #[derive(Clone, Copy, Debug, PartialEq, Eq)]
-pub struct NoMemory;
+pub enum NoMemory {
+    /// An allocation failed.
+    Allocation,
+    /// A count would pass this limit.
+    Past(Limit),
+}
 
 /// An input or a sink failed.
 #[derive(Clone, Copy, Debug, PartialEq, Eq)]
@@ -270,19 +277,23 @@ pub struct Fault {
 pub enum Refusal {
     /// The input has this fault.
     Fault(Fault),
-    /// Memory ran out, which is no fault of the input.
-    NoMemory,
+    /// Memory ran out, or a count would pass its limit.
+    NoMemory(NoMemory),
 }
 
 impl From<AllocError> for NoMemory {
+    ghost from_gives = { λ _ e. e ≡ Allocation };
+
     fn from(_: AllocError) -> Self {
-        NoMemory
+        NoMemory::Allocation
     }
 }
 
 impl<T: Drop> From<AllocFailed<T>> for NoMemory {
+    ghost from_gives = { λ _ e. e ≡ Allocation };
+
     fn from(_: AllocFailed<T>) -> Self {
-        NoMemory
+        NoMemory::Allocation
     }
 }
 
@@ -297,25 +308,25 @@ impl From<Fault> for Refusal {
 }
 
 impl From<NoMemory> for Refusal {
-    ghost from_gives = { λ _ e. e ≡ OutOfMemory };
+    ghost from_gives = { λ cause e. e ≡ OutOfMemory cause };
 
-    fn from(_: NoMemory) -> Self {
-        Refusal::NoMemory
+    fn from(cause: NoMemory) -> Self {
+        Refusal::NoMemory(cause)
     }
 }
 
 impl From<AllocError> for Refusal {
-    ghost from_gives = { λ _ e. e ≡ OutOfMemory };
+    ghost from_gives = { λ _ e. e ≡ OutOfMemory Allocation };
 
     fn from(_: AllocError) -> Self {
-        Refusal::NoMemory
+        Refusal::NoMemory(NoMemory::Allocation)
     }
 }
 
 impl<T: Drop> From<AllocFailed<T>> for Refusal {
-    ghost from_gives = { λ _ e. e ≡ OutOfMemory };
+    ghost from_gives = { λ _ e. e ≡ OutOfMemory Allocation };
 
     fn from(_: AllocFailed<T>) -> Self {
-        Refusal::NoMemory
+        Refusal::NoMemory(NoMemory::Allocation)
     }
 }

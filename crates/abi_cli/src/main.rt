@@ -29,12 +29,15 @@ fn outcome_of_process<R: Files + Print + Eprint + Env + AllocGlobal>(
         Ok(arguments) => arguments,
         Err(error) => {
             if error.kind() == ErrorKind::OutOfMemory {
-                return Outcome::NoMemory;
+                return Outcome::NoMemory(NoMemory::Allocation);
             }
             Vec::new(rt.alloc())
         }
     };
-    outcome_of(rt, &arguments, are_wanted(rt, is_terminal)).unwrap_or(Outcome::NoMemory)
+    match outcome_of(rt, &arguments, are_wanted(rt, is_terminal)) {
+        Ok(outcome) => outcome,
+        Err(cause) => Outcome::NoMemory(cause),
+    }
 }
 
 // The arguments after the program's name.

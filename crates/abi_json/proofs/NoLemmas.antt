@@ -5,8 +5,9 @@ use Rattle.std.specs.List.{concat}
 use Rattle.std.specs.Io.KnownBytes.{Appends}
 use Rattle.std.proofs.lemmas.List.{append-nil}
 use Rattle.abi_base.specs.declared.remark.Remark.{Remark}
-use Rattle.abi_top.specs.Answer.{Call}
-use Rattle.abi_top.specs.Headline.{OnApp, OnCheck}
+use Rattle.abi_top.specs.Calls.{Call}
+use Rattle.abi_top.specs.Rows.App.{OnApp}
+use Rattle.abi_top.specs.Rows.Check.{OnCheck}
 use Rattle.cert_check.specs.Compatible.{Sides}
 use Rattle.library_check.specs.Applications.{IsAppReportText, IsCompatibleFor, sides_for}
 use Rattle.library_check.specs.Checks.{Compatible, IsReportText, sides_of}

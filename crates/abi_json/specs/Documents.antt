@@ -1,7 +1,8 @@
 -- Documents, by their last member: the breaks.
 use Rattle.std.specs.Prelude.{◌≡◌, ◌⊎◌, ℕ, List, drop, codes}
-use Rattle.abi_top.specs.Answer.{Call}
-use Rattle.abi_top.specs.Headline.{OnApp, OnCheck}
+use Rattle.abi_top.specs.Calls.{Call}
+use Rattle.abi_top.specs.Rows.App.{OnApp}
+use Rattle.abi_top.specs.Rows.Check.{OnCheck}
 use Rattle.cert_check.specs.Compatible.{Sides}
 use Rattle.commands.specs.declared.outcome.Outcome.{Outcome}
 use Rattle.commands.specs.declared.outcome.Outcome.TheVariants as outcome

@@ -38,28 +38,21 @@ fn named_files<'a>(
     alloc: Global,
     words: &'a [&'a str],
 ) -> Result<Result<Vec<File<'a>>, Outcome>, NoMemory> {
-    let (rules, old, new) = match parse_arguments(alloc, words)? {
-        ParsedArguments::Request(
-            Request::Check {
-                rules,
-                old,
-                new,
-                ..
-            },
-        ) => (rules, old, new),
+    let asked = match parse_arguments(alloc, words)? {
+        ParsedArguments::Request(Request::Check(asked)) => asked,
         ParsedArguments::Help => return Ok(Err(Outcome::Help)),
         _ => return Ok(Err(Outcome::Usage)),
     };
     let mut files = Vec::new(alloc);
     files.push(File {
         which: Input::Old,
-        name: old,
+        name: asked.old,
     })?;
     files.push(File {
         which: Input::New,
-        name: new,
+        name: asked.new,
     })?;
-    if let Some(name) = rules {
+    if let Some(name) = asked.rules {
         files.push(File {
             which: Input::Rules,
             name,

@@ -48,7 +48,7 @@ fn answer_word(outcome: Outcome) -> &'static str {
         Outcome::ReadFault(_) => "read fault",
         Outcome::Help => "help",
         Outcome::Usage => "usage",
-        Outcome::NoMemory => "no memory",
+        Outcome::NoMemory(_) => "no memory",
         Outcome::WriteFault => "write fault",
     }
 }

@@ -34,12 +34,15 @@ fn outcome_of_process<R: Files + Print + Env + AllocGlobal>(rt: &R) -> Outcome {
         Ok(arguments) => arguments,
         Err(error) => {
             if error.kind() == ErrorKind::OutOfMemory {
-                return Outcome::NoMemory;
+                return Outcome::NoMemory(NoMemory::Allocation);
             }
             Vec::new(rt.alloc())
         }
     };
-    outcome_of(rt, &arguments, wanted_by(rt)).unwrap_or(Outcome::NoMemory)
+    match outcome_of(rt, &arguments, wanted_by(rt)) {
+        Ok(outcome) => outcome,
+        Err(cause) => Outcome::NoMemory(cause),
+    }
 }
 
 // The arguments after the program's name.

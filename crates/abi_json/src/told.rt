@@ -2,7 +2,7 @@
 ghost use Rattle.std.specs.Prelude.{◌≡◌, ◌∷◌, [], Option, All, IfOk, OnOk, map};
 ghost use Rattle.abi_base.specs.declared.remark.Remark.{Remark as AnyRemark};
 ghost use Rattle.abi_json.specs.Documents.{TellsBreaks};
-ghost use Rattle.abi_top.specs.Answer.{Call, call_of};
+ghost use Rattle.abi_top.specs.Calls.{Call, call_of};
 ghost use Rattle.json_report.specs.Breaks.{json_voice};
 
 use crate::beside::side_notes_value;

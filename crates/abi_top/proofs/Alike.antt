@@ -2,11 +2,11 @@
 use Rattle.std.proofs.Common.{◌≡◌, ◌≤◌, ℕ, List, [], ◌∷◌, length, All, None, refl, sym, ◌∙◌, subst}
 use Rattle.abi_base.specs.Limits.{input_limit}
 use Rattle.abi_top.specs.Answer.{row_of}
+use Rattle.abi_top.specs.Rows.App.{AppSays}
 use Rattle.abi_top.specs.OneAnswer.{AnswersAlike}
-use Rattle.abi_top.specs.Says.{AppSays}
 use Rattle.abi_top.proofs.ParsedArguments.{reply_of}
 use Rattle.cert_check.specs.Compatible.{Sides, IsCompatible}
-use Rattle.cli_args.specs.ParsedArguments.{PlainRequest, app}
+use Rattle.cli_args.specs.Commands.{PlainRequest, app}
 use Rattle.commands.specs.declared.outcome.Outcome.TheVariants.{Judged}
 use Rattle.commands.specs.declared.verdict.Verdict.{Verdict}
 use Rattle.commands.specs.declared.verdict.Verdict.TheVariants as verdict

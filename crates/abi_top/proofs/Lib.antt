@@ -1,6 +1,5 @@
-mod Agreeing
 mod Alike
-mod Clauses
 mod ParsedArguments
 mod Printed
+mod Rows
 mod Single

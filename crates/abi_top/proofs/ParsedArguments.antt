@@ -1,7 +1,9 @@
 -- The answers of a call whose words ask for something are the replies of its command.
 use Rattle.std.proofs.Common.{◌≡◌, ℕ, List, subst}
-use Rattle.abi_top.specs.Answer.{Answers, Asks, Call, row_of}
-use Rattle.cli_args.specs.ParsedArguments.{PlainRequest, request, usage, help, arguments_by}
+use Rattle.abi_top.specs.Answer.{Answers, Asks, row_of}
+use Rattle.abi_top.specs.Calls.{Call}
+use Rattle.cli_args.specs.Commands.{PlainRequest}
+use Rattle.cli_args.specs.ParsedArguments.{request, usage, help, arguments_by}
 use Rattle.abi_base.specs.declared.fault.Fault.{Fault}
 use Rattle.commands.specs.Commands.{asks_of, places_of}
 use Rattle.commands.specs.Faults.{FaultOfAll}
@@ -33,7 +35,7 @@ module _ (call : Call) (asked : PlainRequest) (is : arguments_by call.words ≡ 
   reply_of (Judged v untyped) text answer = this (Judged v untyped) text answer
   reply_of (Unreadable which fault) text answer = this (Unreadable which fault) text answer
   reply_of (ReadFault which) text answer = this (ReadFault which) text answer
-  reply_of NoMemory text answer = this NoMemory text answer
+  reply_of (NoMemory cause) text answer = this (NoMemory cause) text answer
   reply_of WriteFault text answer = this WriteFault text answer
 
   pub answer_of_reply : (outcome : Outcome) (text : List ℕ) → Replies call.reading (row_of call asked).inputs (row_of call asked).says outcome text → Answers call outcome text
@@ -42,7 +44,7 @@ module _ (call : Call) (asked : PlainRequest) (is : arguments_by call.words ≡ 
   answer_of_reply (Judged v untyped) text reply = (asked, is, reply)
   answer_of_reply (Unreadable which fault) text reply = (asked, is, reply)
   answer_of_reply (ReadFault which) text reply = (asked, is, reply)
-  answer_of_reply NoMemory text reply = (asked, is, reply)
+  answer_of_reply (NoMemory cause) text reply = (asked, is, reply)
   answer_of_reply WriteFault text reply = (asked, is, reply)
 
   -- where all inputs are served, the answer is a verdict, with a text of which a fact is known

@@ -2,12 +2,12 @@
 use Rattle.std.proofs.Common.{◌≡◌, ℕ, List, [], ◌∷◌, Option, None, sym, ◌∙◌}
 use Rattle.abi_base.specs.declared.remark.Remark.{Remark}
 use Rattle.abi_top.specs.Answer.{row_of}
+use Rattle.abi_top.specs.Rows.Verify.{VerifySays, verify_says}
 use Rattle.abi_top.specs.OneAnswer.{AcceptsWhatCheckPrints}
-use Rattle.abi_top.specs.Says.{VerifySays, verify_says}
 use Rattle.abi_top.specs.Text.{accepted_text}
 use Rattle.abi_top.proofs.ParsedArguments.{reply_of}
 use Rattle.cert_check.specs.declared.refused.Refused.{Refused as Refusal}
-use Rattle.cli_args.specs.ParsedArguments.{PlainRequest, check, verify}
+use Rattle.cli_args.specs.Commands.{PlainRequest, check, verify}
 use Rattle.commands.specs.Commands.{asks_of}
 use Rattle.commands.specs.Faults.{AreReadable, AreShort}
 use Rattle.commands.specs.Served.{IsVerdict}

@@ -1,28 +1,14 @@
 -- The answers that a run may give: a row for each outcome.
-use Rattle.std.specs.Prelude.{◌≡◌, ◌≤◌, ℕ, List, length, Option}
-use Rattle.std.specs.Borrow.{Bor}
+use Rattle.std.specs.Prelude.{◌≡◌, ◌≤◌, ℕ, List, length}
+use Rattle.abi_top.specs.Calls.{Call}
 use Rattle.abi_top.specs.Rows.{command_of}
-use Rattle.abi_top.specs.Text.{usage_text}
-use Rattle.report.specs.Listening.{Voice}
-use Rattle.cli_args.specs.ParsedArguments.{PlainRequest, request, usage, help, arguments_by}
-use Rattle.cli_args.specs.Words.{texts}
+use Rattle.cli_args.specs.Commands.{PlainRequest, usage_text}
+use Rattle.cli_args.specs.ParsedArguments.{request, usage, help, arguments_by}
 use Rattle.commands.specs.Commands.{Command, places_of}
-use Rattle.commands.specs.Reading.{AreTold, Reading, reading_of}
+use Rattle.commands.specs.Reading.{AreTold}
 use Rattle.commands.specs.Replies.{Replies}
 use Rattle.commands.specs.declared.outcome.Outcome.{Outcome}
 use Rattle.commands.specs.declared.outcome.Outcome.TheVariants.{Help, Usage}
-
--- A call, reduced to what its answer depends on: its arguments, the voices of the listeners that the caller passes, and what is
--- known about the inputs.
-pub record Call : Type 0 where
-  pub words : List (List ℕ)
-  pub voices : List Voice
-  pub reading : Reading
-
--- the call of a run with these arguments and with listeners of these voices, which changes inputs I from the old value to the new
--- one
-abbrev pub call_of : {I : Type 0} → (I → List ℕ → Option (List ℕ)) → (I → List ℕ → ℕ) → (I → ℕ) → (I → ℕ) → List Voice → List (Bor (List ℕ)) → I → I → Call
-call_of told faults given started voices words old new = record { words = texts words; voices = voices; reading = reading_of told faults given started old new }
 
 -- the row of a request in a call
 abbrev pub row_of : Call → PlainRequest → Command

@@ -2,9 +2,11 @@
 use Rattle.std.specs.Prelude.{◌≡◌, ◌⊎◌, ◌≤◌, ℕ, List, [], ◌∷◌, length, All, Option}
 use Rattle.abi_base.specs.Limits.{input_limit}
 use Rattle.abi_base.specs.declared.remark.Remark.{Remark}
-use Rattle.abi_top.specs.Answer.{Call, Answers, row_of}
+use Rattle.abi_top.specs.Answer.{Answers, row_of}
+use Rattle.abi_top.specs.Calls.{Call}
 use Rattle.abi_top.specs.Text.{accepted_text}
-use Rattle.cli_args.specs.ParsedArguments.{PlainRequest, app, check, verify, request, usage, help, arguments_by}
+use Rattle.cli_args.specs.Commands.{PlainRequest, app, check, verify}
+use Rattle.cli_args.specs.ParsedArguments.{request, usage, help, arguments_by}
 use Rattle.commands.specs.Commands.{places_of}
 use Rattle.commands.specs.OneReply.{TellsEach}
 use Rattle.commands.specs.declared.input.Input.{Input}

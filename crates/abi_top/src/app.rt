@@ -1,16 +1,16 @@
 // `app`: whether the new library may replace the old one for one application.
 ghost use Rattle.std.specs.Prelude.{◌≡◌, ◌≤◌, ℕ, List, [], ◌∷◌, Some, length, map, All, OnOk, IfOk, IfErr};
 ghost use Rattle.abi_base.specs.Limits.{input_limit};
-ghost use Rattle.abi_top.specs.Rows.{app_inputs};
-ghost use Rattle.abi_top.specs.Says.{AppSays, app_says};
+ghost use Rattle.abi_top.specs.Rows.App.{AppSays, app_inputs, app_says};
 ghost use Rattle.report.specs.Listening.{Voice};
-ghost use Rattle.cli_args.specs.Requests.{plain_word};
+ghost use Rattle.cli_args.specs.Commands.{plain_word};
 ghost use Rattle.commands.specs.Commands.{asks_of, places_of, plain_place};
 ghost use Rattle.commands.specs.Faults.{AreReadable, StopsAt};
 ghost use Rattle.library_check.specs.Applications.{IsAppJudged, IsNotJudged};
 ghost use Rattle.report.specs.styles.Wanted.{wanted_voices};
 
 use abi_base::NoMemory;
+use cli_args::commands::AppWords;
 use commands::{Command, Input, Judgement, Place, Stop, Verdict, four};
 use library_check::{AppFiles, AppJudged, AppResult, NotJudged};
 use report::Listener;
@@ -20,37 +20,29 @@ use std::alloc::Global;
 /// `app` for an application and two libraries, with an optional rule file. On no, the listeners of its style hear all breaks.
 #[derive(Clone, Copy)]
 pub struct App<'a> {
-    /// The name of the rule file, if there is one.
-    pub rules: Option<&'a str>,
-    /// The style of the report.
-    pub report: ReportStyle,
-    /// The name of the application.
-    pub program: &'a str,
-    /// The name of the old library.
-    pub old: &'a str,
-    /// The name of the new library.
-    pub new: &'a str,
+    /// What the arguments ask.
+    pub words: AppWords<'a>,
 }
 
 impl<'a> App<'a> {
     /// The inputs and the sources of their bytes. It fails only if memory runs out.
     pub fn places(&self, alloc: Global) -> Result<Vec<Place<'a>>, NoMemory>
-        ensures { IfOk result (λ places. map plain_place places.items ≡ places_of (app_inputs (plain_word self.now.rules) self.now.program.now self.now.old.now self.now.new.now)) }
+        ensures { IfOk result (λ places. map plain_place places.items ≡ places_of (app_inputs (plain_word self.now.words.rules) self.now.words.program.now self.now.words.old.now self.now.words.new.now)) }
     {
-        let rules = Place::named_or_empty(alloc, Input::Rules, self.rules);
+        let rules = Place::named_or_empty(alloc, Input::Rules, self.words.rules);
         Ok(vec![in alloc;
-            Place::named(Input::App, self.program),
-            Place::named(Input::Old, self.old),
-            Place::named(Input::New, self.new),
+            Place::named(Input::App, self.words.program),
+            Place::named(Input::Old, self.words.old),
+            Place::named(Input::New, self.words.new),
             rules,
         ]?)
     }
 }
 
 impl Command for App<'_> {
-    ghost inputs = { λ c. app_inputs (plain_word c.rules) c.program.now c.old.now c.new.now };
+    ghost inputs = { λ c. app_inputs (plain_word c.words.rules) c.words.program.now c.words.old.now c.words.new.now };
 
-    ghost says = { λ c voices. app_says (wanted_voices c.report voices) };
+    ghost says = { λ c voices. app_says (wanted_voices c.words.report voices) };
 
     fn judge(
         self,
@@ -65,7 +57,7 @@ impl Command for App<'_> {
             new,
             rules,
         };
-        judge_app(alloc, &files, self.report, listeners)
+        judge_app(alloc, &files, self.words.report, listeners)
     }
 }
 
@@ -122,6 +114,6 @@ const fn stop_of(not_judged: NotJudged) -> Stop
         NotJudged::Old(fault) => Stop::Unreadable(Input::Old, fault),
         NotJudged::New(fault) => Stop::Unreadable(Input::New, fault),
         NotJudged::Rules(fault) => Stop::Unreadable(Input::Rules, fault),
-        NotJudged::NoMemory => Stop::NoMemory,
+        NotJudged::NoMemory(cause) => Stop::NoMemory(cause),
     }
 }

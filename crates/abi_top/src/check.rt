@@ -2,10 +2,9 @@
 ghost use Rattle.std.specs.Prelude.{◌≡◌, ◌≤◌, ℕ, List, [], ◌∷◌, Some, length, map, All, OnOk, IfOk, IfErr};
 ghost use Rattle.abi_base.specs.Limits.{input_limit};
 ghost use Rattle.abi_base.specs.declared.remark.Remark.{Remark as AnyRemark};
-ghost use Rattle.abi_top.specs.Rows.{check_inputs};
-ghost use Rattle.abi_top.specs.Says.{CheckSays, check_says};
+ghost use Rattle.abi_top.specs.Rows.Check.{CheckSays, check_inputs, check_says};
 ghost use Rattle.report.specs.Listening.{Voice};
-ghost use Rattle.cli_args.specs.Requests.{plain_word};
+ghost use Rattle.cli_args.specs.Commands.{plain_word};
 ghost use Rattle.commands.specs.Commands.{asks_of, places_of, plain_place};
 ghost use Rattle.commands.specs.Faults.{AreReadable, StopsAt};
 ghost use Rattle.library_check.specs.Checks.{IsChecked};
@@ -14,6 +13,7 @@ ghost use Rattle.library_check.specs.Relations.{PrintsSuchRelation};
 ghost use Rattle.library_check.specs.Remarks.{remark_on};
 
 use abi_base::NoMemory;
+use cli_args::commands::CheckWords;
 use commands::{Command, Input, Judgement, Place, Stop, Verdict, three};
 use library_check::{CheckResult, Checked, Unchecked};
 use report::Listener;
@@ -23,34 +23,28 @@ use std::alloc::Global;
 /// `check` of two libraries, with an optional rule file. On no, the listeners of its style hear all breaks.
 #[derive(Clone, Copy)]
 pub struct Check<'a> {
-    /// The name of the rule file, if there is one.
-    pub rules: Option<&'a str>,
-    /// The style of the report.
-    pub report: ReportStyle,
-    /// The name of the old library.
-    pub old: &'a str,
-    /// The name of the new library.
-    pub new: &'a str,
+    /// What the arguments ask.
+    pub words: CheckWords<'a>,
 }
 
 impl<'a> Check<'a> {
     /// The inputs and the sources of their bytes. It fails only if memory runs out.
     pub fn places(&self, alloc: Global) -> Result<Vec<Place<'a>>, NoMemory>
-        ensures { IfOk result (λ places. map plain_place places.items ≡ places_of (check_inputs (plain_word self.now.rules) self.now.old.now self.now.new.now)) }
+        ensures { IfOk result (λ places. map plain_place places.items ≡ places_of (check_inputs (plain_word self.now.words.rules) self.now.words.old.now self.now.words.new.now)) }
     {
-        let rules = Place::named_or_empty(alloc, Input::Rules, self.rules);
+        let rules = Place::named_or_empty(alloc, Input::Rules, self.words.rules);
         Ok(vec![in alloc;
-            Place::named(Input::Old, self.old),
-            Place::named(Input::New, self.new),
+            Place::named(Input::Old, self.words.old),
+            Place::named(Input::New, self.words.new),
             rules,
         ]?)
     }
 }
 
 impl Command for Check<'_> {
-    ghost inputs = { λ c. check_inputs (plain_word c.rules) c.old.now c.new.now };
+    ghost inputs = { λ c. check_inputs (plain_word c.words.rules) c.words.old.now c.words.new.now };
 
-    ghost says = { λ c voices. check_says (wanted_voices c.report voices) };
+    ghost says = { λ c voices. check_says (wanted_voices c.words.report voices) };
 
     fn judge(
         self,
@@ -59,7 +53,7 @@ impl Command for Check<'_> {
         listeners: Vec<Box<dyn Listener>>,
     ) -> Result<Judgement, Stop> {
         let (old, new, rules) = three(all);
-        check_pair(alloc, old, new, rules, self.report, listeners)
+        check_pair(alloc, old, new, rules, self.words.report, listeners)
     }
 }
 
@@ -106,6 +100,6 @@ fn check_pair(
         Err(Unchecked::Old(fault)) => Err(Stop::Unreadable(Input::Old, fault)),
         Err(Unchecked::New(fault)) => Err(Stop::Unreadable(Input::New, fault)),
         Err(Unchecked::Rules(fault)) => Err(Stop::Unreadable(Input::Rules, fault)),
-        Err(Unchecked::NoMemory) => Err(Stop::NoMemory),
+        Err(Unchecked::NoMemory(cause)) => Err(Stop::NoMemory(cause)),
     }
 }

@@ -1,14 +1,14 @@
 // `compose`: the certificate that two certificates with a common middle library compose.
 ghost use Rattle.std.specs.Prelude.{◌≡◌, ◌≤◌, ℕ, List, [], ◌∷◌, length, OnOk, IfOk, IfErr, map};
 ghost use Rattle.abi_base.specs.Limits.{input_limit};
-ghost use Rattle.abi_top.specs.Rows.{compose_inputs};
-ghost use Rattle.abi_top.specs.Says.{compose_says};
+ghost use Rattle.abi_top.specs.Rows.Compose.{compose_inputs, compose_says};
 ghost use Rattle.commands.specs.Commands.{asks_of, places_of, plain_place};
 ghost use Rattle.commands.specs.Faults.{AreReadable, StopsAt};
 ghost use Rattle.library_check.specs.Compositions.{IsUncomposed, PlainFiles};
 
 use crate::text;
 use abi_base::NoMemory;
+use cli_args::commands::ComposeWords;
 use commands::{Command, Input, Judgement, Place, Stop, Verdict, five};
 use library_check::{ChainFiles, Composed, Uncomposed};
 use report::Listener;
@@ -17,35 +17,27 @@ use std::alloc::Global;
 /// `compose` of two certificates: one for the first and the middle library, one for the middle and the last.
 #[derive(Clone, Copy)]
 pub struct Compose<'a> {
-    /// The name of the first library.
-    pub first: &'a str,
-    /// The name of the middle library.
-    pub middle: &'a str,
-    /// The name of the last library.
-    pub last: &'a str,
-    /// The name of the certificate for the first and the middle library.
-    pub certificate1: &'a str,
-    /// The name of the certificate for the middle and the last library.
-    pub certificate2: &'a str,
+    /// What the arguments ask.
+    pub words: ComposeWords<'a>,
 }
 
 impl<'a> Compose<'a> {
     /// The inputs and the sources of their bytes. It fails only if memory runs out.
     pub fn places(&self, alloc: Global) -> Result<Vec<Place<'a>>, NoMemory>
-        ensures { IfOk result (λ places. map plain_place places.items ≡ places_of (compose_inputs self.now.first.now self.now.middle.now self.now.last.now self.now.certificate1.now self.now.certificate2.now)) }
+        ensures { IfOk result (λ places. map plain_place places.items ≡ places_of (compose_inputs self.now.words.first.now self.now.words.middle.now self.now.words.last.now self.now.words.certificate1.now self.now.words.certificate2.now)) }
     {
         Ok(vec![in alloc;
-            Place::named(Input::First, self.first),
-            Place::named(Input::Middle, self.middle),
-            Place::named(Input::Last, self.last),
-            Place::named(Input::Certificate1, self.certificate1),
-            Place::named(Input::Certificate2, self.certificate2),
+            Place::named(Input::First, self.words.first),
+            Place::named(Input::Middle, self.words.middle),
+            Place::named(Input::Last, self.words.last),
+            Place::named(Input::Certificate1, self.words.certificate1),
+            Place::named(Input::Certificate2, self.words.certificate2),
         ]?)
     }
 }
 
 impl Command for Compose<'_> {
-    ghost inputs = { λ c. compose_inputs c.first.now c.middle.now c.last.now c.certificate1.now c.certificate2.now };
+    ghost inputs = { λ c. compose_inputs c.words.first.now c.words.middle.now c.words.last.now c.words.certificate1.now c.words.certificate2.now };
 
     ghost says = { λ c voices. compose_says };
 
@@ -109,6 +101,6 @@ const fn stop_of(uncomposed: Uncomposed) -> Stop
         Uncomposed::Last(fault) => Stop::Unreadable(Input::Last, fault),
         Uncomposed::Certificate1(fault) => Stop::Unreadable(Input::Certificate1, fault),
         Uncomposed::Certificate2(fault) => Stop::Unreadable(Input::Certificate2, fault),
-        Uncomposed::NoMemory => Stop::NoMemory,
+        Uncomposed::NoMemory(cause) => Stop::NoMemory(cause),
     }
 }

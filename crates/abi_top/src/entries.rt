@@ -1,8 +1,7 @@
 // `entries`: the debugging information entries of a library.
 ghost use Rattle.std.specs.Prelude.{◌≡◌, ◌≤◌, List, [], ◌∷◌, map, IfOk};
 ghost use Rattle.commands.specs.Commands.{places_of, plain_place};
-ghost use Rattle.abi_top.specs.Rows.{entries_inputs};
-ghost use Rattle.abi_top.specs.Says.{entries_says};
+ghost use Rattle.abi_top.specs.Rows.Listings.{entries_inputs, entries_says};
 
 use abi_base::NoMemory;
 use commands::{Command, Input, Judgement, Place, Stop, Verdict, one, stop_at};

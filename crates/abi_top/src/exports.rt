@@ -3,8 +3,7 @@ ghost use Rattle.std.specs.Prelude.{◌≡◌, ◌≤◌, List, [], ◌∷◌, I
 ghost use Rattle.abi_base.specs.Limits.{input_limit};
 ghost use Rattle.abi_base.specs.Outcome.{Judges};
 ghost use Rattle.commands.specs.Commands.{places_of, plain_place};
-ghost use Rattle.abi_top.specs.Rows.{exports_inputs};
-ghost use Rattle.abi_top.specs.Says.{exports_says};
+ghost use Rattle.abi_top.specs.Rows.Listings.{exports_inputs, exports_says};
 ghost use Rattle.listings.specs.exports.ExportLines.{exports_text};
 ghost use Rattle.library_read.specs.Faults.{library_fault};
 ghost use Rattle.library_read.specs.Libraries.{library_of};

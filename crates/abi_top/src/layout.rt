@@ -1,13 +1,13 @@
 // `layout`: the position of each member of a structure, with its holes and its padding.
 ghost use Rattle.std.specs.Prelude.{◌≡◌, ◌≤◌, ℕ, List, [], ◌∷◌, length, OnOk, IfOk, IfErr, map};
 ghost use Rattle.abi_base.specs.Limits.{input_limit};
-ghost use Rattle.abi_top.specs.Rows.{layout_inputs};
-ghost use Rattle.abi_top.specs.Says.{layout_says};
+ghost use Rattle.abi_top.specs.Rows.Layout.{layout_inputs, layout_says};
 ghost use Rattle.commands.specs.Commands.{asks_of, places_of, plain_place};
 ghost use Rattle.commands.specs.Faults.{AreReadable, StopsAt};
 
 use crate::text;
 use abi_base::NoMemory;
+use cli_args::commands::LayoutWords;
 use commands::{Command, Input, Judgement, Place, Stop, Verdict, one};
 use library_layout::{Layout as Laid, NoLayout, layout_of};
 use report::Listener;
@@ -16,25 +16,23 @@ use std::alloc::Global;
 /// `layout` of the structure with a tag in a library.
 #[derive(Clone, Copy)]
 pub struct Layout<'a> {
-    /// The name of the library.
-    pub library: &'a str,
-    /// The tag of the structure.
-    pub tag: &'a str,
+    /// What the arguments ask.
+    pub words: LayoutWords<'a>,
 }
 
 impl<'a> Layout<'a> {
     /// The inputs and the sources of their bytes. It fails only if memory runs out.
     pub fn places(&self, alloc: Global) -> Result<Vec<Place<'a>>, NoMemory>
-        ensures { IfOk result (λ places. map plain_place places.items ≡ places_of (layout_inputs self.now.library.now)) }
+        ensures { IfOk result (λ places. map plain_place places.items ≡ places_of (layout_inputs self.now.words.library.now)) }
     {
-        Ok(vec![in alloc; Place::named(Input::Library, self.library)]?)
+        Ok(vec![in alloc; Place::named(Input::Library, self.words.library)]?)
     }
 }
 
 impl Command for Layout<'_> {
-    ghost inputs = { λ c. layout_inputs c.library.now };
+    ghost inputs = { λ c. layout_inputs c.words.library.now };
 
-    ghost says = { λ c voices. layout_says c.tag.now };
+    ghost says = { λ c voices. layout_says c.words.tag.now };
 
     fn judge(
         self,
@@ -42,7 +40,7 @@ impl Command for Layout<'_> {
         all: &[Vec<u8>],
         _listeners: Vec<Box<dyn Listener>>,
     ) -> Result<Judgement, Stop> {
-        lay_out(alloc, one(all), self.tag)
+        lay_out(alloc, one(all), self.words.tag)
     }
 }
 
@@ -65,6 +63,6 @@ fn lay_out(alloc: Global, library: &[u8], tag: &str) -> Result<Judgement, Stop>
             text: text::no_tag(alloc)?,
         }),
         Err(NoLayout::Unreadable(fault)) => Err(Stop::Unreadable(Input::Library, fault)),
-        Err(NoLayout::NoMemory) => Err(Stop::NoMemory),
+        Err(NoLayout::NoMemory(cause)) => Err(Stop::NoMemory(cause)),
     }
 }

@@ -1,14 +1,14 @@
 // `migrate`: the certificate of version 2 to which one of version 1 is migrated.
 ghost use Rattle.std.specs.Prelude.{◌≡◌, ◌≤◌, ℕ, List, [], ◌∷◌, length, OnOk, IfOk, IfErr, map};
 ghost use Rattle.abi_base.specs.Limits.{input_limit};
-ghost use Rattle.abi_top.specs.Rows.{migrate_inputs};
-ghost use Rattle.abi_top.specs.Says.{migrate_says};
-ghost use Rattle.cli_args.specs.Requests.{plain_word};
+ghost use Rattle.abi_top.specs.Rows.Migrate.{migrate_inputs, migrate_says};
+ghost use Rattle.cli_args.specs.Commands.{plain_word};
 ghost use Rattle.commands.specs.Commands.{asks_of, places_of, plain_place};
 ghost use Rattle.commands.specs.Faults.{AreReadable, StopsAt};
 
 use crate::text;
 use abi_base::NoMemory;
+use cli_args::commands::CertificateWords;
 use commands::{Command, Input, Judgement, Place, Stop, Verdict, four};
 use library_check::{Migrated, Unverified};
 use report::Listener;
@@ -17,33 +17,27 @@ use std::alloc::Global;
 /// `migrate` of a certificate of version 1 for two libraries, with an optional rule file.
 #[derive(Clone, Copy)]
 pub struct Migrate<'a> {
-    /// The name of the rule file, if there is one.
-    pub rules: Option<&'a str>,
-    /// The name of the old library.
-    pub old: &'a str,
-    /// The name of the new library.
-    pub new: &'a str,
-    /// The name of the certificate.
-    pub certificate: &'a str,
+    /// What the arguments ask.
+    pub words: CertificateWords<'a>,
 }
 
 impl<'a> Migrate<'a> {
     /// The inputs and the sources of their bytes. It fails only if memory runs out.
     pub fn places(&self, alloc: Global) -> Result<Vec<Place<'a>>, NoMemory>
-        ensures { IfOk result (λ places. map plain_place places.items ≡ places_of (migrate_inputs (plain_word self.now.rules) self.now.old.now self.now.new.now self.now.certificate.now)) }
+        ensures { IfOk result (λ places. map plain_place places.items ≡ places_of (migrate_inputs (plain_word self.now.words.rules) self.now.words.old.now self.now.words.new.now self.now.words.certificate.now)) }
     {
-        let rules = Place::named_or_empty(alloc, Input::Rules, self.rules);
+        let rules = Place::named_or_empty(alloc, Input::Rules, self.words.rules);
         Ok(vec![in alloc;
-            Place::named(Input::Old, self.old),
-            Place::named(Input::New, self.new),
+            Place::named(Input::Old, self.words.old),
+            Place::named(Input::New, self.words.new),
             rules,
-            Place::named(Input::Certificate, self.certificate),
+            Place::named(Input::Certificate, self.words.certificate),
         ]?)
     }
 }
 
 impl Command for Migrate<'_> {
-    ghost inputs = { λ c. migrate_inputs (plain_word c.rules) c.old.now c.new.now c.certificate.now };
+    ghost inputs = { λ c. migrate_inputs (plain_word c.words.rules) c.words.old.now c.words.new.now c.words.certificate.now };
 
     ghost says = { λ c voices. migrate_says };
 
@@ -88,6 +82,6 @@ fn migrate_certificate(
         Err(Unverified::New(fault)) => Err(Stop::Unreadable(Input::New, fault)),
         Err(Unverified::Rules(fault)) => Err(Stop::Unreadable(Input::Rules, fault)),
         Err(Unverified::Certificate(fault)) => Err(Stop::Unreadable(Input::Certificate, fault)),
-        Err(Unverified::NoMemory) => Err(Stop::NoMemory),
+        Err(Unverified::NoMemory(cause)) => Err(Stop::NoMemory(cause)),
     }
 }

@@ -4,19 +4,27 @@ ghost use Rattle.std.specs.Io.KnownBytes.{Appends};
 ghost use Rattle.abi_base.specs.Causes.{AppendsFront, Rose, SameCounts, Unfailing};
 ghost use Rattle.abi_base.specs.declared.fault.Fault.{Fault as AnyFault};
 ghost use Rattle.abi_base.specs.declared.remark.Remark.{Remark as AnyRemark};
-ghost use Rattle.abi_top.specs.Answer.{Answers, Asks, AsksForTold, Call, HasRoom, call_of, row_of};
-ghost use Rattle.abi_top.specs.Headline.{OnApp, OnCheck, OnCompose, OnLayout, OnMigrate, OnVerify, OnListing, OnTrial};
+ghost use Rattle.abi_top.specs.Answer.{Answers, Asks, AsksForTold, HasRoom, row_of};
+ghost use Rattle.abi_top.specs.Calls.{Call, call_of};
 ghost use Rattle.abi_top.specs.Rows.{command_of};
-ghost use Rattle.abi_top.specs.Says.{ComposesNone};
-ghost use Rattle.abi_top.specs.Text.{accepted_text, no_tag_text, refused_text, usage_text};
+ghost use Rattle.abi_top.specs.Rows.App.{OnApp};
+ghost use Rattle.abi_top.specs.Rows.Check.{OnCheck};
+ghost use Rattle.abi_top.specs.Rows.Compose.{ComposesNone, OnCompose};
+ghost use Rattle.abi_top.specs.Rows.Layout.{OnLayout};
+ghost use Rattle.abi_top.specs.Rows.Listings.{OnListing};
+ghost use Rattle.abi_top.specs.Rows.Migrate.{OnMigrate};
+ghost use Rattle.abi_top.specs.Rows.Trial.{OnTrial};
+ghost use Rattle.abi_top.specs.Rows.Verify.{OnVerify};
+ghost use Rattle.abi_top.specs.Text.{accepted_text, no_tag_text, refused_text};
 ghost use Rattle.cert_check.specs.declared.refused.Refused.{Refused as Refusal};
-ghost use Rattle.cli_args.specs.ParsedArguments.{PlainRequest, arguments_by, check, trial, request as requested, help, usage};
-ghost use Rattle.cli_args.specs.Requests.{plain_request};
+ghost use Rattle.cli_args.specs.Commands.{PlainRequest, check, plain_request, trial, usage_text};
+ghost use Rattle.cli_args.specs.ParsedArguments.{arguments_by, request as requested, help, usage};
 ghost use Rattle.cli_args.specs.Words.{texts};
-ghost use Rattle.commands.specs.Commands.{asks_of, files_of, places_of, plain_file};
+ghost use Rattle.commands.specs.Commands.{asks_of, files_of, places_of, plain_file, plain_place};
 ghost use Rattle.commands.specs.Faults.{FaultOfAll};
 ghost use Rattle.commands.specs.OneReply.{TellsEach};
-ghost use Rattle.commands.specs.Reading.{AreTold, FailsToRead, reading_of};
+ghost use Rattle.commands.specs.Outcomes.{IsNoMemory};
+ghost use Rattle.commands.specs.Reading.{AreOwnShort, AreTold, FailsToRead, reading_of};
 ghost use Rattle.commands.specs.Replies.{IsFaulty, Replies};
 ghost use Rattle.commands.specs.Served.{AreServed, AreUnfailed, IsVerdict};
 ghost use Rattle.commands.specs.Texts.{read_fault_text, unreadable_text};
@@ -42,13 +50,12 @@ use crate::entries::Entries;
 use crate::exports::Exports;
 use crate::layout::Layout;
 use crate::migrate::Migrate;
-use crate::text;
 use crate::trial::Trial;
 use crate::verify::Verify;
 use abi_base::{Inputs, NoMemory, Sink, write_all};
 use cli_args::laws::a_trial_is_of_a_count;
-use cli_args::{ParsedArguments, Request, parse_arguments};
-use commands::{Answer, File, Input, Outcome, Verdict, answer_with};
+use cli_args::{ParsedArguments, Request, parse_arguments, usage};
+use commands::{Answer, File, Input, Outcome, Place, Verdict, answer_with};
 use library_check::laws::{a_file_may_replace_itself, compatible_is_that_accesses_agree};
 use report::Listener;
 use std::alloc::Global;
@@ -83,7 +90,7 @@ pub fn run<'a, I: Inputs, S: Sink>(
     // Every outcome except `NoMemory` and `WriteFault` has its row in the table `Answers`, and the text of the row was appended
     // whole.
     ensures answered { let call : Call = call_of I.told I.faults I.given I.started (map voice listeners.items) words.entry.now inputs.old inputs.new in
-        result.outcome ≢ Outcome.NoMemory → result.outcome ≢ Outcome.WriteFault
+        (IsNoMemory result.outcome → ⊥) → result.outcome ≢ Outcome.WriteFault
         → (text : List ℕ) × Answers call result.outcome text × Appends (S.held sink.old) (S.held sink.new) text }
 
     // Yes: all inputs are readable, and the new library may replace the old one in all that the rule file does not suppress. For
@@ -154,7 +161,7 @@ pub fn run<'a, I: Inputs, S: Sink>(
     // then the outcome is a verdict that the command's row allows, with the text that was appended; or memory ran out.
     ensures complete { let call : Call = call_of I.told I.faults I.given I.started (map voice listeners.items) words.entry.now inputs.old inputs.new in
         (asked : PlainRequest) (all : List (List ℕ)) → arguments_by (texts words.entry.now) ≡ requested asked → AreServed call.reading (row_of call asked).inputs all
-        → (Rose (S.faults sink.old) (S.faults sink.new) → ⊥) → result.outcome ≢ Outcome.NoMemory
+        → (Rose (S.faults sink.old) (S.faults sink.new) → ⊥) → (IsNoMemory result.outcome → ⊥)
         → IsVerdict (row_of call asked).says all result.outcome (λ text. Appends (S.held sink.old) (S.held sink.new) text) }
 
     // If the arguments make a request, the bytes of all its inputs are known, and neither reading nor the sink failed, then the
@@ -163,7 +170,7 @@ pub fn run<'a, I: Inputs, S: Sink>(
         (asked : PlainRequest) (all : List (List ℕ)) (which : AnyInput) (fault : AnyFault) → arguments_by (texts words.entry.now) ≡ requested asked
         → TellsEach call.reading.told (places_of (row_of call asked).inputs) all → AreUnfailed call.reading (row_of call asked).inputs
         → FaultOfAll (asks_of (row_of call asked).inputs) all which fault
-        → (Rose (S.faults sink.old) (S.faults sink.new) → ⊥) → result.outcome ≢ Outcome.NoMemory
+        → (Rose (S.faults sink.old) (S.faults sink.new) → ⊥) → (IsNoMemory result.outcome → ⊥)
         → result.outcome ≡ Outcome.Unreadable which fault }
 
     // If no call of the inputs is made to fail, and the bytes of all inputs that the arguments name are known, no fault count of
@@ -194,12 +201,12 @@ pub fn run<'a, I: Inputs, S: Sink>(
     // The outcome is the usage exactly if the arguments are wrong, unless memory runs out or writing fails.
     ensures usage { result.outcome ≡ Outcome.Usage → (arguments_by (texts words.entry.now) ≡ usage) × Appends (S.held sink.old) (S.held sink.new) usage_text }
     ensures wrong_words { arguments_by (texts words.entry.now) ≡ usage
-        → (result.outcome ≡ Outcome.Usage) ⊎ ((result.outcome ≡ Outcome.NoMemory) ⊎ (result.outcome ≡ Outcome.WriteFault)) }
+        → (result.outcome ≡ Outcome.Usage) ⊎ (IsNoMemory result.outcome ⊎ (result.outcome ≡ Outcome.WriteFault)) }
 
     // The outcome is the help exactly if the arguments request it, unless memory runs out or writing fails.
     ensures help { result.outcome ≡ Outcome.Help → (arguments_by (texts words.entry.now) ≡ help) × Appends (S.held sink.old) (S.held sink.new) usage_text }
     ensures help_words { arguments_by (texts words.entry.now) ≡ help
-        → (result.outcome ≡ Outcome.Help) ⊎ ((result.outcome ≡ Outcome.NoMemory) ⊎ (result.outcome ≡ Outcome.WriteFault)) }
+        → (result.outcome ≡ Outcome.Help) ⊎ (IsNoMemory result.outcome ⊎ (result.outcome ≡ Outcome.WriteFault)) }
 
     // Write fault: a write failed in this call, after a prefix of a text that belongs to another possible outcome.
     ensures write_fault { result.outcome ≡ Outcome.WriteFault → Rose (S.faults sink.old) (S.faults sink.new) }
@@ -208,17 +215,17 @@ pub fn run<'a, I: Inputs, S: Sink>(
         → (outcome : AnyOutcome) × (text : List ℕ) × Answers call outcome text × AppendsFront (S.held sink.old) (S.held sink.new) text }
 
     // If memory runs out, the sink is unchanged.
-    ensures no_memory { result.outcome ≡ Outcome.NoMemory → sink.new ≡ sink.old }
+    ensures no_memory { IsNoMemory result.outcome → sink.new ≡ sink.old }
 
     // The names of the inputs are those in the arguments, in the order of the command's row.
-    ensures files { (asked : PlainRequest) → arguments_by (texts words.entry.now) ≡ requested asked → result.outcome ≢ Outcome.NoMemory
+    ensures files { (asked : PlainRequest) → arguments_by (texts words.entry.now) ≡ requested asked → (IsNoMemory result.outcome → ⊥)
         → map plain_file result.files.items ≡ files_of (places_of (command_of (map voice listeners.items) asked).inputs) }
 {
     a_file_may_replace_itself();
     compatible_is_that_accesses_agree();
     match answer_to(alloc, words, inputs, listeners) {
-        Err(NoMemory) => Ended {
-            outcome: Outcome::NoMemory,
+        Err(cause) => Ended {
+            outcome: Outcome::NoMemory(cause),
             files: Vec::new(alloc),
         },
         Ok(answer) => match write_all(sink, &answer.text) {
@@ -253,14 +260,34 @@ fn answer_to<'a, I: Inputs>(
         ParsedArguments::Request(request) => answer_of(alloc, request, inputs, listeners),
         ParsedArguments::Help => Ok(Answer {
             outcome: Outcome::Help,
-            text: text::usage(alloc)?,
+            text: usage(alloc)?,
             files: Vec::new(alloc),
         }),
         ParsedArguments::Usage => Ok(Answer {
             outcome: Outcome::Usage,
-            text: text::usage(alloc)?,
+            text: usage(alloc)?,
             files: Vec::new(alloc),
         }),
+    }
+}
+
+// The inputs of a request and the sources of their bytes. It fails only if memory runs out.
+fn places_in<'a>(alloc: Global, request: Request<'a>) -> Result<Vec<Place<'a>>, NoMemory>
+    requires counted { (count : ℕ) → plain_request request ≡ trial count → (1 ≤ count) × (count ≤ most_functions) }
+    ensures places { let row = command_of [] (plain_request request.entry) in
+        IfOk result (λ places. map plain_place places.items ≡ places_of row.inputs) }
+    ensures short { let row = command_of [] (plain_request request.entry) in AreOwnShort (places_of row.inputs) }
+{
+    match request {
+        Request::Check(words) => Check { words }.places(alloc),
+        Request::Verify(words) => Verify { words }.places(alloc),
+        Request::Entries(library) => Entries { library }.places(alloc),
+        Request::Exports(library) => Exports { library }.places(alloc),
+        Request::Trial(count) => Trial { count }.places(alloc),
+        Request::Migrate(words) => Migrate { words }.places(alloc),
+        Request::Compose(words) => Compose { words }.places(alloc),
+        Request::Layout(words) => Layout { words }.places(alloc),
+        Request::App(words) => App { words }.places(alloc),
     }
 }
 
@@ -280,105 +307,24 @@ fn answer_of<'a, I: Inputs>(
     ensures files { let row = command_of (map voice listeners.items) (plain_request request.entry) in
         IfOk result (λ a. map plain_file a.files.items ≡ files_of (places_of row.inputs)) }
 {
+    let places = places_in(alloc, request)?;
     match request {
-        Request::Check {
-            rules,
-            report,
-            old,
-            new,
-        } => {
-            let command = Check {
-                rules,
-                report,
-                old,
-                new,
-            };
-            let places = command.places(alloc)?;
-            answer_with(alloc, &places, command, inputs, listeners)
+        Request::Check(words) => answer_with(alloc, &places, Check { words }, inputs, listeners),
+        Request::Verify(words) => answer_with(alloc, &places, Verify { words }, inputs, listeners),
+        Request::Entries(library) => {
+            answer_with(alloc, &places, Entries { library }, inputs, listeners)
         }
-        Request::Verify {
-            rules,
-            old,
-            new,
-            certificate,
-        } => {
-            let command = Verify {
-                rules,
-                old,
-                new,
-                certificate,
-            };
-            let places = command.places(alloc)?;
-            answer_with(alloc, &places, command, inputs, listeners)
+        Request::Exports(library) => {
+            answer_with(alloc, &places, Exports { library }, inputs, listeners)
         }
-        Request::Entries { library } => {
-            let command = Entries { library };
-            let places = command.places(alloc)?;
-            answer_with(alloc, &places, command, inputs, listeners)
+        Request::Trial(count) => answer_with(alloc, &places, Trial { count }, inputs, listeners),
+        Request::Migrate(words) => {
+            answer_with(alloc, &places, Migrate { words }, inputs, listeners)
         }
-        Request::Exports { library } => {
-            let command = Exports { library };
-            let places = command.places(alloc)?;
-            answer_with(alloc, &places, command, inputs, listeners)
+        Request::Compose(words) => {
+            answer_with(alloc, &places, Compose { words }, inputs, listeners)
         }
-        Request::Trial { count } => {
-            let command = Trial { count };
-            let places = command.places(alloc)?;
-            answer_with(alloc, &places, command, inputs, listeners)
-        }
-        Request::Migrate {
-            rules,
-            old,
-            new,
-            certificate,
-        } => {
-            let command = Migrate {
-                rules,
-                old,
-                new,
-                certificate,
-            };
-            let places = command.places(alloc)?;
-            answer_with(alloc, &places, command, inputs, listeners)
-        }
-        Request::Compose {
-            first,
-            middle,
-            last,
-            certificate1,
-            certificate2,
-        } => {
-            let command = Compose {
-                first,
-                middle,
-                last,
-                certificate1,
-                certificate2,
-            };
-            let places = command.places(alloc)?;
-            answer_with(alloc, &places, command, inputs, listeners)
-        }
-        Request::Layout { library, tag } => {
-            let command = Layout { library, tag };
-            let places = command.places(alloc)?;
-            answer_with(alloc, &places, command, inputs, listeners)
-        }
-        Request::App {
-            rules,
-            report,
-            app,
-            old,
-            new,
-        } => {
-            let command = App {
-                rules,
-                report,
-                program: app,
-                old,
-                new,
-            };
-            let places = command.places(alloc)?;
-            answer_with(alloc, &places, command, inputs, listeners)
-        }
+        Request::Layout(words) => answer_with(alloc, &places, Layout { words }, inputs, listeners),
+        Request::App(words) => answer_with(alloc, &places, App { words }, inputs, listeners),
     }
 }

@@ -3,12 +3,11 @@ ghost use Rattle.std.specs.Prelude.{◌≡◌, ◌≤◌, ◌<◌, List, [], ◌
 ghost use Rattle.abi_base.specs.Limits.{input_limit};
 ghost use Rattle.trial_libraries.specs.Libraries.{library as made_library};
 ghost use Rattle.trial_libraries.specs.Limits.{most_functions};
-ghost use Rattle.abi_top.specs.Rows.{trial_inputs};
+ghost use Rattle.abi_top.specs.Rows.Trial.{trial_inputs, trial_says};
 ghost use Rattle.commands.specs.Commands.{places_of, plain_place};
 ghost use Rattle.commands.specs.Reading.{AreOwnShort};
 ghost use Rattle.report.specs.declared.styles.report_option.ReportStyle.TheVariants.{Text};
 ghost use Rattle.report.specs.styles.Wanted.{wanted_voices};
-ghost use Rattle.abi_top.specs.Says.{trial_says};
 
 use abi_base::NoMemory;
 use commands::{Command, Input, Judgement, Place, Stop, Verdict};
@@ -40,7 +39,7 @@ fn make_one(alloc: Global, count: u32, side: Side) -> Result<Vec<u8>, NoMemory>
     match make(alloc, count, side) {
         Ok(file) => Ok(file),
         Err(GenRefusal::Size) => unreachable!(),
-        Err(GenRefusal::NoMemory) => Err(NoMemory),
+        Err(GenRefusal::NoMemory) => Err(NoMemory::Allocation),
     }
 }
 
@@ -79,7 +78,7 @@ impl Command for Trial {
             Err(Unchecked::Old(fault)) => Err(Stop::Unreadable(Input::Old, fault)),
             Err(Unchecked::New(fault)) => Err(Stop::Unreadable(Input::New, fault)),
             Err(Unchecked::Rules(_)) => unreachable!(),
-            Err(Unchecked::NoMemory) => Err(Stop::NoMemory),
+            Err(Unchecked::NoMemory(cause)) => Err(Stop::NoMemory(cause)),
         }
     }
 }

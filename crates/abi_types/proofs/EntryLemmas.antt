@@ -5,36 +5,29 @@ use Rattle.std.specs.List.{range_with_len, AllWithin, HoldsAt}
 use Rattle.std.specs.List.Sorted.{IsNonDecreasingBy}
 use Rattle.std.specs.Ordering.{nat_cmp, ordering_index}
 use Rattle.std.specs.declared.cmp.Ordering.TheVariants.{Less, Equal, Greater}
-use Rattle.std.proofs.lemmas.Bool.{cases_lt, cases_order, eq-eqb, ne_eqb}
-use Rattle.std.proofs.lemmas.Bool.Decides.{nat_tests}
+use Rattle.std.proofs.lemmas.Bool.{cases_lt, ne_eqb}
 use Rattle.std.proofs.lemmas.Cmp.{ranked}
 use Rattle.std.proofs.lemmas.List.Elements.{All-from_get_or, All-get_or}
+use Rattle.abi_base.proofs.lemmas.Contained.{in_permutation}
+use Rattle.abi_base.proofs.lemmas.Orders.{nat_equal, index_le}
 use Rattle.abi_types.specs.Types.{PlainNode}
 use Rattle.abi_types.specs.Graphs.{IsGraph, node_at, node_of}
 use Rattle.abi_types.specs.Entries.{entry_at, IsEntryOrder}
-use Rattle.abi_types.proofs.RangeLemmas.{below_all, all_there}
 use Rattle.abi_types.proofs.lemmas.Nodes.{node_of-at}
+use Rattle.abi_types.proofs.lemmas.Ranges.{below_all}
+use Rattle.abi_types.proofs.lemmas.Numbers.{nat_less_is}
 
 -- ---- the search
 
-index-le : (m n e : ℕ) → m ≤ n → ordering_index (nat_cmp m e) ≤ ordering_index (nat_cmp n e)
-index-le m n e le = grind (arith, nat_tests)
-
 pub searchable : (nodes : List PlainNode) (order : List ℕ) (e : ℕ) → IsNonDecreasingBy (entry_at nodes) order → IsNonDecreasingBy (λ (k : ℕ). ordering_index (nat_cmp (entry_at nodes k) e)) order
-searchable nodes order e rises i j d le below = index-le (entry_at nodes (get_or order i d)) (entry_at nodes (get_or order j d)) e (rises i j d le below)
-
-from_equal : (x y : ℕ) → nat_cmp x y ≡ Equal → x ≡ y
-from_equal x y e = ranked x y Equal (sym e)
-
-from_less : (x y : ℕ) → nat_cmp x y ≡ Less → x < y
-from_less x y e = ranked x y Less (sym e)
+searchable nodes order e rises i j d le below = index_le (entry_at nodes (get_or order i d)) (entry_at nodes (get_or order j d)) e (rises i j d le below)
 
 from_greater : (x y : ℕ) → nat_cmp x y ≡ Greater → y < x
 from_greater x y e = ranked x y Greater (sym e)
 
 -- the number at the place that was found
 pub found_number : (nodes : List PlainNode) (order : List ℕ) (e k : ℕ) → HoldsAt (λ (i : ℕ). nat_cmp (entry_at nodes i) e ≡ Equal) order k → entry_at nodes (get_or order k 0) ≡ e
-found_number nodes order e k equal = from_equal (entry_at nodes (get_or order k 0)) e (equal 0)
+found_number nodes order e k equal = nat_equal (entry_at nodes (get_or order k 0)) e (equal 0)
 
 pub number_inside : (nodes : List PlainNode) (order : List ℕ) (k : ℕ) → IsEntryOrder order nodes → k < length order → get_or order k 0 < length nodes
 number_inside nodes order k is inside = All-get_or (λ (i : ℕ). i < length nodes) order k 0 inside (below_all (length nodes) order is.all)
@@ -44,7 +37,7 @@ pub no_number : (nodes : List PlainNode) (order : List ℕ) (e i : ℕ) → AllW
 no_number nodes order e i parted =
     All-from_get_or (λ (k : ℕ). entry_at nodes k ≢ e) order 0 (λ k below same.
     elim (cases_lt k i) [
-      | inl before ↦ let lt = from_less (entry_at nodes (get_or order k 0)) e (parted.0 k 0 (omega arith) before) in omega arith
+      | inl before ↦ let lt = nat_less_is (entry_at nodes (get_or order k 0)) e (parted.0 k 0 (omega arith) before) in omega arith
       | inr past ↦ let gt = from_greater (entry_at nodes (get_or order k 0)) e (parted.1 k 0 past below) in omega arith
     ])
 
@@ -64,7 +57,7 @@ node_of-none nodes entry none = find_range-none (λ (j : ℕ). (node_at nodes j)
 node_of-from_order : (nodes : List PlainNode) (order : List ℕ) (entry : ℕ) → IsEntryOrder order nodes → All (λ (k : ℕ). entry_at nodes k ≢ entry) order → node_of nodes entry ≡ None
 node_of-from_order nodes order entry is none =
     node_of-none nodes entry (λ i inside same.
-    let has = all_there (length nodes) order i is.all inside in
+    let has = in_permutation (length nodes) order i is.all inside in
     All-get_or (λ (k : ℕ). entry_at nodes k ≢ entry) order has.0 i has.1 none (ap (entry_at nodes) has.2 ∙ same))
 
 -- the answers of a search in a graph that is seen as its nodes

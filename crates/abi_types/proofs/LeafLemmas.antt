@@ -1,7 +1,8 @@
 -- The leaves of a node are its step.
 use Rattle.std.proofs.Common.{◌≡◌, ◌≢◌, ◌+◌, ℕ, zero, suc, List, [], ◌∷◌, ◌++◌, Option, Some, None, refl, ap, subst, arith}
-use Rattle.std.specs.Prelude.{Bool, true, false, ◌==◌}
-use Rattle.std.specs.List.{flat_map, range_with_len}
+use Rattle.std.specs.Prelude.{Bool, true, false}
+use Rattle.std.specs.List.{range_with_len}
+use Rattle.abi_base.proofs.lemmas.Lists.{flat_map-same, same_functions}
 use Rattle.abi_types.specs.Types.{PlainPart, Member, Enumerator, Target, Element, Outcome, Param, PlainView, PlainNode}
 use Rattle.abi_types.specs.Forms.{is_array}
 use Rattle.abi_types.specs.Graphs.{IsGraph, view_at, part_at, inner_of}
@@ -9,24 +10,8 @@ use Rattle.abi_types.specs.declared.leaf.Leaf.{Leaf}
 use Rattle.abi_types.specs.ByValue.{AsksInside}
 use Rattle.abi_types.specs.Inside.{Inside, member_inside, element_inside, inside_at, count_inside}
 use Rattle.abi_types.specs.Leaves.{leaves_inside, leaves_step, no_leaves, leaves_of}
-use Rattle.abi_types.proofs.Recursion.{by_value-step}
-
-pub range-more : (a n j : ℕ) → a + n ≡ j → range_with_len a (n + 1) ≡ range_with_len a n ++ j ∷ []
-range-more a zero j e = let f : j ≡ a = omega arith in rw f refl
-range-more a (suc n) j e =
-    let later = range-more (a + 1) n j (omega arith) in
-    let p : suc n + 1 ≡ suc (n + 1) = omega arith in
-    rw p (ap (λ (xs : List ℕ). a ∷ xs) later)
-
-flat_map-same : {X A : Type 0} (f g : X → List A) (xs : List X) → ((x : X) → f x ≡ g x) → flat_map f xs ≡ flat_map g xs
-flat_map-same f g [] same = refl
-flat_map-same f g (x ∷ xs) same = let later = flat_map-same f g xs same in rw (same x, later) refl
-
-same_functions : {A B C : Type 0} (f g : A → B → C) → ((a : A) (b : B) → f a b ≡ g a b) → f ≡ g
-same_functions f g same = λ i a b. same a b i
-
-same_Some_Inside : (x y : Inside) → Some x ≡ Some y → x ≡ y
-same_Some_Inside x y e = cc
+use Rattle.abi_types.proofs.lemmas.Kinds.{same_Some_Inside}
+use Rattle.abi_types.proofs.lemmas.ByValue.{by_value-step}
 
 -- what stands inside is what a part names by value
 element-named : (nodes : List PlainNode) (P : ℕ → Type 0) (o : Option ℕ) (n : ℕ) (x : Inside) → element_inside nodes o n ≡ Some x → ((to : ℕ) → o ≡ Some to → P to) → P x.to
@@ -62,6 +47,3 @@ leaves_step-inside nodes f g i same = same_functions (leaves_step nodes f i) (le
 pub leaves_of-step : (nodes : List PlainNode) → IsGraph nodes → (i bit width : ℕ) → leaves_of nodes i bit width ≡ leaves_step nodes (leaves_of nodes) i bit width
 unfolding leaves_of
 leaves_of-step nodes is i bit width = ap (λ (h : ℕ → ℕ → List Leaf). h bit width) (by_value-step no_leaves (leaves_step nodes) nodes is (leaves_step-inside nodes) i)
-
-pub is_zero : (n : ℕ) → n ≢ 0 → (n == 0) ≡ false
-is_zero n ne = grind arith

@@ -1,10 +1,10 @@
 mod EntryLemmas
+mod KeyLemmas
 mod LeafLemmas
 mod LikeLemmas
 mod LookupLemmas
 mod NameLemmas
-mod RangeLemmas
-mod Recursion
 mod ShapedLemmas
+mod VersionLemmas
 mod WalkLemmas
 pub mod lemmas

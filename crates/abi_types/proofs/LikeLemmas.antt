@@ -8,16 +8,13 @@ use Rattle.std.proofs.lemmas.List.Sums.{sum_by-cons, count_by_more_yes, count_by
 use Rattle.std.proofs.lemmas.Bool.{false≢true, and_parts}
 use Rattle.std.proofs.lemmas.Bool.Decides.{nat_tests, same_from_decides}
 use Rattle.std.proofs.lemmas.Slice.Eq.{bytes_eq-Decides}
+use Rattle.abi_base.proofs.lemmas.Cases.{bool_cases}
 use Rattle.abi_types.specs.declared.sort.Sort.{Sort}
 use Rattle.abi_types.specs.declared.sort.Sort.TheVariants as sort
 use Rattle.abi_types.specs.Types.{PlainPart, Member, Enumerator, Target, Element, Outcome, Param}
 use Rattle.abi_types.specs.Graphs.{no_part}
 use Rattle.abi_types.specs.Parts.{like, place_of, like_before}
 use Rattle.abi_types.specs.Sorts.{sort_of, name_of, same_sort}
-
-pub bool_cases : {P : Type 0} (b : Bool) → (b ≡ true → P) → (b ≡ false → P) → P
-bool_cases true here other = here refl
-bool_cases false here other = other refl
 
 -- ---- alike
 

@@ -8,6 +8,7 @@ use Rattle.std.specs.HashMap.{get_by}
 use Rattle.std.specs.Map.{lookup}
 use Rattle.std.proofs.lemmas.List.{take_more, length-take-le, length_push, get_or_append_left, get_or_push, take_all}
 use Rattle.std.proofs.lemmas.List.Sums.{sum_by_push}
+use Rattle.abi_base.proofs.lemmas.Cases.{bool_cases}
 use Rattle.abi_types.specs.declared.sort.Sort.{Sort}
 use Rattle.abi_types.specs.Types.{PlainPart}
 use Rattle.abi_types.specs.Graphs.{no_part}
@@ -15,7 +16,7 @@ use Rattle.abi_types.specs.Parts.{like, place_of, like_before}
 use Rattle.abi_types.specs.Sorts.{sort_of, name_of, same_sort}
 use Rattle.abi_types.specs.declared.lookup.Lookup.{Lookup}
 use Rattle.abi_types.specs.Lookups.{Counts, Places, count_under, place_under, IsLookup}
-use Rattle.abi_types.proofs.LikeLemmas.{bool_cases, like_is, like-sym, like_sort, like_name, like-same, count_by-agree, place_of-push}
+use Rattle.abi_types.proofs.LikeLemmas.{like_is, like-sym, like_sort, like_name, like-same, count_by-agree, place_of-push}
 
 -- the number under a sort and a name, and the position under a sort, a name and a number
 abbrev pub number_at : Counts → Sort → List ℕ → Option ℕ

@@ -5,7 +5,7 @@ use Rattle.std.proofs.lemmas.Bool.{cases_lt, cases_order, false≢true}
 use Rattle.std.proofs.lemmas.List.{get_or_past, get_or_read, get_or-set_same, get_or-set_other, get_or-take, take-take, length-append}
 use Rattle.std.proofs.Math.Seq.{take-append_seam, get_or-append_seam}
 use Rattle.std.proofs.lemmas.List.Sums.{sum_by-cons}
-use Rattle.std.proofs.lemmas.List.FromFn.{length-map-range_with_len, get_or-map-range_with_len, fill_by_all}
+use Rattle.std.proofs.lemmas.List.FromFn.{length-map-range_with_len, fill_by_all}
 use Rattle.abi_types.specs.declared.place.CallShape.{CallShape}
 use Rattle.abi_types.specs.Types.{PlainPart, Param, PlainView, PlainNode}
 use Rattle.abi_types.specs.Forms.{has_elements, is_function, no_call, HasForm}
@@ -13,6 +13,7 @@ use Rattle.abi_types.specs.Limits.{align_room}
 use Rattle.abi_types.specs.Graphs.{IsGraph, KeepsLimits, KeepsBits, node_at, view_at, part_at, no_part, void_node, call_at, shaped_node, shaped, to_of, inner_of, room_of, rooms}
 use Rattle.abi_types.specs.Calls.{IsSameButCall}
 use Rattle.abi_types.specs.Entries.{entry_at, IsEntryOrder}
+use Rattle.abi_types.proofs.lemmas.Shaped.{node_at-shaped}
 
 -- ---- one node
 
@@ -71,10 +72,6 @@ IsShaped-shaped_node n call = go (is_function n.view.kind) refl where
 pub length-shaped : (nodes : List PlainNode) (calls : List CallShape) → length (shaped nodes calls) ≡ length nodes
 unfolding shaped
 length-shaped nodes calls = length-map-range_with_len (λ i. shaped_node (node_at nodes i) (call_at calls i)) 0 (length nodes)
-
-node_at-shaped : (nodes : List PlainNode) (calls : List CallShape) (i : ℕ) → i < length nodes → node_at (shaped nodes calls) i ≡ shaped_node (node_at nodes i) (call_at calls i)
-unfolding shaped
-node_at-shaped nodes calls i inside = get_or-map-range_with_len (λ i. shaped_node (node_at nodes i) (call_at calls i)) 0 (length nodes) i i void_node inside (omega arith)
 
 pub IsShaped-at : (nodes : List PlainNode) (calls : List CallShape) (i : ℕ) → IsShaped (node_at nodes i) (node_at (shaped nodes calls) i)
 IsShaped-at nodes calls i =

@@ -20,4 +20,5 @@ pub mod ClassLooks
 pub mod Shown
 pub mod Sorts
 pub mod Types
+pub mod Versions
 pub mod Walks

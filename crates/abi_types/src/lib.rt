@@ -19,6 +19,7 @@ mod place;
 mod rule;
 mod shown;
 mod sort;
+mod versions;
 mod view;
 
 pub use export::{Export, SymbolKind};

@@ -4,12 +4,14 @@ ghost use Rattle.std.specs.Option.{option_copied};
 ghost use Rattle.abi_types.specs.Plain.{plain_exports};
 ghost use Rattle.abi_types.specs.Libraries.{plain_library, IsLibrary};
 ghost use Rattle.abi_types.specs.Names.{AreNamed};
+ghost use Rattle.abi_types.specs.Versions.{AreVersioned};
 ghost use Rattle.sha2.specs.Sha256.{sha256};
 
 use crate::export::Export;
 use crate::graph::Graph;
 use crate::index::Index;
 use crate::names::{name_order_of, named_in};
+use crate::versions::{version_order_of, versioned_in};
 use abi_base::{List, NoMemory};
 use sha2::{Digest, Sha256};
 use std::alloc::Global;
@@ -25,6 +27,8 @@ pub struct Library<'a, Ix: Index> {
     graph: Graph<'a, Ix>,
     // The positions of the exports, ordered by name.
     by_name: Vec<usize>,
+    // The positions of the exports, ordered by name and version.
+    by_version: Vec<usize>,
 }
 
 impl<'a, Ix: Index> Model for Library<'a, Ix> {
@@ -35,11 +39,12 @@ impl<'a, Ix: Index> Model for Library<'a, Ix> {
     ghost use Rattle.abi_types.specs.Plain.{plain_exports};
     ghost use Rattle.abi_types.specs.Libraries.{plain_library, IsLibrary};
     ghost use Rattle.abi_types.specs.Names.{IsNameOrder};
+    ghost use Rattle.abi_types.specs.Versions.{IsVersionOrder};
     ghost use Rattle.sha2.specs.Sha256.{sha256};
 
     ghost view = { λ l. plain_library (sha256 l.file.now) l.soname l.exports l.graph };
 
-    ghost invariant = { λ l. IsLibrary (plain_exports l.exports) l.graph × IsNameOrder l.by_name.items (plain_exports l.exports) };
+    ghost invariant = { λ l. IsLibrary (plain_exports l.exports) l.graph × IsNameOrder l.by_name.items (plain_exports l.exports) × IsVersionOrder l.by_version.items (plain_exports l.exports) };
 }
 
 impl<'a, Ix: Index> Library<'a, Ix> {
@@ -55,12 +60,14 @@ impl<'a, Ix: Index> Library<'a, Ix> {
         ensures { IfOk result (λ library. library ≡ plain_library (sha256 file.now) soname.entry exports.entry graph.entry) }
     {
         let by_name = name_order_of(alloc, exports.as_slice())?;
+        let by_version = version_order_of(alloc, exports.as_slice())?;
         Ok(Library {
             file,
             soname,
             exports,
             graph,
             by_name,
+            by_version,
         })
     }
 
@@ -98,6 +105,19 @@ impl<'a, Ix: Index> Library<'a, Ix> {
         ensures { AreNamed self.now.exports name.now result.now }
     {
         named_in(self.exports.as_slice(), self.by_name.as_slice(), name)
+    }
+
+    /// The positions of all exports with this name and this version, or with this name and no version, in ascending order. Takes two
+    /// binary searches and no memory.
+    pub fn exports_of_version(&self, name: &[u8], version: Option<&[u8]>) -> &[usize]
+        ensures { AreVersioned self.now.exports name.now (option_copied version.entry) result.now }
+    {
+        versioned_in(
+            self.exports.as_slice(),
+            self.by_version.as_slice(),
+            name,
+            version,
+        )
     }
 
     /// The types of the exports.

@@ -12,8 +12,8 @@ use abi_base::NoMemory;
 use std::alloc::Global;
 use std::cmp::Ordering;
 
-// The name of the export at a position, empty past the last export.
-fn name_at<'a>(exports: &[Export<'a>], k: usize) -> &'a [u8]
+/// The name of the export at a position, empty past the last export.
+pub fn name_at<'a>(exports: &[Export<'a>], k: usize) -> &'a [u8]
     ensures { result.now ≡ spec.name_at (plain_exports exports.now) k }
 {
     if k < exports.len() {
@@ -23,8 +23,8 @@ fn name_at<'a>(exports: &[Export<'a>], k: usize) -> &'a [u8]
     }
 }
 
-// The order of the name of the export at a position relative to `name`.
-fn name_order(exports: &[Export], k: usize, name: &[u8]) -> Ordering
+/// The order of the name of the export at a position relative to `name`.
+pub fn name_order(exports: &[Export], k: usize, name: &[u8]) -> Ordering
     ensures { result ≡ named_cmp (plain_exports exports.now) name.now k }
 {
     name_at(exports, k).cmp(name)
@@ -78,8 +78,8 @@ fn count_upto(exports: &[Export], places: &[usize], name: &[u8]) -> usize
     places.partition_point(|k| stands_upto(exports, *k, name))
 }
 
-// The positions from `start` up to `end`.
-fn between(places: &[usize], start: usize, end: usize) -> &[usize]
+/// The positions from `start` up to `end`.
+pub fn between(places: &[usize], start: usize, end: usize) -> &[usize]
     requires rises { start ≤ end }
     requires inside { end ≤ length places.now }
     ensures { result.now ≡ take (end - start) (drop start places.now) }

@@ -6,6 +6,7 @@ use Rattle.std.specs.Option.{option_map}
 use Rattle.std.proofs.lemmas.Bool.{and_parts, not-true, not-false, eqb-true, false_from_ne_true, false≢true}
 use Rattle.std.proofs.lemmas.List.Sums.{length-filter}
 use Rattle.std.proofs.lemmas.Option.{none-some}
+use Rattle.abi_base.proofs.lemmas.Lists.{fewer_before}
 use Rattle.abi_types.specs.declared.kind.Kind.{Kind}
 use Rattle.abi_types.specs.declared.rule.Rule.{Rule}
 use Rattle.abi_types.specs.declared.rule.Rule.TheVariants.{TypeSize, ScalarGroup, TypeAlignment, MemberPresence, MemberOffset, BitFieldWidth, EnumeratorPresence, EnumeratorValue, ElementCount, ParameterCount, VariadicArguments, PassingPlace}
@@ -20,7 +21,7 @@ use Rattle.pair_rules.specs.TypeRules.{is_declaration, are_compared, breaks_whol
 use Rattle.accesses.specs.Moves.{Move, named, IsNamed}
 use Rattle.accesses.proofs.Known.{Laws}
 use Rattle.accesses.proofs.Naming.{named-match, is_single}
-use Rattle.accesses.proofs.Forming.{single-first, single-too, param-function, fewer-before}
+use Rattle.accesses.proofs.Forming.{single-first, single-too, param-function}
 
 -- ---- what is not broken
 
@@ -87,7 +88,7 @@ param-unmatched laws v w form compared none i to inside is missing =
     let like-param : like (part_at v i) ≡ is_param = rw is (λ k q. likes q k) in
     let P : (PlainPart → Bool) → Type 0 = λ f. length (filter f w.parts) ≤ length (filter f (take i v.parts)) in
     let few : length (filter is_param w.parts) ≤ length (filter is_param (take i v.parts)) = subst P like-param ((laws.missing v w i).0 missing) in
-    let fewer = fewer-before is_param v.parts i no_part inside param in
+    let fewer = fewer_before is_param v.parts i no_part inside param in
     omega (arith, length-filter is_param v.parts, length-filter is_param w.parts)
   where
     likes : (q : PlainPart) → like (Param to) q ≡ is_param q

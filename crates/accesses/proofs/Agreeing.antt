@@ -10,6 +10,7 @@ use Rattle.std.proofs.lemmas.List.{same_lists}
 use Rattle.std.proofs.lemmas.List.Sums.{length-filter, AllPass-from_list_all}
 use Rattle.std.proofs.lemmas.Option.{slice_get-get_or}
 use Rattle.std.proofs.lemmas.Slice.Eq.{bytes_eq-Decides}
+use Rattle.abi_base.proofs.lemmas.Bools.{beq_is_same}
 use Rattle.abi_types.specs.declared.kind.Kind.{Kind}
 use Rattle.abi_types.specs.declared.kind.Kind.TheVariants as kind
 use Rattle.abi_types.specs.declared.place.Place.{Place}
@@ -25,17 +26,12 @@ use Rattle.pair_rules.specs.Matching.{match_of, number_of}
 use Rattle.pair_rules.specs.TypeRules.{has_size, has_alignment, is_declaration, are_compared, breaks_whole, breaks_part, speaks_of_parts, rules_asked, broken_at, breaks, value_at, value_of, in_bytes, params_of, is_outcome, param_moved, places_differ, differs, IsBroken}
 use Rattle.accesses.specs.Agreement.{Agree, AgreeDefined, HasValue}
 use Rattle.accesses.proofs.Known.{Laws}
-use Rattle.accesses.proofs.Naming.{number_of-filter}
 use Rattle.accesses.proofs.Forming.{no_params}
 use Rattle.accesses.proofs.Advancing.{unlisted, unbroken_part, unbroken_whole, first_false, same-number, unmatched}
+use Rattle.pair_rules.proofs.lemmas.Asked.{rules_asked-kinds, rules_asked-declared}
+use Rattle.pair_rules.proofs.lemmas.Places.{number_of-filter}
 
 -- ---- kinds and tags
-
-rules_asked-kinds : (v w : PlainView) → same_kind v.kind w.kind ≡ false → rules_asked v w ≡ KindOfType ∷ []
-rules_asked-kinds v w e = rw e refl
-
-rules_asked-declared : (v w : PlainView) → same_kind v.kind w.kind ≡ true → is_declaration v w ≡ true → rules_asked v w ≡ DeclarationTag ∷ []
-rules_asked-declared v w e d = rw (e, d) refl
 
 -- the one rule that is checked is not broken
 alone : Laws → (v w : PlainView) (rule : Rule) → rules_asked v w ≡ rule ∷ [] → speaks_of_parts rule ≡ false → breaks v w ≡ [] → breaks_whole rule v w ≡ false
@@ -70,11 +66,6 @@ sized kind.Void m n one other e = one ∙ sym other
 sized kind.Pointer m n one other e = one ∙ sym other
 sized kind.Function m n one other e = one ∙ sym other
 sized k m n one other e = absurd cc
-
-same-beq : (a b : Bool) → beq a b ≡ true → a ≡ b
-same-beq true true e = refl
-same-beq false false e = refl
-same-beq a b e = absurd cc
 
 -- ---- the parameters of a function stand in order behind its result
 
@@ -180,7 +171,7 @@ module _ (laws : Laws) (v w : PlainView) (form : HasForm v) (form' : HasForm w) 
       elim (cases_Bool (is_function v.kind)) [
         | inl asked ↦
             let unbroken : (is_function v.kind && not (beq v.variadic w.variadic)) ≡ false = unbroken_whole laws v w compared none 10 VariadicArguments (omega arith) refl refl in
-            same-beq v.variadic w.variadic (not-false (beq v.variadic w.variadic) (first_false (is_function v.kind) (not (beq v.variadic w.variadic)) unbroken asked))
+            beq_is_same v.variadic w.variadic (not-false (beq v.variadic w.variadic) (first_false (is_function v.kind) (not (beq v.variadic w.variadic)) unbroken asked))
         | inr fixed ↦ form.variadic fixed ∙ sym (form'.variadic (sym (ap is_function kinds) ∙ fixed))
       ]
 

@@ -8,6 +8,7 @@ use Rattle.std.specs.Str.{bytes_eq}
 use Rattle.std.proofs.lemmas.Bool.{cases_Bool, and_parts, and_from, or_cases, both_ways, eq-eqb, false≢true, not_from_false, not_from_true}
 use Rattle.std.proofs.lemmas.List.Sums.{AllPass-from_list_all}
 use Rattle.std.proofs.lemmas.Slice.Eq.{bytes_eq-Decides}
+use Rattle.abi_base.proofs.lemmas.Bools.{beq_same}
 use Rattle.abi_types.specs.declared.rule.Rule.{Rule}
 use Rattle.abi_types.specs.declared.rule.Rule.TheVariants.{KindOfType, TypeSize, ScalarGroup, TypeAlignment, DeclarationTag, MemberPresence, MemberOffset, BitFieldWidth, EnumeratorPresence, EnumeratorValue, ElementCount, ParameterCount, VariadicArguments, PassingPlace}
 use Rattle.abi_types.specs.declared.place.Place.{Place}
@@ -30,12 +31,8 @@ not-same-number m n e t = both_ways (not (eqb m n)) (not_from_true (eqb m n) (eq
 not-and : (x y : Bool) → (y ≡ true → ⊥) → (x && y) ≡ true → ⊥
 not-and x y fails t = fails (and_parts x y t).1
 
-beq-same : (b : Bool) → beq b b ≡ true
-beq-same true = refl
-beq-same false = refl
-
 not-beq : (a b : Bool) → a ≡ b → not (beq a b) ≡ true → ⊥
-not-beq a b e t = both_ways (not (beq a b)) (not_from_true (beq a b) (subst (λ (x : Bool). beq a x ≡ true) e (beq-same a))) t
+not-beq a b e t = both_ways (not (beq a b)) (not_from_true (beq a b) (subst (λ (x : Bool). beq a x ≡ true) e (beq_same a))) t
 
 -- ---- rule by rule
 

@@ -1,11 +1,11 @@
 -- Where no path leads to a break, some closed relation holds the roots: what breaks nothing within so many steps, for as many steps
 -- as change nothing more.
 use Rattle.std.proofs.Common.{◌≡◌, ◌<◌, ◌≤◌, ℕ, zero, suc, Bool, true, false, List, [], ◌∷◌, length, Option, Some, None, slice_get, refl, sym, ◌∙◌, ap, subst, eqb, arith, inl, inr}
-use Rattle.std.specs.Prelude.{◌&&◌, ◌||◌, ◌⊎◌, nat_lt}
+use Rattle.std.specs.Prelude.{◌&&◌, ◌||◌, ◌⊎◌}
 use Rattle.std.specs.List.{filter, flat_map, list_all, range_with_len, Contains, AllByRecursion}
-use Rattle.std.proofs.lemmas.Bool.{cases_Bool, and_parts, and_from, or_cases, or_left, or_right, eqb-true, lt-ltb, ltb-true, both_ways}
-use Rattle.std.proofs.lemmas.List.Elements.{Contains-append_left, Contains-append_right}
-use Rattle.std.proofs.lemmas.List.FromFn.{length-range_with_len, get_or-range_with_len}
+use Rattle.std.proofs.lemmas.Bool.{cases_Bool, and_parts, and_from, or_cases, or_left, or_right, eqb-true, both_ways}
+use Rattle.abi_base.proofs.lemmas.Lists.{list_all-weaker}
+use Rattle.abi_base.proofs.lemmas.Contained.{list_all_in, in_none, at_front, in_range, in_front, in_rest}
 use Rattle.abi_types.specs.declared.kind.Way.{Way}
 use Rattle.abi_types.specs.declared.kind.Way.TheVariants as way
 use Rattle.abi_types.specs.Graphs.{view_at}
@@ -15,37 +15,15 @@ use Rattle.pair_rules.specs.Paths.{Path, From, Then as Onward, PathLeadsTo, root
 use Rattle.pair_rules.specs.Closed.{AreCompatible, IsClosed}
 use Rattle.pair_rules.specs.Stable.{IsInside, is_inside}
 use Rattle.accesses.proofs.Known.{Laws}
+use Rattle.pair_rules.proofs.lemmas.Triples.{IsInside-from, is_inside-from}
+use Rattle.pair_rules.proofs.lemmas.Lists.{in_flat_map}
 
 -- ---- what is in a list that is made from others
-
-in_none : {X : Type 0} (x : X) → Contains [] x → ⊥
-in_none x (k, inside, at) = omega arith
-
-in_first : {X : Type 0} (x : X) (xs : List X) → Contains (x ∷ xs) x
-in_first x xs = (0, omega arith, refl)
-
-in_rest : {X : Type 0} (x y : X) (xs : List X) → Contains xs y → Contains (x ∷ xs) y
-in_rest x y xs c = Contains-append_right (x ∷ []) xs y c
-
-first_or_rest : {X : Type 0} (x y : X) (xs : List X) → Contains (x ∷ xs) y → (x ≡ y) ⊎ Contains xs y
-first_or_rest x y xs (zero, inside, at) = inl at
-first_or_rest x y xs (suc k, inside, at) = inr (k, omega arith, at)
-
-flat_map_in : {X Y : Type 0} (f : X → List Y) (xs : List X) (x : X) (y : Y) → Contains xs x → Contains (f x) y → Contains (flat_map f xs) y
-flat_map_in f [] x y c d = absurd (in_none x c)
-flat_map_in {X} {Y} f (z ∷ xs) x y c d =
-    elim (first_or_rest z x xs c) [
-      | inl here ↦ let P : X → Type 0 = λ u. Contains (f u) y in Contains-append_left (f z) (flat_map f xs) y (subst P (sym here) d)
-      | inr there ↦ Contains-append_right (f z) (flat_map f xs) y (flat_map_in f xs x y there d)
-    ]
-
-range_in : (n i : ℕ) → i < n → Contains (range_with_len 0 n) i
-range_in n i below = (i, omega (arith, length-range_with_len 0 n), get_or-range_with_len 0 n i i below ∙ omega arith)
 
 by_recursion_at : {X : Type 0} (P : X → Type 0) (xs : List X) (x : X) → AllByRecursion P xs → Contains xs x → P x
 by_recursion_at P [] x all c = absurd (in_none x c)
 by_recursion_at P (y ∷ xs) x all c =
-    elim (first_or_rest y x xs c) [
+    elim (in_front y xs x c) [
       | inl here ↦ subst P here all.0
       | inr there ↦ by_recursion_at P xs x all.1 there
     ]
@@ -63,14 +41,14 @@ triples t = flat_map (with_old t) (range_with_len 0 (length t.old))
 
 in_both_ways : (a b : ℕ) (at : Way) → Contains (both_ways_of a b) (record { old = a; new = b; way = at })
 unfolding both_ways_of
-in_both_ways a b way.Direct = in_first (record { old = a; new = b; way = way.Direct }) (record { old = a; new = b; way = way.Pointer } ∷ [])
-in_both_ways a b way.Pointer = in_rest (record { old = a; new = b; way = way.Direct }) (record { old = a; new = b; way = way.Pointer }) (record { old = a; new = b; way = way.Pointer } ∷ []) (in_first (record { old = a; new = b; way = way.Pointer }) [])
+in_both_ways a b way.Direct = at_front (record { old = a; new = b; way = way.Direct }) (record { old = a; new = b; way = way.Pointer } ∷ [])
+in_both_ways a b way.Pointer = in_rest (record { old = a; new = b; way = way.Direct }) (record { old = a; new = b; way = way.Pointer } ∷ []) (record { old = a; new = b; way = way.Pointer }) (at_front (record { old = a; new = b; way = way.Pointer }) [])
 
 in_triples : (t : Task) (x : Triple) → IsInside t x → Contains (triples t) x
 unfolding triples with_old
 in_triples t x inside =
-    flat_map_in (with_old t) (range_with_len 0 (length t.old)) x.old x (range_in (length t.old) x.old inside.old)
-    (flat_map_in (both_ways_of x.old) (range_with_len 0 (length t.new)) x.new x (range_in (length t.new) x.new inside.new) (in_both_ways x.old x.new x.way))
+    in_flat_map (with_old t) (range_with_len 0 (length t.old)) x.old x (in_range (length t.old) x.old inside.old)
+    (in_flat_map (both_ways_of x.old) (range_with_len 0 (length t.new)) x.new x (in_range (length t.new) x.new inside.new) (in_both_ways x.old x.new x.way))
 
 -- ---- fewer and fewer, until none goes
 
@@ -142,21 +120,6 @@ unfolding holds
 holds-keeps t zero x e = e
 holds-keeps t (suc n) x e = (and_parts (keeps t x) (list_all (λ i. on (step t x i) (holds t n)) (range_with_len 0 (length (view_at t.old x.old).parts))) e).0
 
-list_all-weaker : {X : Type 0} (p q : X → Bool) → ((x : X) → p x ≡ true → q x ≡ true) → (xs : List X) → list_all p xs ≡ true → list_all q xs ≡ true
-list_all-weaker p q weaker [] all = refl
-list_all-weaker p q weaker (x ∷ xs) all =
-    let both = and_parts (p x) (list_all p xs) all in
-    and_from (q x) (list_all q xs) (weaker x both.0) (list_all-weaker p q weaker xs both.1)
-
-list_all-at : {X : Type 0} (p : X → Bool) (xs : List X) (x : X) → list_all p xs ≡ true → Contains xs x → p x ≡ true
-list_all-at p [] x all c = absurd (in_none x c)
-list_all-at {X} p (y ∷ xs) x all c =
-    let both = and_parts (p y) (list_all p xs) all in
-    elim (first_or_rest y x xs c) [
-      | inl here ↦ subst (λ (z : X). p z ≡ true) here both.0
-      | inr there ↦ list_all-at p xs x both.1 there
-    ]
-
 list_all-from : {X : Type 0} (p : X → Bool) (xs : List X) → ((x : X) → p x ≡ true) → list_all p xs ≡ true
 list_all-from p [] each = refl
 list_all-from p (x ∷ xs) each = and_from (p x) (list_all p xs) (each x) (list_all-from p xs each)
@@ -199,14 +162,6 @@ settled t = let many = length (filter (holds t 0) (triples t)) in settle t many 
 abbrev surviving : Task → ℕ → Triple → Bool
 surviving t n x = is_inside t x && holds t n x
 
-inside-parts : (t : Task) (x : Triple) → is_inside t x ≡ true → IsInside t x
-inside-parts t x e =
-    let both = and_parts (nat_lt x.old (length t.old)) (nat_lt x.new (length t.new)) e in
-    record { old = ltb-true x.old (length t.old) both.0; new = ltb-true x.new (length t.new) both.1 }
-
-inside-from : (t : Task) (x : Triple) → IsInside t x → is_inside t x ≡ true
-inside-from t x inside = and_from (nat_lt x.old (length t.old)) (nat_lt x.new (length t.new)) (lt-ltb x.old (length t.old) inside.old) (lt-ltb x.new (length t.new) inside.new)
-
 -- what stepping leads to inside the graphs
 abbrev StepsInside : Task → Type 0
 StepsInside t = (x y : Triple) (i : ℕ) → step t x i ≡ Some y → IsInside t y
@@ -218,12 +173,12 @@ surviving-closed laws t inside s = record {
   leads_on = λ x y i e stepped.
       let both = and_parts (is_inside t x) (holds t s.steps x) e in
       let range = range_with_len 0 (length (view_at t.old x.old).parts) in
-      let more : holds t (suc s.steps) x ≡ true = by_recursion_at (λ z. holds t s.steps z ≡ true → holds t (suc s.steps) z ≡ true) (triples t) x s.same (in_triples t x (inside-parts t x both.0)) both.1 in
+      let more : holds t (suc s.steps) x ≡ true = by_recursion_at (λ z. holds t s.steps z ≡ true → holds t (suc s.steps) z ≡ true) (triples t) x s.same (in_triples t x (IsInside-from t x both.0)) both.1 in
       let all = (and_parts (keeps t x) (list_all (λ j. on (step t x j) (holds t s.steps)) range) more).1 in
       let is = (laws.steps t x y i).0 stepped in
-      let here : on (step t x i) (holds t s.steps) ≡ true = list_all-at (λ j. on (step t x j) (holds t s.steps)) range i all (range_in (length (view_at t.old x.old).parts) i is.partners.old_inside) in
+      let here : on (step t x i) (holds t s.steps) ≡ true = list_all_in (λ j. on (step t x j) (holds t s.steps)) range i all (in_range (length (view_at t.old x.old).parts) i is.partners.old_inside) in
       let there : holds t s.steps y ≡ true = sym (ap (λ o. on o (holds t s.steps)) stepped) ∙ here in
-      and_from (is_inside t y) (holds t s.steps y) (inside-from t y (inside x y i stepped)) there;
+      and_from (is_inside t y) (holds t s.steps y) (is_inside-from t y (inside x y i stepped)) there;
 }
 
 -- no path leads to a break
@@ -247,5 +202,5 @@ compatible_from_none laws t inside roots none =
       surviving-closed laws t inside s,
       λ k root at.
           let leads : PathLeadsTo t (From root.export) (root_triple root) = (k, root, at, refl, refl) in
-          and_from (is_inside t (root_triple root)) (holds t s.steps (root_triple root)) (inside-from t (root_triple root) (roots k root at)) (reachable-holds t none s.steps (From root.export) (root_triple root) leads),
+          and_from (is_inside t (root_triple root)) (holds t s.steps (root_triple root)) (is_inside-from t (root_triple root) (roots k root at)) (reachable-holds t none s.steps (From root.export) (root_triple root) leads),
     )

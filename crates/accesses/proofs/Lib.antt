@@ -10,5 +10,4 @@ mod Missed
 mod Moving
 mod Naming
 mod Opening
-mod PlaceOf
 mod WorkedAccess

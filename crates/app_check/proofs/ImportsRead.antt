@@ -2,6 +2,7 @@
 use Rattle.std.proofs.Common.{◌≡◌, ℕ, ◌+◌, ◌<◌, List, [], ◌∷◌, ◌++◌, length, map, take, drop, get_or, Option, Some, None, refl, sym, ◌∙◌, ap}
 use Rattle.std.proofs.lemmas.List.{append-nil, map-append}
 use Rattle.std.proofs.lemmas.List.Elements.{filter_map-append}
+use Rattle.abi_base.proofs.lemmas.Lists.{take-map_more, drop-map_more}
 use Rattle.abi_base.specs.declared.fault.Fault.{Fault}
 use Rattle.abi_base.specs.Outcome.{first}
 use Rattle.elf.specs.declared.symbols.symbol.Symbol.{Symbol}
@@ -11,7 +12,6 @@ use Rattle.elf_needs.specs.Needs.{PlainNeed}
 use Rattle.app_check.specs.declared.import.Import.{Import}
 use Rattle.app_check.specs.Imports.{PlainImport, need_by, import_of, import_with, imports_with, import_fault_of, import_fault_with, index_in}
 use Rattle.app_check.specs.Plain.{plain_import, plain_imports}
-use Rattle.app_check.proofs.InOrder.{taken, dropped}
 
 -- ---- the first fault
 
@@ -21,13 +21,13 @@ fault_from named indexes symbols i = first (map (import_fault_of named indexes) 
 pub fault_here : (named : ℕ → Option PlainNeed) (indexes : List ℕ) (symbols : List Symbol) (i : ℕ) (d : Symbol) (f : Fault) → i < length symbols
     → Some f ≡ import_fault_of named indexes (plain_symbol (get_or symbols i d)) → fault_from named indexes symbols i ≡ fault_from named indexes symbols 0 → Some f ≡ fault_from named indexes symbols 0
 fault_here named indexes symbols i d f inside is so_far =
-    let here : fault_from named indexes symbols i ≡ Some f = ap (λ (l : List PlainSymbol). first (map (import_fault_of named indexes) l)) (dropped plain_symbol symbols i d inside) ∙ ap (λ (o : Option Fault). first (o ∷ map (import_fault_of named indexes) (drop (i + 1) (plain_symbols symbols)))) (sym is) in
+    let here : fault_from named indexes symbols i ≡ Some f = ap (λ (l : List PlainSymbol). first (map (import_fault_of named indexes) l)) (drop-map_more plain_symbol symbols i d inside) ∙ ap (λ (o : Option Fault). first (o ∷ map (import_fault_of named indexes) (drop (i + 1) (plain_symbols symbols)))) (sym is) in
     sym here ∙ so_far
 
 pub fault_later : (named : ℕ → Option PlainNeed) (indexes : List ℕ) (symbols : List Symbol) (i : ℕ) (d : Symbol) → i < length symbols
     → None ≡ import_fault_of named indexes (plain_symbol (get_or symbols i d)) → fault_from named indexes symbols i ≡ fault_from named indexes symbols 0 → fault_from named indexes symbols (i + 1) ≡ fault_from named indexes symbols 0
 fault_later named indexes symbols i d inside is so_far =
-    let here : fault_from named indexes symbols i ≡ fault_from named indexes symbols (i + 1) = ap (λ (l : List PlainSymbol). first (map (import_fault_of named indexes) l)) (dropped plain_symbol symbols i d inside) ∙ ap (λ (o : Option Fault). first (o ∷ map (import_fault_of named indexes) (drop (i + 1) (plain_symbols symbols)))) (sym is) in
+    let here : fault_from named indexes symbols i ≡ fault_from named indexes symbols (i + 1) = ap (λ (l : List PlainSymbol). first (map (import_fault_of named indexes) l)) (drop-map_more plain_symbol symbols i d inside) ∙ ap (λ (o : Option Fault). first (o ∷ map (import_fault_of named indexes) (drop (i + 1) (plain_symbols symbols)))) (sym is) in
     sym here ∙ so_far
 
 -- ---- the imports
@@ -35,7 +35,7 @@ fault_later named indexes symbols i d inside is so_far =
 module _ (named : ℕ → Option PlainNeed) (indexes : List ℕ) (symbols : List Symbol) (i : ℕ) (d : Symbol) (inside : i < length symbols) where
   one_more : imports_with named indexes (take (i + 1) (plain_symbols symbols)) ≡ imports_with named indexes (take i (plain_symbols symbols)) ++ imports_with named indexes (plain_symbol (get_or symbols i d) ∷ [])
   one_more =
-      ap (λ (l : List PlainSymbol). imports_with named indexes l) (taken plain_symbol symbols i d inside)
+      ap (λ (l : List PlainSymbol). imports_with named indexes l) (take-map_more plain_symbol symbols i d inside)
       ∙ filter_map-append (import_of named indexes) (take i (plain_symbols symbols)) (plain_symbol (get_or symbols i d) ∷ [])
 
   -- a symbol that is an import adds it

@@ -1,5 +1,4 @@
 pub mod AppFault
 pub mod ImportsRead
-pub mod InOrder
 pub mod NarrowedExports
 pub mod Places

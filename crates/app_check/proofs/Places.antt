@@ -10,6 +10,7 @@ use Rattle.std.proofs.lemmas.List.{append-nil, map-append, take_more}
 use Rattle.std.proofs.lemmas.List.Elements.{filter-append}
 use Rattle.std.proofs.lemmas.List.Folds.{list_any-append}
 use Rattle.std.proofs.lemmas.List.FromFn.{map-range_with_len_more}
+use Rattle.abi_base.proofs.lemmas.Lists.{map-same_tests, take-map_more}
 use Rattle.abi_types.specs.declared.export.Export.{Export}
 use Rattle.abi_types.specs.Exports.{PlainExport}
 use Rattle.abi_types.specs.Plain.{plain_export, plain_exports}
@@ -18,7 +19,6 @@ use Rattle.app_check.specs.declared.import.Import.{Import}
 use Rattle.app_check.specs.Imports.{PlainImport}
 use Rattle.app_check.specs.Plain.{plain_import, plain_imports}
 use Rattle.app_check.specs.Used.{wanted_by, may_come_from, is_at, is_used, used_exports}
-use Rattle.app_check.proofs.InOrder.{taken}
 
 -- ---- what is wanted, import by import
 
@@ -28,7 +28,7 @@ wanted_among soname imports = map wanted_by (filter (may_come_from soname) impor
 module _ (soname : Option (List ℕ)) (imports : List Import) (i : ℕ) (d : Import) (inside : i < length imports) where
   one_more : wanted_among soname (take (i + 1) (plain_imports imports)) ≡ wanted_among soname (take i (plain_imports imports)) ++ wanted_among soname (plain_import (get_or imports i d) ∷ [])
   one_more =
-      ap (λ (l : List PlainImport). wanted_among soname l) (taken plain_import imports i d inside)
+      ap (λ (l : List PlainImport). wanted_among soname l) (take-map_more plain_import imports i d inside)
       ∙ ap (map wanted_by) (filter-append (may_come_from soname) (take i (plain_imports imports)) (plain_import (get_or imports i d) ∷ []))
       ∙ map-append wanted_by (filter (may_come_from soname) (take i (plain_imports imports))) (filter (may_come_from soname) (plain_import (get_or imports i d) ∷ []))
 
@@ -103,13 +103,9 @@ bound_all soname old k (i ∷ imports) = cases (may_come_from soname i) (bound_a
     cases true rest = ap (λ (b : Bool). is_at k (bind_to old (wanted_by i)) || b) rest
     cases false rest = rest
 
-along : (f g : ℕ → Bool) → ((k : ℕ) → f k ≡ g k) → (ks : List ℕ) → map f ks ≡ map g ks
-along f g same [] = refl
-along f g same (k ∷ ks) = rw (same k, along f g same ks) refl
-
 pub all_used : (soname : Option (List ℕ)) (imports : List PlainImport) (old wanted : List PlainExport) (places : List (Option ℕ)) (found : Found) (count : ℕ) → wanted ≡ wanted_among soname imports
     → places ≡ bind_each wanted old → Holds found places → count ≡ length old → map (contains nat_eq found) (range_with_len 0 count) ≡ used_exports imports soname old
 unfolding used_exports
 all_used soname imports old wanted places found count are bound holds is =
-    along (contains nat_eq found) (is_used imports soname old) (λ k. holds k ∙ ap (λ (l : List (Option ℕ)). list_any (is_at k) l) (bound ∙ ap (λ (w : List PlainExport). bind_each w old) are) ∙ bound_all soname old k imports) (range_with_len 0 count)
+    map-same_tests (contains nat_eq found) (is_used imports soname old) (λ k. holds k ∙ ap (λ (l : List (Option ℕ)). list_any (is_at k) l) (bound ∙ ap (λ (w : List PlainExport). bind_each w old) are) ∙ bound_all soname old k imports) (range_with_len 0 count)
     ∙ ap (λ (n : ℕ). map (is_used imports soname old) (range_with_len 0 n)) is

@@ -26,6 +26,15 @@ pub struct Links<'a> {
     pub lacking: Vec<&'a [u8]>,
 }
 
+// Whether this text stands at an offset. The end of the text is searched for only where it can be: many entries may share one long
+// name, and a search from each would take too long.
+fn is_text_at(strings: &[u8], at: u64, text: &[u8]) -> bool {
+    match strings.get((at as usize).saturating_add(text.len())) {
+        Some(0) => text_at(strings, at) == Some(text),
+        _ => false,
+    }
+}
+
 // Whether the dynamic table of a file lists this library as needed.
 fn names_library(file: &ElfFile, library: &[u8]) -> bool {
     let Some(section) = file.section_of_kind(SHT_DYNAMIC) else {
@@ -40,7 +49,7 @@ fn names_library(file: &ElfFile, library: &[u8]) -> bool {
             return false;
         }
         if let (Some(DT_NEEDED), Some(at)) = (tag, u64_at(entry, D_VAL))
-            && text_at(strings, at) == Some(library)
+            && is_text_at(strings, at, library)
         {
             return true;
         }

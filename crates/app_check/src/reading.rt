@@ -123,7 +123,9 @@ fn sound_indexes(alloc: Global, file: &ElfFile<'_>, symbols: usize) -> Result<In
 {
     match indexes(alloc, file, symbols) {
         Ok(indexes) => Ok(indexes),
-        Err(_) => Err(NoMemory),
+        Err(Refusal::NoMemory(cause)) => Err(cause),
+        // There is no fault.
+        Err(Refusal::Fault(_)) => Err(NoMemory::Allocation),
     }
 }
 

@@ -2,17 +2,12 @@
 use Rattle.std.proofs.Common.{◌≡◌, ℕ, Bool, true, false, List, Option, Some, None, refl, sym, ◌∙◌, ap, subst, slice_get}
 use Rattle.std.specs.Prelude.{◌↔◌, is_none}
 use Rattle.std.proofs.lemmas.Option.{same_Some, none-some}
+use Rattle.abi_base.proofs.lemmas.Options.{is_none-true}
 use Rattle.abi_types.specs.Types.{PlainNode}
 use Rattle.abi_types.specs.Graphs.{node_at, node_of}
 use Rattle.abi_types.specs.ClassLooks.{look_of}
 use Rattle.cert_check.specs.Accepted.{class_in, line_of, IsAlikeLine, KeepsAlike}
-
-never : {P : Type 0} → (P → ⊥) → (false ≡ true) ↔ P
-never other = (λ bad. absurd cc, λ p. absurd (other p))
-
-is_none-true : (o : Option ℕ) → is_none o ≡ true → o ≡ None
-is_none-true None e = refl
-is_none-true (Some x) e = cc
+use Rattle.pair_rules.proofs.lemmas.Truths.{never}
 
 module _ (nodes : List PlainNode) (lines : List (ℕ × ℕ)) (k : ℕ) (line : ℕ × ℕ) (at : slice_get lines k ≡ Some line) where
   here : KeepsAlike nodes lines k → IsAlikeLine nodes lines line

@@ -19,6 +19,7 @@ use Rattle.abi_types.specs.Libraries.{AreNumbered}
 use Rattle.std.specs.Ordering.{nat_cmp, ordering_index}
 use Rattle.std.specs.declared.cmp.Ordering.TheVariants.{Less, Equal, Greater}
 use Rattle.std.proofs.lemmas.Cmp.{ranked, nat_cmp_total}
+use Rattle.abi_base.proofs.lemmas.Bools.{not_is_true}
 use Rattle.cert_text.specs.Certs.{Ascend, first_cmp}
 use Rattle.cert_check.specs.Compatible.{IsCompared, bound}
 use Rattle.cert_check.specs.Accepted.{Case, Place, Binding, Keeps, HasBinding, KeepsBinding, each, binding_places, refused, line_of}
@@ -246,10 +247,6 @@ module _ (c : Case) (lines : List (ℕ × ℕ)) (are : lines ≡ c.cert.binds) (
 
 -- ---- an export by its symbol
 
-not_true : (b : Bool) → not b ≡ true → b ≡ false
-not_true true is = cc
-not_true false is = refl
-
 abbrev pub symbol_in : Export → ℕ
 symbol_in e = e.symbol
 
@@ -282,7 +279,7 @@ module _ (c : Case) (exports : List Export) (are : plain_exports exports ≡ c.s
   owned_found k lt equal r is = (
     λ right.
         let e = get_or exports k none_export in
-        (k, plain_export e, record { at = plain_at k e (slice_get-get_or exports k none_export lt); kept = not_true (slice_index_or c.sides.marks.exports k false) (sym is ∙ right) }, ranked e.symbol n Equal (sym (equal none_export))),
+        (k, plain_export e, record { at = plain_at k e (slice_get-get_or exports k none_export lt); kept = not_is_true (slice_index_or c.sides.marks.exports k false) (sym is ∙ right) }, ranked e.symbol n Equal (sym (equal none_export))),
     λ (j, f, compared, same).
         let e = get_or exports k none_export in
         let here = plain_at k e (slice_get-get_or exports k none_export lt) in

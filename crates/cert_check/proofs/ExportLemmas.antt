@@ -1,21 +1,13 @@
 -- Exports as the code reads them.
 use Rattle.std.proofs.Common.{◌≡◌, ◌&&◌, not, ℕ, Bool, true, false, List, Some, None, refl, sym, ◌∙◌, ap, subst, slice_get, slice_index_or}
 use Rattle.std.specs.Prelude.{◌↔◌, option_and_then}
-use Rattle.std.specs.Option.{option_map}
-use Rattle.std.proofs.lemmas.Option.{none-some, same_Some, slice_get-map}
-use Rattle.abi_types.specs.declared.export.Export.{Export}
+use Rattle.std.proofs.lemmas.Option.{none-some, same_Some}
 use Rattle.abi_types.specs.Exports.{PlainExport}
-use Rattle.abi_types.specs.Plain.{plain_export, plain_exports}
 use Rattle.elf_bind.specs.Binding.{bind_to}
 use Rattle.cert_check.specs.Compatible.{Sides, IsCompared, bound, KeepsExport, is_typed}
 use Rattle.cert_check.specs.Accepted.{Case, KeepsRules, KeepsRoot}
 use Rattle.cert_check.specs.CertifiedPair.{has_root_line}
-
-pub export_read : (exports : List Export) (plain : List PlainExport) (k : ℕ) (e : Export) → plain_exports exports ≡ plain → slice_get exports k ≡ Some e → slice_get plain k ≡ Some (plain_export e)
-export_read exports plain k e same at = ap (λ (es : List PlainExport). slice_get es k) (sym same) ∙ slice_get-map plain_export exports k ∙ ap (option_map plain_export) at
-
-pub new_read : (exports : List Export) (plain : List PlainExport) (k : ℕ) → plain_exports exports ≡ plain → slice_get exports k ≡ None → slice_get plain k ≡ None
-new_read exports plain k same at = ap (λ (es : List PlainExport). slice_get es k) (sym same) ∙ slice_get-map plain_export exports k ∙ ap (option_map plain_export) at
+use Rattle.pair_rules.proofs.lemmas.Truths.{always}
 
 pub bound_none : (s : Sides) (e : PlainExport) → bind_to s.new.exports e ≡ None → bound s e ≡ None
 bound_none s e none = ap (option_and_then (slice_get s.new.exports)) none
@@ -27,9 +19,6 @@ bound_at s e place is = ap (option_and_then (slice_get s.new.exports)) is
 
 dropped : (s : Sides) (k : ℕ) (e : PlainExport) → not (slice_index_or s.marks.exports k false) ≡ false → IsCompared s k e → ⊥
 dropped s k e is compared = let bad : true ≡ false = sym (ap not compared.kept) ∙ is in cc
-
-always : (P : Type 0) → P → (true ≡ true) ↔ P
-always P p = (λ t. p, λ q. refl)
 
 pub rules_dropped : (c : Case) (k : ℕ) → not (slice_index_or c.sides.marks.exports k false) ≡ false → (true ≡ true) ↔ KeepsRules c k
 rules_dropped c k is = always (KeepsRules c k) (λ e f compared binds. absurd (dropped c.sides k e is compared))

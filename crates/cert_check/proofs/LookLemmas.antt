@@ -7,7 +7,8 @@ use Rattle.std.specs.Str.{bytes_eq}
 use Rattle.std.proofs.lemmas.Bool.{and_parts, and_from, eqb-true, eq-eqb, cases_lt}
 use Rattle.std.proofs.lemmas.List.{length-map}
 use Rattle.std.proofs.lemmas.Option.{same_Some, slice_get-map, slice_get-get_or}
-use Rattle.std.proofs.lemmas.Slice.Eq.{bytes_eq-Decides}
+use Rattle.abi_base.proofs.lemmas.Bools.{beq_is_same, beq_same}
+use Rattle.abi_base.proofs.lemmas.Orders.{bytes_eq-same, bytes_eq-is_same}
 use Rattle.abi_types.specs.declared.kind.Kind.{Kind}
 use Rattle.abi_types.specs.declared.kind.Group.{Group}
 use Rattle.abi_types.specs.declared.kind.LabelKind.{LabelKind}
@@ -21,24 +22,9 @@ use Rattle.abi_types.specs.Graphs.{part_at, no_part}
 use Rattle.abi_types.specs.ClassLooks.{part_seen, view_seen, Look, look_of}
 use Rattle.pair_rules.specs.Same.{same_kind, same_group, same_place}
 use Rattle.cert_check.specs.Looks.{same_label_kind, same_label, same_part, same_heads}
+use Rattle.pair_rules.proofs.lemmas.Truths.{never}
 
 -- ---- tests
-
-bytes_same : (xs ys : List ℕ) → bytes_eq xs ys ≡ true → xs ≡ ys
-bytes_same xs ys = (bytes_eq-Decides xs ys).0
-
-same_bytes : (xs ys : List ℕ) → xs ≡ ys → bytes_eq xs ys ≡ true
-same_bytes xs ys = (bytes_eq-Decides xs ys).1
-
-beq_same : (a b : Bool) → beq a b ≡ true → a ≡ b
-beq_same true true e = refl
-beq_same true false e = cc
-beq_same false true e = cc
-beq_same false false e = refl
-
-beq_refl : (a : Bool) → beq a a ≡ true
-beq_refl true = refl
-beq_refl false = refl
 
 kinds_same : (a b : LabelKind) → same_label_kind a b ≡ true → a ≡ b
 kinds_same label.Structure label.Structure e = refl
@@ -59,10 +45,10 @@ pub labels_same : (a b : PlainLabel) → same_label a b ≡ true → a ≡ b
 labels_same a b e =
     let both = and_parts (same_label_kind a.kind b.kind) (bytes_eq a.name b.name) e in
     let mk : LabelKind → List ℕ → PlainLabel = λ k n. record { kind = k; name = n } in
-    ap (λ k. mk k a.name) (kinds_same a.kind b.kind both.0) ∙ ap (mk b.kind) (bytes_same a.name b.name both.1)
+    ap (λ k. mk k a.name) (kinds_same a.kind b.kind both.0) ∙ ap (mk b.kind) (bytes_eq-is_same a.name b.name both.1)
 
 pub label_itself : (a b : PlainLabel) → a ≡ b → same_label a b ≡ true
-label_itself a b e = subst (λ (x : PlainLabel). same_label a x ≡ true) e (and_from _ _ (kind_itself a.kind) (same_bytes a.name a.name refl))
+label_itself a b e = subst (λ (x : PlainLabel). same_label a x ≡ true) e (and_from _ _ (kind_itself a.kind) (bytes_eq-same a.name a.name refl))
 
 -- ---- parts
 
@@ -71,11 +57,11 @@ parts_same class (Member n b w t) (Member n' b' w' t') e =
     let one = and_parts (bytes_eq n n' && b == b' && w == w') (class t == class t') e in
     let two = and_parts (bytes_eq n n' && b == b') (w == w') one.0 in
     let three = and_parts (bytes_eq n n') (b == b') two.0 in
-    ap (λ (x : List ℕ). Member x b w (class t)) (bytes_same n n' three.0) ∙ ap (λ (x : ℕ). Member n' x w (class t)) (eqb-true b b' three.1)
+    ap (λ (x : List ℕ). Member x b w (class t)) (bytes_eq-is_same n n' three.0) ∙ ap (λ (x : ℕ). Member n' x w (class t)) (eqb-true b b' three.1)
     ∙ ap (λ (x : ℕ). Member n' b' x (class t)) (eqb-true w w' two.1) ∙ ap (Member n' b' w') (eqb-true (class t) (class t') one.1)
 parts_same class (Enumerator n v) (Enumerator n' v') e =
     let both = and_parts (bytes_eq n n') (v == v') e in
-    ap (λ (x : List ℕ). Enumerator x v) (bytes_same n n' both.0) ∙ ap (Enumerator n') (eqb-true v v' both.1)
+    ap (λ (x : List ℕ). Enumerator x v) (bytes_eq-is_same n n' both.0) ∙ ap (Enumerator n') (eqb-true v v' both.1)
 parts_same class (Target t) (Target t') e = ap Target (eqb-true (class t) (class t') e)
 parts_same class (Element t) (Element t') e = ap Element (eqb-true (class t) (class t') e)
 parts_same class (Outcome t) (Outcome t') e = ap Outcome (eqb-true (class t) (class t') e)
@@ -88,11 +74,11 @@ part_itself class (Member n b w t) (Member n' b' w' t') e =
     let c : b ≡ b' = cc in
     let d : w ≡ w' = cc in
     let f : class t ≡ class t' = cc in
-    and_from _ _ (and_from _ _ (and_from _ _ (same_bytes n n' a) (eq-eqb b b' c)) (eq-eqb w w' d)) (eq-eqb (class t) (class t') f)
+    and_from _ _ (and_from _ _ (and_from _ _ (bytes_eq-same n n' a) (eq-eqb b b' c)) (eq-eqb w w' d)) (eq-eqb (class t) (class t') f)
 part_itself class (Enumerator n v) (Enumerator n' v') e =
     let a : n ≡ n' = cc in
     let c : v ≡ v' = cc in
-    and_from _ _ (same_bytes n n' a) (eq-eqb v v' c)
+    and_from _ _ (bytes_eq-same n n' a) (eq-eqb v v' c)
 part_itself class (Target t) (Target t') e = let f : class t ≡ class t' = cc in eq-eqb (class t) (class t') f
 part_itself class (Element t) (Element t') e = let f : class t ≡ class t' = cc in eq-eqb (class t) (class t') f
 part_itself class (Outcome t) (Outcome t') e = let f : class t ≡ class t' = cc in eq-eqb (class t) (class t') f
@@ -177,9 +163,9 @@ heads_same laws v w e =
     record {
       kind = (laws.kinds v.kind w.kind).0 p1.0;
       group = (laws.groups v.group w.group).0 p1.1;
-      declared_only = beq_same v.declared_only w.declared_only p2.1;
-      variadic = beq_same v.variadic w.variadic p3.1;
-      tag = bytes_same v.tag w.tag p4.1;
+      declared_only = beq_is_same v.declared_only w.declared_only p2.1;
+      variadic = beq_is_same v.variadic w.variadic p3.1;
+      tag = bytes_eq-is_same v.tag w.tag p4.1;
       size = eqb-true v.size w.size p5.1;
       align = eqb-true v.align w.align p6.1;
       count = eqb-true v.count w.count p7.1;
@@ -188,8 +174,8 @@ heads_same laws v w e =
 heads_from : AreLaws → (v w : PlainView) → HaveSameHeads v w → same_heads v w ≡ true
 heads_from laws v w h =
     and_from _ _ (and_from _ _ (and_from _ _ (and_from _ _ (and_from _ _ (and_from _ _ (and_from _ _ ((laws.kinds v.kind w.kind).1 h.kind) ((laws.groups v.group w.group).1 h.group))
-    (subst (λ (b : Bool). beq v.declared_only b ≡ true) h.declared_only (beq_refl v.declared_only))) (subst (λ (b : Bool). beq v.variadic b ≡ true) h.variadic (beq_refl v.variadic)))
-    (same_bytes v.tag w.tag h.tag)) (eq-eqb v.size w.size h.size)) (eq-eqb v.align w.align h.align)) (eq-eqb v.count w.count h.count)
+    (subst (λ (b : Bool). beq v.declared_only b ≡ true) h.declared_only (beq_same v.declared_only))) (subst (λ (b : Bool). beq v.variadic b ≡ true) h.variadic (beq_same v.variadic)))
+    (bytes_eq-same v.tag w.tag h.tag)) (eq-eqb v.size w.size h.size)) (eq-eqb v.align w.align h.align)) (eq-eqb v.count w.count h.count)
 
 -- the looks of two nodes are equal where all their fields are
 pub record HaveSameLooks (class : ℕ → ℕ) (n m : PlainNode) : Type 0 where
@@ -240,12 +226,9 @@ looks_to class n m e = record {
 
 -- ---- what the code tells of two nodes
 
-refused_look : {P : Type 0} → (P → ⊥) → (false ≡ true) ↔ P
-refused_look other = (λ bad. absurd cc, λ p. absurd (other p))
-
 module _ (laws : AreLaws) (class : ℕ → ℕ) (n m : PlainNode) where
   pub other_labels : (r : Bool) (ls ms : List PlainLabel) → ls ≡ n.labels → ms ≡ m.labels → (r ≡ true) ↔ (ls ≡ ms) → r ≡ false → (false ≡ true) ↔ (look_of class n ≡ look_of class m)
-  other_labels r ls ms one two iff is = refused_look (λ e. let bad : true ≡ false = sym (iff.1 (one ∙ (looks_to class n m e).labels ∙ sym two)) ∙ is in cc)
+  other_labels r ls ms one two iff is = never (λ e. let bad : true ≡ false = sym (iff.1 (one ∙ (looks_to class n m e).labels ∙ sym two)) ∙ is in cc)
 
   module _ (v w : PlainView) (is_v : v ≡ n.view) (is_w : w ≡ m.view) where
     seen : look_of class n ≡ look_of class m → HaveSameLooks class (record n { view = v }) (record m { view = w })
@@ -255,10 +238,10 @@ module _ (laws : AreLaws) (class : ℕ → ℕ) (n m : PlainNode) where
         subst (λ (x : PlainView). HaveSameLooks class (record n { view = v }) (record m { view = x })) (sym is_w) one
 
     pub other_heads : same_heads v w ≡ false → (false ≡ true) ↔ (look_of class n ≡ look_of class m)
-    other_heads is = refused_look (λ e. let bad : true ≡ false = sym (heads_from laws v w (seen e).heads) ∙ is in cc)
+    other_heads is = never (λ e. let bad : true ≡ false = sym (heads_from laws v w (seen e).heads) ∙ is in cc)
 
     pub other_parts : (r : Bool) → (r ≡ true) ↔ (map (part_seen class) v.parts ≡ map (part_seen class) w.parts) → r ≡ false → (false ≡ true) ↔ (look_of class n ≡ look_of class m)
-    other_parts r iff is = refused_look (λ e. let bad : true ≡ false = sym (iff.1 (seen e).parts) ∙ is in cc)
+    other_parts r iff is = never (λ e. let bad : true ≡ false = sym (iff.1 (seen e).parts) ∙ is in cc)
 
     pub last_calls : (l p r : Bool) (ls ms : List PlainLabel) → ls ≡ n.labels → ms ≡ m.labels → (l ≡ true) ↔ (ls ≡ ms) → l ≡ true → same_heads v w ≡ true → (p ≡ true) ↔ (map (part_seen class) v.parts ≡ map (part_seen class) w.parts) → p ≡ true → (r ≡ true) ↔ (v.call ≡ w.call) → (r ≡ true) ↔ (look_of class n ≡ look_of class m)
     last_calls l p r ls ms one two labels is_l heads parts is_p iff = (

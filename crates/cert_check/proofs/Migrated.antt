@@ -3,6 +3,7 @@ use Rattle.std.proofs.Common.{◌≡◌, ℕ, zero, suc, Bool, true, false, List
 use Rattle.std.specs.Prelude.{◌↔◌}
 use Rattle.std.specs.List.{Contains, flat_map}
 use Rattle.std.proofs.lemmas.Option.{none-some, same_Some}
+use Rattle.abi_base.proofs.lemmas.Lists.{contains_at, at_contains}
 use Rattle.abi_types.specs.declared.kind.Way.{Way}
 use Rattle.abi_types.specs.declared.kind.Way.TheVariants.{Direct, Pointer}
 use Rattle.pair_rules.specs.Steps.{Task, Triple, is_marked, step, IsStep}
@@ -11,7 +12,6 @@ use Rattle.cert_check.specs.Compatible.{Sides, task_of}
 use Rattle.cert_check.specs.Accepted.{KeepsBinding, KeepsRoot, KeepsRule, KeepsPartners, is_line}
 use Rattle.cert_check.specs.ProvedConditions.{KeepsAll}
 use Rattle.cert_check.specs.FirstVersion.{AreOneMark, is_marked_any, case_1, migrated_case, IsAccepted1}
-use Rattle.cert_check.proofs.ListLemmas.{contains_at, at_contains}
 use Rattle.cert_check.proofs.LineLaws.{is_line_there}
 
 -- ---- pairs both ways

@@ -5,20 +5,9 @@ use Rattle.std.specs.List.{range_with_len, Contains}
 use Rattle.std.proofs.lemmas.Bool.{cases_order}
 use Rattle.std.proofs.lemmas.List.Elements.{filter_map-append}
 use Rattle.std.proofs.lemmas.Option.{none-some}
+use Rattle.abi_base.proofs.lemmas.Ranges.{range_suc, below_more}
+use Rattle.abi_base.proofs.lemmas.Lists.{contains_at, at_contains}
 use Rattle.cert_check.specs.Given.{given_below, AreGivenInOrder, StandInOrder}
-use Rattle.cert_check.proofs.ListLemmas.{contains_at, at_contains}
-
-range_more : (a n : ℕ) → range_with_len a (suc n) ≡ range_with_len a n ++ (a + n) ∷ []
-range_more a zero = ap (λ k. k ∷ []) (omega arith)
-range_more a (suc n) =
-    let e : a + 1 + n ≡ a + suc n = omega arith in
-    ap (λ ks. a ∷ ks) (range_more (a + 1) n ∙ ap (λ k. range_with_len (a + 1) n ++ k ∷ []) e)
-
-below_more : (n : ℕ) → range_with_len 0 (n + 1) ≡ range_with_len 0 n ++ n ∷ []
-below_more n =
-    let e : n + 1 ≡ suc n = omega arith in
-    let z : 0 + n ≡ n = omega arith in
-    ap (range_with_len 0) e ∙ range_more 0 n ∙ ap (λ k. range_with_len 0 n ++ k ∷ []) z
 
 module _ {X : Type 0} (f : ℕ → Option X) where
   -- what one more number gives stands last

@@ -1,11 +1,11 @@
 -- An accepted certificate is a proof.
 use Rattle.std.proofs.Common.{◌≡◌, ◌<◌, ◌&&◌, ℕ, Bool, true, false, List, [], ◌∷◌, length, slice_get, Option, Some, None, refl, sym, ◌∙◌, ap, subst, inl, inr, arith}
 use Rattle.std.specs.Prelude.{slice_index_or, ◌↔◌}
-use Rattle.std.specs.List.{range_with_len, AllByRecursion, Contains}
-use Rattle.std.proofs.lemmas.Bool.{cases_Bool, and_parts, and_from, lt-ltb}
-use Rattle.std.proofs.lemmas.Option.{same_Some, none-some, slice_get_within}
+use Rattle.std.specs.List.{AllByRecursion, Contains}
+use Rattle.std.proofs.lemmas.Bool.{cases_Bool, and_from}
+use Rattle.std.proofs.lemmas.Option.{none-some, slice_get_within}
+use Rattle.abi_base.proofs.lemmas.Lists.{at_contains}
 use Rattle.abi_types.specs.declared.kind.Way.TheVariants.{Direct}
-use Rattle.abi_types.specs.declared.kind.Way.{Way}
 use Rattle.abi_types.specs.Types.{PlainNode}
 use Rattle.abi_types.specs.Exports.{PlainExport}
 use Rattle.abi_types.specs.Graphs.{IsGraph, node_at, node_of}
@@ -14,18 +14,20 @@ use Rattle.pair_rules.specs.Steps.{PlainRoot, Task, Triple}
 use Rattle.pair_rules.specs.Paths.{root_triple}
 use Rattle.pair_rules.specs.Closed.{IsClosed, HoldsRoots}
 use Rattle.abi_types.specs.ClassLooks.{look_of}
-use Rattle.pair_rules.specs.Stable.{IsStable, AreEven, AreClasses, IsInside, is_inside, classed, StandsFor, related}
-use Rattle.cert_check.specs.Compatible.{Sides, IsCompared, IsCompatible, bound, is_typed, root_with, root_to, root_from, typed_root, typed_roots, task_of}
+use Rattle.pair_rules.specs.Stable.{IsStable, AreEven, AreClasses, IsInside, classed, StandsFor, related}
+use Rattle.cert_check.specs.Compatible.{Sides, IsCompatible, bound, is_typed, root_with, root_to, root_from, typed_root, typed_roots, task_of}
 use Rattle.abi_types.specs.Limits.{symbol_limit}
 use Rattle.abi_types.specs.Libraries.{AreNumbered}
 use Rattle.cert_check.specs.ProvedConditions.{KeepsAll}
 use Rattle.cert_check.specs.Relation.{relation_of}
 use Rattle.cert_check.specs.TypedPairs.{IsTypedPair, HasTypes}
 use Rattle.cert_check.specs.Accepted.{Place, heads, joined, Binding, Rules, AlikeOld, AlikeNew, Root, Rule, Partners, groups, places, binding_places, pair_places, IsAccepted, Case, line_of, rep, class_in, old_class, new_class, listed, is_line, KeepsAlike, KeepsBinding, KeepsRule, KeepsPartners, Keeps}
-use Rattle.cert_check.proofs.ListLemmas.{at_contains}
-use Rattle.cert_check.proofs.First.{grouped, join, each-at, each-from, twos-at, twos-from, filter_map-given}
+use Rattle.cert_check.proofs.First.{grouped, join, each-at, each-from, twos-at, twos-from}
 use Rattle.cert_check.proofs.Numbered.{given_there, given_ascends}
-use Rattle.cert_check.proofs.Lines.{line_of-some, rep-some, rep-none, is_line-at}
+use Rattle.cert_check.proofs.Lines.{line_of-some, is_line-at}
+use Rattle.pair_rules.proofs.lemmas.Triples.{is_inside-from, triple_eq}
+use Rattle.cert_check.proofs.lemmas.Lines.{rep-some, rep-none}
+use Rattle.cert_check.proofs.lemmas.Roots.{typed_pair, root_with-parts}
 
 -- ---- classes
 
@@ -77,37 +79,6 @@ module _ (nodes : List PlainNode) (graph : IsGraph nodes) (lines : List (ℕ × 
 
 -- ---- typed pairs
 
--- the place and the nodes of a root
-root_with-parts : (k : ℕ) (o m : Option ℕ) (root : PlainRoot) → root_with k o m ≡ Some root → (k ≡ root.export) × (o ≡ Some root.old) × (m ≡ Some root.new)
-root_with-parts k None m root e = absurd (none-some root e)
-root_with-parts k (Some a) None root e = absurd (none-some root e)
-root_with-parts k (Some a) (Some b) root e =
-    let same = same_Some (record { export = k; old = a; new = b }) root e in
-    (ap (λ (r : PlainRoot). r.export) same, ap (λ (r : PlainRoot). Some r.old) same, ap (λ (r : PlainRoot). Some r.new) same)
-
-root_to-parts : (s : Sides) (k : ℕ) (e : PlainExport) (root : PlainRoot) (o : Option PlainExport) → IsCompared s k e → bound s e ≡ o → root_to s k e o ≡ Some root → IsTypedPair s root
-root_to-parts s k e root None compared is h = absurd (none-some root h)
-root_to-parts s k e root (Some f) compared is h =
-    elim (cases_Bool (is_typed e && is_typed f)) [
-      | inl typed ↦
-          let types = and_parts (is_typed e) (is_typed f) typed in
-          let parts = root_with-parts k (node_of s.old.graph e.entry) (node_of s.new.graph f.entry) root (rw typed at h) in
-          record { old = e; new = f; compared = subst (λ (j : ℕ). IsCompared s j e) parts.0 compared; binds = is; old_typed = types.0; new_typed = types.1; old_node = parts.1; new_node = parts.2 }
-      | inr untyped ↦ absurd (none-some root (rw untyped at h))
-    ]
-
-root_from-parts : (s : Sides) (k : ℕ) (root : PlainRoot) (o : Option PlainExport) → slice_get s.old.exports k ≡ o → root_from s k o ≡ Some root → IsTypedPair s root
-root_from-parts s k root None is h = absurd (none-some root h)
-root_from-parts s k root (Some e) is h =
-    elim (cases_Bool (slice_index_or s.marks.exports k false)) [
-      | inl dropped ↦ absurd (none-some root (rw dropped at h))
-      | inr kept ↦ root_to-parts s k e root (bound s e) (record { at = is; kept = kept }) refl (rw kept at h)
-    ]
-
-typed_root-parts : (s : Sides) (k : ℕ) (root : PlainRoot) → typed_root s k ≡ Some root → IsTypedPair s root
-unfolding typed_root
-typed_root-parts s k root e = root_from-parts s k root (slice_get s.old.exports k) refl e
-
 -- a root is at its own place
 root_to-place : (s : Sides) (k : ℕ) (e : PlainExport) (root : PlainRoot) (o : Option PlainExport) → root_to s k e o ≡ Some root → k ≡ root.export
 root_to-place s k e root None h = absurd (none-some root h)
@@ -142,18 +113,12 @@ root_of_pair s root p =
     ap (λ (o : Option ℕ). root_with root.export o (node_of s.new.graph p.new.entry)) p.old_node ∙ ap (root_with root.export (Some root.old)) p.new_node in
     here ∙ kept ∙ there ∙ both ∙ nodes
 
-pub typed_roots-source : (s : Sides) (j : ℕ) (root : PlainRoot) → slice_get (typed_roots s) j ≡ Some root → IsTypedPair s root
-unfolding typed_roots
-typed_roots-source s j root e =
-    let given = filter_map-given (typed_root s) (range_with_len 0 (length s.old.exports)) j root e in
-    typed_root-parts s given.item root given.gives
-
 pub typed_roots-there : (s : Sides) (root : PlainRoot) → IsTypedPair s root → Contains (typed_roots s) root
 unfolding typed_roots
 typed_roots-there s root p = given_there (typed_root s) (length s.old.exports) root.export root (slice_get_within s.old.exports root.export p.old p.compared.at) (root_of_pair s root p)
 
 pub typed_roots_iff : (s : Sides) (root : PlainRoot) → Contains (typed_roots s) root ↔ IsTypedPair s root
-typed_roots_iff s root = (λ h. let there = at_contains (typed_roots s) root h in typed_roots-source s there.0 root there.1, typed_roots-there s root)
+typed_roots_iff s root = (λ h. let there = at_contains (typed_roots s) root h in typed_pair s there.0 root there.1, typed_roots-there s root)
 
 pub typed_roots-ascend : (s : Sides) (j k : ℕ) (first later : PlainRoot) → j < k → slice_get (typed_roots s) j ≡ Some first → slice_get (typed_roots s) k ≡ Some later → first.export < later.export
 unfolding typed_roots
@@ -222,14 +187,6 @@ IsAccepted-from c k =
 abbrev pub Closes : Type 0
 Closes = (t : Task) (old new : ℕ → ℕ) (listed : Triple → Bool) → AreClasses t old new → ((x : Triple) → IsInside t x → listed (classed old new x) ≡ true → StandsFor t old new listed x) → IsClosed t (related t old new listed)
 
-is_inside-from : (t : Task) (x : Triple) → IsInside t x → is_inside t x ≡ true
-is_inside-from t x inside = and_from _ _ (lt-ltb x.old (length t.old) inside.old) (lt-ltb x.new (length t.new) inside.new)
-
-triple_eq : (x y : Triple) → x.old ≡ y.old → x.new ≡ y.new → x.way ≡ y.way → x ≡ y
-triple_eq x y a b c =
-    let mk : ℕ → ℕ → Way → Triple = λ m n w. record { old = m; new = n; way = w } in
-    ap (λ m. mk m x.new x.way) a ∙ ap (λ n. mk y.old n x.way) b ∙ ap (mk y.old y.new) c
-
 module _ (closes : Closes) (c : Case) (old_graph : IsGraph c.sides.old.graph) (new_graph : IsGraph c.sides.new.graph) (even : AreEven (task_of c.sides)) (kept : KeepsAll c) where
   classes : AreClasses (task_of c.sides) (old_class c) (new_class c)
   classes = record {
@@ -264,7 +221,7 @@ module _ (closes : Closes) (c : Case) (old_graph : IsGraph c.sides.old.graph) (n
 
   pub roots : HoldsRoots (task_of c.sides) (relation_of c)
   roots j root at =
-      let pair = typed_roots-source c.sides j root at in
+      let pair = typed_pair c.sides j root at in
       let one = node_of-is c.sides.old.graph pair.old.entry root.old pair.old_node in
       let other = node_of-is c.sides.new.graph pair.new.entry root.new pair.new_node in
       let line = kept.roots root.export pair.old pair.new pair.compared pair.binds pair.old_typed pair.new_typed in

@@ -2,20 +2,15 @@
 use Rattle.std.proofs.Common.{◌≡◌, ◌<◌, ℕ, false, Some, ◌∙◌}
 use Rattle.std.specs.Prelude.{◌↔◌}
 use Rattle.abi_types.specs.declared.library.Marks.{Marks}
-use Rattle.abi_types.specs.declared.kind.Way.{Way}
-use Rattle.abi_types.specs.declared.kind.Way.TheVariants.{Direct, Pointer}
 use Rattle.abi_types.specs.Exports.{PlainExport}
 use Rattle.abi_types.specs.Limits.{symbol_limit}
-use Rattle.pair_rules.specs.Steps.{Task, Triple, is_marked, step, IsStep}
+use Rattle.pair_rules.specs.Steps.{Task, Triple, step, IsStep}
 use Rattle.cert_text.specs.Certs.{PlainCert}
 use Rattle.cert_check.specs.Compatible.{Sides, sides, IsCompared, task_of}
 use Rattle.cert_check.specs.Accepted.{Case, KeepsBinding, KeepsRules, KeepsRoot, KeepsRule, KeepsPartners}
 use Rattle.cert_check.specs.ProvedConditions.{KeepsAll}
 use Rattle.cert_check.specs.Unmarked.{MarkNothing}
-
-pub unmarked : (s : Sides) → MarkNothing s.marks → (a : ℕ) (way : Way) → is_marked (task_of s) a way ≡ false
-unmarked s m a Direct = m.direct a
-unmarked s m a Pointer = m.pointer a
+use Rattle.cert_check.proofs.lemmas.Unmarked.{unmarked}
 
 module _ (steps : (t : Task) (x y : Triple) (i : ℕ) → (step t x i ≡ Some y) ↔ IsStep t x i y) (s : Sides) (m : Marks) (c : PlainCert) (nothing : MarkNothing s.marks) (nothing' : MarkNothing m) (digest : s.marks.digest ≡ m.digest) (kept : KeepsAll (record { sides = s; cert = c })) where
   abbrev others : Sides

@@ -76,7 +76,7 @@ pub fn export_count(ground: &CertifiedPair) -> usize
 }
 
 /// The old export at a position.
-#[tactic(auto, using(crate::proofs::ExportLemmas::export_read))]
+#[tactic(auto, using(crate::proofs::lemmas::Exports::export_read))]
 pub fn export_at<'x, 'o>(ground: &CertifiedPair<'x, 'o, '_>, k: usize) -> &'x Export<'o>
     requires { k < length ground.now.old.now.exports }
     ensures { slice_get ground.now.old.now.exports k ≡ Some (plain_export result.now) }
@@ -94,7 +94,7 @@ pub fn symbol_at(ground: &CertifiedPair, k: usize) -> u64
 }
 
 // The new export at a position, where there is one.
-#[tactic(auto, using(crate::proofs::ExportLemmas::new_read))]
+#[tactic(auto, using(crate::proofs::lemmas::Exports::none_read))]
 fn new_export_at<'x, 'n>(ground: &CertifiedPair<'x, '_, 'n>, place: usize) -> Option<&'x Export<'n>>
     ensures { MatchOption result (slice_get ground.now.new.now.exports place ≡ None) (λ export. slice_get ground.now.new.now.exports place ≡ Some (plain_export export.now)) }
 {

@@ -3,19 +3,20 @@ use Rattle.std.proofs.Common.{◌≡◌, ◌<◌, ◌&&◌, ◌||◌, ltb, not, 
 use Rattle.std.specs.Prelude.{◌↔◌, IsSome, option_and_then}
 use Rattle.std.specs.List.{Contains}
 use Rattle.std.proofs.lemmas.Bool.{and_parts, and_from, ltb-true, lt-ltb}
-use Rattle.std.proofs.lemmas.Option.{same_Some, none-some, slice_get_within, get_or_from_slice_get}
+use Rattle.std.proofs.lemmas.Option.{same_Some, slice_get_within, get_or_from_slice_get}
+use Rattle.abi_base.proofs.lemmas.Options.{some_of}
+use Rattle.abi_base.proofs.lemmas.Lists.{contains_at, at_contains}
 use Rattle.abi_types.specs.declared.kind.Way.{Way}
-use Rattle.abi_types.specs.declared.kind.Way.TheVariants.{Direct, Pointer}
+use Rattle.abi_types.specs.declared.kind.Way.TheVariants.{Direct}
 use Rattle.abi_types.specs.Types.{PlainView}
 use Rattle.abi_types.specs.Exports.{PlainExport}
 use Rattle.abi_types.specs.Forms.{HasForm}
 use Rattle.abi_types.specs.Graphs.{IsGraph, node_at, node_of, view_at, part_at, to_of}
 use Rattle.abi_types.specs.Limits.{symbol_limit}
-use Rattle.elf_bind.specs.Binding.{bind_to}
 use Rattle.pair_rules.specs.Same.{same_kind}
 use Rattle.pair_rules.specs.TypeRules.{breaks}
 use Rattle.pair_rules.specs.Partners.{IsPartner}
-use Rattle.pair_rules.specs.Steps.{Task, Triple, is_marked, step, IsStep}
+use Rattle.pair_rules.specs.Steps.{Task, Triple, step, IsStep}
 use Rattle.pair_rules.specs.Closed.{IsClosed}
 use Rattle.pair_rules.specs.Stable.{AreEven, is_inside, classed}
 use Rattle.pair_rules.specs.Middles.{MeetInTheMiddle}
@@ -29,7 +30,10 @@ use Rattle.cert_compose.specs.Chains.{PlainChain, IsChain, near, next, far, near
 use Rattle.cert_compose.specs.Composed.{IsThrough, IsJoined, IsComposed}
 use Rattle.cert_compose.specs.Between.{NothingBetween, IsLink, BindsThrough, KeepsType}
 use Rattle.abi_types.proofs.lemmas.Nodes.{node_of-is}
-use Rattle.cert_compose.proofs.LineLemmas.{LineLaws, contains_at, at_contains, says, rep-none, rep_own}
+use Rattle.cert_compose.proofs.LineLemmas.{LineLaws, says, rep_own}
+use Rattle.cert_check.proofs.lemmas.Lines.{rep-none}
+use Rattle.cert_check.proofs.lemmas.Unmarked.{unmarked}
+use Rattle.cert_check.proofs.lemmas.Exports.{bound_place}
 
 -- what the laws below say
 pub record Laws : Type 0 where
@@ -40,10 +44,6 @@ pub record Laws : Type 0 where
   pub meet : (v u w : PlainView) (i j : ℕ) → HasForm v → HasForm u → u.declared_only ≡ false → breaks v u ≡ [] → IsPartner v w i j → MeetInTheMiddle v u w i j
 
 -- ---- nothing is marked
-
-unmarked : (s : Sides) → MarkNothing s.marks → (a : ℕ) (way : Way) → is_marked (task_of s) a way ≡ false
-unmarked s m a Direct = m.direct a
-unmarked s m a Pointer = m.pointer a
 
 pub even : (s : Sides) → MarkNothing s.marks → AreEven (task_of s)
 even s m a b way below under same = unmarked s m a way ∙ sym (unmarked s m b way)
@@ -76,10 +76,6 @@ related_parts laws c x e =
 
 -- ---- small facts
 
-some_of : (o : Option ℕ) → IsSome o → (n : ℕ) × (o ≡ Some n)
-some_of None is = absurd (search rules)
-some_of (Some n) is = (n, refl)
-
 -- where the outer two are compared, the middle one is no declaration
 shown_middle : (a b d e : Bool) → (b && not a && not d) ≡ false → (e && not (a || d)) ≡ true → b ≡ false
 shown_middle true b d e shown compared = absurd (not_both e compared) where
@@ -92,12 +88,6 @@ shown_middle false b true e shown compared = absurd (not_both e compared) where
   not_both false h = cc
 shown_middle false true false e shown compared = absurd cc
 shown_middle false false false e shown compared = refl
-
-bound_place : (s : Sides) (e f : PlainExport) → bound s e ≡ Some f → (place : ℕ) × (slice_get s.new.exports place ≡ Some f)
-bound_place s e f binds = go (bind_to s.new.exports e) refl where
-  go : (o : Option ℕ) → bind_to s.new.exports e ≡ o → (place : ℕ) × (slice_get s.new.exports place ≡ Some f)
-  go None is = absurd (none-some f (sym (ap (option_and_then (slice_get s.new.exports)) is) ∙ binds))
-  go (Some place) is = (place, sym (ap (option_and_then (slice_get s.new.exports)) is) ∙ binds)
 
 module _ (laws : Laws) (ch : PlainChain) (c : PlainCert) (chain : IsChain ch) (nothing : NothingBetween ch) (is : IsComposed ch c) where
   kept_one : KeepsAll (near_case ch)

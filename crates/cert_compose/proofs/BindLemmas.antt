@@ -4,13 +4,14 @@ use Rattle.std.specs.Prelude.{◌↔◌, option_to_list}
 use Rattle.std.specs.List.{Contains, All}
 use Rattle.std.proofs.lemmas.List.Elements.{All-contains}
 use Rattle.std.proofs.lemmas.Option.{none-some, same_Some, slice_get_within, slice_get-get_or, get_or_from_slice_get}
+use Rattle.abi_base.proofs.lemmas.Lists.{contains_at, at_contains}
 use Rattle.cert_text.specs.Certs.{Ascend, first_cmp, IsBelow}
 use Rattle.cert_check.specs.Accepted.{line_of}
 use Rattle.cert_check.specs.Given.{given_below, StandInOrder}
 use Rattle.cert_compose.specs.Binds.{through_to, through_from, through_line}
 use Rattle.cert_compose.specs.Chains.{PlainChain}
 use Rattle.cert_compose.specs.Composed.{IsThrough}
-use Rattle.cert_compose.proofs.LineLemmas.{LineLaws, contains_at, at_contains, says}
+use Rattle.cert_compose.proofs.LineLemmas.{LineLaws, says}
 
 pub record Parts (ones others : List (ℕ × ℕ)) (k : ℕ) (line : ℕ × ℕ) : Type 0 where
   pub between : ℕ

@@ -1,10 +1,9 @@
 -- Which lines are joined.
 use Rattle.std.proofs.Common.{◌≡◌, ◌==◌, ◌&&◌, ℕ, zero, suc, Bool, true, false, cond, List, [], ◌∷◌, slice_get, Option, Some, None, refl, sym, ◌∙◌, ap, subst, inl, inr, arith}
 use Rattle.std.specs.Prelude.{◌↔◌, is_none}
-use Rattle.std.specs.List.{Contains, flat_map}
+use Rattle.std.specs.List.{Contains}
 use Rattle.std.proofs.lemmas.Bool.{and_parts, and_from, eqb-true, eq-eqb}
-use Rattle.std.proofs.lemmas.Option.{none-some, same_Some}
-use Rattle.std.proofs.lemmas.List.Elements.{Contains-append_left, Contains-append_right, Contains-append_cases}
+use Rattle.abi_base.proofs.lemmas.Options.{is_none-true}
 use Rattle.abi_types.specs.declared.kind.Way.{Way}
 use Rattle.abi_types.specs.declared.kind.Way.TheVariants.{Direct, Pointer}
 use Rattle.cert_text.specs.Certs.{PairLine}
@@ -13,35 +12,11 @@ use Rattle.cert_compose.specs.Chains.{PlainChain}
 use Rattle.cert_compose.specs.Composed.{IsJoined}
 use Rattle.cert_compose.specs.Middles.{middle_at, IsMiddle}
 use Rattle.cert_compose.specs.Joins.{same_way, followed_by, followed, through_by, through, joined_by, joins}
-use Rattle.cert_compose.proofs.LineLemmas.{at_contains}
+use Rattle.abi_base.proofs.lemmas.Contained.{in_none}
+use Rattle.pair_rules.proofs.lemmas.Lists.{in_flat_map, from_flat_map}
+use Rattle.cert_check.proofs.lemmas.Lines.{same_way-is}
 
 -- ---- what a function gives of the items of a list
-
-in_flat_at : {X Y : Type 0} (g : X → List Y) (xs : List X) (k : ℕ) (x : X) (y : Y) → slice_get xs k ≡ Some x → Contains (g x) y → Contains (flat_map g xs) y
-in_flat_at g [] k x y at given = absurd (none-some x at)
-in_flat_at {Y = Y} g (z ∷ zs) zero x y at given = Contains-append_left (g z) (flat_map g zs) y (subst (λ u. Contains (g u) y) (sym (same_Some z x at)) given)
-in_flat_at g (z ∷ zs) (suc k) x y at given = Contains-append_right (g z) (flat_map g zs) y (in_flat_at g zs k x y at given)
-
-pub in_flat : {X Y : Type 0} (g : X → List Y) (xs : List X) (x : X) (y : Y) → Contains xs x → Contains (g x) y → Contains (flat_map g xs) y
-in_flat g xs x y there given = let place = at_contains xs x there in in_flat_at g xs place.0 x y place.1 given
-
--- an item that gives it
-pub record IsGiven {X Y : Type 0} (g : X → List Y) (xs : List X) (y : Y) : Type 0 where
-  pub item : X
-  pub there : Contains xs item
-  pub gives : Contains (g item) y
-
-pub from_flat : {X Y : Type 0} (g : X → List Y) (xs : List X) (y : Y) → Contains (flat_map g xs) y → IsGiven g xs y
-from_flat g [] y h = absurd (omega (arith, h.1))
-from_flat g (z ∷ zs) y h = elim (Contains-append_cases (g z) (flat_map g zs) y h) [
-  | inl here ↦ record { item = z; there = (0, omega arith, refl); gives = here }
-  | inr later ↦
-      let rest = from_flat g zs y later in
-      record { item = rest.item; there = (suc rest.there.0, omega (arith, rest.there.1), rest.there.2); gives = rest.gives }
-]
-
-none_in : {Y : Type 0} (y : Y) → Contains [] y → ⊥
-none_in y h = omega (arith, h.1)
 
 pub only_in : {Y : Type 0} (x y : Y) → Contains (x ∷ []) y → y ≡ x
 only_in x y (zero, lt, is) = sym is
@@ -50,24 +25,14 @@ only_in x y (suc k, lt, is) = absurd (omega (arith, lt))
 -- what stands only where a test passes
 pub if_in : {Y : Type 0} (b : Bool) (xs : List Y) (y : Y) → Contains (cond b xs []) y → (b ≡ true) × Contains xs y
 if_in true xs y h = (refl, h)
-if_in false xs y h = absurd (none_in y h)
+if_in false xs y h = absurd (in_none y h)
 
 pub in_if : {Y : Type 0} (b : Bool) (xs : List Y) (y : Y) → b ≡ true → Contains xs y → Contains (cond b xs []) y
 in_if true xs y e h = h
 in_if false xs y e h = absurd cc
 
-pub is_none-true : (o : Option ℕ) → is_none o ≡ true → o ≡ None
-is_none-true None e = refl
-is_none-true (Some n) e = absurd cc
-
 pub none-is_none : (o : Option ℕ) → o ≡ None → is_none o ≡ true
 none-is_none o e = rw e refl
-
-way_is : (v w : Way) → same_way v w ≡ true → v ≡ w
-way_is Direct Direct e = refl
-way_is Direct Pointer e = absurd cc
-way_is Pointer Direct e = absurd cc
-way_is Pointer Pointer e = refl
 
 way_itself : (v : Way) → same_way v v ≡ true
 way_itself Direct = refl
@@ -84,25 +49,25 @@ module _ (alike : List (ℕ × ℕ)) (seconds : List PairLine) (a m : ℕ) (w : 
   pub from_followed : Contains (followed alike seconds a m w) y → IsFollowed alike seconds a m w y
   unfolding followed
   from_followed h =
-      let given = from_flat (followed_by alike a m w) seconds y h in
-      let s = given.item in
-      let both = if_in (s.0 == m && same_way s.2 w && is_none (line_of alike s.1)) ((a, s.1, w) ∷ []) y given.gives in
+      let given = from_flat_map (followed_by alike a m w) seconds y h in
+      let s = given.0 in
+      let both = if_in (s.0 == m && same_way s.2 w && is_none (line_of alike s.1)) ((a, s.1, w) ∷ []) y given.2 in
       let is : y ≡ (a, s.1, w) = only_in (a, s.1, w) y both.1 in
       let tests = and_parts (s.0 == m && same_way s.2 w) (is_none (line_of alike s.1)) both.0 in
       let firsts = and_parts (s.0 == m) (same_way s.2 w) tests.0 in
       let new : y.1 ≡ s.1 = ap (λ (l : PairLine). l.1) is in
       let mk : ℕ → ℕ → Way → PairLine = λ b n v. (b, n, v) in
-      let line : s ≡ (m, y.1, w) = ap (λ b. mk b s.1 s.2) (eqb-true s.0 m firsts.0) ∙ ap (λ n. mk m n s.2) (sym new) ∙ ap (mk m y.1) (way_is s.2 w firsts.1) in
+      let line : s ≡ (m, y.1, w) = ap (λ b. mk b s.1 s.2) (eqb-true s.0 m firsts.0) ∙ ap (λ n. mk m n s.2) (sym new) ∙ ap (mk m y.1) (same_way-is s.2 w firsts.1) in
       record {
         own = ap (line_of alike) new ∙ is_none-true (line_of alike s.1) tests.1;
-        there = subst (λ (l : PairLine). Contains seconds l) line given.there;
+        there = subst (λ (l : PairLine). Contains seconds l) line given.1;
         is = is ∙ ap (λ n. mk a n w) (sym new);
       }
 
   pub to_followed : IsFollowed alike seconds a m w y → Contains (followed alike seconds a m w) y
   unfolding followed
   to_followed f =
-      in_flat (followed_by alike a m w) seconds (m, y.1, w) y f.there
+      in_flat_map (followed_by alike a m w) seconds (m, y.1, w) y f.there
       (in_if (m == m && same_way w w && is_none (line_of alike y.1)) ((a, y.1, w) ∷ []) y
       (and_from _ _ (and_from _ _ (eq-eqb m m refl) (way_itself w)) (none-is_none (line_of alike y.1) f.own))
       (0, omega arith, sym f.is))
@@ -116,20 +81,20 @@ module _ (alike : List (ℕ × ℕ)) (seconds : List PairLine) (middles : List (
   pub from_through : Contains (through alike seconds middles a e w) y → GoesThrough alike seconds middles a e w y
   unfolding through
   from_through h =
-      let given = from_flat (through_by alike seconds a e w) middles y h in
-      let m = given.item in
-      let both = if_in (m.0 == e) (followed alike seconds a m.1 w) y given.gives in
+      let given = from_flat_map (through_by alike seconds a e w) middles y h in
+      let m = given.0 in
+      let both = if_in (m.0 == e) (followed alike seconds a m.1 w) y given.2 in
       let mk : ℕ → ℕ × ℕ = λ b. (b, m.1) in
       record {
         entry = m.1;
-        there = subst (λ (p : ℕ × ℕ). Contains middles p) (ap mk (eqb-true m.0 e both.0)) given.there;
+        there = subst (λ (p : ℕ × ℕ). Contains middles p) (ap mk (eqb-true m.0 e both.0)) given.1;
         on = from_followed alike seconds a m.1 w y both.1;
       }
 
   pub to_through : GoesThrough alike seconds middles a e w y → Contains (through alike seconds middles a e w) y
   unfolding through
   to_through g =
-      in_flat (through_by alike seconds a e w) middles (e, g.entry) y g.there
+      in_flat_map (through_by alike seconds a e w) middles (e, g.entry) y g.there
       (in_if (e == e) (followed alike seconds a g.entry w) y (eq-eqb e e refl) (to_followed alike seconds a g.entry w y g.on))
 
 -- ---- the lines that two certificates join
@@ -138,9 +103,9 @@ module _ (ch : PlainChain) (middles : List (ℕ × ℕ)) (exact : (m : ℕ × �
   pub from_joins : Contains (joins ch.one.alike_old ch.other.alike_new ch.other.pairs middles ch.one.pairs) y → IsJoined ch y
   unfolding joins
   from_joins h =
-      let given = from_flat (joined_by ch.one.alike_old ch.other.alike_new ch.other.pairs middles) ch.one.pairs y h in
-      let f = given.item in
-      let both = if_in (is_none (line_of ch.one.alike_old f.0)) (through ch.other.alike_new ch.other.pairs middles f.0 f.1 f.2) y given.gives in
+      let given = from_flat_map (joined_by ch.one.alike_old ch.other.alike_new ch.other.pairs middles) ch.one.pairs y h in
+      let f = given.0 in
+      let both = if_in (is_none (line_of ch.one.alike_old f.0)) (through ch.other.alike_new ch.other.pairs middles f.0 f.1 f.2) y given.2 in
       let goes = from_through ch.other.alike_new ch.other.pairs middles f.0 f.1 f.2 y both.1 in
       let node = (exact (f.1, goes.entry)).0 goes.there in
       let old : y.0 ≡ f.0 = ap (λ (l : PairLine). l.0) goes.on.is in
@@ -155,7 +120,7 @@ module _ (ch : PlainChain) (middles : List (ℕ × ℕ)) (exact : (m : ℕ × �
         inside = node.1;
         one =
             subst (λ (l : PairLine). Contains ch.one.pairs l)
-            (ap (λ a. mk a f.1 f.2) (sym old) ∙ ap (λ b. mk y.0 b f.2) (sym first) ∙ ap (mk y.0 (middle_at ch node.0).0) (sym way)) given.there;
+            (ap (λ a. mk a f.1 f.2) (sym old) ∙ ap (λ b. mk y.0 b f.2) (sym first) ∙ ap (mk y.0 (middle_at ch node.0).0) (sym way)) given.1;
         other =
             subst (λ (l : PairLine). Contains ch.other.pairs l)
             (ap (λ b. mk b y.1 f.2) (sym second) ∙ ap (mk (middle_at ch node.0).1 y.1) (sym way)) goes.on.there;
@@ -166,7 +131,7 @@ module _ (ch : PlainChain) (middles : List (ℕ × ℕ)) (exact : (m : ℕ × �
   to_joins j =
       let m = middle_at ch j.node in
       let there = (exact m).1 (j.node, j.inside, refl) in
-      in_flat (joined_by ch.one.alike_old ch.other.alike_new ch.other.pairs middles) ch.one.pairs (y.0, m.0, y.2) y j.one
+      in_flat_map (joined_by ch.one.alike_old ch.other.alike_new ch.other.pairs middles) ch.one.pairs (y.0, m.0, y.2) y j.one
       (in_if (is_none (line_of ch.one.alike_old y.0)) (through ch.other.alike_new ch.other.pairs middles y.0 m.0 y.2) y (none-is_none (line_of ch.one.alike_old y.0) j.old_own)
       (to_through ch.other.alike_new ch.other.pairs middles y.0 m.0 y.2 y (record { entry = m.1; there = there; on = record { own = j.new_own; there = j.other; is = refl } })))
 

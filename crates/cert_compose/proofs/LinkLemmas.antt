@@ -1,27 +1,12 @@
 -- Exports as the code reads them, and what they bind to.
 use Rattle.std.proofs.Common.{◌≡◌, ◌||◌, not, ℕ, Bool, true, false, List, Some, None, refl, sym, ◌∙◌, ap, subst, slice_get}
-use Rattle.std.specs.Prelude.{◌↔◌, option_and_then}
-use Rattle.std.specs.Option.{option_map}
-use Rattle.std.proofs.lemmas.Option.{none-some, same_Some, slice_get-map}
-use Rattle.abi_types.specs.declared.export.Export.{Export}
+use Rattle.std.specs.Prelude.{◌↔◌}
+use Rattle.std.proofs.lemmas.Option.{none-some, same_Some}
 use Rattle.abi_types.specs.Exports.{PlainExport}
-use Rattle.abi_types.specs.Plain.{plain_export, plain_exports}
 use Rattle.elf_bind.specs.Binding.{bind_to}
 use Rattle.cert_check.specs.Compatible.{bound, KeepsExport, is_typed}
 use Rattle.cert_compose.specs.Chains.{PlainChain, near}
 use Rattle.cert_compose.specs.Between.{BindsThrough, IsLink, KeepsBinding, KeepsRules, KeepsTyped}
-
-pub export_read : (exports : List Export) (plain : List PlainExport) (k : ℕ) (e : Export) → plain_exports exports ≡ plain → slice_get exports k ≡ Some e → slice_get plain k ≡ Some (plain_export e)
-export_read exports plain k e same at = ap (λ (es : List PlainExport). slice_get es k) (sym same) ∙ slice_get-map plain_export exports k ∙ ap (option_map plain_export) at
-
-pub none_read : (exports : List Export) (plain : List PlainExport) (k : ℕ) → plain_exports exports ≡ plain → slice_get exports k ≡ None → slice_get plain k ≡ None
-none_read exports plain k same at = ap (λ (es : List PlainExport). slice_get es k) (sym same) ∙ slice_get-map plain_export exports k ∙ ap (option_map plain_export) at
-
-pub bound_none : (exports : List PlainExport) (e : PlainExport) → bind_to exports e ≡ None → option_and_then (slice_get exports) (bind_to exports e) ≡ None
-bound_none exports e none = ap (option_and_then (slice_get exports)) none
-
-pub bound_at : (exports : List PlainExport) (e : PlainExport) (place : ℕ) → bind_to exports e ≡ Some place → option_and_then (slice_get exports) (bind_to exports e) ≡ slice_get exports place
-bound_at exports e place is = ap (option_and_then (slice_get exports)) is
 
 module _ (ch : PlainChain) (e : PlainExport) where
   -- nothing between, nothing there, or another there

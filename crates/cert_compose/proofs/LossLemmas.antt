@@ -4,6 +4,9 @@ use Rattle.std.specs.Prelude.{◌↔◌, is_none}
 use Rattle.std.specs.List.{list_all, Contains}
 use Rattle.std.proofs.lemmas.Bool.{cases_Bool}
 use Rattle.std.proofs.lemmas.Option.{same_Some}
+use Rattle.abi_base.proofs.lemmas.Lists.{at_contains}
+use Rattle.abi_base.proofs.lemmas.Contained.{list_all_in}
+use Rattle.abi_base.proofs.lemmas.Bools.{not_is_true}
 use Rattle.abi_types.specs.Types.{PlainView, PlainNode}
 use Rattle.abi_types.specs.Graphs.{IsGraph, node_at, node_of, view_at}
 use Rattle.abi_types.specs.ClassLooks.{Look, look_of, view_seen}
@@ -17,10 +20,12 @@ use Rattle.cert_compose.specs.Joins.{through}
 use Rattle.cert_compose.specs.Middles.{middle_at, IsMiddle}
 use Rattle.cert_compose.specs.Losses.{keeps_views, keeps_entries, keeps_new, line_keeps, loses, lost_by, lost_entries}
 use Rattle.abi_types.proofs.lemmas.Nodes.{node_of-at, node_of-is}
-use Rattle.cert_compose.proofs.LineLemmas.{LineLaws, at_contains, rep-some, rep-none, rep_own}
-use Rattle.cert_compose.proofs.JoinLemmas.{in_flat, from_flat, if_in, in_if, only_in, from_through, to_through}
-use Rattle.cert_compose.proofs.TestLemmas.{all_nodes, type_from, from_type, views_same, all_in, one_fails}
+use Rattle.cert_compose.proofs.LineLemmas.{LineLaws, rep_own}
+use Rattle.cert_compose.proofs.JoinLemmas.{if_in, in_if, only_in, from_through, to_through}
+use Rattle.cert_compose.proofs.TestLemmas.{all_nodes, type_from, from_type, views_same, one_fails}
 use Rattle.cert_compose.proofs.Accepting.{related_from, related_parts}
+use Rattle.cert_check.proofs.lemmas.Lines.{rep-some, rep-none}
+use Rattle.pair_rules.proofs.lemmas.Lists.{in_flat_map, from_flat_map}
 
 -- ---- the node of a representative
 
@@ -54,10 +59,6 @@ BreaksSee = (f g : ℕ → ℕ) (v w : PlainView) → breaks (view_seen f v) (vi
 breaks_same : BreaksSee → (f g : ℕ → ℕ) (n m n' m' : PlainNode) → look_of f n ≡ look_of f n' → look_of g m ≡ look_of g m' → breaks n.view m.view ≡ breaks n'.view m'.view
 breaks_same law f g n m n' m' one other =
     sym (law f g n.view m.view) ∙ ap (λ (l : Look). breaks l.view (view_seen g m.view)) one ∙ ap (λ (l : Look). breaks (view_seen f n'.view) l.view) other ∙ law f g n'.view m'.view
-
-flip : (b : Bool) → not b ≡ true → b ≡ false
-flip false e = refl
-flip true e = absurd cc
 
 flip' : (b : Bool) → not b ≡ false → b ≡ true
 flip' true e = refl
@@ -112,21 +113,21 @@ module _ (laws : LineLaws) (sees : BreaksSee) (ch : PlainChain) (first_graph : I
         let keeps : line_keeps ch middles line ≡ true = elim (cases_Bool (line_keeps ch middles line)) [
           | inl yes_keeps ↦ yes_keeps
           | inr other_way ↦
-              absurd (free (in_flat (lost_by ch middles) ch.one.pairs line (old e) near_line.line (in_if (loses ch middles line) (old e ∷ []) (old e) (ap not other_way) (0, omega arith, refl))))
+              absurd (free (in_flat_map (lost_by ch middles) ch.one.pairs line (old e) near_line.line (in_if (loses ch middles line) (old e ∷ []) (old e) (ap not other_way) (0, omega arith, refl))))
         ] in
         let all : list_all (keeps_new ch (old e) (mid f)) (through ch.other.alike_new ch.other.pairs middles (old e) (mid f) way) ≡ true = rw (own) at keeps in
-        let kept = all_in (keeps_new ch (old e) (mid f)) (through ch.other.alike_new ch.other.pairs middles (old e) (mid f) way) y all goes in
+        let kept = list_all_in (keeps_new ch (old e) (mid f)) (through ch.other.alike_new ch.other.pairs middles (old e) (mid f) way) y all goes in
         type_from ch e f g (sym (entries_are e f g e_in near_line.new next_line.new) ∙ kept)
 
     -- and one whose representative is does not
     pub is_lost : Contains (lost_entries ch middles ch.one.pairs) (old e) → KeepsTypes ch e → ⊥
     unfolding lost_entries line_keeps
     is_lost lost keeps =
-        let given = from_flat (lost_by ch middles) ch.one.pairs (old e) lost in
-        let line = given.item in
-        let both = if_in (loses ch middles line) (line.0 ∷ []) (old e) given.gives in
+        let given = from_flat_map (lost_by ch middles) ch.one.pairs (old e) lost in
+        let line = given.0 in
+        let both = if_in (loses ch middles line) (line.0 ∷ []) (old e) given.2 in
         let entry : old e ≡ line.0 = only_in line.0 (old e) both.1 in
-        let unkept : line_keeps ch middles line ≡ false = flip (line_keeps ch middles line) both.0 in
+        let unkept : line_keeps ch middles line ≡ false = not_is_true (line_keeps ch middles line) both.0 in
         let parts = owned_false (line_of ch.one.alike_old line.0) (list_all (keeps_new ch line.0 line.1) (through ch.other.alike_new ch.other.pairs middles line.0 line.1 line.2)) unkept in
         let bad = one_fails (keeps_new ch line.0 line.1) (through ch.other.alike_new ch.other.pairs middles line.0 line.1 line.2) parts.1 in
         let y = bad.item in
@@ -141,7 +142,7 @@ module _ (laws : LineLaws) (sees : BreaksSee) (ch : PlainChain) (first_graph : I
         let g_entry : new g ≡ y.1 = ap (rep ch.other.alike_new) g_is.1 ∙ rep-none ch.other.alike_new y.1 goes.on.own in
         let mk : ℕ → ℕ → PairLine = λ a b. (a, b, line.2) in
         let near_line : Contains ch.one.pairs (old e, mid node.0, line.2) =
-        subst (λ (l : PairLine). Contains ch.one.pairs l) (ap (λ a. mk a line.1) (sym entry) ∙ ap (mk (old e)) (sym first)) given.there in
+        subst (λ (l : PairLine). Contains ch.one.pairs l) (ap (λ a. mk a line.1) (sym entry) ∙ ap (mk (old e)) (sym first)) given.1 in
         let next_line : Contains ch.other.pairs ((middle_at ch node.0).1, new g, line.2) =
         subst (λ (l : PairLine). Contains ch.other.pairs l) (ap (λ a. mk a y.1) (sym second) ∙ ap (mk (middle_at ch node.0).1) (sym g_entry)) goes.on.there in
         let related : AreRelated ch e node.0 g line.2 = record {

@@ -4,6 +4,7 @@ use Rattle.std.specs.Prelude.{◌↔◌}
 use Rattle.std.specs.List.{Contains, All}
 use Rattle.std.proofs.lemmas.Option.{slice_get-get_or}
 use Rattle.std.proofs.lemmas.List.Elements.{All-contains}
+use Rattle.abi_base.proofs.lemmas.Lists.{contains_at}
 use Rattle.abi_types.specs.Types.{PlainNode}
 use Rattle.cert_text.specs.Certs.{PlainCert, PairLine, Ascend, first_cmp, pair_cmp, IsBelow, IsPairBelow, IsDigest}
 use Rattle.cert_check.specs.Accepted.{Case, IsAccepted, old_class, new_class}
@@ -16,7 +17,7 @@ use Rattle.cert_compose.specs.Joins.{joins}
 use Rattle.cert_compose.specs.Middles.{IsBoth, IsMiddle}
 use Rattle.cert_compose.proofs.BindLemmas.{GivenLaw, through_lines, lines_ascend, lines_below}
 use Rattle.cert_compose.proofs.JoinLemmas.{joins_are}
-use Rattle.cert_compose.proofs.LineLemmas.{LineLaws, contains_at}
+use Rattle.cert_compose.proofs.LineLemmas.{LineLaws}
 
 module _ (given : GivenLaw) (laws : LineLaws) (keeps_all : (c : Case) → IsAccepted c ↔ KeepsAll c) (ch : PlainChain) (chain : IsChain ch) (rules : ch.marks.digest ≡ ch.one.rules_digest)
     (middles : List (ℕ × ℕ)) (exact : (m : ℕ × ℕ) → Contains middles m ↔ IsMiddle ch m) (c : PlainCert) where

@@ -8,6 +8,7 @@ use Rattle.std.specs.Ordering.{nat_cmp, ordering_index}
 use Rattle.std.specs.declared.cmp.Ordering.TheVariants.{Less, Equal, Greater}
 use Rattle.std.proofs.lemmas.List.Sorted.{Contains-permutation, IsPermutation-sym, IsNonDecreasingBy-from_sort}
 use Rattle.std.proofs.lemmas.Bool.{cases_Bool, cases_lt, cases_order, and_parts, and_from}
+use Rattle.abi_base.proofs.lemmas.Bools.{not_is_true}
 use Rattle.abi_types.specs.Types.{PlainView, PlainNode}
 use Rattle.abi_types.specs.Graphs.{node_of, node_at, view_at}
 use Rattle.pair_rules.specs.declared.rules.Broken.{Broken}
@@ -18,6 +19,7 @@ use Rattle.cert_compose.specs.Chains.{PlainChain}
 use Rattle.cert_compose.specs.Between.{hides, KeepsType}
 use Rattle.cert_compose.specs.Joins.{through}
 use Rattle.cert_compose.specs.Losses.{are_none, no_breaks, keeps_views, keeps_nodes, keeps_entries, keeps_new, line_keeps, lost_entries, IsLostIn, FindsLeast, FindsLeastEntry, next_least}
+use Rattle.abi_base.proofs.lemmas.Orders.{index_le}
 
 -- ---- the nodes of entries
 
@@ -46,17 +48,13 @@ none_are (b ∷ bs) e = absurd cc
 are_empty : (bs : List Broken) → bs ≡ [] → are_none bs ≡ true
 are_empty bs e = rw e refl
 
-not_true : (b : Bool) → not b ≡ true → b ≡ false
-not_true false e = refl
-not_true true e = absurd cc
-
 false_not : (b : Bool) → b ≡ false → not b ≡ true
 false_not b e = rw e refl
 
 pub type_from : (ch : PlainChain) (e f g : ℕ) → keeps_views (view_at ch.first.graph e) (view_at ch.middle.graph f) (view_at ch.last.graph g) ≡ true → KeepsType ch e f g
 type_from ch e f g h =
     let parts = and_parts (not (hides (view_at ch.first.graph e) (view_at ch.middle.graph f) (view_at ch.last.graph g))) (no_breaks (view_at ch.first.graph e) (view_at ch.last.graph g)) h in
-    record { shown = not_true _ parts.0; keeps = none_are (breaks (view_at ch.first.graph e) (view_at ch.last.graph g)) parts.1 }
+    record { shown = not_is_true _ parts.0; keeps = none_are (breaks (view_at ch.first.graph e) (view_at ch.last.graph g)) parts.1 }
 
 pub from_type : (ch : PlainChain) (e f g : ℕ) → KeepsType ch e f g → keeps_views (view_at ch.first.graph e) (view_at ch.middle.graph f) (view_at ch.last.graph g) ≡ true
 from_type ch e f g k = and_from _ _ (false_not _ k.shown) (are_empty (breaks (view_at ch.first.graph e) (view_at ch.last.graph g)) k.keeps)
@@ -68,11 +66,6 @@ views_same v u w v' u' w' a b c d =
     ∙ ap (λ r. mk v'.declared_only u'.declared_only r (breaks v w)) c ∙ ap (mk v'.declared_only u'.declared_only w'.declared_only) d
 
 -- ---- all of a list
-
-pub all_in : {X : Type 0} (p : X → Bool) (xs : List X) (x : X) → list_all p xs ≡ true → Contains xs x → p x ≡ true
-all_in p [] x all h = absurd (omega (arith, h.1))
-all_in p (y ∷ ys) x all (zero, lt, is) = ap p (sym is) ∙ (and_parts (p y) (list_all p ys) all).0
-all_in p (y ∷ ys) x all (suc k, lt, is) = all_in p ys x (and_parts (p y) (list_all p ys) all).1 (k, omega (arith, lt), is)
 
 pub record Fails {X : Type 0} (p : X → Bool) (xs : List X) : Type 0 where
   pub item : X
@@ -190,24 +183,8 @@ finds_none nodes alike xs count none = λ i below there. let h = subst (λ (l : 
 
 -- ---- a binary search among numbers
 
-index_mono : (a b x : ℕ) → a ≤ b → ordering_index (nat_cmp a x) ≤ ordering_index (nat_cmp b x)
-index_mono a b x le = elim (cases_order a x) [
-  | inl same ↦
-      let ca : nat_cmp a x ≡ Equal = sym (nat_cmp_is a x Equal same) in
-      elim (cases_order b x) [
-        | inl also ↦ let cb : nat_cmp b x ≡ Equal = sym (nat_cmp_is b x Equal also) in rw (ca, cb) (omega arith)
-        | inr (inl less) ↦ absurd (omega (arith, less, same, le))
-        | inr (inr above) ↦ let cb : nat_cmp b x ≡ Greater = sym (nat_cmp_is b x Greater above) in rw (ca, cb) (omega arith)
-      ]
-  | inr (inl less) ↦ let ca : nat_cmp a x ≡ Less = sym (nat_cmp_is a x Less less) in rw ca (omega arith)
-  | inr (inr above) ↦
-      let ca : nat_cmp a x ≡ Greater = sym (nat_cmp_is a x Greater above) in
-      let cb : nat_cmp b x ≡ Greater = sym (nat_cmp_is b x Greater (omega (arith, above, le))) in
-      rw (ca, cb) (omega arith)
-]
-
 pub index_rises : (xs : List ℕ) (x : ℕ) → IsSorted nat_cmp xs → IsNonDecreasingBy (λ y. ordering_index (nat_cmp y x)) xs
-index_rises xs x sorted i j d le inside = index_mono (get_or xs i d) (get_or xs j d) x (IsNonDecreasingBy-from_sort (λ (y : ℕ). y) xs sorted i j d le inside)
+index_rises xs x sorted i j d le inside = index_le (get_or xs i d) (get_or xs j d) x (IsNonDecreasingBy-from_sort (λ (y : ℕ). y) xs sorted i j d le inside)
 
 pub not_among : (xs : List ℕ) (x i : ℕ) → AllWithin (λ (y : ℕ). nat_cmp y x ≡ Less) xs 0 i → AllWithin (λ (y : ℕ). nat_cmp y x ≡ Greater) xs i (length xs) → Contains xs x → ⊥
 not_among xs x i below above (k, inside, is) =

@@ -37,4 +37,4 @@ IsLost ch kind at = ⊥
 
 abbrev pub IsRefusal : PlainChain → ComposeRefusal → Type 0
 IsRefusal ch (Between lost) = IsLost ch lost.kind lost.at
-IsRefusal ch NoMemory = Unit {0}
+IsRefusal ch (NoMemory cause) = Unit {0}

@@ -13,6 +13,7 @@ ghost use Rattle.cert_compose.specs.Refusals.{IsRefusal};
 
 use crate::binds::bind_lines;
 use crate::certified_chain::{CertifiedChain, Chain};
+use crate::fitting::ask_joins;
 use crate::joins::{Lines, join};
 use crate::judge::judge;
 use crate::laws::what_is_composed_is_accepted;
@@ -143,6 +144,7 @@ pub fn compose(
         alike_new_of(one),
         alike_old_of(other),
     )?;
+    ask_joins(&ground, &middles)?;
     match judge(alloc, &ground, &middles) {
         Ok(()) => {}
         Err(refusal) => return Err(refusal),

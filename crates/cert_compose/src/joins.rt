@@ -29,8 +29,8 @@ fn is_same_way(one: Way, other: Way) -> bool
     }
 }
 
-// The position of the first pair line whose old entry is not below a number.
-fn lines_from(lines: &[(u64, u64, Way)], number: u64) -> usize
+/// The position of the first pair line whose old entry is not below a number.
+pub(crate) fn lines_from(lines: &[(u64, u64, Way)], number: u64) -> usize
     requires { Ascend pair_cmp lines.now }
     ensures inside { result ≤ length lines.now }
     ensures parts { IsPartitionPoint (λ (line : PairLine). ltb (line_first line) number ≡ true) (λ (line : PairLine). ltb (line_first line) number ≡ false) lines.now result }
@@ -38,8 +38,8 @@ fn lines_from(lines: &[(u64, u64, Way)], number: u64) -> usize
     lines.partition_point(|line| line.0 < number)
 }
 
-// The position of the first pair of representatives whose first one is not below a number.
-fn middles_from(middles: &[(u64, u64)], number: u64) -> usize
+/// The position of the first pair of representatives whose first one is not below a number.
+pub(crate) fn middles_from(middles: &[(u64, u64)], number: u64) -> usize
     requires { IsNonDecreasingBy first_of middles.now }
     ensures inside { result ≤ length middles.now }
     ensures parts { IsPartitionPoint (λ (middle : ℕ × ℕ). ltb (first_of middle) number ≡ true) (λ (middle : ℕ × ℕ). ltb (first_of middle) number ≡ false) middles.now result }

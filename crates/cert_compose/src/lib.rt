@@ -5,6 +5,7 @@
 mod binds;
 mod certified_chain;
 mod composing;
+mod fitting;
 mod joins;
 mod judge;
 pub mod laws;

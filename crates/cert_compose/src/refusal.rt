@@ -11,14 +11,14 @@ pub enum ComposeRefusal {
     /// Something is lost if the middle library is skipped: `at` is the symbol of an export of the first library, or the entry of
     /// one of its types.
     Between(Refused),
-    /// There is no memory for the composed certificate.
-    NoMemory,
+    /// There is no memory for the composed certificate, or a count would pass its limit.
+    NoMemory(NoMemory),
 }
 
 impl From<NoMemory> for ComposeRefusal {
-    ghost from_gives = { λ _ e. e ≡ OutOfMemory };
+    ghost from_gives = { λ cause e. e ≡ OutOfMemory cause };
 
-    fn from(_: NoMemory) -> Self {
-        ComposeRefusal::NoMemory
+    fn from(cause: NoMemory) -> Self {
+        ComposeRefusal::NoMemory(cause)
     }
 }

@@ -22,16 +22,16 @@ use cert_text::{alike_new_of, alike_old_of, pairs_of};
 use pair_rules::holds;
 use std::alloc::Global;
 
-// The node of an entry.
-fn find<Ix: Index>(library: &Library<Ix>, entry: u64) -> Option<Ix>
+/// The node of an entry.
+pub(crate) fn find<Ix: Index>(library: &Library<Ix>, entry: u64) -> Option<Ix>
     ensures node { option_map Ix.number_of result ≡ node_of library.now.graph entry }
     ensures inside { MatchOption result (node_of library.now.graph entry ≡ None) (λ ix. Ix.number_of ix < length library.now.graph) }
 {
     library.graph().find(entry)
 }
 
-// The view of a node.
-fn view_of<'x, 'a, Ix: Index>(library: &'x Library<'a, Ix>, ix: Ix) -> &'x View<'a, Ix>
+/// The view of a node.
+pub(crate) fn view_of<'x, 'a, Ix: Index>(library: &'x Library<'a, Ix>, ix: Ix) -> &'x View<'a, Ix>
     requires { Ix.number_of ix < length library.now.graph }
     ensures { result.now ≡ view_at library.now.graph (Ix.number_of ix) }
 {

@@ -1,51 +1,47 @@
 -- Where the lines of a text end.
 use Rattle.std.proofs.Common.{◌≡◌, ◌<◌, ◌≤◌, ◌+◌, ◌*◌, ◌^◌, ◌⊎◌, inl, inr, ◌||◌, not, nat_lt, ltb, ℕ, zero, suc, Bool, true, false, cond, List, [], ◌∷◌, ◌++◌, length, drop, map, Option, Some, None, refl, sym, ◌∙◌, ap, subst, arith, append_assoc}
 use Rattle.std.specs.List.{All, AllPairs}
-use Rattle.std.specs.Cmp.{nat_cmp_is}
 use Rattle.std.specs.Ordering.{nat_cmp, bool_cmp, ordering_then}
 use Rattle.std.specs.declared.cmp.Ordering.{Ordering}
-use Rattle.std.specs.declared.cmp.Ordering.TheVariants.{Less, Equal}
+use Rattle.std.specs.declared.cmp.Ordering.TheVariants.{Less}
 use Rattle.std.proofs.lemmas.Bool.{lt-ltb, ltb-true}
-use Rattle.std.proofs.lemmas.List.{append-nil, nil_from_length}
+use Rattle.std.proofs.lemmas.List.{append-nil}
 use Rattle.std.proofs.lemmas.List.Elements.{All-weaker}
 use Rattle.std.proofs.lemmas.Option.{none-some}
+use Rattle.abi_base.proofs.lemmas.Bools.{not_is_false}
 use Rattle.abi_types.specs.declared.kind.Way.{Way}
 use Rattle.abi_types.specs.declared.kind.Way.TheVariants.{Direct, Pointer}
 use Rattle.abi_base.specs.declared.fault.Fault.{Fault}
 use Rattle.abi_base.specs.declared.fault.FaultKind.TheVariants as kind
-use Rattle.cert_text.specs.Certs.{PlainCert, PairLine, IsCert, IsInRange, IsBelow, IsPairBelow, Ascend, first_cmp, pair_cmp, is_pointer}
+use Rattle.cert_text.specs.Certs.{PlainCert, PairLine, IsCert, IsBelow, IsPairBelow, Ascend, first_cmp, pair_cmp, is_pointer}
 use Rattle.cert_text.specs.Grammar.{HasNumbers, IsSpelledIn, spelling, body, head, lined, text_of, bind_of, alike_old_of, alike_new_of, pair_of}
-use Rattle.cert_text.specs.Faults.{parts, may_follow, is_end, is_above, before_then, way_before, body_fault, end_fault, fault_of}
-use Rattle.cert_text.specs.Steps.{IsRest, body_from}
+use Rattle.cert_text.specs.Faults.{parts, may_follow, is_end, before_then, way_before, body_fault, end_fault, fault_of}
+use Rattle.cert_text.specs.Steps.{IsRest}
 use Rattle.cert_text.specs.declared.line.Version.{Version}
 use Rattle.cert_text.specs.declared.line.Line.{Line}
 use Rattle.cert_text.specs.declared.line.Line.TheVariants.{Bind, AlikeOld, AlikeNew, Pair, End}
 use Rattle.cert_text.proofs.OrderLemmas.{lex_is}
 use Rattle.cert_text.proofs.BodyLemmas.{All-front, All-back, All-of_map, AllPairs-front, AllPairs-back, AllPairs-of_map, AllPairs-weaker, groups, body-groups}
-use Rattle.cert_text.proofs.ReadingLemmas.{Follows, IsReading, ended, said, count, lined-map}
+use Rattle.cert_text.proofs.ReadingLemmas.{Follows, IsReading, ended, said, lined-map}
+use Rattle.abi_types.proofs.lemmas.Numbers.{nat_same}
+use Rattle.abi_base.proofs.lemmas.Orders.{nat_less}
 
 -- ---- the order of lines, as that of what they say
-
-less : (m n : ℕ) → m < n → nat_cmp m n ≡ Less
-less m n lt = sym (nat_cmp_is m n Less lt)
-
-same : (m n : ℕ) → m ≡ n → nat_cmp m n ≡ Equal
-same m n e = sym (nat_cmp_is m n Equal e)
 
 above : (r : ℕ) (t : Bool) → before_then r r t ≡ true → t ≡ true
 above r t is = elim (lex_is r r t is) [ inl lt ↦ absurd (omega (arith, lt)) | inr tie ↦ tie.1 ]
 
 binds_rise : (x y : ℕ × ℕ) → Follows (bind_of x) (bind_of y) → first_cmp x y ≡ Less
 unfolding may_follow
-binds_rise x y is = less x.0 y.0 (ltb-true x.0 y.0 (above 0 (nat_lt x.0 y.0) is))
+binds_rise x y is = nat_less x.0 y.0 (ltb-true x.0 y.0 (above 0 (nat_lt x.0 y.0) is))
 
 old_rise : (x y : ℕ × ℕ) → Follows (alike_old_of x) (alike_old_of y) → first_cmp x y ≡ Less
 unfolding may_follow
-old_rise x y is = less x.0 y.0 (ltb-true x.0 y.0 (above 1 (nat_lt x.0 y.0) is))
+old_rise x y is = nat_less x.0 y.0 (ltb-true x.0 y.0 (above 1 (nat_lt x.0 y.0) is))
 
 new_rise : (x y : ℕ × ℕ) → Follows (alike_new_of x) (alike_new_of y) → first_cmp x y ≡ Less
 unfolding may_follow
-new_rise x y is = less x.0 y.0 (ltb-true x.0 y.0 (above 2 (nat_lt x.0 y.0) is))
+new_rise x y is = nat_less x.0 y.0 (ltb-true x.0 y.0 (above 2 (nat_lt x.0 y.0) is))
 
 ways_rise : (v w : Way) → way_before v w ≡ true → bool_cmp (is_pointer v) (is_pointer w) ≡ Less
 ways_rise Direct Direct is = cc
@@ -58,10 +54,10 @@ pairs_rise x y is =
     let rest = before_then x.1 y.1 (way_before x.2 y.2) in
     let ways = bool_cmp (is_pointer x.2) (is_pointer y.2) in
     elim (lex_is x.0 y.0 rest (above 3 (before_then x.0 y.0 rest) is)) [
-      | inl lt ↦ ap (λ (o : Ordering). ordering_then (ordering_then o (nat_cmp x.1 y.1)) ways) (less x.0 y.0 lt)
+      | inl lt ↦ ap (λ (o : Ordering). ordering_then (ordering_then o (nat_cmp x.1 y.1)) ways) (nat_less x.0 y.0 lt)
       | inr tie ↦ elim (lex_is x.1 y.1 (way_before x.2 y.2) tie.1) [
-        | inl lt ↦ ap (λ (o : Ordering). ordering_then (ordering_then o (nat_cmp x.1 y.1)) ways) (same x.0 y.0 tie.0) ∙ ap (λ (o : Ordering). ordering_then o ways) (less x.1 y.1 lt)
-        | inr tie_too ↦ ap (λ (o : Ordering). ordering_then (ordering_then o (nat_cmp x.1 y.1)) ways) (same x.0 y.0 tie.0) ∙ ap (λ (o : Ordering). ordering_then o ways) (same x.1 y.1 tie_too.0) ∙ ways_rise x.2 y.2 tie_too.1
+        | inl lt ↦ ap (λ (o : Ordering). ordering_then (ordering_then o (nat_cmp x.1 y.1)) ways) (nat_same x.0 y.0 tie.0) ∙ ap (λ (o : Ordering). ordering_then o ways) (nat_less x.1 y.1 lt)
+        | inr tie_too ↦ ap (λ (o : Ordering). ordering_then (ordering_then o (nat_cmp x.1 y.1)) ways) (nat_same x.0 y.0 tie.0) ∙ ap (λ (o : Ordering). ordering_then o ways) (nat_same x.1 y.1 tie_too.0) ∙ ways_rise x.2 y.2 tie_too.1
       ]
     ]
 
@@ -145,10 +141,6 @@ both_false : (b d : Bool) → b || d ≡ false → (b ≡ false) × (d ≡ false
 both_false true d is = cc
 both_false false d is = (refl, is)
 
-not_false : (b : Bool) → not b ≡ false → b ≡ true
-not_false true is = refl
-not_false false is = cc
-
 no_fault : (b : Bool) (fault : Fault) → cond b (Some fault) None ≡ None → b ≡ false
 no_fault true fault is = absurd (none-some fault (sym is))
 no_fault false fault is = refl
@@ -172,7 +164,7 @@ pub finished : (v : Version) (bytes : List ℕ) (at number : ℕ) (before : Opti
 unfolding text_of
 finished v bytes at number before c short reading none =
     let tests = both_false (not (is_end before)) (nat_lt 0 (length (drop at bytes))) (no_fault (not (is_end before) || nat_lt 0 (length (drop at bytes))) (record { kind = kind.End; at = number }) none) in
-    let over = ended_all before (not_false (is_end before) tests.0) in
+    let over = ended_all before (not_is_false (is_end before) tests.0) in
     let past = empty_rest (drop at bytes) tests.1 in
     let front = lined (head v c) in
     let lines = lined (map (spelling v) (body c)) in

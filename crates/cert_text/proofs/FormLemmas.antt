@@ -5,6 +5,8 @@ use Rattle.std.specs.Option.{option_map}
 use Rattle.std.specs.Str.{bytes_eq}
 use Rattle.std.proofs.lemmas.Bool.{and_parts, lt-ltb, ltb-true}
 use Rattle.std.proofs.lemmas.Option.{none-some, same_Some}
+use Rattle.abi_base.proofs.lemmas.Lists.{append_none}
+use Rattle.abi_base.proofs.lemmas.Orders.{bytes_eq-is_same}
 use Rattle.abi_types.specs.declared.kind.Way.{Way}
 use Rattle.abi_types.specs.declared.kind.Way.TheVariants.{Direct, Pointer}
 use Rattle.cert_text.specs.Grammar.{HasNumbers, IsLine, IsWay, spelling, way_words}
@@ -13,7 +15,7 @@ use Rattle.cert_text.specs.declared.line.Version.{Version}
 use Rattle.cert_text.specs.declared.line.Version.TheVariants.{One, Two}
 use Rattle.cert_text.specs.declared.line.Line.{Line}
 use Rattle.cert_text.specs.declared.line.Line.TheVariants.{Bind, AlikeOld, AlikeNew, Pair, End}
-use Rattle.cert_text.proofs.NumberLemmas.{bytes_same, number_is, spaced_is, behind_is, IsNumber, IsSpaced}
+use Rattle.cert_text.proofs.NumberLemmas.{number_is, spaced_is, behind_is, IsNumber, IsSpaced}
 
 -- ---- steps that gave something
 
@@ -86,25 +88,21 @@ alike_new_is v text line is =
     let here : IsLine v text (AlikeNew found.0.0 found.0.1) = record { numbers = (are.one, are.other); is = are.are } in
     subst (IsLine v text) found.1.1 here
 
-append_nil : (xs : List ℕ) → xs ++ [] ≡ xs
-append_nil [] = refl
-append_nil (x ∷ xs) = ap (λ (ys : List ℕ). x ∷ ys) (append_nil xs)
-
 plain_pair_is : (text : List ℕ) (line : Line) → plain_pair_in text ≡ Some line → IsLine One text line
 plain_pair_is text line is =
     let found = map_is (λ (p : ℕ × ℕ). Pair p.0 p.1 Direct) (numbers_behind (codes "pair ") text) line is in
     let are = numbers_stand (codes "pair ") text found.0 found.1.0 in
     let here : IsLine One text (Pair found.0.0 found.0.1 Direct) = record {
       numbers = (are.one, are.other, refl);
-      is = are.are ∙ ap (λ (xs : List ℕ). codes "pair " ++ (decimal found.0.0 ++ 32 ∷ xs)) (sym (append_nil (decimal found.0.1)));
+      is = are.are ∙ ap (λ (xs : List ℕ). codes "pair " ++ (decimal found.0.0 ++ 32 ∷ xs)) (sym (append_none (decimal found.0.1)));
     } in
     subst (IsLine One text) found.1.1 here
 
 way_with : (text : List ℕ) (way : Way) (b d : Bool) → bytes_eq text (codes "direct") ≡ b → bytes_eq text (codes "pointer") ≡ d → cond b (Some Direct) (cond d (Some Pointer) None) ≡ Some way → 32 ∷ text ≡ way_words Two way
 way_with text way true d same other is =
-    ap (λ (xs : List ℕ). 32 ∷ xs) (bytes_same text (codes "direct") same) ∙ ap (way_words Two) (same_Some Direct way is)
+    ap (λ (xs : List ℕ). 32 ∷ xs) (bytes_eq-is_same text (codes "direct") same) ∙ ap (way_words Two) (same_Some Direct way is)
 way_with text way false true same other is =
-    ap (λ (xs : List ℕ). 32 ∷ xs) (bytes_same text (codes "pointer") other) ∙ ap (way_words Two) (same_Some Pointer way is)
+    ap (λ (xs : List ℕ). 32 ∷ xs) (bytes_eq-is_same text (codes "pointer") other) ∙ ap (way_words Two) (same_Some Pointer way is)
 way_with text way false false same other is = absurd (none-some way is)
 
 way_is : (text : List ℕ) (way : Way) → way_in text ≡ Some way → 32 ∷ text ≡ way_words Two way
@@ -137,7 +135,7 @@ end_is : (v : Version) (text : List ℕ) (line : Line) → end_in text ≡ Some 
 unfolding end_in
 end_is v text line is =
     let test = if_is (bytes_eq text (codes "end")) End line is in
-    let here : IsLine v text End = record { numbers = tt; is = bytes_same text (codes "end") test.0 } in
+    let here : IsLine v text End = record { numbers = tt; is = bytes_eq-is_same text (codes "end") test.0 } in
     subst (IsLine v text) test.1 here
 
 or_is : (P : Line → Type 0) (line : Line) (o next : Option Line) → (o ≡ Some line → P line) → (next ≡ Some line → P line) → or_line o next ≡ Some line → P line

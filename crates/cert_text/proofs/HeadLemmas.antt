@@ -2,6 +2,7 @@
 use Rattle.std.proofs.Common.{◌≡◌, ◌<◌, ◌≤◌, ◌+◌, ◌==◌, ℕ, zero, suc, Bool, true, false, cond, List, [], ◌∷◌, ◌++◌, length, drop, Option, Some, None, refl, sym, ◌∙◌, ap, subst, arith}
 use Rattle.std.specs.Prelude.{is_some}
 use Rattle.std.specs.Str.{bytes_eq}
+use Rattle.abi_base.proofs.lemmas.Orders.{bytes_eq-is_same}
 use Rattle.abi_base.specs.declared.fault.Fault.{Fault}
 use Rattle.abi_base.specs.declared.fault.FaultKind.TheVariants as kind
 use Rattle.cert_text.specs.Forms.{behind, digest_behind}
@@ -9,7 +10,7 @@ use Rattle.cert_text.specs.Grammar.{answer, digest_line}
 use Rattle.cert_text.specs.Faults.{Parts, parts, head_fault, answer_test, digest_test}
 use Rattle.cert_text.specs.Steps.{IsRest, StandsAt, Passes, Fails, HasDigest, head_from}
 use Rattle.cert_text.specs.declared.line.Version.{Version}
-use Rattle.cert_text.proofs.NumberLemmas.{bytes_same, digest_is, IsDigestIn}
+use Rattle.cert_text.proofs.NumberLemmas.{digest_is, IsDigestIn}
 
 pub ended : (number : ℕ) (test : List ℕ → Bool) (bytes : List ℕ) (at : ℕ) → IsRest bytes at → Fails number test bytes at (record { kind = kind.End; at = number })
 unfolding head_fault
@@ -35,7 +36,7 @@ stands_as bytes at next text other e stands = subst (StandsAt bytes at next) e s
 
 pub answered : (v : Version) (bytes : List ℕ) (next : ℕ) (text : List ℕ) → StandsAt bytes 0 next text → bytes_eq text (answer v) ≡ true → Passes v 1 (answer_test v) bytes 0 next (answer v)
 answered v bytes next text stands same =
-    let e = bytes_same text (answer v) same in
+    let e = bytes_eq-is_same text (answer v) same in
     passes v 1 (answer_test v) bytes 0 next (answer v) (stands_as bytes 0 next text (answer v) e stands) (subst (λ (t : List ℕ). bytes_eq t (answer v) ≡ true) e same)
 
 pub digested : (number : ℕ) (word bytes : List ℕ) (at next : ℕ) (text digest : List ℕ) → StandsAt bytes at next text → digest_behind word text ≡ Some digest → HasDigest number word bytes at digest next

@@ -6,6 +6,7 @@ use Rattle.std.specs.Char.{digit_value}
 use Rattle.std.specs.Str.Parse.{AllDigits}
 use Rattle.std.proofs.lemmas.Bool.{and_parts, and_from, ne_eqb}
 use Rattle.std.proofs.lemmas.Fmt.{decimal_is_IsNumeral}
+use Rattle.abi_base.proofs.lemmas.Bools.{not_is_true}
 use Rattle.hex.specs.Hex.{encode_lower, encode_with, lower_digits}
 use Rattle.abi_types.specs.declared.kind.Way.{Way}
 use Rattle.abi_types.specs.declared.kind.Way.TheVariants.{Direct, Pointer}
@@ -24,13 +25,9 @@ abbrev pub is_clear : List ℕ → Bool
 is_clear [] = true
 is_clear (b ∷ text) = not (is_feed b) && is_clear text
 
-not_true : (b : Bool) → not b ≡ true → b ≡ false
-not_true true is = cc
-not_true false is = refl
-
 pub clear_at : (text : List ℕ) → is_clear text ≡ true → (k : ℕ) → is_feed (get_or text k 0) ≡ false
 clear_at [] clear k = refl
-clear_at (b ∷ text) clear zero = not_true (is_feed b) (and_parts (not (is_feed b)) (is_clear text) clear).0
+clear_at (b ∷ text) clear zero = not_is_true (is_feed b) (and_parts (not (is_feed b)) (is_clear text) clear).0
 clear_at (b ∷ text) clear (suc k) = clear_at text (and_parts (not (is_feed b)) (is_clear text) clear).1 k
 
 pub has_no_feed : (text : List ℕ) → is_clear text ≡ true → HasNoFeed text

@@ -14,6 +14,7 @@ use Rattle.std.proofs.lemmas.List.Sums.{position_or_len_is}
 use Rattle.std.proofs.lemmas.List.Quantifiers.{position-Some}
 use Rattle.std.proofs.lemmas.Slice.Eq.{bytes_eq-Decides}
 use Rattle.std.proofs.lemmas.Option.{none-some, same_Some}
+use Rattle.abi_base.proofs.lemmas.Orders.{bytes_eq-same, bytes_eq-is_same}
 use Rattle.hex.specs.declared.error.FromHexError.{FromHexError}
 use Rattle.hex.specs.Hex.{encode_lower, decode_sized, decode_of, IsBytes}
 use Rattle.hex.proofs.HexLemmas.{decode_sized-ok, decode_sized-twice, decode_of-ok, decode_sized-encode_lower}
@@ -81,14 +82,8 @@ unspelled text n broken is = broken (subst IsUtf8 (sym is.is) (IsUtf8-from_ascii
 
 -- ---- what `number_in` reads
 
-pub same_bytes : (xs ys : List ℕ) → xs ≡ ys → bytes_eq xs ys ≡ true
-same_bytes xs ys = (bytes_eq-Decides xs ys).1
-
-pub bytes_same : (xs ys : List ℕ) → bytes_eq xs ys ≡ true → xs ≡ ys
-bytes_same xs ys = (bytes_eq-Decides xs ys).0
-
 no_bytes_with : (xs ys : List ℕ) (b : Bool) → bytes_eq xs ys ≡ b → xs ≢ ys → bytes_eq xs ys ≡ false
-no_bytes_with xs ys true is other = absurd (other (bytes_same xs ys is))
+no_bytes_with xs ys true is other = absurd (other (bytes_eq-is_same xs ys is))
 no_bytes_with xs ys false is other = is
 
 pub no_bytes : (xs ys : List ℕ) → xs ≢ ys → bytes_eq xs ys ≡ false
@@ -99,7 +94,7 @@ unfolding number_in
 number_some text n is =
     let value : digits_value 10 text ≡ n = ap (digits_value 10) is.is ∙ digits_value-decimal own n is.fits in
     let below = lt-ltb n (2 ^ 64) is.fits in
-    let same = same_bytes text (decimal n) is.is in
+    let same = bytes_eq-same text (decimal n) is.is in
     ap (λ (m : ℕ). number_if m text) value ∙ rw (below, same) refl
 
 number_if_is : (text : List ℕ) (m n : ℕ) (b : Bool) → (nat_lt m (2 ^ 64) && bytes_eq text (decimal m)) ≡ b → number_if m text ≡ Some n → IsNumber text n
@@ -108,7 +103,7 @@ number_if_is text m n true passes is =
     let tests = and_parts (nat_lt m (2 ^ 64)) (bytes_eq text (decimal m)) passes in
     record {
       fits = subst (λ (v : ℕ). v < 2 ^ 64) e (ltb-true m (2 ^ 64) tests.0);
-      is = bytes_same text (decimal m) tests.1 ∙ ap decimal e;
+      is = bytes_eq-is_same text (decimal m) tests.1 ∙ ap decimal e;
     }
 number_if_is text m n false fails is = absurd (none-some n (sym (ap (λ (b : Bool). cond b (Some m) None) fails) ∙ is))
 
@@ -222,12 +217,12 @@ none_longer word text short = rw (longer_word word text short) refl
 pub behind_word : (word rest : List ℕ) → behind word (word ++ rest) ≡ Some rest
 unfolding behind
 behind_word word rest =
-    let same = same_bytes (take (length word) (word ++ rest)) word (take_front word rest) in
+    let same = bytes_eq-same (take (length word) (word ++ rest)) word (take_front word rest) in
     rw same (ap Some (drop_word word rest))
 
 behind_with : (word text rest : List ℕ) (b : Bool) → bytes_eq (take (length word) text) word ≡ b → cond b (Some (drop (length word) text)) None ≡ Some rest → text ≡ word ++ rest
 behind_with word text rest true same is =
-    sym (take-append-drop (length word) text) ∙ ap (λ (xs : List ℕ). xs ++ drop (length word) text) (bytes_same (take (length word) text) word same) ∙ ap (λ (xs : List ℕ). word ++ xs) (same_Some (drop (length word) text) rest is)
+    sym (take-append-drop (length word) text) ∙ ap (λ (xs : List ℕ). xs ++ drop (length word) text) (bytes_eq-is_same (take (length word) text) word same) ∙ ap (λ (xs : List ℕ). word ++ xs) (same_Some (drop (length word) text) rest is)
 behind_with word text rest false other is = absurd (none-some rest is)
 
 pub behind_is : (word text rest : List ℕ) → behind word text ≡ Some rest → text ≡ word ++ rest
@@ -249,7 +244,7 @@ sized text digest is =
 decoded_if : (text digest read : List ℕ) (b : Bool) → bytes_eq text (encode_lower read) ≡ b → decode_sized text 32 ≡ Ok read → cond b (Some read) None ≡ Some digest → IsDigestIn [] text digest
 decoded_if text digest read true same is some =
     let e : read ≡ digest = same_Some read digest some in
-    record { size = sized text digest (is ∙ ap Ok e); is = bytes_same text (encode_lower read) same ∙ ap encode_lower e }
+    record { size = sized text digest (is ∙ ap Ok e); is = bytes_eq-is_same text (encode_lower read) same ∙ ap encode_lower e }
 decoded_if text digest read false same is some = absurd (none-some digest some)
 
 decoded_with : (text digest : List ℕ) (r : Result (List ℕ) FromHexError) → decode_sized text 32 ≡ r → digest_if text r ≡ Some digest → IsDigestIn [] text digest
@@ -269,7 +264,7 @@ digest_is word text digest is = digest_with word text digest (behind word text) 
 pub digest_some : (word digest : List ℕ) → IsDigest digest → digest_behind word (word ++ encode_lower digest) ≡ Some digest
 unfolding digest_behind
 digest_some word digest is =
-    let same = same_bytes (encode_lower digest) (encode_lower digest) refl in
+    let same = bytes_eq-same (encode_lower digest) (encode_lower digest) refl in
     ap (option_and_then digest_in) (behind_word word (encode_lower digest))
     ∙ ap (digest_if (encode_lower digest)) (decode_sized-encode_lower digest 32 is.size is.are)
     ∙ rw same refl

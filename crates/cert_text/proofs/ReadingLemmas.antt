@@ -6,6 +6,7 @@ use Rattle.std.proofs.lemmas.List.Concat.{flat_map-append}
 use Rattle.std.proofs.lemmas.List.Elements.{All-push, All-weaker}
 use Rattle.std.proofs.lemmas.List.Quantifiers.{all_pairs_push}
 use Rattle.std.proofs.lemmas.Option.{none-some}
+use Rattle.abi_base.proofs.lemmas.Lists.{All-none}
 use Rattle.abi_base.specs.declared.fault.Fault.{Fault}
 use Rattle.abi_base.specs.declared.fault.FaultKind.TheVariants as kind
 use Rattle.cert_text.specs.Certs.{PlainCert, IsDigest}
@@ -64,9 +65,6 @@ none_said old new rules = refl
 no_pairs : {X : Type 0} (R : X → X → Type 0) (xs : List X) → xs ≡ [] → AllPairs R xs
 no_pairs {X} R xs e i j d less lt = absurd (omega (arith, lt, ap length e))
 
-no_items : {X : Type 0} (P : X → Type 0) (xs : List X) → xs ≡ [] → All P xs
-no_items {X} P xs e k d lt = absurd (omega (arith, lt, ap length e))
-
 pub started : (v : Version) (bytes old new rules : List ℕ) (next : ℕ) → HasHead v bytes old new rules next → IsReading v bytes next 5 None (empty_cert old new rules)
 started v bytes old new rules next has =
     let none = none_said old new rules in
@@ -81,8 +79,8 @@ started v bytes old new rules next has =
       is = has.is ∙ ap (λ (xs : List ℕ). xs ++ drop next bytes) (sym (ap (λ (xs : List Line). lined (head v c) ++ lined (map (spelling v) (xs ++ []))) none ∙ append-nil (lined (head v c))));
       same = has.same;
       ordered = no_pairs Follows (body c) none;
-      behind = no_items (IsBehind None) (body c) none;
-      numbers = no_items (HasNumbers v) (body c) none;
+      behind = All-none (IsBehind None) (body c) none;
+      numbers = All-none (HasNumbers v) (body c) none;
     }
 
 -- ---- one more line

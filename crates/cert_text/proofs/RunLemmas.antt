@@ -4,7 +4,6 @@ use Rattle.std.specs.List.{All, AllPairs}
 use Rattle.std.specs.Ordering.{nat_cmp, bool_cmp, ordering_then}
 use Rattle.std.specs.declared.cmp.Ordering.{Ordering}
 use Rattle.std.specs.declared.cmp.Ordering.TheVariants.{Less, Equal, Greater}
-use Rattle.std.proofs.lemmas.Cmp.{ranked}
 use Rattle.std.proofs.lemmas.Bool.{lt-ltb}
 use Rattle.std.proofs.lemmas.List.Elements.{All-append, All-map, All-weaker}
 use Rattle.std.proofs.lemmas.List.Kept.{AllPairs-cons}
@@ -20,26 +19,22 @@ use Rattle.cert_text.proofs.OrderLemmas.{lex_less, lex_same}
 use Rattle.cert_text.proofs.BodyLemmas.{groups, body-groups}
 use Rattle.cert_text.proofs.ReadingLemmas.{Follows}
 use Rattle.cert_text.proofs.CompleteLemmas.{form_read}
+use Rattle.abi_types.proofs.lemmas.Numbers.{nat_less_is}
+use Rattle.abi_base.proofs.lemmas.Orders.{nat_equal}
 
 -- ---- what lists in order say of their lines
 
-below : (m n : ℕ) → nat_cmp m n ≡ Less → m < n
-below m n e = ranked m n Less (sym e)
-
-same : (m n : ℕ) → nat_cmp m n ≡ Equal → m ≡ n
-same m n e = ranked m n Equal (sym e)
-
 bind_follows : (x y : ℕ × ℕ) → first_cmp x y ≡ Less → Follows (bind_of x) (bind_of y)
 unfolding may_follow
-bind_follows x y e = lex_same 0 0 (nat_lt x.0 y.0) refl (lt-ltb x.0 y.0 (below x.0 y.0 e))
+bind_follows x y e = lex_same 0 0 (nat_lt x.0 y.0) refl (lt-ltb x.0 y.0 (nat_less_is x.0 y.0 e))
 
 old_follows : (x y : ℕ × ℕ) → first_cmp x y ≡ Less → Follows (alike_old_of x) (alike_old_of y)
 unfolding may_follow
-old_follows x y e = lex_same 1 1 (nat_lt x.0 y.0) refl (lt-ltb x.0 y.0 (below x.0 y.0 e))
+old_follows x y e = lex_same 1 1 (nat_lt x.0 y.0) refl (lt-ltb x.0 y.0 (nat_less_is x.0 y.0 e))
 
 new_follows : (x y : ℕ × ℕ) → first_cmp x y ≡ Less → Follows (alike_new_of x) (alike_new_of y)
 unfolding may_follow
-new_follows x y e = lex_same 2 2 (nat_lt x.0 y.0) refl (lt-ltb x.0 y.0 (below x.0 y.0 e))
+new_follows x y e = lex_same 2 2 (nat_lt x.0 y.0) refl (lt-ltb x.0 y.0 (nat_less_is x.0 y.0 e))
 
 way_follows : (v w : Way) → bool_cmp (is_pointer v) (is_pointer w) ≡ Less → way_before v w ≡ true
 way_follows Direct Direct e = cc
@@ -48,8 +43,8 @@ way_follows Pointer Direct e = cc
 way_follows Pointer Pointer e = cc
 
 lex_from : (m n : ℕ) (t : Bool) (rest : Ordering) (o : Ordering) → nat_cmp m n ≡ o → (rest ≡ Less → t ≡ true) → ordering_then o rest ≡ Less → before_then m n t ≡ true
-lex_from m n t rest Less is next e = lex_less m n t (below m n is)
-lex_from m n t rest Equal is next e = lex_same m n t (same m n is) (next e)
+lex_from m n t rest Less is next e = lex_less m n t (nat_less_is m n is)
+lex_from m n t rest Equal is next e = lex_same m n t (nat_equal m n is) (next e)
 lex_from m n t rest Greater is next e = cc
 
 then_then : (a b c : Ordering) → ordering_then (ordering_then a b) c ≡ ordering_then a (ordering_then b c)

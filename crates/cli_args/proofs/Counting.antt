@@ -12,26 +12,15 @@ use Rattle.std.proofs.lemmas.Bool.{leb-true, le-leb}
 use Rattle.std.proofs.lemmas.Fmt.{decimal-digits_value, decimal_is_IsNumeral, first_decimal}
 use Rattle.std.proofs.lemmas.Option.{same_Some}
 use Rattle.std.proofs.lemmas.Str.Parse.{IsDigitsTest, IsNumeralModel, numerals_by_value, parse_digits}
+use Rattle.abi_base.proofs.lemmas.Bools.{not_is_true, and_is_true, and_of_true}
 use Rattle.cli_args.specs.Words.{IsNoOption}
 use Rattle.cli_args.specs.Trials.{is_decimal, is_trial_count, most_count, trial_count_of}
-
-both : (a b : Bool) → (a && b) ≡ true → (a ≡ true) × (b ≡ true)
-both true true e = (refl, refl)
-both true false e = absurd (true≢false (sym e))
-both false b e = absurd (true≢false (sym e))
-
-and_true : (a b : Bool) → a ≡ true → b ≡ true → (a && b) ≡ true
-and_true a b p q = ap₂ ◌&&◌ p q
-
-not_false : (b : Bool) → not b ≡ true → b ≡ false
-not_false true e = absurd (true≢false (sym e))
-not_false false e = refl
 
 tells : IsDigitsTest (λ ds. list_all is_ascii_digit ds ≡ true)
 tells = record {
   empty = refl;
-  parts = λ c cs e. let k = both (is_ascii_digit c) (list_all is_ascii_digit cs) e in let m = both (nat_le 48 c) (nat_le c 57) k.0 in ((leb-true 48 c m.0, leb-true c 57 m.1), k.1);
-  more = λ c cs k e. and_true (is_ascii_digit c) (list_all is_ascii_digit cs) (and_true (nat_le 48 c) (nat_le c 57) (le-leb 48 c k.0) (le-leb c 57 k.1)) e;
+  parts = λ c cs e. let k = and_is_true (is_ascii_digit c) (list_all is_ascii_digit cs) e in let m = and_is_true (nat_le 48 c) (nat_le c 57) k.0 in ((leb-true 48 c m.0, leb-true c 57 m.1), k.1);
+  more = λ c cs k e. and_of_true (is_ascii_digit c) (list_all is_ascii_digit cs) (and_of_true (nat_le 48 c) (nat_le c 57) (le-leb 48 c k.0) (le-leb c 57 k.1)) e;
 }
 
 own : IsNumeralModel (λ ds. list_all is_ascii_digit ds ≡ true) (digits_value 10)
@@ -48,8 +37,8 @@ counted word n digits is least most =
     let v = digits_value 10 word in
     let low : 1 ≤ v = omega arith in
     let high : v ≤ most_count = omega arith in
-    let in_range = and_true (nat_le 1 v) (nat_le v most_count) (le-leb 1 v low) (le-leb v most_count high) in
-    ap Some is ∙ sym (count_at word true (and_true (is_decimal word) (is_trial_count v) digits in_range))
+    let in_range = and_of_true (nat_le 1 v) (nat_le v most_count) (le-leb 1 v low) (le-leb v most_count high) in
+    ap Some is ∙ sym (count_at word true (and_of_true (is_decimal word) (is_trial_count v) digits in_range))
 
 -- what the word writes, where it counts
 record Counts (word : List ℕ) : Type 0 where
@@ -61,12 +50,12 @@ record Counts (word : List ℕ) : Type 0 where
 counts : (word : List ℕ) → (is_decimal word && is_trial_count (digits_value 10 word)) ≡ true → Counts word
 counts word e =
     let v = digits_value 10 word in
-    let parts = both (is_decimal word) (is_trial_count v) e in
-    let written = both (list_all is_ascii_digit word) (not (slice_index word 0 == 48)) parts.0 in
-    let in_range = both (nat_le 1 v) (nat_le v most_count) parts.1 in
+    let parts = and_is_true (is_decimal word) (is_trial_count v) e in
+    let written = and_is_true (list_all is_ascii_digit word) (not (slice_index word 0 == 48)) parts.0 in
+    let in_range = and_is_true (nat_le 1 v) (nat_le v most_count) parts.1 in
     record {
       digits = written.0;
-      no_zero_first = not_false (slice_index word 0 == 48) written.1;
+      no_zero_first = not_is_true (slice_index word 0 == 48) written.1;
       least = leb-true 1 v in_range.0;
       most = leb-true v most_count in_range.1;
     }
@@ -114,7 +103,7 @@ decimal_counts n least most =
     let digits : list_all is_ascii_digit (decimal n) ≡ true = own.from (decimal n) numeral.0.1 in
     let first : 48 < slice_index (decimal n) 0 = first_decimal n (omega (arith, least)) (omega (arith, most)) in
     let no_zero : not (slice_index (decimal n) 0 == 48) ≡ true = go (slice_index (decimal n) 0 == 48) refl first in (
-      sym (counted (decimal n) n (and_true (list_all is_ascii_digit (decimal n)) (not (slice_index (decimal n) 0 == 48)) digits no_zero) (sym numeral.1) least most),
+      sym (counted (decimal n) n (and_of_true (list_all is_ascii_digit (decimal n)) (not (slice_index (decimal n) 0 == 48)) digits no_zero) (sym numeral.1) least most),
       no_option (decimal n) digits,
     )
   where

@@ -2,7 +2,7 @@
 use Rattle.std.proofs.Common.{◌≡◌, ◌≤◌, ◌<◌, ◌+◌, ◌∙◌, ℕ, Bool, cond, true, false, List, [], ◌∷◌, length, drop, get_or, Option, Some, None, Bor, ap, refl, sym}
 use Rattle.std.specs.Prelude.{find}
 use Rattle.std.proofs.lemmas.List.{drop_more, drop_all}
-use Rattle.cli_args.specs.Requests.{plain_word}
+use Rattle.cli_args.specs.Commands.{plain_word}
 use Rattle.cli_args.specs.Words.{texts}
 use Rattle.cli_args.specs.WrongWords.{is_without_value, without_value}
 

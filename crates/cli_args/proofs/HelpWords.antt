@@ -21,6 +21,7 @@ use Rattle.clap.specs.declared.builder.action.ArgAction.TheVariants as action
 use Rattle.clap.specs.declared.builder.value_parser.ValueParser.{ValueParser}
 use Rattle.clap.specs.declared.builder.value_parser.ValueParser.TheVariants as vp
 use Rattle.std.specs.List.{list_all}
+use Rattle.abi_base.proofs.lemmas.Bools.{and_is_true}
 use Rattle.clap.specs.declared.error.kind.ErrorKind.{ErrorKind}
 use Rattle.clap.specs.declared.error.kind.ErrorKind.TheVariants as kind
 use Rattle.clap.proofs.FaultLemmas.{leaf_fault}
@@ -439,16 +440,11 @@ first_only C true b x is = nothing C
 first_only C false true x is = nothing C
 first_only C false false x is = absurd (true≢false (sym is))
 
-both_true : (a b : Bool) → (a && b) ≡ true → (a ≡ true) × (b ≡ true)
-both_true true true e = (refl, refl)
-both_true true false e = absurd (true≢false (sym e))
-both_true false b e = absurd (true≢false (sym e))
-
 defaults_only : (C : Type 0) (rows : List Row) (rules : List Rule) → list_all (λ a. is_empty a.defaults) rules ≡ true → Only C (defaults_fault rows rules)
 unfolding defaults_fault
 defaults_only C rows [] bare = nothing C
 defaults_only C rows (a ∷ rest) bare =
-    let both = both_true (is_empty a.defaults) (list_all (λ r. is_empty r.defaults) rest) bare in
+    let both = and_is_true (is_empty a.defaults) (list_all (λ r. is_empty r.defaults) rest) bare in
     then_only C (default_fault rows a) (defaults_fault (with_default rows a) rest)
     (first_only C (has_row a.id rows) (is_empty a.defaults) (given_default_fault a a.defaults) both.0) (defaults_only C (with_default rows a) rest both.1)
 

@@ -5,7 +5,8 @@ use Rattle.clap.specs.declared.error.kind.ErrorKind.{ErrorKind}
 use Rattle.clap.specs.declared.error.kind.ErrorKind.TheVariants as kind
 use Rattle.clap.specs.declared.parser.matches.ArgMatches.{ArgMatches}
 use Rattle.cli_args.specs.Line.{PlainLine, line_app, line_in, Answers}
-use Rattle.cli_args.specs.ParsedArguments.{PlainRequest, PlainArguments, request, help, usage, judged_by, request_on, request_or_usage, arguments_by}
+use Rattle.cli_args.specs.Commands.{PlainRequest}
+use Rattle.cli_args.specs.ParsedArguments.{PlainArguments, request, help, usage, judged_by, request_on, request_or_usage, arguments_by}
 use Rattle.cli_args.specs.declared.line.Refused.TheVariants.{Help, Wrong}
 
 other_is_usage : (k : ErrorKind) (rows : List Row) → k ≢ kind.DisplayHelp → usage ≡ judged_by (k ∷ []) rows

@@ -8,7 +8,7 @@ mod Lines
 mod Trials
 mod PlainWords
 mod Counting
-mod Commands
+mod Asking
 mod WrongLemmas
 mod NamedLemmas
 mod FoundLemmas

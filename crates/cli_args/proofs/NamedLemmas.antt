@@ -6,11 +6,13 @@ use Rattle.clap.specs.Words.{Kinds, fault_of, matches_of}
 use Rattle.clap.specs.declared.error.kind.ErrorKind.{ErrorKind}
 use Rattle.clap.specs.declared.error.kind.ErrorKind.TheVariants as kind
 use Rattle.cli_args.specs.Line.{PlainLine, line_app, line_in}
-use Rattle.cli_args.specs.ParsedArguments.{command_named, style_of}
+use Rattle.cli_args.specs.Commands.{command_named, makings_of, row_of, word_at}
+use Rattle.cli_args.specs.ParsedArguments.{needless_of, style_of}
 use Rattle.cli_args.specs.Trials.{trial_count_of}
-use Rattle.cli_args.specs.WrongWords.{NamesOne, PlainWrong, count_wanted, is_help_with_value, is_repeated, is_unknown_option, is_without_value, missing_value, needless_of, needless_value, or_needless, or_other, refused_by, refused_word, repeated_option, unknown_option, unknown_style, without_value, wrong_by, wrong_count, wrong_count_of, wrong_in, wrong_named, wrong_number, wrong_style, wrong_trial, wrong_value, wrong_with}
-use Rattle.cli_args.specs.declared.judge.CommandName.{CommandName}
-use Rattle.cli_args.specs.declared.judge.CommandName.TheVariants.{Check, Verify, Entries, Exports, Trial, Migrate, Compose, Layout, App}
+use Rattle.cli_args.specs.WrongWords.{NamesOne, PlainWrong, is_help_with_value, is_repeated, is_unknown_option, is_without_value, missing_value, needless_value, or_needless, or_other, refused_by, refused_word, repeated_option, unknown_option, unknown_style, without_value, wrong_by, wrong_count, wrong_count_of, wrong_in, wrong_named, wrong_number, wrong_style, wrong_trial, wrong_value, wrong_with}
+use Rattle.cli_args.specs.declared.commands.CommandName.{CommandName}
+use Rattle.cli_args.specs.declared.commands.Makings.{Makings}
+use Rattle.cli_args.specs.declared.commands.Makings.TheVariants.{Words, Style, Count}
 use Rattle.cli_args.specs.declared.wrong.OptionName.{OptionName}
 
 -- ---- what is found is there
@@ -67,19 +69,12 @@ of_style words None = tt
 of_style words (Some word) = either words (is_none (style_of (Some word))) (Some (unknown_style word)) None tt tt
 
 of_trial : (words files : List (List ℕ)) → NamesOne words (wrong_trial files)
-of_trial words [] = tt
-of_trial words (word ∷ rest) = either words (is_none (trial_count_of word)) (Some (wrong_number word)) None tt tt
+of_trial words files = either words (is_none (trial_count_of (word_at files 0))) (Some (wrong_number (word_at files 0))) None tt tt
 
-of_value : (words : List (List ℕ)) (name : CommandName) (files : List (List ℕ)) (report : Option (List ℕ)) → NamesOne words (wrong_value name files report)
-of_value words Check files report = of_style words report
-of_value words App files report = of_style words report
-of_value words Trial files report = of_trial words files
-of_value words Verify files report = tt
-of_value words Entries files report = tt
-of_value words Exports files report = tt
-of_value words Migrate files report = tt
-of_value words Compose files report = tt
-of_value words Layout files report = tt
+of_value : (words : List (List ℕ)) (makings : Makings) (files : List (List ℕ)) (report : Option (List ℕ)) → NamesOne words (wrong_value makings files report)
+of_value words Words files report = tt
+of_value words Style files report = of_style words report
+of_value words Count files report = of_trial words files
 
 of_option : (words : List (List ℕ)) (command : List ℕ) (option : Option OptionName) (next : Option PlainWrong) → NamesOne words next → NamesOne words (or_needless command option next)
 of_option words command None next p = p
@@ -89,8 +84,10 @@ of_name : (words : List (List ℕ)) (command : List ℕ) (found : Option Command
     NamesOne words (wrong_named command found files rules report)
 of_name words command None files rules report = tt
 of_name words command (Some name) files rules report =
-    of_option words command (needless_of name _ _) (wrong_count_of name command files report)
-    (either words (length files == count_wanted name) (wrong_value name files report) (Some (wrong_count command (count_wanted name) (length files))) (of_value words name files report) tt)
+    let row = row_of name in
+    let wanted = length row.arguments in
+    of_option words command (needless_of row _ _) (wrong_count_of row command files report)
+    (either words (length files == wanted) (wrong_value (makings_of row.making) files report) (Some (wrong_count command wanted (length files))) (of_value words (makings_of row.making) files report) tt)
 
 of_command : (words : List (List ℕ)) (command : Option (List ℕ)) (files : List (List ℕ)) (rules report : Option (List ℕ)) → NamesOne words (wrong_with command files rules report)
 of_command words None files rules report = tt

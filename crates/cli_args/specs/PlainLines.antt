@@ -2,7 +2,7 @@
 use Rattle.std.specs.Prelude.{[], option_map, unwrap_or}
 use Rattle.cli_args.specs.Words.{texts}
 use Rattle.cli_args.specs.Line.{PlainLine}
-use Rattle.cli_args.specs.Requests.{plain_word}
+use Rattle.cli_args.specs.Commands.{plain_word}
 use Rattle.cli_args.specs.declared.line.Line.{Line}
 
 abbrev pub plain_line : Line → PlainLine

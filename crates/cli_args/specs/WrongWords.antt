@@ -1,17 +1,18 @@
 -- What is wrong with arguments that form no request, and which argument it is.
-use Rattle.std.specs.Prelude.{◌==◌, ◌&&◌, ◌||◌, ℕ, Bool, true, false, not, List, [], ◌∷◌, length, Contains, IfSome, Option, Some, None, codes, count_by, find, if◌then◌else◌, is_none, is_some, nat_eq, nat_lt}
+use Rattle.std.specs.Prelude.{◌==◌, ◌&&◌, ◌||◌, ℕ, Bool, true, not, List, [], ◌∷◌, length, Contains, IfSome, Option, Some, None, codes, count_by, find, if◌then◌else◌, is_none, is_some, nat_eq, nat_lt}
 use Rattle.std.specs.List.{starts_with}
 use Rattle.std.specs.Str.{bytes_eq}
 use Rattle.clap.specs.Words.{Kinds, fault_of, matches_of}
 use Rattle.clap.specs.declared.error.kind.ErrorKind.{ErrorKind}
 use Rattle.clap.specs.declared.error.kind.ErrorKind.TheVariants as kind
 use Rattle.cli_args.specs.Line.{PlainLine, line_app, line_in}
-use Rattle.cli_args.specs.ParsedArguments.{command_named, style_of}
+use Rattle.cli_args.specs.Commands.{Row, command_named, makings_of, row_of, word_at}
+use Rattle.cli_args.specs.ParsedArguments.{needless_of, style_of}
 use Rattle.cli_args.specs.Trials.{trial_count_of}
-use Rattle.cli_args.specs.declared.judge.CommandName.{CommandName}
-use Rattle.cli_args.specs.declared.judge.CommandName.TheVariants.{Check, Verify, Entries, Exports, Trial, Migrate, Compose, Layout, App}
+use Rattle.cli_args.specs.declared.commands.CommandName.{CommandName}
+use Rattle.cli_args.specs.declared.commands.Makings.{Makings}
+use Rattle.cli_args.specs.declared.commands.Makings.TheVariants.{Words, Style, Count}
 use Rattle.cli_args.specs.declared.wrong.OptionName.{OptionName}
-use Rattle.cli_args.specs.declared.wrong.OptionName.TheVariants.{Rules, Report}
 use Rattle.cli_args.specs.declared.wrong.WrongWords.{WrongWords}
 use Rattle.cli_args.specs.declared.wrong.WrongWords.TheVariants as code
 
@@ -48,48 +49,6 @@ plain_wrong code.OtherWords = other_words
 
 -- ---- lines that `clap` accepts
 
--- a command takes `--rules`
-abbrev pub takes_rules : CommandName → Bool
-takes_rules Check = true
-takes_rules Verify = true
-takes_rules Migrate = true
-takes_rules App = true
-takes_rules Entries = false
-takes_rules Exports = false
-takes_rules Trial = false
-takes_rules Compose = false
-takes_rules Layout = false
-
--- a command takes `--report`
-abbrev pub takes_report : CommandName → Bool
-takes_report Check = true
-takes_report App = true
-takes_report Verify = false
-takes_report Migrate = false
-takes_report Entries = false
-takes_report Exports = false
-takes_report Trial = false
-takes_report Compose = false
-takes_report Layout = false
-
--- the number of arguments that a command takes, not counting its options
-abbrev pub count_wanted : CommandName → ℕ
-count_wanted Check = 2
-count_wanted Verify = 3
-count_wanted Entries = 1
-count_wanted Exports = 1
-count_wanted Trial = 1
-count_wanted Migrate = 3
-count_wanted Compose = 5
-count_wanted Layout = 2
-count_wanted App = 3
-
--- the given option that a command does not take
-abbrev pub needless_of : CommandName → (has_rules has_report : Bool) → Option OptionName
-needless_of name has_rules has_report =
-    if has_report && not (takes_report name) then Some Report
-    else (if has_rules && not (takes_rules name) then Some Rules else None)
-
 -- the given style is unknown
 abbrev pub wrong_style : (report : Option (List ℕ)) → Option PlainWrong
 wrong_style None = None
@@ -97,38 +56,31 @@ wrong_style (Some word) = if is_none (style_of (Some word)) then Some (unknown_s
 
 -- the single argument is not a valid number of a trial
 abbrev pub wrong_trial : (words : List (List ℕ)) → Option PlainWrong
-wrong_trial [] = None
-wrong_trial (word ∷ rest) = if is_none (trial_count_of word) then Some (wrong_number word) else None
+wrong_trial words = if is_none (trial_count_of (word_at words 0)) then Some (wrong_number (word_at words 0)) else None
 
 -- what is wrong with the arguments of a command, if their number is right
-abbrev pub wrong_value : CommandName → (words : List (List ℕ)) (report : Option (List ℕ)) → Option PlainWrong
-wrong_value Check words report = wrong_style report
-wrong_value App words report = wrong_style report
-wrong_value Trial words report = wrong_trial words
-wrong_value Verify words report = None
-wrong_value Entries words report = None
-wrong_value Exports words report = None
-wrong_value Migrate words report = None
-wrong_value Compose words report = None
-wrong_value Layout words report = None
+abbrev pub wrong_value : Makings → (words : List (List ℕ)) (report : Option (List ℕ)) → Option PlainWrong
+wrong_value Words words report = None
+wrong_value Style words report = wrong_style report
+wrong_value Count words report = wrong_trial words
 
 -- what is wrong with the number of a command's arguments, or with one of them
-abbrev pub wrong_count_of : CommandName → (command : List ℕ) (words : List (List ℕ)) (report : Option (List ℕ)) → Option PlainWrong
-wrong_count_of name command words report =
-    if length words == count_wanted name then wrong_value name words report else Some (wrong_count command (count_wanted name) (length words))
+abbrev pub wrong_count_of : Row → (command : List ℕ) (words : List (List ℕ)) (report : Option (List ℕ)) → Option PlainWrong
+wrong_count_of row command words report =
+    if length words == length row.arguments then wrong_value (makings_of row.making) words report else Some (wrong_count command (length row.arguments) (length words))
 
 abbrev pub or_needless : (command : List ℕ) → Option OptionName → Option PlainWrong → Option PlainWrong
 or_needless command (Some option) next = Some (needless_option command option)
 or_needless command None next = next
 
 -- what is wrong with a command, its options and its arguments
-abbrev pub wrong_of : CommandName → (command : List ℕ) (words : List (List ℕ)) (rules report : Option (List ℕ)) → Option PlainWrong
-wrong_of name command words rules report =
-    or_needless command (needless_of name (is_some rules) (is_some report)) (wrong_count_of name command words report)
+abbrev pub wrong_of : Row → (command : List ℕ) (words : List (List ℕ)) (rules report : Option (List ℕ)) → Option PlainWrong
+wrong_of row command words rules report =
+    or_needless command (needless_of row (is_some rules) (is_some report)) (wrong_count_of row command words report)
 
 abbrev pub wrong_named : (command : List ℕ) → Option CommandName → (words : List (List ℕ)) (rules report : Option (List ℕ)) → Option PlainWrong
 wrong_named command None words rules report = Some (unknown_command command)
-wrong_named command (Some name) words rules report = wrong_of name command words rules report
+wrong_named command (Some name) words rules report = wrong_of (row_of name) command words rules report
 
 abbrev pub wrong_with : Option (List ℕ) → (words : List (List ℕ)) (rules report : Option (List ℕ)) → Option PlainWrong
 wrong_with None words rules report = Some missing_command

@@ -1,5 +1,5 @@
 // The request of a line that `clap` accepts: it checks the command, the number of files, the options and the style.
-ghost use Rattle.std.specs.Prelude.{◌≡◌, option_map};
+ghost use Rattle.std.specs.Prelude.{◌≡◌, ◌==◌, ◌||◌, is_some, length, not, option_map};
 ghost use Rattle.std.specs.Char.{is_ascii_digit};
 ghost use Rattle.std.specs.List.{list_all};
 ghost use Rattle.clap.specs.Words.{rows_of, found_of};
@@ -8,12 +8,16 @@ ghost use Rattle.cli_args.specs.Line.{line_in};
 ghost use Rattle.cli_args.specs.PlainLines.{plain_line};
 ghost use Rattle.cli_args.specs.Trials.{trial_count_of};
 ghost use Rattle.cli_args.specs.Trials as trials;
-ghost use Rattle.cli_args.specs.ParsedArguments.{check_of, verify_of, migrate_of, compose_of, layout_of, app_of, lone_word, request_of, request_on, request_or_usage};
+ghost use Rattle.cli_args.specs.Commands.{plain_request, plain_word, row_of};
+ghost use Rattle.cli_args.specs.Commands as commands_spec;
+ghost use Rattle.cli_args.specs.ParsedArguments.{needless_of, request_of, request_on, request_or_usage};
 ghost use Rattle.cli_args.specs.ParsedArguments as parsed_arguments_spec;
-ghost use Rattle.cli_args.specs.Requests.{plain_word, plain_request, plain_asked};
+ghost use Rattle.cli_args.specs.Requests.{plain_asked};
 
+use crate::commands::{CommandName, Makings, Request, command_named, made, taken_by};
 use crate::line::{Line, line_of};
-use crate::parsed_arguments::{ParsedArguments, Request};
+use crate::parsed_arguments::ParsedArguments;
+use crate::wrong::OptionName;
 use clap::ArgMatches;
 use report::styles::ReportStyle;
 
@@ -21,20 +25,6 @@ use report::styles::ReportStyle;
 const LEAST_COUNT: u32 = 1;
 
 const MOST_COUNT: u32 = 50_000;
-
-/// The commands.
-#[derive(Clone, Copy, Debug, PartialEq, Eq)]
-pub(crate) enum CommandName {
-    Check,
-    Verify,
-    Entries,
-    Exports,
-    Trial,
-    Migrate,
-    Compose,
-    Layout,
-    App,
-}
 
 /// The meaning of a line that `clap` accepted: a request, or the usage.
 pub(crate) fn judged<'a>(matches: &ArgMatches<'a>) -> ParsedArguments<'a>
@@ -54,185 +44,63 @@ fn request_in<'a>(line: Line<'_, 'a>) -> Option<Request<'a>>
     requested(name, line.files.unwrap_or(&[]), line.rules, line.report)
 }
 
-// The request of a command with these files and options.
+// The request of a command with these arguments and options: it takes all options that are given, and so many arguments.
 fn requested<'a>(
     name: CommandName,
-    files: &[&'a str],
-    rules: Option<&'a str>,
-    report: Option<&'a str>,
-) -> Option<Request<'a>>
-    ensures { option_map plain_request result ≡ request_of name (texts files.now) (plain_word rules.entry) (plain_word report.entry) }
-{
-    match name {
-        CommandName::Check => check(files, rules, report),
-        CommandName::Verify => verify(files, rules, report),
-        CommandName::Entries => {
-            let library = lone(files, rules, report)?;
-            Some(Request::Entries { library })
-        }
-        CommandName::Exports => {
-            let library = lone(files, rules, report)?;
-            Some(Request::Exports { library })
-        }
-        CommandName::Trial => {
-            let count = trial_count(lone(files, rules, report)?)?;
-            Some(Request::Trial { count })
-        }
-        CommandName::Migrate => migrate(files, rules, report),
-        CommandName::Compose => compose(files, rules, report),
-        CommandName::Layout => layout(files, rules, report),
-        CommandName::App => app(files, rules, report),
-    }
-}
-
-// `check` with these files and options.
-fn check<'a>(
-    files: &[&'a str],
-    rules: Option<&'a str>,
-    report: Option<&'a str>,
-) -> Option<Request<'a>>
-    ensures { option_map plain_request result ≡ check_of (texts files.now) (plain_word rules.entry) (plain_word report.entry) }
-{
-    let [old, new] = files else {
-        return None;
-    };
-    Some(Request::Check {
-        rules,
-        report: style_of(report)?,
-        old,
-        new,
-    })
-}
-
-// `verify` with these files and options.
-fn verify<'a>(
-    files: &[&'a str],
-    rules: Option<&'a str>,
-    report: Option<&'a str>,
-) -> Option<Request<'a>>
-    ensures { option_map plain_request result ≡ verify_of (texts files.now) (plain_word rules.entry) (plain_word report.entry) }
-{
-    match (files, report) {
-        ([old, new, certificate], None) => Some(Request::Verify {
-            rules,
-            old,
-            new,
-            certificate,
-        }),
-        _ => None,
-    }
-}
-
-// `migrate` with these files and options.
-fn migrate<'a>(
-    files: &[&'a str],
-    rules: Option<&'a str>,
-    report: Option<&'a str>,
-) -> Option<Request<'a>>
-    ensures { option_map plain_request result ≡ migrate_of (texts files.now) (plain_word rules.entry) (plain_word report.entry) }
-{
-    match (files, report) {
-        ([old, new, certificate], None) => Some(Request::Migrate {
-            rules,
-            old,
-            new,
-            certificate,
-        }),
-        _ => None,
-    }
-}
-
-// `compose` with these files and options.
-fn compose<'a>(
-    files: &[&'a str],
-    rules: Option<&'a str>,
-    report: Option<&'a str>,
-) -> Option<Request<'a>>
-    ensures { option_map plain_request result ≡ compose_of (texts files.now) (plain_word rules.entry) (plain_word report.entry) }
-{
-    match (files, rules, report) {
-        ([first, middle, last, certificate1, certificate2], None, None) => {
-            Some(Request::Compose {
-                first,
-                middle,
-                last,
-                certificate1,
-                certificate2,
-            })
-        }
-        _ => None,
-    }
-}
-
-// `app` with these files and options.
-fn app<'a>(
-    files: &[&'a str],
-    rules: Option<&'a str>,
-    report: Option<&'a str>,
-) -> Option<Request<'a>>
-    ensures { option_map plain_request result ≡ app_of (texts files.now) (plain_word rules.entry) (plain_word report.entry) }
-{
-    let [app, old, new] = files else {
-        return None;
-    };
-    Some(Request::App {
-        rules,
-        report: style_of(report)?,
-        app,
-        old,
-        new,
-    })
-}
-
-// `layout` with these arguments and options.
-fn layout<'a>(
     words: &[&'a str],
     rules: Option<&'a str>,
     report: Option<&'a str>,
 ) -> Option<Request<'a>>
-    ensures { option_map plain_request result ≡ layout_of (texts words.now) (plain_word rules.entry) (plain_word report.entry) }
+    ensures { option_map plain_request result ≡ request_of (row_of name) (texts words.now) (plain_word rules.entry) (plain_word report.entry) }
 {
-    match (words, rules, report) {
-        ([library, tag], None, None) => Some(Request::Layout { library, tag }),
-        _ => None,
+    if is_misfit(name, words, rules.is_some(), report.is_some()) {
+        return None;
     }
+    made(name, rules, style_of(report), words)
 }
 
-// The single argument of a command without options.
-fn lone<'a>(files: &[&'a str], rules: Option<&'a str>, report: Option<&'a str>) -> Option<&'a str>
-    ensures { plain_word result ≡ lone_word (texts files.now) (plain_word rules.entry) (plain_word report.entry) }
+// Whether a command does not take one of the options that are given, or takes another number of arguments.
+fn is_misfit(name: CommandName, words: &[&str], has_rules: bool, has_report: bool) -> bool
+    ensures { result ≡ (is_some (needless_of (row_of name) has_rules has_report) || not (length (texts words.now) == length (row_of name).arguments)) }
 {
-    match (files, rules, report) {
-        ([word], None, None) => Some(word),
-        _ => None,
-    }
+    needless_option(name, has_rules, has_report).is_some() || words.len() != taken_by(name).count
 }
 
-/// The command with this name.
-#[tactic(auto, unfolding(crate::specs::ParsedArguments::command_named))]
-pub(crate) fn command_named(word: &str) -> Option<CommandName>
-    ensures { result ≡ parsed_arguments_spec.command_named word.now }
+/// The given option that a command does not take.
+pub(crate) fn needless_option(
+    name: CommandName,
+    has_rules: bool,
+    has_report: bool,
+) -> Option<OptionName>
+    ensures { result ≡ needless_of (row_of name) has_rules has_report }
 {
-    if word == "check" {
-        Some(CommandName::Check)
-    } else if word == "verify" {
-        Some(CommandName::Verify)
-    } else if word == "entries" {
-        Some(CommandName::Entries)
-    } else if word == "exports" {
-        Some(CommandName::Exports)
-    } else if word == "trial" {
-        Some(CommandName::Trial)
-    } else if word == "migrate" {
-        Some(CommandName::Migrate)
-    } else if word == "compose" {
-        Some(CommandName::Compose)
-    } else if word == "layout" {
-        Some(CommandName::Layout)
-    } else if word == "app" {
-        Some(CommandName::App)
+    let taken = taken_by(name);
+    if has_report && !takes_report(taken.makings) {
+        Some(OptionName::Report)
+    } else if has_rules && !taken.rules {
+        Some(OptionName::Rules)
     } else {
         None
+    }
+}
+
+// Whether a command takes `--report`, whose request is made of this.
+fn takes_report(makings: Makings) -> bool
+    ensures { result ≡ commands_spec.takes_report makings }
+{
+    match makings {
+        Makings::Words | Makings::Count => false,
+        Makings::Style => true,
+    }
+}
+
+/// The argument at a position, or an empty one if there are fewer.
+pub(crate) fn word_at<'a>(words: &[&'a str], index: usize) -> &'a str
+    ensures { result.now ≡ commands_spec.word_at (texts words.now) index }
+{
+    match words.get(index) {
+        Some(word) => word,
+        None => "",
     }
 }
 

@@ -7,7 +7,8 @@ ghost use Rattle.report.specs.declared.styles.report_option.ReportStyle.TheVaria
 ghost use Rattle.cli_args.specs.Words.{AsksForHelp, LooksForHelp, IsNoOption};
 ghost use Rattle.cli_args.specs.Line.{line_app, words_of};
 ghost use Rattle.cli_args.specs.Trials.{most_count, trial_count_of};
-ghost use Rattle.cli_args.specs.ParsedArguments.{arguments_by, request_on, request_or_usage, request, help, check, verify, entries, exports, trial, migrate, compose, layout, app};
+ghost use Rattle.cli_args.specs.Commands.{check, verify, entries, exports, trial, migrate, compose, layout, app};
+ghost use Rattle.cli_args.specs.ParsedArguments.{arguments_by, request_on, request_or_usage, request, help};
 
 /// `clap` has at most one answer to a list of arguments.
 pub fn one_answer()

@@ -2,11 +2,13 @@
 //! based on the model of what `clap` answers.
 #![tactic(auto)]
 
+pub mod commands;
 mod judge;
 pub mod laws;
 mod line;
 mod parsed_arguments;
 mod wrong;
 
-pub use parsed_arguments::{ParsedArguments, Request, parse_arguments};
+pub use commands::{Request, usage};
+pub use parsed_arguments::{ParsedArguments, parse_arguments};
 pub use wrong::{OptionName, WrongWords, wrong_words};

@@ -1,13 +1,14 @@
 // What is wrong with arguments that form no request.
 ghost use Rattle.std.specs.Prelude.{◌≡◌, ◌+◌, ◌<◌, ◌↔◌, IfOk, IsSome, count_by, drop, find, length, option_map};
+ghost use Rattle.cli_args.specs.Commands.{plain_word, row_of};
 ghost use Rattle.cli_args.specs.ParsedArguments.{arguments_by, usage};
 ghost use Rattle.cli_args.specs.PlainLines.{plain_line};
-ghost use Rattle.cli_args.specs.Requests.{plain_word};
 ghost use Rattle.cli_args.specs.Words.{texts};
-ghost use Rattle.cli_args.specs.WrongWords.{NamesOne, count_wanted, needless_of, plain_wrong, refused_by, without_value, wrong_in, wrong_of, wrong_on, wrong_trial, wrong_value};
+ghost use Rattle.cli_args.specs.WrongWords.{NamesOne, plain_wrong, refused_by, without_value, wrong_in, wrong_on, wrong_trial};
 ghost use Rattle.cli_args.specs.WrongWords as spec;
 
-use crate::judge::{CommandName, command_named, report_style_named, trial_count};
+use crate::commands::{CommandName, Makings, command_named, taken_by};
+use crate::judge::{needless_option, report_style_named, trial_count, word_at};
 use crate::line::{Line, found_in, line_of};
 use abi_base::NoMemory;
 use clap::error::ErrorKind;
@@ -74,7 +75,7 @@ fn wrong_among<'a>(alloc: Global, words: &'a [&'a str]) -> Result<Option<WrongWo
     match found_in(alloc, words) {
         Ok(matches) => Ok(wrong_line(line_of(&matches))),
         Err(kind) => match kind {
-            ErrorKind::OutOfMemory => Err(NoMemory),
+            ErrorKind::OutOfMemory => Err(NoMemory::Allocation),
             ErrorKind::DisplayHelp => Ok(None),
             _ => Ok(Some(refused_words(kind, words))),
         },
@@ -99,61 +100,6 @@ fn wrong_line<'a>(line: Line<'_, 'a>) -> Option<WrongWords<'a>>
     wrong_count(name, command, line.files.unwrap_or(&[]), line.report)
 }
 
-// The given option that a command does not take.
-fn needless_option(name: CommandName, has_rules: bool, has_report: bool) -> Option<OptionName>
-    ensures { result ≡ needless_of name has_rules has_report }
-{
-    if has_report && !takes_report(name) {
-        Some(OptionName::Report)
-    } else if has_rules && !takes_rules(name) {
-        Some(OptionName::Rules)
-    } else {
-        None
-    }
-}
-
-// Whether a command takes `--rules`.
-fn takes_rules(name: CommandName) -> bool
-    ensures { result ≡ spec.takes_rules name }
-{
-    match name {
-        CommandName::Check | CommandName::Verify | CommandName::Migrate | CommandName::App => true,
-        CommandName::Entries
-        | CommandName::Exports
-        | CommandName::Trial
-        | CommandName::Compose
-        | CommandName::Layout => false,
-    }
-}
-
-// Whether a command takes `--report`.
-fn takes_report(name: CommandName) -> bool
-    ensures { result ≡ spec.takes_report name }
-{
-    match name {
-        CommandName::Check | CommandName::App => true,
-        CommandName::Verify
-        | CommandName::Migrate
-        | CommandName::Entries
-        | CommandName::Exports
-        | CommandName::Trial
-        | CommandName::Compose
-        | CommandName::Layout => false,
-    }
-}
-
-// The number of arguments that a command takes, not counting its options.
-fn wanted_count(name: CommandName) -> usize
-    ensures { result ≡ count_wanted name }
-{
-    match name {
-        CommandName::Entries | CommandName::Exports | CommandName::Trial => 1,
-        CommandName::Check | CommandName::Layout => 2,
-        CommandName::Verify | CommandName::Migrate | CommandName::App => 3,
-        CommandName::Compose => 5,
-    }
-}
-
 // What is wrong with the number of a command's arguments, or with one of them.
 fn wrong_count<'a>(
     name: CommandName,
@@ -161,9 +107,10 @@ fn wrong_count<'a>(
     words: &[&'a str],
     report: Option<&'a str>,
 ) -> Option<WrongWords<'a>>
-    ensures { option_map plain_wrong result ≡ spec.wrong_count_of name command.entry.now (texts words.now) (plain_word report.entry) }
+    ensures { option_map plain_wrong result ≡ spec.wrong_count_of (row_of name) command.entry.now (texts words.now) (plain_word report.entry) }
 {
-    let wanted = wanted_count(name);
+    let taken = taken_by(name);
+    let wanted = taken.count;
     let given = words.len();
     if given != wanted {
         return Some(WrongWords::WrongCount {
@@ -172,10 +119,10 @@ fn wrong_count<'a>(
             given,
         });
     }
-    match name {
-        CommandName::Check | CommandName::App => wrong_style(report),
-        CommandName::Trial => wrong_number(words),
-        _ => None,
+    match taken.makings {
+        Makings::Words => None,
+        Makings::Style => wrong_style(report),
+        Makings::Count => wrong_number(words),
     }
 }
 
@@ -194,7 +141,7 @@ fn wrong_style(report: Option<&str>) -> Option<WrongWords<'_>>
 fn wrong_number<'a>(words: &[&'a str]) -> Option<WrongWords<'a>>
     ensures { option_map plain_wrong result ≡ wrong_trial (texts words.now) }
 {
-    let word = *words.first()?;
+    let word = word_at(words, 0);
     match trial_count(word) {
         Some(_) => None,
         None => Some(WrongWords::WrongNumber(word)),

@@ -63,7 +63,7 @@ fn stopped<'a>(alloc: Global, stop: Stop, files: Vec<File<'a>>) -> Result<Answer
     ensures files { IfOk result (λ a. a.files ≡ files.entry) }
 {
     let text = match stop {
-        Stop::NoMemory => return Err(NoMemory),
+        Stop::NoMemory(cause) => return Err(cause),
         Stop::ReadFault(which) => text::read_fault(alloc, which)?,
         Stop::Unreadable(which, fault) => text::unreadable(alloc, which, fault)?,
     };

@@ -8,7 +8,7 @@ ghost use Rattle.commands.specs.Reading.{AreOwnShort, AreTold, Gives, IsOwnShort
 
 use crate::place::{Place, Source};
 use crate::stop::Stop;
-use abi_base::{Fault, FaultKind, INPUT_LIMIT, Inputs, Take, read_whole};
+use abi_base::{Fault, FaultKind, INPUT_LIMIT, Inputs, NoMemory, Take, read_whole};
 use std::alloc::Global;
 
 // The bytes of an input, or why it cannot be read whole.
@@ -27,7 +27,7 @@ fn read_one<I: Inputs>(alloc: Global, inputs: &mut I, place: &Place<'_>) -> Resu
         Source::Own(bytes) => Ok(Vec::from_slice(alloc, bytes)?),
         Source::Named(name) => match read_whole(alloc, inputs, name, INPUT_LIMIT) {
             Ok(bytes) => Ok(bytes),
-            Err(Take::NoMemory) => Err(Stop::NoMemory),
+            Err(Take::NoMemory) => Err(Stop::NoMemory(NoMemory::Allocation)),
             Err(Take::Failed) => Err(Stop::ReadFault(place.which)),
             Err(Take::TooLong) => {
                 let fault = Fault {

@@ -6,9 +6,9 @@ use Rattle.std.specs.Option.{option_map_or}
 use Rattle.std.proofs.lemmas.Bool.{cases_Bool, cases_lt}
 use Rattle.std.proofs.lemmas.List.{length-map}
 use Rattle.std.proofs.lemmas.Option.{same_Some}
+use Rattle.abi_base.proofs.lemmas.Cases.{option_cases}
 use Rattle.abi_base.specs.declared.fault.Fault.{Fault}
 use Rattle.abi_base.specs.Runs.{Chain}
-use Rattle.dwarf_entries.proofs.Cases.{option_cases}
 use Rattle.dwarf_units.specs.Units.{PlainUnit}
 use Rattle.dwarf_units.specs.Sequence.{UnitStands, unit_fault, unit_of, unit_step, units_of}
 use Rattle.dwarf_tree.specs.Trees.{IsOrdered, entry_at, entry_of, head_at, head_of, no_head, tree_of}

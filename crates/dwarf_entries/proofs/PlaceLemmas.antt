@@ -9,6 +9,7 @@ use Rattle.std.proofs.lemmas.Bool.{cases_Bool, eqb-true}
 use Rattle.std.proofs.lemmas.Bool.Decides.{nat_tests}
 use Rattle.abi_base.proofs.lemmas.Places.{places, places_more, find_none}
 use Rattle.std.proofs.lemmas.Option.{same_Some}
+use Rattle.abi_base.proofs.lemmas.Options.{absent}
 use Rattle.dwarf_tree.specs.Trees.{PlainTree, head_at, no_head}
 use Rattle.dwarf_entries.specs.Debug.{PlainDwarf}
 use Rattle.dwarf_entries.specs.Chains.{has_signature}
@@ -124,10 +125,6 @@ signature_number q (Some s) = refl
 
 -- ---- one number
 
-none_there : {X : Type 0} (o : Option X) (b : Bool) → b ≡ is_some o → b ≡ false → o ≡ None
-none_there None b is none = refl
-none_there (Some x) b is none = absurd cc
-
 or_none : (o : Option ℕ) → o ≡ option_or o None
 or_none o = sym (or_nothing o)
 
@@ -137,7 +134,7 @@ pub first_kept : (old next : Places) (number place : ℕ) (there : Bool) → the
 first_kept old next number place there is none adds q =
     adds q ∙ elim (cases_Bool (number == q)) [
       | inl same ↦ let e : number ≡ q = eqb-true number q same in
-          let here : place_under old q ≡ None = subst (λ (n : ℕ). place_under old n ≡ None) e (none_there (place_under old number) there is none) in
+          let here : place_under old q ≡ None = subst (λ (n : ℕ). place_under old n ≡ None) e (absent (place_under old number) there is none) in
           rw (same, here) refl
       | inr apart ↦ rw apart (or_none (place_under old q))
     ]

@@ -6,13 +6,14 @@ use Rattle.std.specs.Option.{option_map_or}
 use Rattle.std.proofs.lemmas.Bool.{cases_Bool, or_parts}
 use Rattle.std.proofs.lemmas.List.Quantifiers.{position-Some}
 use Rattle.std.proofs.lemmas.Option.{same_Some}
+use Rattle.abi_base.proofs.lemmas.Outcomes.{fault_if-none}
+use Rattle.abi_base.proofs.lemmas.Cases.{option_cases}
 use Rattle.abi_base.specs.Dwarf.{dw_at_name, dw_at_abstract_origin, dw_at_specification, dw_at_type}
 use Rattle.abi_base.specs.declared.fault.Fault.{Fault}
 use Rattle.abi_base.specs.declared.fault.FaultKind.{FaultKind}
 use Rattle.abi_base.specs.declared.fault.FaultKind.TheVariants as kind
 use Rattle.abi_base.specs.Outcome.{fault_if, first, or_end}
 use Rattle.abi_base.specs.Tables.{entry_of_table}
-use Rattle.dwarf_entries.proofs.Cases.{option_cases}
 use Rattle.dwarf_forms.specs.declared.values.Value.{Value}
 use Rattle.dwarf_forms.specs.declared.values.Value.TheVariants as value
 use Rattle.dwarf_forms.specs.Values.{fault}
@@ -32,10 +33,6 @@ use Rattle.dwarf_entries.proofs.ChainLemmas.{rest_of, holder_found}
 none_both : (o : Option Fault) (os : List (Option Fault)) → first (o ∷ os) ≡ None → (o ≡ None) × (first os ≡ None)
 none_both None os h = (refl, h)
 none_both (Some f) os h = absurd cc
-
-not_faulty : (b : Bool) (k : FaultKind) (at : ℕ) → fault_if b k at ≡ None → b ≡ false
-not_faulty true k at h = absurd cc
-not_faulty false k at h = refl
 
 -- a text has only these faults
 abbrev IsOfText : ℕ → Fault → Type 0
@@ -100,7 +97,7 @@ entry_sound d e none is_read =
     let reference = none_both (fault_if (has_bad_reference d.tree e) kind.Reference (entry_at d.tree e).offset) _ index.1 in
     let deep = none_both (fault_if (is_too_deep d.tree e) kind.OriginTooDeep (entry_at d.tree e).offset) _ reference.1 in
     let own = none_both (of_kind kind.Index (name_fault d e)) (map (of_kind kind.Index) (address_faults d e)) index.0 in
-    let sound = not_faulty (has_bad_reference d.tree e) kind.Reference (entry_at d.tree e).offset reference.0 in
+    let sound = fault_if-none (has_bad_reference d.tree e) kind.Reference (entry_at d.tree e).offset reference.0 in
     let parts = or_parts (list_any (λ name. refers_nowhere d.tree (own_of d.tree e name)) references) (is_signed (tag_at d.tree e) && lacks_unit d.tree (own_of d.tree e _)) sound in
     let type = or_parts (refers_nowhere d.tree (own_of d.tree e dw_at_type)) _ parts.0 in
     let origin = or_parts (refers_nowhere d.tree (own_of d.tree e dw_at_abstract_origin)) _ type.1 in
@@ -110,7 +107,7 @@ entry_sound d e none is_read =
       type = refers d.tree (own_of d.tree e dw_at_type) type.0;
       abstract_origin = refers d.tree (own_of d.tree e dw_at_abstract_origin) origin.0;
       specification = refers d.tree (own_of d.tree e dw_at_specification) specification.0;
-      chain = not_faulty (is_too_deep d.tree e) kind.OriginTooDeep (entry_at d.tree e).offset deep.0;
+      chain = fault_if-none (is_too_deep d.tree e) kind.OriginTooDeep (entry_at d.tree e).offset deep.0;
     }
 
 -- ---- entries of the chain exist, with a supported tag

@@ -4,7 +4,7 @@ ghost use Rattle.std.specs.Prelude.{◌<◌, length};
 use crate::addresses::list_of;
 use crate::source::Source;
 use abi_base::dwarf::{DW_AT_ranges, DW_TAG_subprogram};
-use abi_base::{Effort, NoMemory};
+use abi_base::{Effort, Limit, NoMemory};
 use dwarf_text::ranges::spend_first;
 
 // Spends the budget for the list of a function, up to its first range.
@@ -25,7 +25,7 @@ fn spend_for_entry(source: &Source, e: usize, effort: &mut Effort) -> Result<(),
 // each list counts up to its first range, once for each function that has it.
 pub(crate) fn spend_for_ranges(source: &Source) -> Result<(), NoMemory> {
     let sections = source.sections();
-    let mut effort = Effort::for_table(sections.rnglists, sections.ranges);
+    let mut effort = Effort::for_table(Limit::RangeLists, sections.rnglists, sections.ranges);
     for e in 0..source.len() {
         spend_for_entry(source, e, &mut effort)?;
     }

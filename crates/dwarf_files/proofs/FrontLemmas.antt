@@ -4,15 +4,12 @@ use Rattle.std.specs.Prelude.{slice_get, ◌&&◌, nat_lt, nat_le}
 use Rattle.std.proofs.lemmas.Bool.{le-leb, leb-true}
 use Rattle.std.proofs.lemmas.List.{length-append, length-drop, drop-append-le, take-append-le}
 use Rattle.std.proofs.lemmas.Option.{same_Some}
+use Rattle.abi_base.proofs.lemmas.Bools.{and_is_true}
 use Rattle.abi_base.specs.Numbers.{number, number_at}
 use Rattle.abi_base.proofs.lemmas.Cases.{option_cases, bool_cases}
 use Rattle.abi_base.proofs.lemmas.Numbers.{number_inside}
 use Rattle.dwarf_files.specs.declared.heads.Head.{Head}
 use Rattle.dwarf_files.specs.Heads.{unit_end_of, length_place_of, lengths_of, head_of}
-
-both : (a b : Bool) → (a && b) ≡ true → (a ≡ true) × (b ≡ true)
-both true b h = (refl, h)
-both false b h = absurd cc
 
 element_front : (xs ys : List ℕ) (k x : ℕ) → slice_get xs k ≡ Some x → slice_get (xs ++ ys) k ≡ Some x
 element_front [] ys k x h = absurd cc
@@ -37,7 +34,7 @@ module _ (line others : List ℕ) where
       bool_cases (nat_lt size 0xffff_fff0 && nat_le (at + 4 + size) (length line))
       (λ holds.
       let same : at + 4 + size ≡ end = same_Some (at + 4 + size) end (rw holds at h1) in
-      let parts = both (nat_lt size 0xffff_fff0) (nat_le (at + 4 + size) (length line)) holds in
+      let parts = and_is_true (nat_lt size 0xffff_fff0) (nat_le (at + 4 + size) (length line)) holds in
       let inside = leb-true (at + 4 + size) (length line) parts.1 in
       let still : nat_le (at + 4 + size) (length (line ++ others)) ≡ true = le-leb (at + 4 + size) (length (line ++ others)) (omega (arith, length-append line others, inside)) in
       (omega (arith, inside, same), rw (number_front 4 line others at size is, parts.0, still) (ap (λ (n : ℕ). Some n) same)))
@@ -52,8 +49,8 @@ module _ (line others : List ℕ) where
       bool_cases (nat_lt 0 base && (nat_le (place + 9 + base) (place + 4 + size) && nat_le (place + 4 + size) end))
       (λ holds.
       let same : place + 4 + size ≡ lengths.1 = ap (λ (p : ℕ × ℕ). p.1) (same_Some (place + 9 + base, place + 4 + size) lengths (rw holds at h2)) in
-      let parts = both (nat_lt 0 base) (nat_le (place + 9 + base) (place + 4 + size) && nat_le (place + 4 + size) end) holds in
-      let inner = both (nat_le (place + 9 + base) (place + 4 + size)) (nat_le (place + 4 + size) end) parts.1 in
+      let parts = and_is_true (nat_lt 0 base) (nat_le (place + 9 + base) (place + 4 + size) && nat_le (place + 4 + size) end) holds in
+      let inner = and_is_true (nat_le (place + 9 + base) (place + 4 + size)) (nat_le (place + 4 + size) end) parts.1 in
       let inside = leb-true (place + 4 + size) end inner.1 in
       (omega (arith, inside, same), rw (number_front 4 line others place size is, element_front line others (place + 9) base so) h2))
       (λ fails. absurd (let g = rw fails at h2 in cc))))

@@ -7,6 +7,7 @@ use Rattle.std.proofs.Math.Seq.{drop-cons}
 use Rattle.std.proofs.lemmas.Bool.{cases_Bool, eqb-true, le-leb}
 use Rattle.std.proofs.lemmas.List.{length-take-le}
 use Rattle.std.proofs.lemmas.Option.{same_Some}
+use Rattle.abi_base.proofs.lemmas.Cases.{option_cases}
 use Rattle.abi_base.specs.Numbers.{number, number_at}
 use Rattle.abi_base.proofs.lemmas.Numbers.{number_of-nil, number_of-cons}
 use Rattle.abi_base.specs.declared.fault.Fault.{Fault}
@@ -14,7 +15,6 @@ use Rattle.dwarf_forms.specs.declared.meaning.Meaning.{Meaning}
 use Rattle.abi_base.specs.Dwarf.{dw_form_indirect, dw_form_implicit_const, dw_form_ref_addr, dw_form_ref1, dw_form_ref2, dw_form_ref4, dw_form_ref8, dw_form_ref_udata}
 use Rattle.abi_base.specs.Leb.{uleb_at}
 use Rattle.dwarf_forms.specs.Values.{Shape, fixed, of_uleb, implicit_const, indirect, forms, shape_of, named_shape, spelled, place_after, fixed_size_of, value_of, value_at, direct_at, indirect_at, Refers, RefersByUleb, absolute, from_unit, of_sleb, sixteen_bytes, block_behind, block_behind_uleb, inline_text, is_present, supplementary}
-use Rattle.dwarf_forms.proofs.Cases.{option_cases}
 
 -- the number in one byte is the byte
 pub number_one : (bytes : List ℕ) (at : ℕ) → at < length bytes → number 1 bytes at ≡ get_or bytes at 0

@@ -1,4 +1,3 @@
-mod Cases
 mod FormLemmas
 pub mod lemmas
 mod abbreviations_lemmas

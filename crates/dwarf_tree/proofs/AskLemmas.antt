@@ -2,12 +2,12 @@
 use Rattle.std.proofs.Common.{◌≡◌, ◌≢◌, ◌∙◌, ◌+◌, ◌≤◌, ℕ, true, false, List, [], ◌∷◌, length, Option, Some, None, Result, Ok, Err, refl, sym, ap, inl, inr}
 use Rattle.std.specs.Prelude.{◌==◌, take, ℤ}
 use Rattle.std.proofs.lemmas.Bool.{cases_Bool, eqb-true}
+use Rattle.abi_base.proofs.lemmas.Cases.{same_Ok}
 use Rattle.abi_base.specs.Dwarf.{dw_form_string}
 use Rattle.abi_base.specs.declared.fault.Fault.{Fault}
 use Rattle.abi_base.specs.Numbers.{text_at}
 use Rattle.abi_base.specs.Leb.{uleb_at}
 use Rattle.abi_base.specs.Runs.{Run, put_front}
-use Rattle.dwarf_tree.proofs.Cases.{same_Ok}
 use Rattle.dwarf_forms.specs.declared.abbreviations.abbrev.Spec.{Spec}
 use Rattle.dwarf_forms.specs.abbreviations.Abbrevs.{plain_pair, specs_run}
 use Rattle.dwarf_forms.specs.declared.values.Value.{Value}

@@ -137,7 +137,7 @@ module _ (info abbrevs : List ℕ) (now : PlainTree) (left : UnitRun) (so_far : 
   -- what a refusal of the next unit leaves
   pub refused_unit : (r : Refusal) (next : UnitRun) → NextIsBy plain_unit left (Err r) next → Refuses r (entries_fault info abbrevs)
   refused_unit (refusal.Fault f) next is = section_ends (Some f) is.0
-  refused_unit refusal.NoMemory next is = tt
+  refused_unit (refusal.NoMemory cause) next is = tt
 
   -- what a refusal of its entries leaves
   pub refused_entries : (r : Refusal) (o : Option Unit) (u : Unit) (next : UnitRun) → NextIsBy plain_unit left (Ok o) next → o ≡ Some u
@@ -146,7 +146,7 @@ module _ (info abbrevs : List ℕ) (now : PlainTree) (left : UnitRun) (so_far : 
   refused_entries (refusal.Fault f) o u next given same is =
       let front : left ≡ put_front (plain_unit u) next = let here = rw same at given in here in
       sym so_far.fault ∙ ap faults_of front ∙ ap (λ (o : Option Fault). first (o ∷ (map (λ u. (entries_of u).end) next.items ++ next.end ∷ []))) is
-  refused_entries refusal.NoMemory o u next given same is = tt
+  refused_entries (refusal.NoMemory cause) o u next given same is = tt
 
 -- the entries that were read and those of the next unit are some of all
 pub entries_fit : (info abbrevs : List ℕ) (now : PlainTree) (left next : UnitRun) (u : PlainUnit) → left ≡ put_front u next → AreGrown now left (units_of info abbrevs)

@@ -3,8 +3,8 @@ use Rattle.std.proofs.Common.{◌≡◌, ◌∙◌, ℕ, ◌+◌, ◌<◌, ◌�
 use Rattle.std.specs.Prelude.{All, map, slice_index_or, Option, Result, Ok}
 use Rattle.std.proofs.lemmas.List.{map_push, get_or_append_left, length_push}
 use Rattle.std.proofs.lemmas.List.Elements.{All-head, All-push, All-tail}
+use Rattle.abi_base.proofs.lemmas.Cases.{result_cases, same_Ok}
 use Rattle.abi_base.specs.declared.fault.Fault.{Fault}
-use Rattle.dwarf_tree.proofs.Cases.{result_cases, same_Ok}
 use Rattle.dwarf_forms.specs.declared.abbreviations.abbrev.Spec.{Spec}
 use Rattle.dwarf_forms.specs.abbreviations.Abbrevs.{specs_run}
 use Rattle.dwarf_forms.specs.declared.values.Value.{Value}

@@ -1,6 +1,5 @@
 mod AskLemmas
 mod Below
-mod Cases
 mod ChildOrder
 mod Children
 mod PositionLemmas

@@ -6,13 +6,13 @@ use Rattle.std.proofs.lemmas.Bool.{cases_Bool, eq-eqb, eqb-false, eqb-true}
 use Rattle.std.proofs.lemmas.Nat.{or_shr, or_mod, or_comm, shl-shr}
 use Rattle.std.proofs.lemmas.List.Elements.{All-cons, All-head, All-map, All-nil, All-tail}
 use Rattle.abi_base.specs.Leb.{uleb_at}
-use Rattle.dwarf_tree.proofs.Cases.{option_cases, result_cases}
 use Rattle.abi_base.proofs.lemmas.Lists.{same_inside}
 use Rattle.dwarf_forms.specs.declared.abbreviations.abbrev.Spec.{Spec}
 use Rattle.dwarf_forms.specs.abbreviations.Abbrevs.{specs_run}
 use Rattle.dwarf_forms.specs.Values.{value_at}
 use Rattle.dwarf_units.specs.Units.{attribute_of}
 use Rattle.std.proofs.lemmas.List.{get_or-map}
+use Rattle.abi_base.proofs.lemmas.Cases.{option_cases, result_cases}
 use Rattle.dwarf_tree.specs.declared.head.Head.{Head}
 use Rattle.dwarf_tree.specs.declared.entry_records.AbbreviationLayout.{AbbreviationLayout}
 use Rattle.dwarf_tree.specs.declared.entry_records.Slot.{Slot}

@@ -7,26 +7,14 @@ use Rattle.std.proofs.lemmas.List.{get_or_default}
 use Rattle.std.proofs.lemmas.List.Sums.{position_or_len_is}
 use Rattle.std.proofs.lemmas.List.Quantifiers.{position-Some}
 use Rattle.std.proofs.lemmas.List.Sorted.{IsPartitionedBy-ltb}
-use Rattle.dwarf_tree.proofs.Cases.{option_cases}
+use Rattle.abi_base.proofs.lemmas.Lists.{position_is, position_none}
+use Rattle.abi_base.proofs.lemmas.Cases.{option_cases}
 use Rattle.dwarf_tree.specs.declared.entry_records.AbbreviationLayout.{AbbreviationLayout}
 use Rattle.dwarf_tree.specs.declared.entry_records.EntryRecord.{EntryRecord}
 use Rattle.dwarf_tree.specs.Keeping.{Ascend, BeginBefore, BeginBehind, StandsBetween, UnitsRise, unit_in}
 
 abbrev pub no_stored : EntryRecord
 no_stored = record { offset = 0; shape = 0; depth = 0 }
-
--- the first item that passes
-pub position_is : {X : Type 0} (p : X → Bool) (xs : List X) (i : ℕ) (d : X) → i < length xs → ((k : ℕ) → k < i → p (get_or xs k d) ≡ false) → p (get_or xs i d) ≡ true → position p xs ≡ Some i
-position_is p xs i d inside before here =
-    let place = position_or_len_is p xs i d (omega arith) before (λ less. here) in
-    let lt = lt-ltb i (length xs) inside in
-    rw (place, lt) refl
-
-pub position_none : {X : Type 0} (p : X → Bool) (xs : List X) (d : X) → ((k : ℕ) → k < length xs → p (get_or xs k d) ≡ false) → position p xs ≡ None
-position_none p xs d fails =
-    let place = position_or_len_is p xs (length xs) d (omega arith) fails (λ less. absurd (omega arith)) in
-    let ge = le-ltb (length xs) (length xs) (omega arith) in
-    rw (place, ge) refl
 
 -- ---- entries by offset
 

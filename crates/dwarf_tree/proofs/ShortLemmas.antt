@@ -4,6 +4,7 @@ use Rattle.std.specs.Prelude.{IfSome, nat_le, pos, take}
 use Rattle.std.proofs.lemmas.Bool.{cases_Bool, leb-true}
 use Rattle.std.proofs.lemmas.Option.{none-some}
 use Rattle.std.proofs.lemmas.List.{length-take-le}
+use Rattle.abi_base.proofs.lemmas.Numbers.{number_inside}
 use Rattle.abi_base.specs.Dwarf.{dw_form_ref4, dw_form_strp}
 use Rattle.abi_base.specs.Leb.{uleb_at}
 use Rattle.abi_base.specs.Numbers.{number_at}
@@ -17,14 +18,6 @@ use Rattle.dwarf_tree.specs.declared.entry_records.Slot.{Slot}
 use Rattle.dwarf_tree.specs.declared.entry_records.EntryRecord.{EntryRecord}
 use Rattle.dwarf_tree.specs.Keeping.{IsAsked, IsLayout, IsSlotFor, SpellsNumber, shaped, value_read, values_of}
 use Rattle.dwarf_tree.proofs.SlotLemmas.{slot_value}
-
--- a number that is read is inside the bytes
-number_inside : (size : ℕ) (bytes : List ℕ) (at n : ℕ) → number_at size bytes at ≡ Some n → at + size ≤ length bytes
-number_inside size bytes at n is =
-    elim (cases_Bool (nat_le (at + size) (length bytes))) [
-      | inl inside ↦ leb-true (at + size) (length bytes) inside
-      | inr outside ↦ absurd (let none = rw outside at is in none-some n none)
-    ]
 
 -- where the form of a slot is known, the number at its place encodes the value
 pub spelled_short : (info abbrevs : List ℕ) (slots : List Slot) (head : Head) (shape : AbbreviationLayout) (stored : EntryRecord) (name code after : ℕ) (slot : Slot)

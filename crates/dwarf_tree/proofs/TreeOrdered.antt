@@ -5,6 +5,7 @@ use Rattle.std.specs.List.{list_any}
 use Rattle.std.proofs.lemmas.Bool.{cases_lt, eq-eqb, or_left, or_right}
 use Rattle.std.proofs.lemmas.List.{length-map}
 use Rattle.std.proofs.lemmas.List.Folds.{list_any-append}
+use Rattle.abi_base.proofs.lemmas.Lists.{any-map}
 use Rattle.abi_base.specs.declared.fault.Fault.{Fault}
 use Rattle.abi_base.specs.Outcome.{first}
 use Rattle.abi_base.specs.Runs.{Chain, Run}
@@ -14,7 +15,7 @@ use Rattle.dwarf_units.specs.Units.{PlainUnit, entries_of}
 use Rattle.dwarf_units.specs.Sequence.{unit_step, units_of, entries_fault}
 use Rattle.dwarf_tree.specs.declared.head.Head.{Head}
 use Rattle.dwarf_tree.specs.Trees.{TreeEntry, head_of, placed, placed_entries, tree_of, no_head, root_of, entry_of, IsOrdered, depth_at}
-use Rattle.dwarf_tree.proofs.PositionLemmas.{any-map, position-any}
+use Rattle.dwarf_tree.proofs.PositionLemmas.{position-any}
 use Rattle.dwarf_tree.proofs.Growth.{tree, entries_in}
 use Rattle.dwarf_tree.proofs.InOrder.{InOrder, in_wider, in_order-append, each_inside, offsets_ascend, units_rise, depths_grow, few_entries, first_depth}
 use Rattle.dwarf_tree.proofs.UnitEntries.{unit_in_order}

@@ -8,6 +8,7 @@ use Rattle.abi_base.specs.Outcome.{fault_if, first}
 use Rattle.abi_base.specs.Runs.{Chain, Run}
 use Rattle.abi_base.proofs.lemmas.Runs.{chain_run}
 use Rattle.std.proofs.lemmas.Option.{same_Some}
+use Rattle.abi_base.proofs.lemmas.Cases.{option_cases, result_cases}
 use Rattle.dwarf_units.proofs.UnitPlaces.{unit_stands}
 use Rattle.abi_base.specs.declared.fault.Fault.{Fault}
 use Rattle.abi_base.specs.declared.fault.FaultKind.{FaultKind}
@@ -17,7 +18,6 @@ use Rattle.dwarf_units.specs.HeaderRows.{HeaderRow, header_rows, UnitWhole, Unit
 use Rattle.dwarf_units.specs.Rows.{IsFirst, NoRow}
 use Rattle.dwarf_units.specs.Sequence.{unit_length, unit_end, unit_version, unit_type, unit_address_size, unit_abbrevs, header_size_at, bad_length, is_version, header_fault, unit_fault, unit_of, unit_step, units_from, units_of}
 use Rattle.dwarf_units.specs.Units.{PlainUnit}
-use Rattle.dwarf_units.proofs.Cases.{option_cases, result_cases}
 use Rattle.dwarf_units.proofs.UnitsLeft.{units_chain}
 
 -- ---- what follows from a test

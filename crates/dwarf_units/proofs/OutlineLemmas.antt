@@ -1,12 +1,12 @@
 -- What an outline says of its entry.
 use Rattle.std.proofs.Common.{◌≡◌, ℕ, List, [], ◌∷◌, Ok, ap, ◌∙◌}
 use Rattle.std.specs.Prelude.{map, IsOk}
+use Rattle.abi_base.proofs.lemmas.Cases.{result_cases, same_Ok}
 use Rattle.dwarf_forms.specs.declared.abbreviations.abbrev.Spec.{Spec}
 use Rattle.dwarf_forms.specs.declared.values.Value.{Value}
 use Rattle.dwarf_forms.specs.Values.{value_at}
 use Rattle.dwarf_units.specs.Outlines.{values_read}
 use Rattle.dwarf_units.specs.Units.{PlainUnit, values_at}
-use Rattle.dwarf_units.proofs.Cases.{result_cases, same_Ok}
 
 -- values that were read are those of the attributes of the pairs, in order
 named_alike : (u : PlainUnit) (entry : ℕ) (specs : List Spec) (at : ℕ) (r : List (ℕ × Value) × ℕ) → values_at u entry specs at ≡ Ok r

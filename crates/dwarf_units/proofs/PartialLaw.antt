@@ -2,6 +2,7 @@
 use Rattle.std.proofs.Common.{◌≡◌, ◌∙◌, ℕ, zero, suc, ltb, Bool, true, false, List, [], ◌∷◌, length, Option, Some, None, Result, Ok, Err, refl, sym, ap, subst, inl, inr, eq-eqb}
 use Rattle.std.specs.Prelude.{All, ◌==◌}
 use Rattle.std.proofs.lemmas.Bool.{cases_Bool}
+use Rattle.abi_base.proofs.lemmas.Cases.{option_cases, result_cases, same_Ok}
 use Rattle.abi_base.specs.Dwarf.{dwarf_4}
 use Rattle.abi_base.specs.Leb.{uleb_at}
 use Rattle.abi_base.specs.declared.fault.Fault.{Fault}
@@ -13,7 +14,6 @@ use Rattle.dwarf_forms.specs.Values.{value_at}
 use Rattle.dwarf_units.specs.declared.entry.Entry.{Entry}
 use Rattle.dwarf_units.specs.Sequence.{begins_partial, is_partial, unit_fault, unit_of, unit_step, unit_with, units_from, units_of}
 use Rattle.dwarf_units.specs.Units.{PlainUnit, State, entries_of, entries_from, entry_at, judged, root_token, token_at, tokens_from, unit_bytes, values_at}
-use Rattle.dwarf_units.proofs.Cases.{option_cases, result_cases, same_Ok}
 
 abbrev as_partial : PlainUnit → Bool → PlainUnit
 as_partial u partial = record u { partial = partial }

@@ -5,6 +5,7 @@ use Rattle.std.specs.List.{list_any, filter_map}
 use Rattle.abi_base.specs.Outcome.{fault_if}
 use Rattle.std.proofs.lemmas.Bool.{cases_Bool, cases_lt, lt-ltb, le-ltb, eqb-true, eqb-false}
 use Rattle.std.proofs.lemmas.Option.{same_Some}
+use Rattle.abi_base.proofs.lemmas.Cases.{option_cases, result_cases, same_Ok, same_Err}
 use Rattle.abi_base.specs.Dwarf.{dw_at_language}
 use Rattle.abi_base.specs.Leb.{uleb_at}
 use Rattle.abi_base.specs.Numbers.{number_at, text_at}
@@ -23,7 +24,6 @@ use Rattle.dwarf_units.specs.declared.entry.Entry.{Entry}
 use Rattle.dwarf_units.specs.Grammar.{EntryStands}
 use Rattle.dwarf_units.specs.Rows.{Row, HasValue, IsUnknown, IsElsewhere, IsCut, FirstUnread, IsDue, Begins, HasForm, HasUnread, CutRow, CodeRow, TreeRow, LanguageRow, rows, IsFirst, NoRow, GoesOn, FaultStands, AllWhole, IsFaultOf, IsWhole}
 use Rattle.dwarf_units.specs.Units.{PlainUnit, State, Token, root_of, unit_bytes, values_at, entry_at, token_at, tokens_from, is_root_tag, language_fits, attribute_of, opened, open_lists, entries_from, entries_of, judged, end_with, is_type_unit, is_type_entry}
-use Rattle.dwarf_units.proofs.Cases.{option_cases, result_cases, same_Ok, same_Err}
 use Rattle.dwarf_units.proofs.ValuesAfter.{ValuesMove}
 use Rattle.dwarf_units.proofs.TokenLaws.{token_stands, token_falls, tokens_chain}
 

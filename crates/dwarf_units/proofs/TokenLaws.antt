@@ -2,6 +2,7 @@
 use Rattle.std.proofs.Common.{◌≡◌, ◌≢◌, ℕ, zero, suc, ◌+◌, ◌-◌, ◌<◌, ◌≤◌, Bool, true, false, ltb, Option, Some, None, Ok, refl, ap, subst, arith, inl, inr}
 use Rattle.std.specs.Prelude.{not, ◌==◌, slice_index}
 use Rattle.std.proofs.lemmas.Bool.{cases_Bool, ltb-true, eqb-false}
+use Rattle.abi_base.proofs.lemmas.Cases.{option_cases, result_cases, same_Ok}
 use Rattle.abi_base.specs.Dwarf.{dw_at_language}
 use Rattle.abi_base.specs.Leb.{uleb_at}
 use Rattle.abi_base.specs.Runs.{Chain, given}
@@ -12,7 +13,6 @@ use Rattle.dwarf_units.specs.declared.entry.Entry.{Entry}
 use Rattle.dwarf_units.specs.Grammar.{IsThere, TokenStands}
 use Rattle.dwarf_units.specs.Units.{PlainUnit, unit_bytes, values_at, entry_at, Token, State, root_token, inner_token, opened, open_lists, attribute_of, language_fits, is_root_tag, root_of, token_at, tokens_from, entries_from, entries_of, judged}
 use Rattle.dwarf_units.proofs.ValuesAfter.{ValuesMove, values_after}
-use Rattle.dwarf_units.proofs.Cases.{option_cases, result_cases, same_Ok}
 
 entry_after : (moves : ValuesMove) (u : PlainUnit) (at depth : ℕ) (code : ℕ × ℕ) (e : Entry × (Bool × ℕ)) → entry_at u at depth code ≡ Ok e → code.1 ≤ e.1.1
 unfolding entry_at

@@ -2,6 +2,7 @@
 use Rattle.std.proofs.Common.{◌≡◌, ℕ, suc, ◌<◌, Bool, ltb, List, length, Option, Some, None, Ok, refl, ap, subst, inl, inr}
 use Rattle.std.specs.Prelude.{◌==◌, All}
 use Rattle.std.proofs.lemmas.Bool.{cases_Bool}
+use Rattle.abi_base.proofs.lemmas.Cases.{option_cases, result_cases, same_Ok}
 use Rattle.abi_base.specs.Leb.{uleb_at}
 use Rattle.abi_base.proofs.lemmas.Lists.{IfGiven, found_of, given_all}
 use Rattle.abi_base.proofs.lemmas.Runs.{run_all}
@@ -14,7 +15,6 @@ use Rattle.dwarf_units.specs.ValuePlaces.{IsTold}
 use Rattle.dwarf_units.specs.Units.{PlainUnit, State, unit_bytes, values_at, entry_at, token_at, open_lists, tokens_from, entries_from, entries_of, judged}
 use Rattle.dwarf_units.proofs.ValuesAfter.{ValuesMove}
 use Rattle.dwarf_units.proofs.TokenLaws.{token_stands}
-use Rattle.dwarf_units.proofs.Cases.{option_cases, result_cases, same_Ok}
 
 -- ---- the entries of a unit
 

@@ -5,6 +5,8 @@ use Rattle.std.specs.Prelude.{◌↔◌, ◌==◌, not, slice_index, ◌&&◌}
 use Rattle.std.specs.List.{list_any}
 use Rattle.std.proofs.lemmas.Bool.{cases_Bool, ltb-true, lt-ltb, le-ltb, cases_lt, eqb-true}
 use Rattle.std.proofs.lemmas.Bool.Decides.{eqb_tells}
+use Rattle.abi_base.proofs.lemmas.Cases.{option_cases, result_cases}
+use Rattle.abi_base.proofs.lemmas.Bools.{not_is_false}
 use Rattle.abi_base.specs.Dwarf.{dw_at_language}
 use Rattle.abi_base.specs.declared.fault.Fault.{Fault}
 use Rattle.abi_base.specs.declared.fault.FaultKind.TheVariants as kind
@@ -19,7 +21,6 @@ use Rattle.dwarf_units.proofs.TokenLaws.{token_moves}
 use Rattle.dwarf_units.proofs.EntriesLeft.{entries_give, entries_pass, entries_end}
 use Rattle.abi_base.proofs.lemmas.Runs.{put_before}
 use Rattle.abi_base.specs.Outcome.{fault_if}
-use Rattle.dwarf_units.proofs.Cases.{option_cases, result_cases}
 
 abbrev EntryRun : Type 0
 EntryRun = Run Entry (Option Fault)
@@ -138,10 +139,6 @@ Rooted u =
     (e : Entry) × (c : Bool) × (after : ℕ) × IsEntry u 0 (root_of u) e c after × (is_root_tag u e.tag ≡ true) × (language_fits (attribute_of e.attributes dw_at_language) ≡ true)
     × (token_at u (root_of u, None) ≡ Ok (Some e, (after, Some (opened c 0))))
 
-not_not : (b : Bool) → not b ≡ false → b ≡ true
-not_not true is = refl
-not_not false is = absurd cc
-
 root_is : (u : PlainUnit) → (entries_from u (root_of u, None)).end ≡ None → Rooted u
 unfolding token_at
 root_is u none =
@@ -156,7 +153,7 @@ root_is u none =
                   | inl other ↦ absurd (no_fault u (at, None) (fault kind.Tree at) (rw (lt, is, goes, js, other) refl) none)
                   | inr tag ↦ elim (cases_Bool (not (language_fits (attribute_of e.0.attributes dw_at_language)))) [
                     | inl other ↦ absurd (no_fault u (at, None) (fault kind.Language at) (rw (lt, is, goes, js, tag, other) refl) none)
-                    | inr fits ↦ (e.0, e.1.0, e.1.1, (code, ltb-true at u.end lt, is, not_zero code.0 goes, js), not_not _ tag, not_not _ fits, rw (lt, is, goes, js, tag, fits) refl)
+                    | inr fits ↦ (e.0, e.1.0, e.1.1, (code, ltb-true at u.end lt, is, not_zero code.0 goes, js), not_is_false _ tag, not_is_false _ fits, rw (lt, is, goes, js, tag, fits) refl)
                   ]
                 ])
                 (λ f js. absurd (no_fault u (at, None) f (rw (lt, is, goes, js) refl) none))

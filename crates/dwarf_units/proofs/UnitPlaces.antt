@@ -2,6 +2,8 @@
 use Rattle.std.proofs.Common.{◌≡◌, ℕ, ◌+◌, ◌<◌, ◌≤◌, ltb, Bool, true, false, List, [], ◌∷◌, length, Option, Some, None, Ok, refl, ap, subst, arith, lit<, inl, inr}
 use Rattle.std.specs.Prelude.{◌&&◌, ◌==◌, nat_lt, nat_le, is_some, if◌then◌else◌}
 use Rattle.std.proofs.lemmas.Bool.{cases_Bool, ltb-false, or_parts}
+use Rattle.abi_base.proofs.lemmas.Outcomes.{fault_if-none}
+use Rattle.abi_base.proofs.lemmas.Cases.{option_cases, same_Ok}
 use Rattle.abi_base.specs.Dwarf.{length_size, dwarf64_length, reserved_length, header_size_4, dwarf_4, type_signature_at}
 use Rattle.abi_base.specs.declared.fault.Fault.{Fault}
 use Rattle.abi_base.specs.declared.fault.FaultKind.{FaultKind}
@@ -11,15 +13,10 @@ use Rattle.abi_base.specs.Outcome.{first, fault_if}
 use Rattle.dwarf_forms.specs.abbreviations.Abbrevs.{table_run}
 use Rattle.dwarf_units.specs.Units.{PlainUnit, header_size_of, is_type_unit}
 use Rattle.dwarf_units.specs.Sequence.{UnitStands, unit_version, is_type_at, unit_abbrevs, unit_length, unit_end, header_size_at, bad_length, kind_rows, header_fault, unit_fault, unit_of, unit_step}
-use Rattle.dwarf_units.proofs.Cases.{option_cases, same_Ok}
 
 none_both : (o : Option Fault) (others : List (Option Fault)) → first (o ∷ others) ≡ None → (o ≡ None) × (first others ≡ None)
 none_both None others h = (refl, h)
 none_both (Some f) others h = absurd cc
-
-not_faulty : (b : Bool) (k : FaultKind) (at : ℕ) → fault_if b k at ≡ None → b ≡ false
-not_faulty true k at h = absurd cc
-not_faulty false k at h = refl
 
 -- a unit without a fault ends after its header and inside the section
 record LiesInside (info : List ℕ) (at : ℕ) : Type 0 where
@@ -31,7 +28,7 @@ unfolding header_fault
 header_inside info at none =
     let dwarf64 = fault_if (nat_le (at + length_size) (length info) && unit_length info at == dwarf64_length) kind.Dwarf64 at in
     let length_row = fault_if (bad_length info at) kind.UnitHeader at in
-    let good = not_faulty (bad_length info at) kind.UnitHeader at (none_both length_row (kind_rows info at) (none_both dwarf64 (length_row ∷ kind_rows info at) none).1).0 in
+    let good = fault_if-none (bad_length info at) kind.UnitHeader at (none_both length_row (kind_rows info at) (none_both dwarf64 (length_row ∷ kind_rows info at) none).1).0 in
     let inside = or_parts (nat_lt (length info) (unit_end info at)) _ (or_parts (nat_lt (length info) (at + length_size)) _ good).1 in
     let short = or_parts (nat_lt (unit_end info at) (at + header_size_4)) _ (or_parts (nat_le reserved_length (unit_length info at)) _ inside.1).1 in
     record {

@@ -6,10 +6,10 @@ use Rattle.abi_base.specs.Runs.{ended, put_front, Chain}
 use Rattle.dwarf_units.specs.Units.{PlainUnit}
 use Rattle.abi_base.proofs.lemmas.Runs.{Falls, run_more, run_end, run_chain}
 use Rattle.std.specs.Option.{option_or}
+use Rattle.abi_base.proofs.lemmas.Cases.{option_cases, same_Ok}
 use Rattle.abi_base.specs.Outcome.{first}
 use Rattle.abi_base.proofs.lemmas.Outcomes.{first-append}
 use Rattle.dwarf_units.specs.Sequence.{header_fault, length_rows, kind_rows, unit_fault, unit_of, unit_step, units_from}
-use Rattle.dwarf_units.proofs.Cases.{option_cases, same_Ok}
 
 view_end : (info abbrevs : List ℕ) (at : ℕ) → at < (unit_of info abbrevs at).end
 unfolding unit_of

@@ -1,11 +1,11 @@
 -- Reading values moves on.
 use Rattle.std.proofs.Common.{◌≡◌, ℕ, ◌≤◌, List, [], ◌∷◌, Ok, ap, arith}
 use Rattle.std.specs.Prelude.{ℤ}
+use Rattle.abi_base.proofs.lemmas.Cases.{result_cases, same_Ok}
 use Rattle.dwarf_forms.specs.declared.abbreviations.abbrev.Spec.{Spec}
 use Rattle.dwarf_forms.specs.declared.values.Value.{Value}
 use Rattle.dwarf_forms.specs.Values.{value_at}
 use Rattle.dwarf_units.specs.Units.{PlainUnit, values_at}
-use Rattle.dwarf_units.proofs.Cases.{result_cases, same_Ok}
 
 -- the place after a value is not before the value
 abbrev pub ValuesMove : Type 0

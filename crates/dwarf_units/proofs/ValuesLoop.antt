@@ -1,13 +1,13 @@
 -- Loops over the attributes of an abbreviation.
 use Rattle.std.proofs.Common.{◌≡◌, ℕ, ◌+◌, ◌<◌, ◌≤◌, List, [], ◌∷◌, ◌++◌, length, drop, get_or, Result, Ok, Err, refl, sym, ap, ◌∙◌, append_assoc}
 use Rattle.std.proofs.lemmas.List.{drop_more, drop_all, append-nil}
+use Rattle.abi_base.proofs.lemmas.Cases.{result_cases, same_Ok, same_Err}
 use Rattle.abi_base.specs.declared.fault.Fault.{Fault}
 use Rattle.dwarf_forms.specs.declared.abbreviations.abbrev.Spec.{Spec}
 use Rattle.dwarf_forms.specs.declared.values.Value.{Value}
 use Rattle.abi_base.specs.Outcome.{◌>>=◌}
 use Rattle.dwarf_forms.specs.Values.{value_at, place_after}
 use Rattle.dwarf_units.specs.Units.{PlainUnit, values_at}
-use Rattle.dwarf_units.proofs.Cases.{result_cases, same_Ok, same_Err}
 
 abbrev pub values_before : List (ℕ × Value) → Result (List (ℕ × Value) × ℕ) Fault → Result (List (ℕ × Value) × ℕ) Fault
 values_before front (Ok r) = Ok (front ++ r.0, r.1)

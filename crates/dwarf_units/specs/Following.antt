@@ -16,4 +16,4 @@ abbrev pub ComesTo : PlainUnit → State → Bool → Result (Option Following) 
 ComesTo u s met (Ok (Some f)) = IsNext u s met f
 ComesTo u s met (Ok None) = entries_left u s met ≡ ended None
 ComesTo u s met (Err (refusal.Fault f)) = entries_left u s met ≡ ended (Some f)
-ComesTo u s met (Err refusal.NoMemory) = Prim.Unit {0}
+ComesTo u s met (Err (refusal.NoMemory cause)) = Prim.Unit {0}

@@ -18,13 +18,13 @@ abbrev pub NextIsBy : {T X : Type 0} → (T → X) → Run X (Option Fault) → 
 NextIsBy see old (Ok (Some x)) new = old ≡ put_front (see x) new
 NextIsBy see old (Ok None) new = (old ≡ ended None) × (new ≡ old)
 NextIsBy see old (Err (refusal.Fault f)) new = (old ≡ ended (Some f)) × (new ≡ old)
-NextIsBy see old (Err refusal.NoMemory) new = new ≡ old
+NextIsBy see old (Err (refusal.NoMemory cause)) new = new ≡ old
 
 -- what the reader of one unit answers, where a unit begins
 abbrev pub IsUnit : List ℕ → List ℕ → ℕ → Result Unit Refusal → Type 0
 IsUnit info abbrevs at (Ok u) = unit_step info abbrevs at ≡ Ok (plain_unit u, u.end)
 IsUnit info abbrevs at (Err (refusal.Fault f)) = unit_step info abbrevs at ≡ Err (Some f)
-IsUnit info abbrevs at (Err refusal.NoMemory) = Prim.Unit {0}
+IsUnit info abbrevs at (Err (refusal.NoMemory cause)) = Prim.Unit {0}
 
 -- a table at an offset that was read without a fault
 pub record IsTable (abbrevs : List ℕ) (at : ℕ) (table : List Abbrev) : Type 0 where

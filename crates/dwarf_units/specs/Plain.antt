@@ -25,4 +25,4 @@ IsToken u s (Ok (token.Given entry at lists)) = token_at u s ≡ Ok (Some entry,
 IsToken u s (Ok (token.Closed at lists)) = token_at u s ≡ Ok (None, (at, Some lists))
 IsToken u s (Ok token.End) = token_at u s ≡ Err None
 IsToken u s (Err (refusal.Fault f)) = token_at u s ≡ Err (Some f)
-IsToken u s (Err refusal.NoMemory) = Prim.Unit {0}
+IsToken u s (Err (refusal.NoMemory cause)) = Prim.Unit {0}

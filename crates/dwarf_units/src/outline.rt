@@ -90,7 +90,7 @@ impl<'u, 'a> Outline<'u, 'a> {
                 specs_from: self.form.specs_from,
                 attributes,
             }),
-            Err(Refusal::NoMemory) => Err(NoMemory),
+            Err(Refusal::NoMemory(cause)) => Err(cause),
             Err(Refusal::Fault(_)) => unreachable!(),
         }
     }

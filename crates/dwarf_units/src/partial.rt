@@ -21,7 +21,7 @@ fn has_partial_root(alloc: Global, unit: &Unit<'_>) -> Result<bool, NoMemory>
         Ok(Some(root)) => Ok(root.tag() == DW_TAG_partial_unit),
         Ok(None) => Ok(false),
         Err(Refusal::Fault(_)) => Ok(false),
-        Err(Refusal::NoMemory) => Err(NoMemory),
+        Err(Refusal::NoMemory(cause)) => Err(cause),
     }
 }
 

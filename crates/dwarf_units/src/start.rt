@@ -9,7 +9,7 @@ use crate::reader::Entries;
 use crate::sequence::Units;
 use crate::table::Tables;
 use crate::unit::Unit;
-use abi_base::Effort;
+use abi_base::{Effort, Limit};
 use dwarf_forms::Sections;
 
 /// All units of `.debug_info`, in order, each with its abbreviations.
@@ -41,6 +41,9 @@ pub fn entries<'u, 'a>(unit: &'u Unit<'a>) -> Entries<'u, 'a>
         at: (unit.offset + header) as usize,
         lists: None,
         met: false,
-        effort: Effort::for_bytes(unit.end.saturating_sub(unit.offset) as usize),
+        effort: Effort::for_bytes(
+            Limit::Attributes,
+            unit.end.saturating_sub(unit.offset) as usize,
+        ),
     }
 }

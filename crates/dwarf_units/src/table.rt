@@ -5,7 +5,7 @@ ghost use Rattle.dwarf_forms.specs.abbreviations.Abbrevs.{table_run};
 ghost use Rattle.dwarf_units.specs.KeptTables.{IsKept, IsTable};
 
 use crate::sizes::SizedTable;
-use abi_base::{Effort, NoMemory, Refusal};
+use abi_base::{Effort, Limit, NoMemory, Refusal};
 use dwarf_forms::abbreviations::table;
 use std::alloc::Global;
 use std::collections::HashMap;
@@ -33,7 +33,7 @@ impl Tables {
         Tables {
             kept: None,
             room: 0,
-            effort: Effort::for_bytes(abbrevs.len()),
+            effort: Effort::for_bytes(Limit::Abbreviations, abbrevs.len()),
         }
     }
 }

@@ -3,6 +3,8 @@ use Rattle.std.proofs.Common.{◌≡◌, ℕ, ◌+◌, ◌<◌, List, [], ◌∷
 use Rattle.std.specs.Option.{option_or}
 use Rattle.std.proofs.lemmas.List.{append-nil, map-append}
 use Rattle.std.proofs.lemmas.List.Elements.{filter_map-append}
+use Rattle.abi_base.proofs.lemmas.Lists.{take-map_more, drop-map_more}
+use Rattle.abi_base.proofs.lemmas.Outcomes.{first-append}
 use Rattle.abi_base.specs.declared.fault.Fault.{Fault}
 use Rattle.abi_base.specs.Outcome.{first}
 use Rattle.abi_types.specs.declared.export.Export.{Export}
@@ -13,7 +15,6 @@ use Rattle.elf.specs.symbols.Plain.{plain_symbol, plain_symbols}
 use Rattle.elf.specs.symbols.Symbols.{PlainSymbol}
 use Rattle.elf.specs.versions.Versions.{PlainVersion, version_in}
 use Rattle.elf_bind.specs.Exports.{duplicate_faults, export_fault, export_of, exports_with, version_fault_of}
-use Rattle.elf_bind.proofs.InOrder.{taken, dropped}
 
 -- ---- the first undefined version
 
@@ -23,13 +24,13 @@ fault_from versions symbols i = first (map (version_fault_of versions) (drop i (
 pub fault_here : (versions : List (Option PlainVersion)) (symbols : List Symbol) (i : ℕ) (d : Symbol) (f : Fault) → i < length symbols
     → Some f ≡ version_fault_of versions (plain_symbol (get_or symbols i d)) → fault_from versions symbols i ≡ fault_from versions symbols 0 → Some f ≡ fault_from versions symbols 0
 fault_here versions symbols i d f inside is so_far =
-    let here : fault_from versions symbols i ≡ Some f = ap (λ (l : List PlainSymbol). first (map (version_fault_of versions) l)) (dropped plain_symbol symbols i d inside) ∙ ap (λ (o : Option Fault). first (o ∷ map (version_fault_of versions) (drop (i + 1) (plain_symbols symbols)))) (sym is) in
+    let here : fault_from versions symbols i ≡ Some f = ap (λ (l : List PlainSymbol). first (map (version_fault_of versions) l)) (drop-map_more plain_symbol symbols i d inside) ∙ ap (λ (o : Option Fault). first (o ∷ map (version_fault_of versions) (drop (i + 1) (plain_symbols symbols)))) (sym is) in
     sym here ∙ so_far
 
 pub fault_later : (versions : List (Option PlainVersion)) (symbols : List Symbol) (i : ℕ) (d : Symbol) → i < length symbols
     → None ≡ version_fault_of versions (plain_symbol (get_or symbols i d)) → fault_from versions symbols i ≡ fault_from versions symbols 0 → fault_from versions symbols (i + 1) ≡ fault_from versions symbols 0
 fault_later versions symbols i d inside is so_far =
-    let here : fault_from versions symbols i ≡ fault_from versions symbols (i + 1) = ap (λ (l : List PlainSymbol). first (map (version_fault_of versions) l)) (dropped plain_symbol symbols i d inside) ∙ ap (λ (o : Option Fault). first (o ∷ map (version_fault_of versions) (drop (i + 1) (plain_symbols symbols)))) (sym is) in
+    let here : fault_from versions symbols i ≡ fault_from versions symbols (i + 1) = ap (λ (l : List PlainSymbol). first (map (version_fault_of versions) l)) (drop-map_more plain_symbol symbols i d inside) ∙ ap (λ (o : Option Fault). first (o ∷ map (version_fault_of versions) (drop (i + 1) (plain_symbols symbols)))) (sym is) in
     sym here ∙ so_far
 
 -- ---- the exports
@@ -44,7 +45,7 @@ module _ (versions : List (Option PlainVersion)) (symbols : List Symbol) (i : �
 
   one_more : exports_with (take (i + 1) (plain_symbols symbols)) versions ≡ exports_with (take i (plain_symbols symbols)) versions ++ exports_with (plain_symbol (get_or symbols i d) ∷ []) versions
   one_more =
-      ap (λ (l : List PlainSymbol). exports_with l versions) (taken plain_symbol symbols i d inside)
+      ap (λ (l : List PlainSymbol). exports_with l versions) (take-map_more plain_symbol symbols i d inside)
       ∙ filter_map-append (λ (s : PlainSymbol). export_of s (version_in versions s.number)) (take i (plain_symbols symbols)) (plain_symbol (get_or symbols i d) ∷ [])
 
   -- a symbol that is an export adds it
@@ -62,11 +63,6 @@ module _ (versions : List (Option PlainVersion)) (symbols : List Symbol) (i : �
       so_far ∙ sym (one_more ∙ rw (← is) (append-nil (exports_with (take i (plain_symbols symbols)) versions)))
 
 -- ---- the fault of all
-
-first-append : (xs ys : List (Option Fault)) → first (xs ++ ys) ≡ option_or (first xs) (first ys)
-first-append [] ys = refl
-first-append (None ∷ xs) ys = first-append xs ys
-first-append (Some f ∷ xs) ys = refl
 
 pub faulty_version : (symbols : List PlainSymbol) (versions : List (Option PlainVersion)) (f : Fault) → Some f ≡ first (map (version_fault_of versions) symbols) → export_fault symbols versions ≡ Some f
 unfolding export_fault

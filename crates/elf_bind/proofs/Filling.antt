@@ -12,6 +12,9 @@ use Rattle.std.proofs.lemmas.List.{take_more, get_or-map, length-map}
 use Rattle.std.proofs.lemmas.List.Sums.{prefix_len-le-length, sum_by-cons, sum_by-append}
 use Rattle.std.proofs.lemmas.List.Folds.{position_or_len_push}
 use Rattle.std.proofs.lemmas.Slice.Eq.{bytes_eq-Decides}
+use Rattle.abi_base.proofs.lemmas.Options.{absent}
+use Rattle.abi_base.proofs.lemmas.Cases.{bool_cases}
+use Rattle.abi_base.proofs.lemmas.Bools.{and_is_true}
 use Rattle.abi_types.specs.declared.export.Export.{Export}
 use Rattle.abi_types.specs.Exports.{PlainExport}
 use Rattle.abi_types.specs.Plain.{plain_export, plain_exports}
@@ -19,10 +22,6 @@ use Rattle.elf_bind.specs.Binding.{is_default_version}
 use Rattle.elf_bind.specs.NameOrder.{code_of, name_cmp, version_cmp}
 use Rattle.elf_bind.specs.NameTrees.{Places, VersionPlaces, OnlyPlaces, under_code, under_code_version, place_under, place_under_version, only_under, names_version, only_seen}
 use Rattle.elf_bind.proofs.NameOrderLemmas.{same_name_where_equal, same_version_where_equal}
-
-pub bool_cases : {P : Type 0} (b : Bool) → (b ≡ true → P) → (b ≡ false → P) → P
-bool_cases true here other = here refl
-bool_cases false here other = other refl
 
 abbrev pub key : List ℕ → Bor (List ℕ)
 key q = record { ref_ptr = (0, 0); now = q }
@@ -32,10 +31,6 @@ key q = record { ref_ptr = (0, 0); now = q }
 or_none : (o : Option ℕ) → o ≡ option_or o None
 or_none None = refl
 or_none (Some x) = refl
-
-pub absent : {X : Type 0} (o : Option X) (b : Bool) → b ≡ is_some o → b ≡ false → o ≡ None
-absent None b is none = refl
-absent (Some x) b is none = absurd cc
 
 pub first_kept : (old new : Places) (code : ℕ) (name : List ℕ) (place : ℕ) → code ≡ code_of name → under_code old code name ≡ None
     → ((q : ℕ × Bor (List ℕ)) → under_code new q.0 q.1.now ≡ cond (is_eq (name_cmp code name q.0 q.1.now)) (Some place) (under_code old q.0 q.1.now))
@@ -91,18 +86,13 @@ module _ {X : Type 0} (p : X → Bool) (xs : List X) (x : X) where
 
 -- ---- a pair of names
 
-and_splits : (a b : Bool) → (a && b) ≡ true → (a ≡ true) × (b ≡ true)
-and_splits true true is = (refl, refl)
-and_splits true false is = absurd cc
-and_splits false b is = absurd cc
-
 pub first_version_kept : (old new : VersionPlaces) (code : ℕ) (name version : List ℕ) (place : ℕ) → code ≡ code_of name → under_code_version old code name version ≡ None
     → ((q : ℕ × Bor (List ℕ) × Bor (List ℕ)) → under_code_version new q.0 q.1.now q.2.now ≡ cond (is_eq (version_cmp code name version q.0 q.1.now q.2.now)) (Some place) (under_code_version old q.0 q.1.now q.2.now))
     → (q v : List ℕ) → place_under_version new q v ≡ option_or (place_under_version old q v) (if names_version name version q v then Some place else None)
 first_version_kept old new code name version place coded none adds q v =
     adds (code_of q, key q, key v) ∙ ap (λ (b : Bool). cond b (Some place) (place_under_version old q v)) (same_version_where_equal code name version q v coded)
     ∙ bool_cases (names_version name version q v) (λ same.
-    let both = and_splits (bytes_eq name q) (bytes_eq version v) same in
+    let both = and_is_true (bytes_eq name q) (bytes_eq version v) same in
     let is : name ≡ q = (bytes_eq-Decides name q).0 both.0 in
     let iv : version ≡ v = (bytes_eq-Decides version v).0 both.1 in
     let none_there : place_under_version old name version ≡ None = subst (λ (c : ℕ). under_code_version old c name version ≡ None) coded none in

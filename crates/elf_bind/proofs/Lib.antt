@@ -1,6 +1,5 @@
 mod Among
 mod Filling
-mod InOrder
 mod NameOrderLemmas
 mod NamedLemmas
 mod Offering

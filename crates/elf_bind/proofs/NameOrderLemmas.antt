@@ -6,15 +6,9 @@ use Rattle.std.specs.Cmp.Lexicographic.{slice_cmp, lists_ties}
 use Rattle.std.specs.Ordering.{nat_cmp, is_eq}
 use Rattle.std.specs.Str.{bytes_eq}
 use Rattle.std.proofs.lemmas.Slice.Eq.{bytes_eq-Decides}
+use Rattle.abi_base.proofs.lemmas.Cases.{bool_cases}
+use Rattle.abi_base.proofs.lemmas.Bools.{and_false}
 use Rattle.elf_bind.specs.NameOrder.{code_of, name_cmp, version_cmp}
-
-bool_cases : {P : Type 0} (b : Bool) → (b ≡ true → P) → (b ≡ false → P) → P
-bool_cases true here other = here refl
-bool_cases false here other = other refl
-
-and_false : (b : Bool) → (b && false) ≡ false
-and_false true = refl
-and_false false = refl
 
 bytes_tied : (a b : List ℕ) → bytes_eq a b ≡ is_eq (slice_cmp nat_cmp a b)
 bytes_tied a b = lists_ties nat_cmp unsigned_ties a b

@@ -1,17 +1,20 @@
--- To look at the exports of one name is to look at all exports.
+-- To look at the exports of one name, or of one name and one version, is to look at all exports.
 use Rattle.std.proofs.Common.{◌≡◌, ◌<◌, ◌≤◌, ◌+◌, ℕ, zero, suc, Bool, true, false, cond, ◌&&◌, List, [], ◌∷◌, slice_get, Option, Some, None, refl, sym, ◌∙◌, ap, subst, inl, inr, ◌⊎◌, arith}
-use Rattle.std.specs.Prelude.{◌==◌, find, position, count_by, is_some}
+use Rattle.std.specs.Prelude.{◌==◌, find, position, count_by}
 use Rattle.std.specs.List.{position_from}
 use Rattle.std.specs.Option.{option_or}
-use Rattle.std.proofs.lemmas.Bool.{cases_Bool}
+use Rattle.std.proofs.lemmas.Bool.{cases_Bool, and_parts}
 use Rattle.std.proofs.lemmas.Iterator.Adapters.{position_from-zero}
 use Rattle.std.proofs.lemmas.List.Sums.{sum_by-cons}
 use Rattle.std.proofs.lemmas.Option.{slice_get-map, slice_get_within, slice_get-get_or, get_or_from_slice_get, none-some, same_Some}
 use Rattle.std.proofs.lemmas.Slice.Eq.{bytes_eq-Decides}
+use Rattle.abi_base.proofs.lemmas.Bools.{and_left_true, and_of_true}
 use Rattle.abi_types.specs.Exports.{PlainExport}
 use Rattle.abi_types.specs.Names.{IsNamed, AreNamed}
-use Rattle.elf_bind.specs.Binding.{is_named, has_version, has_first_version, is_default_version, bind_to}
-use Rattle.elf_bind.specs.Named.{passes_at, bind_among}
+use Rattle.abi_types.specs.Versions.{IsVersioned, AreVersioned}
+use Rattle.elf_bind.specs.Binding.{is_named, has_version, has_first_version, is_default_version, only_default_version}
+use Rattle.elf_bind.specs.Exports.{same_name}
+use Rattle.elf_bind.specs.Named.{passes_at, some_version_among}
 
 pub ruleset reads = (slice_get-map)
 
@@ -102,6 +105,10 @@ module _ (q : PlainExport → Bool) where
           let first = begins i e es k ks passes are in
           rw first (ap (λ (ls : List ℕ). i ∷ ls) (others ks (tail_places i e es ks (rw first at are))))
 
+  first_same : (es : List PlainExport) (i : ℕ) → slice_get (places_from i es) 0 ≡ position_from q i es
+  first_same [] i = refl
+  first_same (e ∷ es) i = elim (cases_Bool (q e)) [ inl passes ↦ rw passes refl | inr fails ↦ rw fails (first_same es (i + 1)) ]
+
   -- a test of numbers tests the exports from a place on
   abbrev Agrees : (ℕ → Bool) → (PlainExport → Bool) → ℕ → List PlainExport → Type 0
   Agrees test p i es = (n : ℕ) (e : PlainExport) → slice_get es n ≡ Some e → test (i + n) ≡ p e
@@ -179,21 +186,65 @@ module _ (exports : List PlainExport) (name : List ℕ) (places : List ℕ) (nam
       ap (count_by (passes_at p exports)) named_places
       ∙ count_same (is_named name) (passes_at p exports) p implied exports 0 (agrees p)
 
-and_left : (a b : Bool) → (a && b) ≡ true → a ≡ true
-and_left true b h = refl
-and_left false b h = h
+same_choice : (x x' y y' : Option ℕ) (n n' : ℕ) → x ≡ x' → n ≡ n' → y ≡ y' → option_or x (cond (n == 1) y None) ≡ option_or x' (cond (n' == 1) y' None)
+same_choice x x' y y' n n' p q r = rw (p, q, r) refl
 
-same_choice : (b : Bool) (a a' x x' y y' z z' : Option ℕ) (n n' : ℕ) → a ≡ a' → x ≡ x' → y ≡ y' → n ≡ n' → z ≡ z'
-    → cond b a (option_or x (option_or y (cond (n == 1) z None))) ≡ cond b a' (option_or x' (option_or y' (cond (n' == 1) z' None)))
-same_choice b a a' x x' y y' z z' n n' p q r s t = rw (p, q, r, s, t) refl
+-- what an export without a version binds to among the exports of its name is what it binds to among all
+pub some_version_is : (exports : List PlainExport) (name : List ℕ) (places : List ℕ) → AreNamed exports name places
+    → some_version_among name places exports ≡ option_or (position (has_first_version name) exports) (only_default_version name exports)
+some_version_is exports name places named =
+    let find_by = find_named exports name places named in
+    same_choice _ _ _ _ _ _
+    (find_by (has_first_version name) (λ x h. and_left_true _ _ h))
+    (count_named exports name places named (is_default_version name) (λ x h. and_left_true _ _ (and_left_true _ _ h)))
+    (find_by (is_default_version name) (λ x h. and_left_true _ _ (and_left_true _ _ h)))
 
--- what an export binds to among the exports of its name is what it binds to among all
-pub bind_among_is : (exports : List PlainExport) (e : PlainExport) (places : List ℕ) → AreNamed exports e.name places → bind_among places exports e ≡ bind_to exports e
-bind_among_is exports e places named =
-    let find_by = find_named exports e.name places named in
-    same_choice (is_some e.version) _ _ _ _ _ _ _ _ _ _
-    (find_by (has_version e.name e.version) (λ x h. and_left _ _ h))
-    (find_by (has_version e.name None) (λ x h. and_left _ _ h))
-    (find_by (has_first_version e.name) (λ x h. and_left _ _ h))
-    (count_named exports e.name places named (is_default_version e.name) (λ x h. and_left _ _ (and_left _ _ h)))
-    (find_by (is_default_version e.name) (λ x h. and_left _ _ (and_left _ _ h)))
+-- ---- the exports of one name and one version
+
+same_version : (a b : Option (List ℕ)) → a ≡ b → same_name a b ≡ true
+same_version None None e = refl
+same_version None (Some y) e = cc
+same_version (Some x) None e = cc
+same_version (Some x) (Some y) e = (bytes_eq-Decides x y).1 (same_Some x y e)
+
+version_from_same : (a b : Option (List ℕ)) → same_name a b ≡ true → a ≡ b
+version_from_same None None e = refl
+version_from_same None (Some y) e = cc
+version_from_same (Some x) None e = cc
+version_from_same (Some x) (Some y) e = ap Some ((bytes_eq-Decides x y).0 e)
+
+module _ (exports : List PlainExport) (name : List ℕ) (version : Option (List ℕ)) (places : List ℕ) (are : AreVersioned exports name version places) where
+  versioned_places : places ≡ places_from (has_version name version) 0 exports
+  versioned_places =
+      places_are (has_version name version) exports 0 places (record {
+        ascend = are.ascend;
+        forth = λ m k at. place k ((are.exact k).0 (m, slice_get_within places m k at, get_or_from_slice_get places m k k at));
+        back = λ k p. let (m, inside, is) = (are.exact k).1 (stands k p) in (m, slice_get-get_or places m k inside ∙ ap Some is);
+      })
+    where
+      place : (k : ℕ) → IsVersioned exports name version k → IsPlace (has_version name version) 0 exports k
+      place k v = record {
+        after = k;
+        export = v.exported;
+        is = omega arith;
+        at = v.at;
+        passes = and_of_true _ _ ((bytes_eq-Decides v.exported.name name).1 v.named) (same_version v.exported.version version v.versioned);
+      }
+
+      stands : (k : ℕ) → IsPlace (has_version name version) 0 exports k → IsVersioned exports name version k
+      stands k p =
+          let same : p.after ≡ k = omega (arith, p.is) in
+          let parts = and_parts (is_named name p.export) (same_name p.export.version version) p.passes in
+          record {
+            exported = p.export;
+            at = subst (λ (n : ℕ). slice_get exports n ≡ Some p.export) same p.at;
+            named = (bytes_eq-Decides p.export.name name).0 parts.0;
+            versioned = version_from_same p.export.version version parts.1;
+          }
+
+  -- the first of them is the first export of the name and the version
+  pub first_of_version : slice_get places 0 ≡ position (has_version name version) exports
+  first_of_version =
+      ap (λ (ks : List ℕ). slice_get ks 0) versioned_places
+      ∙ first_same (has_version name version) exports 0
+      ∙ sym (position_from-zero (has_version name version) exports)

@@ -4,6 +4,7 @@ use Rattle.std.specs.Prelude.{position, count_by, is_some, ◌==◌, if◌then�
 use Rattle.std.specs.Option.{option_or}
 use Rattle.std.proofs.lemmas.Bool.Decides.{nat_tests}
 use Rattle.std.proofs.lemmas.List.{map-append}
+use Rattle.abi_base.proofs.lemmas.Cases.{bool_cases}
 use Rattle.abi_types.specs.declared.export.Export.{Export}
 use Rattle.abi_types.specs.Exports.{PlainExport}
 use Rattle.abi_types.specs.Plain.{plain_export, plain_exports}
@@ -11,7 +12,7 @@ use Rattle.elf_bind.specs.declared.offers.Offers.{Offers}
 use Rattle.elf_bind.specs.Binding.{has_version, has_first_version, is_default_version, only_default_version, bind_to, bind_each}
 use Rattle.elf_bind.specs.Offers.{IsOffers, place_by, bind_by}
 use Rattle.elf_bind.specs.NameTrees.{the_only, only_seen}
-use Rattle.elf_bind.proofs.Filling.{bool_cases, next_export}
+use Rattle.elf_bind.proofs.Filling.{next_export}
 
 not_one : (c : ℕ) → (c == 0) ≡ true → (c == 1) ≡ false
 not_one c zero = grind (arith, nat_tests)

@@ -9,6 +9,8 @@ use Rattle.std.specs.Str.{bytes_eq}
 use Rattle.std.proofs.lemmas.List.Folds.{list_any-append}
 use Rattle.std.proofs.lemmas.Slice.Eq.{bytes_eq-Decides}
 use Rattle.std.proofs.lemmas.Grind.{common_steps}
+use Rattle.abi_base.proofs.lemmas.Lists.{take-map_more, drop-map_more}
+use Rattle.abi_base.proofs.lemmas.Cases.{bool_cases}
 use Rattle.abi_base.specs.declared.fault.FaultKind.TheVariants as kind
 use Rattle.abi_base.specs.Outcome.{fault_if, first}
 use Rattle.abi_types.specs.declared.export.Export.{Export}
@@ -17,12 +19,7 @@ use Rattle.abi_types.specs.Plain.{plain_export, plain_exports}
 use Rattle.elf_bind.specs.Exports.{duplicate_faults, is_same, same_name}
 use Rattle.elf_bind.specs.EarlierExports.{Names, Versioned, has_code, has_code_version, has_name, has_version, is_like, EarlierExports}
 use Rattle.elf_bind.specs.NameOrder.{code_of, name_cmp, version_cmp}
-use Rattle.elf_bind.proofs.InOrder.{taken, dropped}
 use Rattle.elf_bind.proofs.NameOrderLemmas.{same_name_where_equal, same_version_where_equal}
-
-bool_cases : {P : Type 0} (b : Bool) → (b ≡ true → P) → (b ≡ false → P) → P
-bool_cases true here other = here refl
-bool_cases false here other = other refl
 
 same_names : (a b : List ℕ) → bytes_eq a b ≡ true → bytes_eq b a ≡ true
 same_names a b same = (bytes_eq-Decides b a).1 (sym ((bytes_eq-Decides a b).0 same))
@@ -140,7 +137,7 @@ module _ (exports : List Export) (i : ℕ) (d : Export) (inside : i < length exp
   here : (b : Bool) → b ≡ list_any (is_same this) earlier → first (duplicate_faults earlier (drop i (plain_exports exports)))
       ≡ first (fault_if b kind.DuplicateExport this.symbol ∷ duplicate_faults (earlier ++ this ∷ []) (drop (i + 1) (plain_exports exports)))
   here b is =
-      ap (λ (l : List PlainExport). first (duplicate_faults earlier l)) (dropped plain_export exports i d inside)
+      ap (λ (l : List PlainExport). first (duplicate_faults earlier l)) (drop-map_more plain_export exports i d inside)
       ∙ ap (λ (c : Bool). first (fault_if c kind.DuplicateExport this.symbol ∷ duplicate_faults (earlier ++ this ∷ []) (drop (i + 1) (plain_exports exports)))) (sym is)
 
   pub duplicate_here : (unversioned : Names) (versioned : Versioned) → Unlike exports i unversioned versioned → true ≡ list_any (is_same this) earlier
@@ -150,7 +147,7 @@ module _ (exports : List Export) (i : ℕ) (d : Export) (inside : i < length exp
   pub none_here : (unversioned next_unversioned : Names) (versioned next_versioned : Versioned) → Unlike exports i unversioned versioned → false ≡ list_any (is_same this) earlier
       → EarlierExports next_unversioned next_versioned (earlier ++ this ∷ []) → Unlike exports (i + 1) next_unversioned next_versioned
   none_here unversioned next_unversioned versioned next_versioned so_far is stood =
-      let more = taken plain_export exports i d inside in
+      let more = take-map_more plain_export exports i d inside in
       record {
         stood = subst (λ (l : List PlainExport). EarlierExports next_unversioned next_versioned l) (sym more) stood;
         judged = ap (λ (l : List PlainExport). first (duplicate_faults l (drop (i + 1) (plain_exports exports)))) more ∙ sym (here false is) ∙ so_far.judged;

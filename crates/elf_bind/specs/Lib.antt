@@ -5,5 +5,4 @@ pub mod NameTrees
 pub mod Named
 pub mod Offers
 pub mod Placed
-pub mod Places
 pub mod EarlierExports

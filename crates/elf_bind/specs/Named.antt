@@ -1,8 +1,8 @@
 -- Binding among the positions of the exports of one name.
-use Rattle.std.specs.Prelude.{ℕ, ◌==◌, Bool, false, is_some, if◌then◌else◌, List, slice_get, find, count_by, Option, None}
+use Rattle.std.specs.Prelude.{ℕ, ◌==◌, Bool, false, if◌then◌else◌, List, slice_get, find, position, count_by, Option, None}
 use Rattle.std.specs.Option.{option_or, option_map_or}
 use Rattle.abi_types.specs.Exports.{PlainExport}
-use Rattle.elf_bind.specs.Binding.{has_version, has_first_version, is_default_version}
+use Rattle.elf_bind.specs.Binding.{has_version, has_first_version, is_default_version, only_default_version}
 
 -- an export stands at a position and passes a test
 abbrev pub passes_at : (PlainExport → Bool) → List PlainExport → ℕ → Bool
@@ -13,10 +13,10 @@ abbrev pub only_default_version_among : List ℕ → List ℕ → List PlainExpo
 only_default_version_among name places offered =
     if count_by (passes_at (is_default_version name) offered) places == 1 then find (passes_at (is_default_version name) offered) places else None
 
--- what an export binds to, where only these positions are looked at
-abbrev pub bind_among : List ℕ → List PlainExport → PlainExport → Option ℕ
-bind_among places offered e =
-    if is_some e.version
-    then find (passes_at (has_version e.name e.version) offered) places
-    else option_or (find (passes_at (has_version e.name None) offered) places)
-    (option_or (find (passes_at (has_first_version e.name) offered) places) (only_default_version_among e.name places offered))
+-- the one of these positions that an export of this name without a version binds to, where each export there has a version
+abbrev pub some_version_among : List ℕ → List ℕ → List PlainExport → Option ℕ
+some_version_among name places offered = option_or (find (passes_at (has_first_version name) offered) places) (only_default_version_among name places offered)
+
+-- what an export of this name without a version binds to
+abbrev pub bind_unversioned : List ℕ → List PlainExport → Option ℕ
+bind_unversioned name offered = option_or (position (has_version name None) offered) (option_or (position (has_first_version name) offered) (only_default_version name offered))

@@ -9,7 +9,7 @@ ghost use Rattle.elf_bind.specs.Exports as spec;
 
 use crate::duplicates::duplicate_fault;
 use crate::exporting::export_of;
-use abi_base::{Effort, Fault, FaultKind, NoMemory, Refusal};
+use abi_base::{Effort, Fault, FaultKind, Limit, NoMemory, Refusal};
 use abi_types::Export;
 use elf::constants::SYM_SIZE;
 use elf::symbols::Symbol;
@@ -64,7 +64,7 @@ fn exports_in<'a>(
     ensures { IfOk result (λ exports. plain_exports exports.items ≡ exports_with (plain_symbols symbols.now) versions.now) }
 {
     let mut exports = Vec::new(alloc);
-    let mut effort = Effort::for_bytes(symbols.len().saturating_mul(SYM_SIZE));
+    let mut effort = Effort::for_bytes(Limit::ExportNames, symbols.len().saturating_mul(SYM_SIZE));
     for symbol in symbols {
         if let Some(export) = export_of(symbol, versions.version_of(symbol.number as usize)) {
             keep(&mut exports, export, &mut effort)?;

@@ -5,6 +5,7 @@ use Rattle.std.specs.List.{range_with_len, list_any, flat_map}
 use Rattle.std.specs.Option.{option_map}
 use Rattle.std.proofs.lemmas.Bool.Decides.{nat_tests, Decides-eqb}
 use Rattle.std.proofs.lemmas.List.Folds.{list_any-append}
+use Rattle.abi_base.proofs.lemmas.Bools.{or_is_false, or_true}
 use Rattle.abi_base.specs.declared.fault.Fault.{Fault}
 use Rattle.abi_base.specs.declared.fault.FaultKind.TheVariants as kind
 use Rattle.abi_base.specs.GnuVersions.{sht_gnu_versym, ver_ndx_global}
@@ -51,18 +52,14 @@ rest_none : (o : Option Fault) (os : List (Option Fault)) → first (o ∷ os) �
 rest_none None os h = h
 rest_none (Some fault) os h = absurd cc
 
-either_false : (a b : Bool) → (a || b) ≡ false → (a ≡ false) × (b ≡ false)
-either_false true b h = absurd cc
-either_false false b h = (refl, h)
-
 none_along : (p : ℕ → Bool) (a n i : ℕ) → list_any p (range_with_len a n) ≡ false → i < n → p (a + i) ≡ false
 none_along p a zero i h lt = absurd (omega arith)
 none_along p a (suc n) zero h lt =
     let e : a + 0 ≡ a = omega arith in
-    rw e (either_false (p a) (list_any p (range_with_len (a + 1) n)) h).0
+    rw e (or_is_false (p a) (list_any p (range_with_len (a + 1) n)) h).0
 none_along p a (suc n) (suc i) h lt =
     let e : a + suc i ≡ a + 1 + i = omega arith in
-    rw e (none_along p (a + 1) n i (either_false (p a) (list_any p (range_with_len (a + 1) n)) h).1 (omega arith))
+    rw e (none_along p (a + 1) n i (or_is_false (p a) (list_any p (range_with_len (a + 1) n)) h).1 (omega arith))
 
 sound : (f : List ℕ) (k : ℕ) → needs_fault f ≡ None → k < need_count f
     → (is_malformed (need_table f) (need_strings f) (need_count f) k ≡ false) × (has_bad_entry (need_table f) (need_strings f) k ≡ false)
@@ -71,7 +68,7 @@ sound f k none lt =
     let faults = map (need_fault (need_table f) (need_strings f) (need_count f)) (range_with_len 0 (need_count f)) in
     let each = rest_none (strings_fault f) faults none in
     let here : need_fault (need_table f) (need_strings f) (need_count f) k ≡ None = none_at (need_fault (need_table f) (need_strings f) (need_count f)) (need_count f) k each lt in
-    either_false _ _ (fault_if-none _ kind.VersionNeed k here)
+    or_is_false _ _ (fault_if-none _ kind.VersionNeed k here)
 
 sound_entry : (f : List ℕ) (k j : ℕ) → needs_fault f ≡ None → k < need_count f → j < entry_count (need_table f) k → is_bad_entry (need_table f) (need_strings f) k j ≡ false
 sound_entry f k j none lt below =
@@ -81,7 +78,7 @@ sound_entry f k j none lt below =
 need_within : (table strings : List ℕ) (count k : ℕ) → is_malformed table strings count k ≡ false → place_of table k + verneed_size ≤ length table
 unfolding is_malformed
 need_within table strings count k whole =
-    let outside : nat_lt (length table) (place_of table k + verneed_size) ≡ false = (either_false _ _ whole).0 in
+    let outside : nat_lt (length table) (place_of table k + verneed_size) ≡ false = (or_is_false _ _ whole).0 in
     grind (arith, nat_tests)
 
 has_file : (table strings : List ℕ) (count k : ℕ) → is_malformed table strings count k ≡ false → is_none (file_at table strings k) ≡ false
@@ -91,14 +88,14 @@ has_file table strings count k whole =
     let last = nat_lt (k + 1) count && number 4 table (at + vn_next) == 0 in
     let file = is_none (file_at table strings k) || last in
     let version = not (number 2 table (at + vn_version) == ver_need_current) || file in
-    let h1 = (either_false (nat_lt (length table) (at + verneed_size)) version whole).1 in
-    let h2 = (either_false (not (number 2 table (at + vn_version) == ver_need_current)) file h1).1 in
-    (either_false (is_none (file_at table strings k)) last h2).0
+    let h1 = (or_is_false (nat_lt (length table) (at + verneed_size)) version whole).1 in
+    let h2 = (or_is_false (not (number 2 table (at + vn_version) == ver_need_current)) file h1).1 in
+    (or_is_false (is_none (file_at table strings k)) last h2).0
 
 entry_within : (table strings : List ℕ) (k j : ℕ) → is_bad_entry table strings k j ≡ false → entry_place table k j + vernaux_size ≤ length table
 unfolding is_bad_entry
 entry_within table strings k j whole =
-    let outside : nat_lt (length table) (entry_place table k j + vernaux_size) ≡ false = (either_false _ _ whole).0 in
+    let outside : nat_lt (length table) (entry_place table k j + vernaux_size) ≡ false = (or_is_false _ _ whole).0 in
     grind (arith, nat_tests)
 
 has_version : (table strings : List ℕ) (k j : ℕ) → is_bad_entry table strings k j ≡ false → is_none (version_at table strings k j) ≡ false
@@ -106,8 +103,8 @@ unfolding is_bad_entry
 has_version table strings k j whole =
     let at = entry_place table k j in
     let last = nat_lt (j + 1) (entry_count table k) && number 4 table (at + vna_next) == 0 in
-    let h1 = (either_false (nat_lt (length table) (at + vernaux_size)) (is_none (version_at table strings k j) || last) whole).1 in
-    (either_false (is_none (version_at table strings k j)) last h1).0
+    let h1 = (or_is_false (nat_lt (length table) (at + vernaux_size)) (is_none (version_at table strings k j) || last) whole).1 in
+    (or_is_false (is_none (version_at table strings k j)) last h1).0
 
 not_none : (o : Option (List ℕ)) → is_none o ≡ false → o ≢ None
 not_none None h = absurd cc
@@ -127,10 +124,6 @@ named f k j none lt below = not_none (version_at (need_table f) (need_strings f)
 
 -- ---- each index is found
 
-either_true : (b : Bool) → (b || true) ≡ true
-either_true true = refl
-either_true false = refl
-
 any_mapped : (p : Entry → Bool) (g : ℕ → Entry) (a n j : ℕ) → j < n → p (g (a + j)) ≡ true → list_any p (map g (range_with_len a n)) ≡ true
 any_mapped p g a zero j lt here = absurd (omega arith)
 any_mapped p g a (suc n) zero lt here =
@@ -140,7 +133,7 @@ any_mapped p g a (suc n) zero lt here =
 any_mapped p g a (suc n) (suc j) lt here =
     let e : a + suc j ≡ a + 1 + j = omega arith in
     let later : p (g (a + 1 + j)) ≡ true = rw e at here in
-    rw (any_mapped p g (a + 1) n j (omega arith) later) (either_true (p (g a)))
+    rw (any_mapped p g (a + 1) n j (omega arith) later) (or_true (p (g a)))
 
 any_joined : (p : Entry → Bool) (g : ℕ → List Entry) (a n k : ℕ) → k < n → list_any p (g (a + k)) ≡ true → list_any p (flat_map g (range_with_len a n)) ≡ true
 any_joined p g a zero k lt here = absurd (omega arith)
@@ -151,7 +144,7 @@ any_joined p g a (suc n) zero lt here =
 any_joined p g a (suc n) (suc k) lt here =
     let e : a + suc k ≡ a + 1 + k = omega arith in
     let later : list_any p (g (a + 1 + k)) ≡ true = rw e at here in
-    list_any-append p (g a) (flat_map g (range_with_len (a + 1) n)) ∙ rw (any_joined p g (a + 1) n k (omega arith) later) (either_true (list_any p (g a)))
+    list_any-append p (g a) (flat_map g (range_with_len (a + 1) n)) ∙ rw (any_joined p g (a + 1) n k (omega arith) later) (or_true (list_any p (g a)))
 
 find_some : (index : ℕ) (xs : List Entry) → list_any (λ e. e.index == index) xs ≡ true → need_among xs index ≢ None
 find_some index [] any = absurd cc

@@ -4,24 +4,8 @@ use Rattle.std.specs.Prelude.{◌||◌}
 use Rattle.std.specs.List.{range_with_len, list_any}
 use Rattle.std.proofs.lemmas.List.Folds.{list_any-append}
 use Rattle.std.proofs.lemmas.List.FromFn.{map-range_with_len_more}
-
-range_more : (a n : ℕ) → range_with_len a (n + 1) ≡ range_with_len a n ++ (a + n) ∷ []
-range_more a zero =
-    let e : a + 0 ≡ a = omega arith in
-    rw e refl
-range_more a (suc n) =
-    let e : a + suc n ≡ a + 1 + n = omega arith in
-    let k : suc n + 1 ≡ suc (n + 1) = omega arith in
-    rw (k, e) (ap (λ (l : List ℕ). a ∷ l) (range_more (a + 1) n))
-
-pub one_more : (n : ℕ) → range_with_len 0 (n + 1) ≡ range_with_len 0 n ++ n ∷ []
-one_more n =
-    let e : 0 + n ≡ n = omega arith in
-    rw e at (range_more 0 n)
-
-either_true : (b : Bool) → (b || true) ≡ true
-either_true true = refl
-either_true false = refl
+use Rattle.abi_base.proofs.lemmas.Ranges.{below_more, range_more}
+use Rattle.abi_base.proofs.lemmas.Bools.{or_true}
 
 any_along : (p : ℕ → Bool) (a n j : ℕ) → j < n → p (a + j) ≡ true → list_any p (range_with_len a n) ≡ true
 any_along p a zero j lt here = absurd (omega arith)
@@ -32,7 +16,7 @@ any_along p a (suc n) zero lt here =
 any_along p a (suc n) (suc j) lt here =
     let e : a + suc j ≡ a + 1 + j = omega arith in
     let later : p (a + 1 + j) ≡ true = rw e at here in
-    rw (any_along p (a + 1) n j (omega arith) later) (either_true (p a))
+    rw (any_along p (a + 1) n j (omega arith) later) (or_true (p a))
 
 -- one number below n passes a test
 pub any_at : (p : ℕ → Bool) (n j : ℕ) → j < n → p j ≡ true → list_any p (range_with_len 0 n) ≡ true
@@ -44,7 +28,7 @@ any_at p n j lt here =
 pub none_more : (p : ℕ → Bool) (n : ℕ) → list_any p (range_with_len 0 n) ≡ false → p n ≡ false → list_any p (range_with_len 0 (n + 1)) ≡ false
 none_more p n before here =
     let split = list_any-append p (range_with_len 0 n) (n ∷ []) in
-    ap (λ (l : List ℕ). list_any p l) (one_more n) ∙ split ∙ rw (before, here) refl
+    ap (λ (l : List ℕ). list_any p l) (below_more n) ∙ split ∙ rw (before, here) refl
 
 -- a list by numbers, with one more pushed
 pub map_more : (f : ℕ → ℕ) (n : ℕ) (all more : List ℕ) (x : ℕ) → all ≡ map f (range_with_len 0 n) → x ≡ f n → more ≡ all ++ x ∷ [] → more ≡ map f (range_with_len 0 (n + 1))

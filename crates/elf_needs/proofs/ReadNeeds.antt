@@ -7,6 +7,7 @@ use Rattle.std.specs.HashMap.{get, IsEmpty}
 use Rattle.std.proofs.lemmas.List.Folds.{find-append}
 use Rattle.std.proofs.lemmas.List.{append-nil}
 use Rattle.std.proofs.lemmas.Grind.{common_steps, flat_map-append}
+use Rattle.abi_base.proofs.lemmas.Ranges.{below_more}
 use Rattle.abi_base.specs.declared.fault.Fault.{Fault}
 use Rattle.abi_base.specs.declared.fault.FaultKind.TheVariants as kind
 use Rattle.abi_base.specs.declared.fault.Refusal.{Refusal}
@@ -15,7 +16,6 @@ use Rattle.abi_base.specs.Outcome.{first, fault_if, Refuses}
 use Rattle.abi_base.proofs.lemmas.Outcomes.{first_from, first_from-step, first_from-here, fault_if-none}
 use Rattle.elf_needs.specs.Needs.{Entry, PlainNeed, place_of, is_malformed, has_bad_entry, need_fault, bad_need_at, entries_of_need, entries_of, said_by, need_among}
 use Rattle.elf_needs.specs.Plain.{ByIndex, need_under}
-use Rattle.elf_needs.proofs.Ranges.{one_more}
 
 pub record ReadBefore (table strings : List ℕ) (count number at : ℕ) (by_index : ByIndex) : Type 0 where
   pub place : at ≡ place_of table number
@@ -63,7 +63,7 @@ pub passes_on : (table strings : List ℕ) (count number at : ℕ) (by_index : B
 passes_on table strings count number at by_index (refusal.Fault fault) so_far lt judged =
     sym so_far.judged
     ∙ first_from-here (need_fault table strings count) number count fault lt (entries_fault (is_malformed table strings count number) (has_bad_entry table strings number) number fault judged)
-passes_on table strings count number at by_index refusal.NoMemory so_far lt judged = judged
+passes_on table strings count number at by_index (refusal.NoMemory cause) so_far lt judged = judged
 
 also : (b : Option Entry) (c : Option Entry) → option_or (option_map said_by b) (option_map said_by c) ≡ option_map said_by (option_or b c)
 also None c = refl
@@ -84,7 +84,7 @@ read_more table strings count number at next_at by_index next so_far lt whole no
 
     grown : entries_of table strings (number + 1) ≡ entries_of table strings number ++ entries_of_need table strings number
     grown =
-        ap (flat_map (entries_of_need table strings)) (one_more number)
+        ap (flat_map (entries_of_need table strings)) (below_more number)
         ∙ flat_map-append (entries_of_need table strings) (range_with_len 0 number) (number ∷ [])
         ∙ ap (λ (l : List Entry). entries_of table strings number ++ l) (append-nil (entries_of_need table strings number))
 

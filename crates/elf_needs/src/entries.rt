@@ -11,7 +11,7 @@ ghost use Rattle.elf_needs.specs.Plain.{IsNeed, plain_need, need_under};
 use crate::constants::{VERNAUX_SIZE, VERNEED_SIZE};
 use crate::kept::Need;
 use crate::records::{Record, entry_in, need_in};
-use abi_base::{Effort, Fault, FaultKind, NoMemory, Refusal};
+use abi_base::{Effort, Fault, FaultKind, Limit, NoMemory, Refusal};
 use std::alloc::Global;
 use std::collections::HashMap;
 
@@ -97,7 +97,7 @@ pub fn needs_in<'a>(
     ensures read { IfOk result (λ by_index. (q : ℕ) → need_under by_index q ≡ need_among (entries_of table.now strings.now count) q) }
 {
     let mut by_index = HashMap::new(alloc);
-    let mut effort = Effort::for_table(table, strings);
+    let mut effort = Effort::for_table(Limit::VersionNeeds, table, strings);
     let mut at = 0;
     for number in 0..count {
         match need_in(table, strings, count, number, at) {

@@ -69,7 +69,7 @@ impl<'a> EntryPlaces<'a> {
                 tree,
             })),
             Err(Refusal::Fault(_)) => Ok(None),
-            Err(Refusal::NoMemory) => Err(NoMemory),
+            Err(Refusal::NoMemory(cause)) => Err(cause),
         }
     }
 

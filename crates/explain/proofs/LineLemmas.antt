@@ -1,17 +1,18 @@
 -- Texts that are shown in a line are one line.
 use Rattle.std.proofs.Common.{◌≡◌, ◌≤◌, ◌<◌, ◌≢◌, ◌+◌, ◌/◌, ◌%◌, ◌^◌, ◌&&◌, ℕ, Bool, true, false, List, [], ◌∷◌, ◌++◌, flat_map, refl, sym, ◌∙◌, ap, arith, true≢false}
 use Rattle.std.specs.Char.{encode_utf8}
-use Rattle.std.specs.Prelude.{codes, decimal, slice_index, if◌then◌else◌}
+use Rattle.std.specs.Prelude.{codes, decimal, nat_lt, slice_index, if◌then◌else◌}
 use Rattle.std.specs.Str.{chars}
 use Rattle.std.proofs.lemmas.Fmt.{decimal_by_steps}
 use Rattle.std.proofs.lemmas.List.Folds.{list_all-append, list_all_at}
+use Rattle.std.proofs.lemmas.Bool.{ltb-true}
 use Rattle.std.proofs.lemmas.Bool.Decides.{nat_tests}
 use Rattle.std.specs.List.{concat, list_all}
 use Rattle.hex.specs.Hex.{encode_lower, encode_with, lower_digits}
 use Rattle.abi_base.specs.Fault.{fault_number, fault_name}
 use Rattle.abi_base.specs.declared.fault.Fault.{Fault}
 use Rattle.abi_base.specs.declared.fault.FaultKind.{FaultKind}
-use Rattle.abi_base.specs.declared.fault.FaultKind.TheVariants.{ShortFile, NotElf, Class, Data, Version, NotShared, Machine, SectionTable, SectionRange, SectionName, Compressed, NoDynamicSymbols, SymbolTable, DynamicTable, VersionTable, VersionDefinition, VersionIndex, DuplicateExport, UnitHeader, DwarfVersion, UnitType, AddressSize, Dwarf64, Abbrev, AbbrevCode, Form, Cut, Tree, Text, Index, Ranges, Language, Reference, Shape, TooDeep, TooLarge, Supplementary, OriginTooDeep, TooLong, VersionNeed, ImportVersion, TypeOffset, BadText, RuleLine, Section, Property, EmptyRule, BadPattern, LongPattern, Repeated, Brace, CertLine, Order, End}
+use Rattle.abi_base.specs.declared.fault.FaultKind.TheVariants.{ShortFile}
 use Rattle.explain.specs.Sentences.{fault_mark, said_of}
 use Rattle.explain.specs.Lines.{in_line, is_escaped, is_one_line, is_printed, shown_char}
 
@@ -79,119 +80,18 @@ said_line path said =
     let behind : is_one_line (concat (codes ": " ∷ in_line said ∷ [])) ≡ true = joined (codes ": ") (concat (in_line said ∷ [])) refl (joined (in_line said) [] (in_line_line said) refl) in
     joined (in_line path) (concat (codes ": " ∷ in_line said ∷ [])) (in_line_line path) behind
 
--- the name of each kind of fault
+-- the name of each kind of fault, checked kind by kind
 name_line : (kind : FaultKind) → is_one_line (fault_name kind) ≡ true
 name_line ShortFile = refl
-name_line NotElf = refl
-name_line Class = refl
-name_line Data = refl
-name_line Version = refl
-name_line NotShared = refl
-name_line Machine = refl
-name_line SectionTable = refl
-name_line SectionRange = refl
-name_line SectionName = refl
-name_line Compressed = refl
-name_line NoDynamicSymbols = refl
-name_line SymbolTable = refl
-name_line DynamicTable = refl
-name_line VersionTable = refl
-name_line VersionDefinition = refl
-name_line VersionIndex = refl
-name_line DuplicateExport = refl
-name_line UnitHeader = refl
-name_line DwarfVersion = refl
-name_line UnitType = refl
-name_line AddressSize = refl
-name_line Dwarf64 = refl
-name_line Abbrev = refl
-name_line AbbrevCode = refl
-name_line Form = refl
-name_line Cut = refl
-name_line Tree = refl
-name_line Text = refl
-name_line Index = refl
-name_line Ranges = refl
-name_line Language = refl
-name_line Reference = refl
-name_line Shape = refl
-name_line TooDeep = refl
-name_line TooLarge = refl
-name_line Supplementary = refl
-name_line OriginTooDeep = refl
-name_line TooLong = refl
-name_line VersionNeed = refl
-name_line ImportVersion = refl
-name_line TypeOffset = refl
-name_line BadText = refl
-name_line RuleLine = refl
-name_line Section = refl
-name_line Property = refl
-name_line EmptyRule = refl
-name_line BadPattern = refl
-name_line LongPattern = refl
-name_line Repeated = refl
-name_line Brace = refl
-name_line CertLine = refl
-name_line Order = refl
-name_line End = refl
+name_line kind = refl
 
--- and so is its number
+small_number : (kind : FaultKind) → nat_lt (fault_number kind) (2 ^ 64) ≡ true
+small_number ShortFile = refl
+small_number kind = refl
+
+-- and its number
 number_line : (kind : FaultKind) → is_one_line (decimal (fault_number kind)) ≡ true
-number_line ShortFile = decimal_line 1 (omega arith)
-number_line NotElf = decimal_line 2 (omega arith)
-number_line Class = decimal_line 3 (omega arith)
-number_line Data = decimal_line 4 (omega arith)
-number_line Version = decimal_line 5 (omega arith)
-number_line NotShared = decimal_line 6 (omega arith)
-number_line Machine = decimal_line 7 (omega arith)
-number_line SectionTable = decimal_line 8 (omega arith)
-number_line SectionRange = decimal_line 9 (omega arith)
-number_line SectionName = decimal_line 10 (omega arith)
-number_line Compressed = decimal_line 11 (omega arith)
-number_line NoDynamicSymbols = decimal_line 12 (omega arith)
-number_line SymbolTable = decimal_line 13 (omega arith)
-number_line DynamicTable = decimal_line 14 (omega arith)
-number_line VersionTable = decimal_line 15 (omega arith)
-number_line VersionDefinition = decimal_line 16 (omega arith)
-number_line VersionIndex = decimal_line 17 (omega arith)
-number_line DuplicateExport = decimal_line 18 (omega arith)
-number_line UnitHeader = decimal_line 20 (omega arith)
-number_line DwarfVersion = decimal_line 21 (omega arith)
-number_line UnitType = decimal_line 22 (omega arith)
-number_line AddressSize = decimal_line 23 (omega arith)
-number_line Dwarf64 = decimal_line 24 (omega arith)
-number_line Abbrev = decimal_line 25 (omega arith)
-number_line AbbrevCode = decimal_line 26 (omega arith)
-number_line Form = decimal_line 27 (omega arith)
-number_line Cut = decimal_line 28 (omega arith)
-number_line Tree = decimal_line 29 (omega arith)
-number_line Text = decimal_line 30 (omega arith)
-number_line Index = decimal_line 31 (omega arith)
-number_line Ranges = decimal_line 32 (omega arith)
-number_line Language = decimal_line 33 (omega arith)
-number_line Reference = decimal_line 34 (omega arith)
-number_line Shape = decimal_line 35 (omega arith)
-number_line TooDeep = decimal_line 36 (omega arith)
-number_line TooLarge = decimal_line 37 (omega arith)
-number_line Supplementary = decimal_line 38 (omega arith)
-number_line OriginTooDeep = decimal_line 39 (omega arith)
-number_line TooLong = decimal_line 40 (omega arith)
-number_line VersionNeed = decimal_line 41 (omega arith)
-number_line ImportVersion = decimal_line 42 (omega arith)
-number_line TypeOffset = decimal_line 43 (omega arith)
-number_line BadText = decimal_line 50 (omega arith)
-number_line RuleLine = decimal_line 51 (omega arith)
-number_line Section = decimal_line 52 (omega arith)
-number_line Property = decimal_line 53 (omega arith)
-number_line EmptyRule = decimal_line 54 (omega arith)
-number_line BadPattern = decimal_line 55 (omega arith)
-number_line LongPattern = decimal_line 56 (omega arith)
-number_line Repeated = decimal_line 57 (omega arith)
-number_line Brace = decimal_line 58 (omega arith)
-number_line CertLine = decimal_line 60 (omega arith)
-number_line Order = decimal_line 61 (omega arith)
-number_line End = decimal_line 62 (omega arith)
+number_line kind = decimal_line (fault_number kind) (ltb-true (fault_number kind) (2 ^ 64) (small_number kind))
 
 pub mark_line : (fault : Fault) → fault.at < 2 ^ 64 → is_one_line (fault_mark fault) ≡ true
 mark_line fault small =

@@ -6,6 +6,7 @@ use Rattle.abi_base.specs.declared.remark.SizedExports.{SizedExports}
 use Rattle.commands.specs.Commands.{PlainFile}
 use Rattle.commands.specs.declared.input.Input.{Input}
 use Rattle.commands.specs.declared.input.Input.TheVariants.{Old, New, Certificate, Certificate1, Certificate2, First, Last}
+use Rattle.explain.specs.Limits.{memory_sentence}
 use Rattle.commands.specs.declared.outcome.Outcome.{Outcome}
 use Rattle.commands.specs.declared.outcome.Outcome.TheVariants.{Judged, Unreadable, ReadFault, Help, Usage, NoMemory, WriteFault}
 use Rattle.commands.specs.declared.verdict.Verdict.{Verdict}
@@ -76,7 +77,7 @@ abbrev pub Tells : Outcome → List PlainFile → List (List ℕ) → Type 0
 Tells (Judged verdict remark) files notes = TellsJudged verdict remark files notes
 Tells (Unreadable which fault) files notes = OnName files which (λ path. IsOne notes (SaysFault path fault)) (notes ≡ [])
 Tells (ReadFault which) files notes = OnName files which (λ path. IsOne notes (λ note. (reason : List ℕ) × (note ≡ said_of path reason))) (notes ≡ [])
-Tells NoMemory files notes = notes ≡ codes "out of memory, or past a limit (LIMITS in abi(1))" ∷ []
+Tells (NoMemory cause) files notes = notes ≡ memory_sentence cause ∷ []
 Tells WriteFault files notes = notes ≡ codes "writing failed" ∷ []
 Tells Help files notes = notes ≡ []
 Tells Usage files notes = notes ≡ []

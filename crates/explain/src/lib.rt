@@ -8,6 +8,7 @@ mod constants;
 mod failures;
 mod faults;
 mod files;
+mod limits;
 mod lines;
 mod notes;
 mod places;
@@ -21,6 +22,7 @@ mod wrong;
 
 pub use applications::{lacking_sentence, links_sentence};
 pub use failures::failure_sentence;
+pub use limits::memory_sentence;
 pub use notes::{name_of, notes_on};
 pub use refusals::{refused_sentence, uncomposed_sentence};
 pub use remarks::{lost_sentence, sizeless_sentence, untyped_sentence};

@@ -7,8 +7,8 @@ ghost use Rattle.explain.specs.Lines.{is_one_line};
 ghost use Rattle.explain.specs.Notes.{IsReadUnder, IsUnnamed, Tells, TellsCompared, TellsJudged, TellsRefused, TellsUncomposed, both_untyped, compared_notes, lost_notes, sizeless_notes, untyped_notes};
 
 use crate::{
-    failure_sentence, fault_sentence, lost_sentence, refused_sentence, sizeless_sentence,
-    uncomposed_sentence, untyped_sentence,
+    failure_sentence, fault_sentence, lost_sentence, memory_sentence, refused_sentence,
+    sizeless_sentence, uncomposed_sentence, untyped_sentence,
 };
 use abi_base::{Fault, NoMemory, Remark, SizedExports};
 use commands::{File, Input, Outcome, Verdict};
@@ -247,10 +247,7 @@ pub fn notes_on(
         Outcome::Judged(verdict, remark) => on_verdict(alloc, verdict, remark, files),
         Outcome::Unreadable(which, fault) => on_fault(alloc, files, which, fault, bytes),
         Outcome::ReadFault(which) => on_failure(alloc, files, which, reason),
-        Outcome::NoMemory => one(
-            alloc,
-            String::from_str(alloc, "out of memory, or past a limit (LIMITS in abi(1))")?,
-        ),
+        Outcome::NoMemory(cause) => one(alloc, memory_sentence(alloc, cause)?),
         Outcome::WriteFault => one(alloc, String::from_str(alloc, "writing failed")?),
         Outcome::Help | Outcome::Usage => Ok(Vec::new(alloc)),
     }

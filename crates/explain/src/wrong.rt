@@ -6,22 +6,10 @@ ghost use Rattle.explain.specs.Sentences.{SaysOf, SaysWrong};
 
 use crate::lines::said;
 use abi_base::NoMemory;
+use cli_args::commands::COMMANDS;
 use cli_args::{OptionName, WrongWords};
 use std::alloc::{AllocError, Global};
 use strsim::generic_levenshtein;
-
-// The commands, with the arguments that each one takes.
-const COMMANDS: [(&str, &str); 9] = [
-    ("check", "OLD NEW"),
-    ("app", "APP OLD NEW"),
-    ("verify", "OLD NEW CERT"),
-    ("compose", "A B C CERT1 CERT2"),
-    ("migrate", "OLD NEW CERT"),
-    ("exports", "LIB"),
-    ("entries", "LIB"),
-    ("layout", "LIB TAG"),
-    ("trial", "N"),
-];
 
 // A word that is this many edits away from a command is not similar to it.
 const FAR: usize = 3;
@@ -76,11 +64,26 @@ fn needless_option(option: OptionName) -> &'static str {
 fn unknown_command(alloc: Global, word: &str) -> Result<String, AllocError> {
     match near_command(alloc, word)? {
         Some(near) => format!(in alloc; "it is no command; did you mean {near}?"),
-        None => String::from_str(
-            alloc,
-            "it is no command; the commands are check, app, verify, compose, migrate, exports, entries, layout and trial",
-        ),
+        None => {
+            let mut words = String::from_str(alloc, "it is no command; the commands are ")?;
+            push_commands(&mut words)?;
+            Ok(words)
+        }
     }
+}
+
+// Appends the names of the commands, with `and` before the last one.
+fn push_commands(text: &mut String) -> Result<(), AllocError> {
+    let last = COMMANDS.len() - 1;
+    for (index, (name, _)) in COMMANDS.iter().enumerate() {
+        if index == last {
+            text.push_str(" and ")?;
+        } else if index > 0 {
+            text.push_str(", ")?;
+        }
+        text.push_str(name)?;
+    }
+    Ok(())
 }
 
 // The words for a command with a wrong number of arguments.

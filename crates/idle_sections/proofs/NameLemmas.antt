@@ -12,6 +12,7 @@ use Rattle.abi_types.specs.declared.kind.LabelKind.{LabelKind}
 use Rattle.abi_types.specs.declared.kind.LabelKind.TheVariants.{Structure, Union, Enumeration, Typedef, Builtin}
 use Rattle.abi_types.specs.Types.{PlainLabel}
 use Rattle.idle_sections.specs.Names.{Seen, kind_number, AreSeen}
+use Rattle.abi_types.proofs.lemmas.Records.{one_label}
 
 -- ---- names as keys
 
@@ -31,10 +32,6 @@ kind_is Builtin = refl
 -- kinds with equal numbers are equal
 one_kind : (j k : LabelKind) → kind_number j ≡ kind_number k → j ≡ k
 one_kind j k e = sym (kind_is j) ∙ ap kind_of e ∙ kind_is k
-
-one_label : (l m : PlainLabel) → l.kind ≡ m.kind → l.name ≡ m.name → l ≡ m
-one_label l m kinds names =
-    ap (λ (k : LabelKind). let x : PlainLabel = record { kind = k; name = l.name } in x) kinds ∙ ap (λ (n : List ℕ). let x : PlainLabel = record { kind = m.kind; name = n } in x) names
 
 -- the key has this number and this name
 abbrev is_key : ℕ → List ℕ → ℕ × Bor (List ℕ) → Bool

@@ -9,7 +9,7 @@ ghost use Rattle.idle_sections.specs.Idle.{all_labels, holds_in, holds_of_export
 ghost use Rattle.idle_sections.specs.Names.{AreAlike};
 
 use crate::names::names_of;
-use abi_base::{Effort, List, NoMemory};
+use abi_base::{Effort, Limit, List, NoMemory};
 use abi_types::{Export, Label, Library, OldIx, Way};
 use std::alloc::Global;
 use suppression_text::{Rules, Section};
@@ -22,7 +22,10 @@ const MORE: usize = 1 << 22;
 
 // The effort for the tests of all sections.
 fn effort_for(sections: &[Section], tests: usize) -> Effort {
-    Effort::for_bytes(MORE.saturating_add(sections.len()).saturating_add(tests))
+    Effort::for_bytes(
+        Limit::IdleSections,
+        MORE.saturating_add(sections.len()).saturating_add(tests),
+    )
 }
 
 // The most tests that one section takes: one for each export, and two for each name.

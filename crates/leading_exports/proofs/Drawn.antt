@@ -5,27 +5,24 @@ use Rattle.std.specs.List.{range_with_len}
 use Rattle.std.proofs.lemmas.List.{append-nil, append_assoc}
 use Rattle.std.proofs.lemmas.Option.{slice_get_within}
 use Rattle.std.proofs.lemmas.Grind.{flat_map-append}
-use Rattle.std.proofs.lemmas.List.FromFn.{map-range_with_len_more}
-use Rattle.std.proofs.lemmas.List.{map-id}
+use Rattle.abi_base.proofs.lemmas.Contained.{at_front, in_one, in_none, in_range}
+use Rattle.abi_base.proofs.lemmas.Ranges.{below_more}
 use Rattle.abi_types.specs.Graphs.{view_at}
 use Rattle.pair_rules.specs.Steps.{Triple, is_marked, step, IsStep}
 use Rattle.pair_explorer.specs.declared.visits.Visit.{Visit}
 use Rattle.pair_explorer.specs.Scopes.{Scope, rep_step}
 use Rattle.pair_explorer.specs.Visits.{seen, has, IsVisit}
-use Rattle.leading_exports.proofs.Stepped.{IsRepStep, rep_step-parts}
 use Rattle.leading_exports.specs.Numbers.{AreNumbers, IsNumberOf, number_in}
 use Rattle.leading_exports.specs.Drawing.{all_arrows, arrow_found, arrow_to, arrows_along, arrows_by, arrows_from, arrows_upto}
 use Rattle.leading_exports.specs.Walks.{IsWalk}
-use Rattle.leading_exports.proofs.Listed.{Contains-first, Contains-none, Contains-one, from_flat_map, in_flat_map, in_range}
+use Rattle.pair_rules.proofs.lemmas.Lists.{from_flat_map, in_flat_map}
+use Rattle.pair_explorer.proofs.lemmas.Steps.{IsRepStep, rep_step-parts}
 
 -- ---- one after another
 
-pub range_more : (n : ℕ) → range_with_len 0 (n + 1) ≡ range_with_len 0 n ++ n ∷ []
-range_more n = sym (map-id (range_with_len 0 (n + 1))) ∙ map-range_with_len_more (λ (k : ℕ). k) 0 n n (omega arith) ∙ ap (λ (ks : List ℕ). ks ++ n ∷ []) (map-id (range_with_len 0 n))
-
 flat_map_next : {Y : Type 0} (f : ℕ → List Y) (n : ℕ) → flat_map f (range_with_len 0 (n + 1)) ≡ flat_map f (range_with_len 0 n) ++ f n
 flat_map_next {Y} f n =
-    ap (flat_map f) (range_more n) ∙ flat_map-append f (range_with_len 0 n) (n ∷ [])
+    ap (flat_map f) (below_more n) ∙ flat_map-append f (range_with_len 0 n) (n ∷ [])
     ∙ ap (λ (ys : List Y). flat_map f (range_with_len 0 n) ++ ys) (append-nil (f n))
 
 pub along_none : (s : Scope) (entries : List (Triple × ℕ)) (n : ℕ) (x : Triple) (arrows : List (ℕ × ℕ)) → arrows ≡ arrows ++ arrows_along s entries n x 0
@@ -79,12 +76,12 @@ record IsFound (entries : List (Triple × ℕ)) (k : ℕ) (o : Option Triple) (m
   pub from : k ≡ m
 
 found_parts : (entries : List (Triple × ℕ)) (k m n : ℕ) (o : Option Triple) → Contains (arrow_to entries k o) (m, n) → IsFound entries k o m n
-found_parts entries k m n None there = Contains-none (m, n) there
+found_parts entries k m n None there = absurd (in_none (m, n) there)
 found_parts entries k m n (Some y) there = go (number_in entries y) refl there where
   go : (found : Option ℕ) → number_in entries y ≡ found → Contains (arrow_found k found) (m, n) → IsFound entries k (Some y) m n
-  go None is there = Contains-none (m, n) there
+  go None is there = absurd (in_none (m, n) there)
   go (Some j) is there =
-      let same : ◌≡◌ {A = ℕ × ℕ} (k, j) (m, n) = Contains-one (k, j) (m, n) there in
+      let same : ◌≡◌ {A = ℕ × ℕ} (k, j) (m, n) = in_one (k, j) (m, n) there in
       record { to = y; is = refl; number = is ∙ ap (λ (p : ℕ × ℕ). Some p.1) same; from = ap (λ (p : ℕ × ℕ). p.0) same }
 
 module _ (s : Scope) (visits : List Visit) (entries : List (Triple × ℕ)) (numbers : AreNumbers visits entries) (m n : ℕ) where
@@ -99,10 +96,10 @@ module _ (s : Scope) (visits : List Visit) (entries : List (Triple × ℕ)) (num
   unfolding arrows_from
   arrow_from k there = go (slice_get visits k) refl there where
     go : (o : Option Visit) → slice_get visits k ≡ o → Contains (arrows_by s entries k o) (m, n) → IsArrow s visits m n
-    go None is there = Contains-none (m, n) there
+    go None is there = absurd (in_none (m, n) there)
     go (Some v) is there = marked (is_marked s.task v.old v.way) there where
       marked : (b : Bool) → Contains (if b then [] else arrows_along s entries k (seen v) (length (view_at s.task.old v.old).parts)) (m, n) → IsArrow s visits m n
-      marked true there = Contains-none (m, n) there
+      marked true there = absurd (in_none (m, n) there)
       marked false there = arrow_along k v (length (view_at s.task.old v.old).parts) is there
 
   pub arrow_is : Contains (all_arrows s visits entries) (m, n) → IsArrow s visits m n
@@ -151,7 +148,7 @@ module _ (s : Scope) (laws : StepLaws s) (visits : List Visit) (entries : List (
     there n found =
         let one : arrow_to entries m (rep_step s (seen v) i) ≡ (m, n) ∷ [] = ap (arrow_to entries m) leads ∙ ap (arrow_found m) found in
         let P : List (ℕ × ℕ) → Type 0 = λ xs. Contains xs (m, n) in
-        subst P (sym one) (Contains-first (m, n) [])
+        subst P (sym one) (at_front (m, n) [])
 
     along : (n : ℕ) → number_in entries y ≡ Some n → Contains (arrows_along s entries m (seen v) (length (view_at s.task.old v.old).parts)) (m, n)
     unfolding arrows_along

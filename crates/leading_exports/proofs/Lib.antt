@@ -1,5 +1,4 @@
 mod Drawn
-mod Listed
 mod Numbered
 mod Reached
 mod Spreading

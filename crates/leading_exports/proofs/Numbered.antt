@@ -9,8 +9,8 @@ use Rattle.pair_rules.specs.Steps.{Triple}
 use Rattle.pair_explorer.specs.declared.visits.Visit.{Visit}
 use Rattle.pair_explorer.specs.Keys.{at_triple}
 use Rattle.pair_explorer.specs.Visits.{seen}
-use Rattle.leading_exports.proofs.Stepped.{triple_eq}
 use Rattle.leading_exports.specs.Numbers.{AreNumbersUpto, HasNumber, IsNumberOf, number_in}
+use Rattle.pair_rules.proofs.lemmas.Triples.{triple_eq}
 
 -- ---- triples that the test tells to be one are one
 

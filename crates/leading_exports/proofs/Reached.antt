@@ -5,6 +5,7 @@ use Rattle.std.proofs.lemmas.Bool.{and_parts, and_from, cases_Bool, cases_lt, eq
 use Rattle.std.proofs.lemmas.List.{map_push, take_more, append-nil}
 use Rattle.std.proofs.lemmas.List.Elements.{filter-append}
 use Rattle.std.proofs.lemmas.Option.{get_or_from_slice_get, none-some, same_Some, slice_get-map, slice_get_within}
+use Rattle.abi_base.proofs.lemmas.Contained.{at_front, in_rest, in_none}
 use Rattle.pair_rules.specs.Paths.{Path, From, Then, root_triple}
 use Rattle.pair_rules.specs.Steps.{PlainRoot, Triple, is_marked}
 use Rattle.pair_explorer.specs.declared.visits.Visit.{Visit}
@@ -16,7 +17,6 @@ use Rattle.leading_exports.specs.Leading.{AreLeading, LeadsToPair, is_lead, is_m
 use Rattle.leading_exports.specs.Numbers.{IsNumberOf}
 use Rattle.leading_exports.specs.Walks.{IsWalk}
 use Rattle.leading_exports.proofs.Drawn.{HasVisit, IsArrow, StepLaws, arrow_is, arrow_there, visit_of}
-use Rattle.leading_exports.proofs.Listed.{Contains-first, Contains-later, Contains-none}
 use Rattle.leading_exports.proofs.Spreading.{in_front, itself}
 
 -- ---- the marks to begin with
@@ -184,7 +184,7 @@ picked_cons p root roots export passes on (zero, lt, is) = record { place = 0; r
 picked_cons p root roots export passes on (suc k, lt, is) = picked_later p root roots export (on (k, omega (arith, lt), is))
 
 picked_is : (p : PlainRoot → Bool) (roots : List PlainRoot) (export : ℕ) → Contains (picked p roots) export → IsPicked p roots export
-picked_is p [] export there = Contains-none export there
+picked_is p [] export there = absurd (in_none export there)
 picked_is p (root ∷ roots) export there =
     let on : Contains (picked p roots) export → IsPicked p roots export = λ later. picked_is p roots export later in
     let P : List ℕ → Type 0 = λ xs. Contains xs export in
@@ -199,12 +199,12 @@ picked_there p (first ∷ roots) zero root at passes =
     let same : first ≡ root = same_Some first root at in
     let P : PlainRoot → Type 0 = λ r. Contains (picked p (first ∷ roots)) r.export in
     let Q : List ℕ → Type 0 = λ xs. Contains xs first.export in
-    subst P same (subst Q (sym (picked_first p first roots (ap p same ∙ passes))) (Contains-first first.export (picked p roots)))
+    subst P same (subst Q (sym (picked_first p first roots (ap p same ∙ passes))) (at_front first.export (picked p roots)))
 picked_there p (first ∷ roots) (suc k) root at passes =
     let on = picked_there p roots k root at passes in
     let Q : List ℕ → Type 0 = λ xs. Contains xs root.export in
     elim (cases_Bool (p first)) [
-      | inl holds ↦ subst Q (sym (picked_first p first roots holds)) (Contains-later first.export (picked p roots) root.export on)
+      | inl holds ↦ subst Q (sym (picked_first p first roots holds)) (in_rest first.export (picked p roots) root.export on)
       | inr fails ↦ subst Q (sym (picked_without p first roots fails)) on
     ]
 

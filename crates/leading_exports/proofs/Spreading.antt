@@ -6,6 +6,7 @@ use Rattle.std.proofs.lemmas.List.Sums.{sum_by-set}
 use Rattle.std.proofs.lemmas.Option.{get_or_from_slice_get, slice_get_within, slice_get-get_or}
 use Rattle.std.proofs.lemmas.Bool.{cases_eq, false≢true}
 use Rattle.std.proofs.Math.Bool.{or-false, or-true}
+use Rattle.abi_base.proofs.lemmas.Lists.{contains_at, at_contains}
 use Rattle.leading_exports.specs.Arrows.{IsMarked, LeadsThrough, LeadsToMark, IsSpread, KeepsMarks, IsClosedAt, AreClosed}
 
 -- what holds once the arrows from a place on were followed
@@ -25,12 +26,6 @@ itself arrows marks m marked = record { through = []; last = m; leads = refl; ma
 -- one more arrow in front
 pub in_front : (arrows : List (ℕ × ℕ)) (marks : List Bool) (m n : ℕ) → Contains arrows (m, n) → LeadsToMark arrows marks n → LeadsToMark arrows marks m
 in_front arrows marks m n arrow on = record { through = n ∷ on.through; last = on.last; leads = (arrow, on.leads); marked = on.marked }
-
-pub Contains-slice_get : {X : Type 0} (xs : List X) (k : ℕ) (x : X) → slice_get xs k ≡ Some x → Contains xs x
-Contains-slice_get xs k x at = (k, slice_get_within xs k x at, get_or_from_slice_get xs k x x at)
-
-pub slice_get-Contains : {X : Type 0} (xs : List X) (x : X) → Contains xs x → (k : ℕ) × (slice_get xs k ≡ Some x)
-slice_get-Contains xs x (k, lt, is) = (k, slice_get-get_or xs k x lt ∙ ap Some is)
 
 -- a mark after one more is set
 pub marked_after : (marks : List Bool) (a m : ℕ) → IsMarked (slice_set marks a true) m → (m ≡ a) ⊎ IsMarked marks m
@@ -88,7 +83,7 @@ Passing-more arrows before marks left is_new arrow at within leads unmarked so =
   within = omega (arith, so.within);
   same = length-set marks arrow.0 true ∙ so.same;
   spread = λ m marked. ⊎_elim
-      (λ (e : m ≡ arrow.0). let P : ℕ → Type 0 = λ k. LeadsToMark arrows before k in subst P (sym e) (in_front arrows before arrow.0 arrow.1 (Contains-slice_get arrows left arrow at) (so.spread arrow.1 leads)))
+      (λ (e : m ≡ arrow.0). let P : ℕ → Type 0 = λ k. LeadsToMark arrows before k in subst P (sym e) (in_front arrows before arrow.0 arrow.1 (contains_at arrows left arrow at) (so.spread arrow.1 leads)))
       (λ (old : IsMarked marks m). so.spread m old)
       (marked_after marks arrow.0 m marked);
   kept = λ m marked. still_marked marks arrow.0 m within (so.kept m marked);
@@ -114,7 +109,7 @@ Passing-arrow arrows before marks after left is_new true arrow at within kept cl
 
 -- what all arrows come to
 pub AreClosed-all : (arrows : List (ℕ × ℕ)) (before marks : List Bool) (is_new : Bool) → Passing arrows before marks 0 is_new → is_new ≡ false → AreClosed arrows marks
-AreClosed-all arrows before marks is_new so nothing arrow there = let k = slice_get-Contains arrows arrow there in so.closed nothing k.0 arrow (omega arith) k.1
+AreClosed-all arrows before marks is_new so nothing arrow there = let k = at_contains arrows arrow there in so.closed nothing k.0 arrow (omega arith) k.1
 
 -- ---- passes, one after the other
 

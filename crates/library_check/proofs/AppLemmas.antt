@@ -5,7 +5,8 @@ use Rattle.std.specs.List.{Contains, list_any, range_with_len}
 use Rattle.std.proofs.lemmas.List.{length-map, take_more, take_all, length-take-le, get_or-map}
 use Rattle.std.proofs.lemmas.List.FromFn.{length-map-range_with_len}
 use Rattle.std.proofs.lemmas.Map.Keys.{any_passes_from_place}
-use Rattle.abi_base.proofs.lemmas.Lists.{any_found, at_contains, contains_at}
+use Rattle.abi_base.proofs.lemmas.Bools.{same_tests, or_left_false}
+use Rattle.abi_base.proofs.lemmas.Lists.{any_found, at_contains, contains_at, map-same_tests}
 use Rattle.abi_types.specs.declared.export.Export.{Export}
 use Rattle.abi_types.specs.declared.kind.Way.{Way}
 use Rattle.abi_types.specs.declared.kind.Way.TheVariants.{Direct, Pointer}
@@ -40,16 +41,12 @@ narrowed_length [] (u ∷ used) same = absurd (omega arith)
 narrowed_length (d ∷ dropped) [] same = absurd (omega arith)
 narrowed_length (d ∷ dropped) (u ∷ used) same = ap suc (narrowed_length dropped used (omega arith))
 
-first_false : (a b : Bool) → (a || b) ≡ false → a ≡ false
-first_false true b is = absurd cc
-first_false false b is = refl
-
 -- what is compared of the exports that are used is compared of all
 narrowed_kept : (dropped used : List Bool) (k : ℕ) → length dropped ≡ length used → slice_index_or (narrowed dropped used) k false ≡ false → slice_index_or dropped k false ≡ false
 narrowed_kept [] [] k same is = refl
 narrowed_kept [] (u ∷ used) k same is = absurd (omega arith)
 narrowed_kept (d ∷ dropped) [] k same is = absurd (omega arith)
-narrowed_kept (d ∷ dropped) (u ∷ used) zero same is = first_false d (not u) is
+narrowed_kept (d ∷ dropped) (u ∷ used) zero same is = or_left_false d (not u) is
 narrowed_kept (d ∷ dropped) (u ∷ used) (suc k) same is = narrowed_kept dropped used k (omega arith) is
 
 pub used_length : (imports : List PlainImport) (soname : Option (List ℕ)) (old : List PlainExport) → length (used_exports imports soname old) ≡ length old
@@ -162,19 +159,10 @@ passes_within p xs ys within any =
     let there = at_contains ys found.1 (within found.1 (contains_at xs found.0 found.1 found.2)) in
     any_passes_from_place p ys there.0 found.1 there.1 found.3
 
-both_ways : (a b : Bool) → (a ≡ true → b ≡ true) → (b ≡ true → a ≡ true) → a ≡ b
-both_ways true b to back = sym (to refl)
-both_ways false true to back = back refl
-both_ways false false to back = refl
-
-along : (f g : ℕ → Bool) → ((k : ℕ) → f k ≡ g k) → (ks : List ℕ) → map f ks ≡ map g ks
-along f g same [] = refl
-along f g same (k ∷ ks) = rw (same k, along f g same ks) refl
-
 -- imports that ask for the same use the same exports
 pub used_alike : (app other : List ℕ) → ImportTheSame app other → (soname : Option (List ℕ)) (old : List PlainExport) → used_exports (imports_of app) soname old ≡ used_exports (imports_of other) soname old
 unfolding used_exports
-used_alike app other same soname old = along (is_used (imports_of app) soname old) (is_used (imports_of other) soname old) at (range_with_len 0 (length old))
+used_alike app other same soname old = map-same_tests (is_used (imports_of app) soname old) (is_used (imports_of other) soname old) at (range_with_len 0 (length old))
   where
     at : (k : ℕ) → is_used (imports_of app) soname old k ≡ is_used (imports_of other) soname old k
     at k =
@@ -182,7 +170,7 @@ used_alike app other same soname old = along (is_used (imports_of app) soname ol
         let one = map name_and_need (imports_of app) in
         let two = map name_and_need (imports_of other) in
         used_as_asked soname old k (imports_of app)
-        ∙ both_ways (list_any asks one) (list_any asks two) (passes_within asks one two (λ x. (same x).0)) (passes_within asks two one (λ x. (same x).1))
+        ∙ same_tests (list_any asks one) (list_any asks two) (passes_within asks one two (λ x. (same x).0)) (passes_within asks two one (λ x. (same x).1))
         ∙ sym (used_as_asked soname old k (imports_of other))
 
 -- so the same is compared for both applications

@@ -7,13 +7,13 @@ use Rattle.abi_types.specs.Libraries.{PlainLibrary}
 use Rattle.abi_types.specs.Types.{PlainLabel, PlainNode}
 use Rattle.abi_types.specs.declared.kind.Way.{Way}
 use Rattle.abi_types.specs.declared.kind.Way.TheVariants.{Direct, Pointer}
-use Rattle.abi_types.specs.declared.library.Marks.{Marks}
 use Rattle.pair_compare.specs.Marking.{no_marks}
 use Rattle.suppression_text.specs.Faults.{rule_fault}
 use Rattle.suppression_text.specs.Lines.{forms_of}
 use Rattle.suppression_text.specs.Rules.{PlainRules, rules_of, sections_from}
 use Rattle.suppressions.specs.Marks.{export_flags, marks_of, way_flags}
 use Rattle.suppressions.specs.Meaning.{is_dropped, is_marked, marks_names}
+use Rattle.abi_types.proofs.lemmas.Records.{marks_with}
 
 pub no_fault : rule_fault [] ≡ None
 unfolding rule_fault forms_of sections_from is_utf8 chars
@@ -40,10 +40,6 @@ not_marked rules soname labels way none = rw none (none_marked soname way labels
 all_false : {X : Type 0} (f : X → Bool) (xs : List X) → ((x : X) → f x ≡ false) → map f xs ≡ replicate (length xs) false
 all_false f [] none = refl
 all_false f (x ∷ xs) none = let head = none x in let tail = all_false f xs none in cc
-
--- marks of these flags
-abbrev marks_with : List ℕ → List Bool → List Bool → List Bool → Marks
-marks_with digest exports direct pointer = record { digest = digest; exports = exports; direct = direct; pointer = pointer }
 
 pub nothing_marked : (old : PlainLibrary) → marks_of (rules_of []) old ≡ no_marks old
 unfolding marks_of no_marks

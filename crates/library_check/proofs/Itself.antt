@@ -1,5 +1,6 @@
 -- A readable file has no two exports of one name and one version.
 use Rattle.std.proofs.Common.{◌≡◌, ℕ, List, [], ◌∷◌, map, length, Option, None, Some, refl, ap}
+use Rattle.elf.proofs.lemmas.Faults.{none_both}
 use Rattle.abi_base.specs.declared.fault.Fault.{Fault}
 use Rattle.abi_base.specs.Outcome.{first}
 use Rattle.abi_types.specs.Exports.{PlainExport}
@@ -16,17 +17,13 @@ use Rattle.library_read.specs.Debug.{debug_of, sections_in}
 use Rattle.library_read.specs.Exports.{roots_of, symbol_versions, typed, typed_exports_of, untyped_exports_of}
 use Rattle.library_read.specs.Faults.{library_fault}
 
-none_first : (o : Option Fault) (os : List (Option Fault)) → first (o ∷ os) ≡ None → (o ≡ None) × (first os ≡ None)
-none_first None os is = (refl, is)
-none_first (Some f) os is = absurd (let bad = is in cc)
-
 none_fifth : (a b c d e : Option Fault) (os : List (Option Fault)) → first (a ∷ b ∷ c ∷ d ∷ e ∷ os) ≡ None → e ≡ None
 none_fifth a b c d e os is =
-    let one = none_first a (b ∷ c ∷ d ∷ e ∷ os) is in
-    let two = none_first b (c ∷ d ∷ e ∷ os) one.1 in
-    let three = none_first c (d ∷ e ∷ os) two.1 in
-    let four = none_first d (e ∷ os) three.1 in
-    (none_first e os four.1).0
+    let one = none_both a (b ∷ c ∷ d ∷ e ∷ os) is in
+    let two = none_both b (c ∷ d ∷ e ∷ os) one.1 in
+    let three = none_both c (d ∷ e ∷ os) two.1 in
+    let four = none_both d (e ∷ os) three.1 in
+    (none_both e os four.1).0
 
 pub no_export_fault : (f : List ℕ) → library_fault f ≡ None → export_fault (symbols_of f) (symbol_versions f) ≡ None
 unfolding library_fault

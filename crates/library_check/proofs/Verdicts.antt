@@ -13,7 +13,7 @@ use Rattle.library_check.specs.declared.verifying.Verified.{Verified}
 use Rattle.library_check.specs.declared.verifying.Verified.TheVariants as verified
 use Rattle.library_check.specs.Checks.{AreReadable, sides_of}
 use Rattle.library_check.specs.Judgements.{IsCertificate}
-use Rattle.library_check.specs.Verifications.{IsAcceptance, IsFirstRefusal, IsRejection, IsUnverified, IsVerified, case_for, certificate_fault}
+use Rattle.library_check.specs.Verifications.{IsAcceptance, IsFirstRefusal, IsOutOfMemory, IsRejection, IsUnverified, IsVerified, case_for, certificate_fault}
 
 -- a text is that of at most one certificate
 abbrev pub AreOneCertificate : Type 0
@@ -68,8 +68,8 @@ no_fault : (o : Option Fault) (fault : Fault) → o ≡ None → o ≡ Some faul
 no_fault o fault none some = let bad : None ≡ Some fault = sym none ∙ some in cc
 
 -- where all inputs are readable, and the certificate too, only memory can be lacking
-pub only_memory : (old new rules text : List ℕ) (said : Unverified) → AreReadable old new rules → certificate_fault text ≡ None → IsUnverified old new rules text said → said ≡ unverified.NoMemory
-only_memory old new rules text unverified.NoMemory readable none is = refl
+pub only_memory : (old new rules text : List ℕ) (said : Unverified) → AreReadable old new rules → certificate_fault text ≡ None → IsUnverified old new rules text said → IsOutOfMemory said
+only_memory old new rules text (unverified.NoMemory cause) readable none is = tt
 only_memory old new rules text (unverified.Old fault) readable none is = absurd (no_fault _ fault readable.old_readable is)
 only_memory old new rules text (unverified.New fault) readable none is = absurd (no_fault _ fault readable.new_readable is.1)
 only_memory old new rules text (unverified.Rules fault) readable none is = absurd (no_fault _ fault readable.rules_readable is.2)

@@ -109,7 +109,7 @@ pub record AreReadableFor (app old new rules : List ℕ) : Type 0 where
 
 -- why `app` gives no verdict: the first fault of the first input that has one, in the order app, old, new, rules
 abbrev pub IsNotJudged : List ℕ → List ℕ → List ℕ → List ℕ → NotJudged → Type 0
-IsNotJudged app old new rules not_judged.NoMemory = Unit {0}
+IsNotJudged app old new rules (not_judged.NoMemory cause) = Unit {0}
 IsNotJudged app old new rules (not_judged.App fault) = app_fault app ≡ Some fault
 IsNotJudged app old new rules (not_judged.Old fault) = (app_fault app ≡ None) × (library_fault old ≡ Some fault)
 IsNotJudged app old new rules (not_judged.New fault) = (app_fault app ≡ None) × (library_fault old ≡ None) × (library_fault new ≡ Some fault)

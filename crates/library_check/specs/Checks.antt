@@ -47,9 +47,14 @@ pub record AreReadable (old new rules : List ℕ) : Type 0 where
   pub new_readable : library_fault new ≡ None
   pub rules_readable : rule_fault rules ≡ None
 
+-- memory ran out, or a count would pass its limit
+abbrev pub IsOutOfMemory : Unchecked → Type 0
+IsOutOfMemory (unchecked.NoMemory cause) = Unit {0}
+IsOutOfMemory others = ⊥
+
 -- why `check` gives no verdict: the first fault of the old library, else of the new one, else of the rule file
 abbrev pub IsUnchecked : List ℕ → List ℕ → List ℕ → Unchecked → Type 0
-IsUnchecked old new rules unchecked.NoMemory = Unit {0}
+IsUnchecked old new rules (unchecked.NoMemory cause) = Unit {0}
 IsUnchecked old new rules (unchecked.Old fault) = library_fault old ≡ Some fault
 IsUnchecked old new rules (unchecked.New fault) = (library_fault old ≡ None) × (library_fault new ≡ Some fault)
 IsUnchecked old new rules (unchecked.Rules fault) = (library_fault old ≡ None) × (library_fault new ≡ None) × (rule_fault rules ≡ Some fault)

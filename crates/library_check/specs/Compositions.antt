@@ -142,7 +142,7 @@ pub record AreComposable (p : PlainFiles) : Type 0 where
 
 -- why `compose` gives no verdict: the first fault of the first input that has one, in the order of the inputs
 abbrev pub IsUncomposed : PlainFiles → Uncomposed → Type 0
-IsUncomposed p uncomposed.NoMemory = Unit {0}
+IsUncomposed p (uncomposed.NoMemory cause) = Unit {0}
 IsUncomposed p (uncomposed.First fault) = library_fault p.first ≡ Some fault
 IsUncomposed p (uncomposed.Middle fault) = (library_fault p.first ≡ None) × (library_fault p.middle ≡ Some fault)
 IsUncomposed p (uncomposed.Last fault) = (library_fault p.first ≡ None) × (library_fault p.middle ≡ None) × (library_fault p.last ≡ Some fault)

@@ -75,7 +75,7 @@ pub record AreMigratable (old new rules certificate : List ℕ) : Type 0 where
 
 -- why `migrate` gives no verdict: the first fault of the first input that has one, in the order old, new, rules, certificate
 abbrev pub IsUnmigrated : List ℕ → List ℕ → List ℕ → List ℕ → Unverified → Type 0
-IsUnmigrated old new rules certificate unverified.NoMemory = Unit {0}
+IsUnmigrated old new rules certificate (unverified.NoMemory cause) = Unit {0}
 IsUnmigrated old new rules certificate (unverified.Old fault) = library_fault old ≡ Some fault
 IsUnmigrated old new rules certificate (unverified.New fault) = (library_fault old ≡ None) × (library_fault new ≡ Some fault)
 IsUnmigrated old new rules certificate (unverified.Rules fault) = (library_fault old ≡ None) × (library_fault new ≡ None) × (rule_fault rules ≡ Some fault)

@@ -73,9 +73,14 @@ pub record AreVerifiable (old new rules certificate : List ℕ) : Type 0 where
   pub inputs : AreReadable old new rules
   pub certificate_readable : certificate_fault certificate ≡ None
 
+-- memory ran out, or a count would pass its limit
+abbrev pub IsOutOfMemory : Unverified → Type 0
+IsOutOfMemory (unverified.NoMemory cause) = Unit {0}
+IsOutOfMemory others = ⊥
+
 -- why `verify` gives no verdict: the first fault of the first input that has one, in the order old, new, rules, certificate
 abbrev pub IsUnverified : List ℕ → List ℕ → List ℕ → List ℕ → Unverified → Type 0
-IsUnverified old new rules certificate unverified.NoMemory = Unit {0}
+IsUnverified old new rules certificate (unverified.NoMemory cause) = Unit {0}
 IsUnverified old new rules certificate (unverified.Old fault) = library_fault old ≡ Some fault
 IsUnverified old new rules certificate (unverified.New fault) = (library_fault old ≡ None) × (library_fault new ≡ Some fault)
 IsUnverified old new rules certificate (unverified.Rules fault) = (library_fault old ≡ None) × (library_fault new ≡ None) × (rule_fault rules ≡ Some fault)

@@ -58,8 +58,8 @@ pub enum NotJudged {
     New(Fault),
     /// The first fault of the rule file, if no other input has one.
     Rules(Fault),
-    /// Memory ran out.
-    NoMemory,
+    /// Memory ran out, or a count would pass its limit.
+    NoMemory(NoMemory),
 }
 
 /// The result of `app`, with a remark.
@@ -81,7 +81,7 @@ fn read_imports(alloc: Global, bytes: &[u8]) -> Result<Vec<Import<'_>>, NotJudge
     match read_app(alloc, bytes) {
         Ok(imports) => Ok(imports),
         Err(Refusal::Fault(fault)) => Err(NotJudged::App(fault)),
-        Err(Refusal::NoMemory) => Err(NotJudged::NoMemory),
+        Err(Refusal::NoMemory(cause)) => Err(NotJudged::NoMemory(cause)),
     }
 }
 
@@ -93,7 +93,7 @@ fn of_inputs(unread: Unchecked) -> NotJudged
         Unchecked::Old(fault) => NotJudged::Old(fault),
         Unchecked::New(fault) => NotJudged::New(fault),
         Unchecked::Rules(fault) => NotJudged::Rules(fault),
-        Unchecked::NoMemory => NotJudged::NoMemory,
+        Unchecked::NoMemory(cause) => NotJudged::NoMemory(cause),
     }
 }
 
@@ -204,6 +204,6 @@ pub fn app(
     let remark = remark(&inputs.pair.old, &inputs.pair.new);
     match judge_used(alloc, &imports, &inputs, listeners) {
         Ok(judged) => Ok(AppResult { judged, remark }),
-        Err(NoMemory) => Err(NotJudged::NoMemory),
+        Err(cause) => Err(NotJudged::NoMemory(cause)),
     }
 }

@@ -13,7 +13,7 @@ use crate::judging::{Checked, judge};
 use crate::laws::{an_accepted_certificate_tells_such_a_relation, no_rules_are_readable};
 use crate::remarks::remark;
 use abi_base::{Fault, NoMemory, Refusal, Remark};
-use abi_types::{Library, NewIx, OldIx};
+use abi_types::{Index, Library, NewIx, OldIx};
 use library_read::copy::copied;
 use library_read::read_library;
 use report::Listener;
@@ -29,8 +29,8 @@ pub enum Unchecked {
     New(Fault),
     /// The first fault of the rule file, if neither library has one.
     Rules(Fault),
-    /// Memory ran out.
-    NoMemory,
+    /// Memory ran out, or a count would pass its limit.
+    NoMemory(NoMemory),
 }
 
 /// Two libraries. Their types borrow names from the files' bytes.
@@ -70,7 +70,7 @@ fn read_old(alloc: Global, bytes: &[u8]) -> Result<Library<'_, OldIx>, Unchecked
     match read_library(alloc, bytes) {
         Ok(library) => Ok(library),
         Err(Refusal::Fault(fault)) => Err(Unchecked::Old(fault)),
-        Err(Refusal::NoMemory) => Err(Unchecked::NoMemory),
+        Err(Refusal::NoMemory(cause)) => Err(Unchecked::NoMemory(cause)),
     }
 }
 
@@ -84,12 +84,28 @@ fn read_new(alloc: Global, bytes: &[u8]) -> Result<Library<'_, NewIx>, Unchecked
     match read_library(alloc, bytes) {
         Ok(library) => Ok(library),
         Err(Refusal::Fault(fault)) => Err(Unchecked::New(fault)),
-        Err(Refusal::NoMemory) => Err(Unchecked::NoMemory),
+        Err(Refusal::NoMemory(cause)) => Err(Unchecked::NoMemory(cause)),
     }
 }
 
+// How many parts the types of a library may have if it is copied: so many for each byte of its file, and some more. Types of one
+// library share their parts, and those of a copy do not.
+const BYTES_A_COPIED_PART: usize = 8;
+
+const COPIED_PARTS_AT_LEAST: usize = 65_536;
+
+/// Whether the types of a library have few enough parts that a copy takes less than reading the file again.
+pub(crate) fn is_copied<Ix: Index>(library: &Library<Ix>) -> bool {
+    let graph = library.graph();
+    let mut parts: usize = 0;
+    for number in 0..graph.len() {
+        parts = parts.saturating_add(graph.view(Ix::of(number)).parts_len());
+    }
+    parts <= library.file().len() / BYTES_A_COPIED_PART + COPIED_PARTS_AT_LEAST
+}
+
 // Reads the new library, after the old one. If both files have the same bytes, it copies the old library, so that the bytes are
-// read only once.
+// read only once, unless a copy would take too much memory.
 fn read_beside<'a>(
     alloc: Global,
     library: &Library<'a, OldIx>,
@@ -103,12 +119,12 @@ fn read_beside<'a>(
     ensures library { IfOk result (λ library. library ≡ library_of new.now) }
     ensures unread { IfErr result (λ u. (rules : List ℕ) → IsUnchecked old.now new.now rules u) }
 {
-    if old != new {
+    if old != new || !is_copied(library) {
         return read_new(alloc, new);
     }
     match copied(alloc, library) {
         Ok(library) => Ok(library),
-        Err(NoMemory) => Err(Unchecked::NoMemory),
+        Err(cause) => Err(Unchecked::NoMemory(cause)),
     }
 }
 
@@ -146,7 +162,7 @@ fn read_rule_file(alloc: Global, bytes: &[u8]) -> Result<Rules, Unchecked>
     match read_rules(alloc, bytes) {
         Ok(rules) => Ok(rules),
         Err(Refusal::Fault(fault)) => Err(Unchecked::Rules(fault)),
-        Err(Refusal::NoMemory) => Err(Unchecked::NoMemory),
+        Err(Refusal::NoMemory(cause)) => Err(Unchecked::NoMemory(cause)),
     }
 }
 
@@ -158,7 +174,7 @@ pub(crate) fn no_rules(alloc: Global) -> Result<Rules, NoMemory>
     match read_rules(alloc, b"") {
         Ok(rules) => Ok(rules),
         Err(Refusal::Fault(_)) => unreachable!(),
-        Err(Refusal::NoMemory) => Err(NoMemory),
+        Err(Refusal::NoMemory(cause)) => Err(cause),
     }
 }
 
@@ -221,6 +237,6 @@ pub fn check(
         listeners,
     ) {
         Ok(checked) => Ok(CheckResult { checked, remark }),
-        Err(NoMemory) => Err(Unchecked::NoMemory),
+        Err(cause) => Err(Unchecked::NoMemory(cause)),
     }
 }

@@ -11,9 +11,9 @@ ghost use Rattle.library_check.specs.Compositions.{AreAccepted, AreComposable, A
 ghost use Rattle.library_check.specs.Judgements.{ruled};
 ghost use Rattle.library_check.specs.Verifications.{IsSettled, case_for, certificate_fault};
 
-use crate::checking::no_rules;
+use crate::checking::{is_copied, no_rules};
 use crate::verifying::{Verified, settle};
-use abi_base::{Fault, INPUT_LIMIT, NoMemory, Refusal};
+use abi_base::{Fault, INPUT_LIMIT, Limit, NoMemory, Refusal};
 use abi_types::{Library, NewIx, OldIx};
 use cert_check::Refused;
 use cert_check::laws::{
@@ -69,8 +69,8 @@ pub enum Uncomposed {
     Certificate1(Fault),
     /// The first fault of the second certificate, if no other input has one.
     Certificate2(Fault),
-    /// Memory ran out, or the composed certificate is longer than an input may be.
-    NoMemory,
+    /// Memory ran out, or a count would pass its limit: the composed certificate, for one, may not be longer than an input.
+    NoMemory(NoMemory),
 }
 
 /// Three libraries of a chain. Their types borrow names from the files' bytes. The middle one is held twice, once for each side.
@@ -99,7 +99,7 @@ fn read_first<'a>(alloc: Global, files: &ChainFiles<'a>) -> Result<Library<'a, O
     match read_library(alloc, files.first) {
         Ok(library) => Ok(library),
         Err(Refusal::Fault(fault)) => Err(Uncomposed::First(fault)),
-        Err(Refusal::NoMemory) => Err(Uncomposed::NoMemory),
+        Err(Refusal::NoMemory(cause)) => Err(Uncomposed::NoMemory(cause)),
     }
 }
 
@@ -114,7 +114,7 @@ fn read_middle<'a>(alloc: Global, files: &ChainFiles<'a>) -> Result<Library<'a, 
     match read_library(alloc, files.middle) {
         Ok(library) => Ok(library),
         Err(Refusal::Fault(fault)) => Err(Uncomposed::Middle(fault)),
-        Err(Refusal::NoMemory) => Err(Uncomposed::NoMemory),
+        Err(Refusal::NoMemory(cause)) => Err(Uncomposed::NoMemory(cause)),
     }
 }
 
@@ -130,7 +130,28 @@ fn read_last<'a>(alloc: Global, files: &ChainFiles<'a>) -> Result<Library<'a, Ne
     match read_library(alloc, files.last) {
         Ok(library) => Ok(library),
         Err(Refusal::Fault(fault)) => Err(Uncomposed::Last(fault)),
-        Err(Refusal::NoMemory) => Err(Uncomposed::NoMemory),
+        Err(Refusal::NoMemory(cause)) => Err(Uncomposed::NoMemory(cause)),
+    }
+}
+
+// The middle library for its other side: a copy, unless that would take too much memory.
+fn read_middle_again<'a>(
+    alloc: Global,
+    bytes: &'a [u8],
+    library: &Library<'a, NewIx>,
+) -> Result<Library<'a, OldIx>, NoMemory>
+    requires short { length bytes.now ≤ input_limit }
+    requires readable { library_fault bytes.now ≡ None }
+    requires library { library.now ≡ library_of bytes.now }
+    ensures { IfOk result (λ library. library ≡ library_of bytes.now) }
+{
+    if is_copied(library) {
+        return copied(alloc, library);
+    }
+    match read_library(alloc, bytes) {
+        Ok(library) => Ok(library),
+        Err(Refusal::NoMemory(cause)) => Err(cause),
+        Err(Refusal::Fault(_)) => unreachable!(),
     }
 }
 
@@ -158,9 +179,9 @@ fn read_libraries<'a>(alloc: Global, files: &ChainFiles<'a>) -> Result<Libraries
         Ok(last) => last,
         Err(unread) => return Err(unread),
     };
-    let middle_old = match copied(alloc, &middle_new) {
-        Ok(copy) => copy,
-        Err(NoMemory) => return Err(Uncomposed::NoMemory),
+    let middle_old = match read_middle_again(alloc, files.middle, &middle_new) {
+        Ok(middle) => middle,
+        Err(cause) => return Err(Uncomposed::NoMemory(cause)),
     };
     Ok(Libraries {
         first,
@@ -180,7 +201,7 @@ fn read_one(alloc: Global, files: &ChainFiles) -> Result<Cert, Uncomposed>
     match read_cert(alloc, files.certificate1) {
         Ok(cert) => Ok(cert),
         Err(Refusal::Fault(fault)) => Err(Uncomposed::Certificate1(fault)),
-        Err(Refusal::NoMemory) => Err(Uncomposed::NoMemory),
+        Err(Refusal::NoMemory(cause)) => Err(Uncomposed::NoMemory(cause)),
     }
 }
 
@@ -195,7 +216,7 @@ fn read_other(alloc: Global, files: &ChainFiles) -> Result<Cert, Uncomposed>
     match read_cert(alloc, files.certificate2) {
         Ok(cert) => Ok(cert),
         Err(Refusal::Fault(fault)) => Err(Uncomposed::Certificate2(fault)),
-        Err(Refusal::NoMemory) => Err(Uncomposed::NoMemory),
+        Err(Refusal::NoMemory(cause)) => Err(Uncomposed::NoMemory(cause)),
     }
 }
 
@@ -225,11 +246,11 @@ fn written(alloc: Global, cert: &Cert) -> Result<Vec<u8>, NoMemory>
     ensures short { IfOk result (λ text. length text.items ≤ input_limit) }
 {
     if cert.pairs.as_slice().len() > INPUT_LIMIT / PAIR_ROOM {
-        return Err(NoMemory);
+        return Err(NoMemory::Past(Limit::PairLines));
     }
     let text = write_cert(alloc, cert)?;
     if text.len() > INPUT_LIMIT {
-        return Err(NoMemory);
+        return Err(NoMemory::Past(Limit::Certificate));
     }
     Ok(text)
 }
@@ -286,7 +307,7 @@ fn join_accepted(
     match cert_compose::compose(alloc, &chain, &certificates.one, &certificates.other) {
         Ok(cert) => Ok(Composed::Yes(written(alloc, &cert)?)),
         Err(ComposeRefusal::Between(refused)) => Ok(Composed::Between(refused)),
-        Err(ComposeRefusal::NoMemory) => Err(NoMemory),
+        Err(ComposeRefusal::NoMemory(cause)) => Err(cause),
     }
 }
 
@@ -353,6 +374,6 @@ pub fn compose(alloc: Global, files: &ChainFiles) -> Result<Composed, Uncomposed
     };
     match join(alloc, &libraries, &certificates) {
         Ok(composed) => Ok(composed),
-        Err(NoMemory) => Err(Uncomposed::NoMemory),
+        Err(cause) => Err(Uncomposed::NoMemory(cause)),
     }
 }

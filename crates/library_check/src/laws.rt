@@ -20,7 +20,6 @@ ghost use Rattle.suppressions.specs.Reasons.{HasNoWays};
 ghost use Rattle.library_check.specs.declared.composing.Composed.{Composed};
 ghost use Rattle.library_check.specs.declared.migrating.Migrated.{Migrated};
 ghost use Rattle.library_check.specs.declared.verifying.Unverified.{Unverified};
-ghost use Rattle.library_check.specs.declared.verifying.Unverified.TheVariants.{NoMemory};
 ghost use Rattle.library_check.specs.declared.verifying.Verified.{Verified};
 ghost use Rattle.library_check.specs.declared.verifying.Verified.TheVariants.{Accepted};
 ghost use Rattle.library_check.specs.declared.applying.AppJudged.{AppJudged};
@@ -29,7 +28,7 @@ ghost use Rattle.library_check.specs.Checks.{Agreed, AreReadable, Compatible, Is
 ghost use Rattle.library_check.specs.Compositions.{IsComposedText, IsComposition, PlainFiles, SameComposed};
 ghost use Rattle.library_check.specs.Migrations.{IsMigrated, IsMigratedText, IsRefusedMigration, SameMigrated};
 ghost use Rattle.library_check.specs.Relations.{IsRelationText};
-ghost use Rattle.library_check.specs.Verifications.{IsAcceptedText, IsUnverified, IsVerified, certificate_fault};
+ghost use Rattle.library_check.specs.Verifications.{IsAcceptedText, IsOutOfMemory, IsUnverified, IsVerified, certificate_fault};
 ghost use Rattle.library_check.specs.Voices.{TellsItsText};
 ghost use Rattle.report.specs.declared.styles.report_option.ReportStyle.{ReportStyle as AnyWanted};
 ghost use Rattle.report.specs.declared.styles.report_option.ReportStyle.TheVariants.{Own};
@@ -94,7 +93,7 @@ pub fn what_check_prints_is_accepted()
     ensures accepted { (old new rules text : List ℕ) → IsCertificateText old new rules text → IsAcceptedText old new rules text }
     ensures alone { (old new rules text : List ℕ) (verified : Verified) → IsCertificateText old new rules text → IsVerified old new rules text verified → verified ≡ Accepted }
     ensures memory { (old new rules text : List ℕ) (unverified : Unverified) → AreReadable old new rules → IsCertificateText old new rules text
-        → IsUnverified old new rules text unverified → unverified ≡ NoMemory }
+        → IsUnverified old new rules text unverified → IsOutOfMemory unverified }
 {
     what_is_spelled_has_no_fault();
     a_verification_has_one_answer();

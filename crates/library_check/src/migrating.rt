@@ -35,7 +35,7 @@ fn read_old_certificate(alloc: Global, bytes: &[u8]) -> Result<Cert1, Unverified
     match read_cert_1(alloc, bytes) {
         Ok(cert) => Ok(cert),
         Err(Refusal::Fault(fault)) => Err(Unverified::Certificate(fault)),
-        Err(Refusal::NoMemory) => Err(Unverified::NoMemory),
+        Err(Refusal::NoMemory(cause)) => Err(Unverified::NoMemory(cause)),
     }
 }
 
@@ -88,6 +88,6 @@ pub fn migrate(
         &cert,
     ) {
         Ok(migrated) => Ok(migrated),
-        Err(NoMemory) => Err(Unverified::NoMemory),
+        Err(cause) => Err(Unverified::NoMemory(cause)),
     }
 }

@@ -14,7 +14,7 @@ use crate::laws::an_accepted_certificate_tells_such_a_relation;
 use abi_base::{Fault, NoMemory, Refusal};
 use abi_types::{Library, NewIx, OldIx};
 use cert_check::laws::an_accepted_certificate_is_a_proof;
-use cert_check::{Refused, check_cert};
+use cert_check::{Refused, check_cert, pairs_fit};
 use cert_text::{Cert, read_cert};
 use std::alloc::Global;
 use suppression_text::Rules;
@@ -39,8 +39,8 @@ pub enum Unverified {
     Rules(Fault),
     /// The first fault of the certificate, if no other input has one.
     Certificate(Fault),
-    /// Memory ran out.
-    NoMemory,
+    /// Memory ran out, or a count would pass its limit.
+    NoMemory(NoMemory),
 }
 
 /// Why `verify` and `migrate` give no verdict, if an input that they share with `check` is not readable.
@@ -52,7 +52,7 @@ pub(crate) fn of_inputs(unread: Unchecked) -> Unverified
         Unchecked::Old(fault) => Unverified::Old(fault),
         Unchecked::New(fault) => Unverified::New(fault),
         Unchecked::Rules(fault) => Unverified::Rules(fault),
-        Unchecked::NoMemory => Unverified::NoMemory,
+        Unchecked::NoMemory(cause) => Unverified::NoMemory(cause),
     }
 }
 
@@ -65,7 +65,7 @@ fn read_certificate(alloc: Global, bytes: &[u8]) -> Result<Cert, Unverified>
     match read_cert(alloc, bytes) {
         Ok(cert) => Ok(cert),
         Err(Refusal::Fault(fault)) => Err(Unverified::Certificate(fault)),
-        Err(Refusal::NoMemory) => Err(Unverified::NoMemory),
+        Err(Refusal::NoMemory(cause)) => Err(Unverified::NoMemory(cause)),
     }
 }
 
@@ -83,6 +83,7 @@ pub(crate) fn settle(
     old.known();
     old.graph().known();
     new.graph().known();
+    pairs_fit(old, new, cert)?;
     let marks = marks_by(alloc, rules, old)?;
     match check_cert(old, new, &marks, cert) {
         Ok(()) => Ok(Verified::Accepted),
@@ -123,6 +124,6 @@ pub fn verify(
         &cert,
     ) {
         Ok(verified) => Ok(verified),
-        Err(NoMemory) => Err(Unverified::NoMemory),
+        Err(cause) => Err(Unverified::NoMemory(cause)),
     }
 }

@@ -3,19 +3,12 @@ use Rattle.std.proofs.Common.{◌≡◌, ◌<◌, ◌+◌, ℕ, List, length, ge
 use Rattle.std.specs.List.{range_with_len}
 use Rattle.std.proofs.lemmas.List.{length-map, get_or-map}
 use Rattle.std.proofs.lemmas.List.FromFn.{length-range_with_len, get_or-range_with_len}
-use Rattle.abi_types.specs.Types.{PlainPart, Member, Enumerator, Target, Element, Outcome, Param, PlainNode, PlainView}
+use Rattle.abi_types.specs.Types.{PlainNode, PlainView}
 use Rattle.abi_types.specs.Graphs.{part_at}
 use Rattle.type_print.specs.declared.extent.Extent.{Extent}
 use Rattle.type_print.specs.Members.{no_member, AreNumbered}
 use Rattle.type_print.specs.Structures.{extent_in, members_of}
-
-place_of : (nodes : List PlainNode) (k : ℕ) (part : PlainPart) → (extent_in nodes k part).part ≡ k
-place_of nodes k (Member name bit width to) = refl
-place_of nodes k (Enumerator name value) = refl
-place_of nodes k (Target to) = refl
-place_of nodes k (Element to) = refl
-place_of nodes k (Outcome to) = refl
-place_of nodes k (Param to) = refl
+use Rattle.type_print.proofs.lemmas.Extents.{part_is}
 
 pub numbered : (nodes : List PlainNode) (v : PlainView) → AreNumbered (members_of nodes v)
 unfolding members_of
@@ -28,4 +21,4 @@ numbered nodes v k inside =
     let ranged : k < length range = omega arith in
     let zero_first : 0 + k ≡ k = omega arith in
     let at : get_or range k 0 ≡ k = get_or-range_with_len 0 (length v.parts) k 0 below ∙ zero_first in
-    ap (λ (e : Extent). e.part) (get_or-map extent range k 0 no_member ranged) ∙ place_of nodes (get_or range k 0) (part_at v (get_or range k 0)) ∙ at
+    ap (λ (e : Extent). e.part) (get_or-map extent range k 0 no_member ranged) ∙ part_is nodes (get_or range k 0) (part_at v (get_or range k 0)) ∙ at

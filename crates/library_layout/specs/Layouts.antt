@@ -26,4 +26,4 @@ IsLaid library tag NoTag = HasNoTag library tag
 -- the reason without an answer: the first fault of the library
 abbrev pub IsUnlaid : List ℕ → NoLayout → Type 0
 IsUnlaid library (unlaid.Unreadable fault) = library_fault library ≡ Some fault
-IsUnlaid library unlaid.NoMemory = Unit {0}
+IsUnlaid library (unlaid.NoMemory cause) = Unit {0}

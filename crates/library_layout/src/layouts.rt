@@ -1,12 +1,14 @@
 // The layout of a structure in a graph.
-ghost use Rattle.std.specs.Prelude.{◌≡◌, ◌<◌, ◌↔◌, length, IfOk, IsTrue};
+ghost use Rattle.std.specs.Prelude.{◌≡◌, ◌<◌, ◌↔◌, length, IfErr, IfOk, IsTrue};
+ghost use Rattle.abi_base.specs.declared.fault.NoMemory.TheVariants.{Past};
+ghost use Rattle.abi_base.specs.declared.limit.Limit.TheVariants.{Listing};
 ghost use Rattle.type_print.specs.Structures.{IsFirstTagged};
 ghost use Rattle.type_print.specs.Structures as structures_spec;
 ghost use Rattle.library_layout.specs.Structures.{IsDeclaredIn, IsLaidIn, IsLayoutIn};
 ghost use Rattle.library_layout.specs.Structures as structures;
 
-use abi_base::NoMemory;
-use abi_types::{Graph, Index, Kind, View};
+use abi_base::{Limit, NoMemory, taken};
+use abi_types::{Graph, Index, Kind, Part, View};
 use std::alloc::Global;
 use type_print::{find_tag, layout, layout_lines};
 
@@ -19,32 +21,61 @@ pub enum Layout {
     NoTag,
 }
 
+// How many letters of names a layout may print for each byte of the file, and how many more. The text has at most twelve bytes for
+// each letter: four for each one, in a line of a member, of an overlap and of what lies outside.
+const LETTERS_A_BYTE: usize = 2;
+
+const LETTERS_AT_LEAST: usize = 1_048_576;
+
+/// The most letters of names that a layout of a file with so many bytes may print.
+pub(crate) fn most_letters(bytes: usize) -> usize {
+    bytes
+        .saturating_mul(LETTERS_A_BYTE)
+        .saturating_add(LETTERS_AT_LEAST)
+}
+
+// Fails where the names of a structure's members have more letters than a layout may print.
+fn ask_letters<Ix: Index>(view: &View<Ix>, most: usize) -> Result<(), NoMemory>
+    ensures { IfErr result (λ e. e ≡ Past Listing) }
+{
+    let mut left = most;
+    for k in 0..view.parts_len() {
+        if let Part::Member { name, .. } = view.part(k) {
+            left = taken(Limit::Listing, left, name.len())?;
+        }
+    }
+    Ok(())
+}
+
 // The lines of the layout of a node's structure.
 fn lines_at<Ix: Index>(
     alloc: Global,
     graph: &Graph<Ix>,
     tag: &[u8],
     ix: Ix,
+    most: usize,
 ) -> Result<Vec<u8>, NoMemory>
     requires { IsFirstTagged graph.now tag.now (Ix.number_of ix) }
     ensures { IfOk result (λ text. IsLayoutIn graph.now tag.now text.items) }
 {
+    ask_letters(graph.view(ix), most)?;
     let rows = layout(alloc, graph, ix)?;
     let text = layout_lines(alloc, graph.view(ix), rows.as_slice())?;
     Ok(text.into_bytes())
 }
 
-/// The layout of the structure with the tag in a graph.
+/// The layout of the structure with the tag in a graph, if the names of its members have no more letters than `most`.
 pub(crate) fn laid_in<Ix: Index>(
     alloc: Global,
     graph: &Graph<Ix>,
     tag: &[u8],
+    most: usize,
 ) -> Result<Layout, NoMemory>
     ensures { IfOk result (IsLaidIn graph.now tag.now) }
 {
     match find_tag(graph, tag) {
         Some(ix) => {
-            let text = lines_at(alloc, graph, tag, ix)?;
+            let text = lines_at(alloc, graph, tag, ix, most)?;
             Ok(Layout::Lines(text))
         }
         None => Ok(Layout::NoTag),

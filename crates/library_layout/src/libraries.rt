@@ -8,7 +8,7 @@ ghost use Rattle.library_layout.specs.Layouts.{IsLaid, IsUnlaid};
 ghost use Rattle.library_layout.specs.Near.{AreNearTags, IsDeclaredTag};
 
 use crate::laws::a_layout_covers_each_bit;
-use crate::layouts::{Layout, is_declared, laid_in};
+use crate::layouts::{Layout, is_declared, laid_in, most_letters};
 use crate::near::near_in;
 use abi_base::{Fault, NoMemory, Refusal};
 use abi_types::{Library, OldIx};
@@ -20,8 +20,8 @@ use std::alloc::Global;
 pub enum NoLayout {
     /// The first fault of the library.
     Unreadable(Fault),
-    /// Memory ran out.
-    NoMemory,
+    /// Memory ran out, or a count would pass its limit.
+    NoMemory(NoMemory),
 }
 
 /// Help for a tag that no structure with a definition has.
@@ -43,7 +43,7 @@ fn read(alloc: Global, bytes: &[u8]) -> Result<Library<'_, OldIx>, NoLayout>
     match read_library(alloc, bytes) {
         Ok(library) => Ok(library),
         Err(Refusal::Fault(fault)) => Err(NoLayout::Unreadable(fault)),
-        Err(Refusal::NoMemory) => Err(NoLayout::NoMemory),
+        Err(Refusal::NoMemory(cause)) => Err(NoLayout::NoMemory(cause)),
     }
 }
 
@@ -62,9 +62,14 @@ pub fn layout_of(alloc: Global, library: &[u8], tag: &str) -> Result<Layout, NoL
         Ok(types) => types,
         Err(unread) => return Err(unread),
     };
-    match laid_in(alloc, types.graph(), tag.as_bytes()) {
+    match laid_in(
+        alloc,
+        types.graph(),
+        tag.as_bytes(),
+        most_letters(library.len()),
+    ) {
         Ok(layout) => Ok(layout),
-        Err(NoMemory) => Err(NoLayout::NoMemory),
+        Err(cause) => Err(NoLayout::NoMemory(cause)),
     }
 }
 
@@ -86,6 +91,6 @@ pub fn near_tags<'a>(alloc: Global, library: &'a [u8], tag: &str) -> Result<Near
     let is_declared = is_declared(reached.graph(), tag.as_bytes());
     match near_in(alloc, reached.graph(), tag.as_bytes()) {
         Ok(tags) => Ok(NearTags { is_declared, tags }),
-        Err(NoMemory) => Err(NoLayout::NoMemory),
+        Err(cause) => Err(NoLayout::NoMemory(cause)),
     }
 }

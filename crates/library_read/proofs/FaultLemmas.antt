@@ -1,5 +1,6 @@
 -- The first fault of a library, by its groups.
 use Rattle.std.proofs.Common.{◌≡◌, ℕ, List, [], ◌∷◌, length, Option, Some, None, refl, sym, ap, ◌∙◌}
+use Rattle.elf.proofs.lemmas.Faults.{none_both}
 use Rattle.abi_base.specs.declared.fault.Fault.{Fault}
 use Rattle.abi_base.specs.declared.fault.Refusal.{Refusal}
 use Rattle.abi_base.specs.declared.fault.Refusal.TheVariants as refusal
@@ -33,19 +34,15 @@ library_fault-is f = grouped (elf_fault f) _ _ _ _ _ _
 
 -- ---- without a fault
 
-none_first : (o : Option Fault) (os : List (Option Fault)) → first (o ∷ os) ≡ None → (o ≡ None) × (first os ≡ None)
-none_first None os none = (refl, none)
-none_first (Some x) os none = absurd cc
-
 groups_none : (a b c d e g h : Option Fault) → first (a ∷ b ∷ c ∷ d ∷ e ∷ g ∷ h ∷ []) ≡ None → (b ≡ None) × (g ≡ None) × (h ≡ None)
 groups_none a b c d e g h none =
-    let file = none_first a (b ∷ c ∷ d ∷ e ∷ g ∷ h ∷ []) none in
-    let symbols = none_first b (c ∷ d ∷ e ∷ g ∷ h ∷ []) file.1 in
-    let table = none_first c (d ∷ e ∷ g ∷ h ∷ []) symbols.1 in
-    let versions = none_first d (e ∷ g ∷ h ∷ []) table.1 in
-    let exports = none_first e (g ∷ h ∷ []) versions.1 in
-    let dwarf = none_first g (h ∷ []) exports.1 in
-    (symbols.0, dwarf.0, (none_first h [] dwarf.1).0)
+    let file = none_both a (b ∷ c ∷ d ∷ e ∷ g ∷ h ∷ []) none in
+    let symbols = none_both b (c ∷ d ∷ e ∷ g ∷ h ∷ []) file.1 in
+    let table = none_both c (d ∷ e ∷ g ∷ h ∷ []) symbols.1 in
+    let versions = none_both d (e ∷ g ∷ h ∷ []) table.1 in
+    let exports = none_both e (g ∷ h ∷ []) versions.1 in
+    let dwarf = none_both g (h ∷ []) exports.1 in
+    (symbols.0, dwarf.0, (none_both h [] dwarf.1).0)
 
 pub record HasNoFault (f : List ℕ) : Type 0 where
   pub symbols : symbol_fault f ≡ None
@@ -62,13 +59,13 @@ without_fault f none =
 
 pub by_file : (f : List ℕ) (refused : Refusal) → Refuses refused (elf_fault f) → Refuses refused (library_fault f)
 by_file f (refusal.Fault x) is = library_fault-is f ∙ ap (λ (o : Option Fault). first (o ∷ listing_fault f ∷ debug_fault f (untyped_exports_of f) ∷ [])) is
-by_file f refusal.NoMemory is = tt
+by_file f (refusal.NoMemory cause) is = tt
 
 pub by_listing : (f : List ℕ) (refused : Refusal) → elf_fault f ≡ None → Refuses refused (listing_fault f) → Refuses refused (library_fault f)
 by_listing f (refusal.Fault x) file is =
     library_fault-is f ∙ ap (λ (o : Option Fault). first (o ∷ listing_fault f ∷ debug_fault f (untyped_exports_of f) ∷ [])) file
     ∙ ap (λ (o : Option Fault). first (o ∷ debug_fault f (untyped_exports_of f) ∷ [])) is
-by_listing f refusal.NoMemory file is = tt
+by_listing f (refusal.NoMemory cause) file is = tt
 
 debug-last : (f : List ℕ) → elf_fault f ≡ None → listing_fault f ≡ None → library_fault f ≡ first (debug_fault f (untyped_exports_of f) ∷ [])
 debug-last f file listing =
@@ -78,7 +75,7 @@ debug-last f file listing =
 pub by_debug : (f : List ℕ) (exports : List PlainExport) (refused : Refusal) → elf_fault f ≡ None → listing_fault f ≡ None → exports ≡ untyped_exports_of f → Refuses refused (debug_fault f exports) → Refuses refused (library_fault f)
 by_debug f exports (refusal.Fault x) file listing same is =
     debug-last f file listing ∙ ap (λ (o : Option Fault). first (o ∷ [])) (ap (debug_fault f) (sym same) ∙ is)
-by_debug f exports refusal.NoMemory file listing same is = tt
+by_debug f exports (refusal.NoMemory cause) file listing same is = tt
 
 pub by_none : (f : List ℕ) (exports : List PlainExport) → elf_fault f ≡ None → listing_fault f ≡ None → exports ≡ untyped_exports_of f → debug_fault f exports ≡ None → library_fault f ≡ None
 by_none f exports file listing same none =

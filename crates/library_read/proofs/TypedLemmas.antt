@@ -5,6 +5,8 @@ use Rattle.std.specs.List.{filter_map, cons_option, range_with_len}
 use Rattle.std.specs.Option.{option_map, option_map_or}
 use Rattle.std.proofs.lemmas.List.Elements.{All-nil, All-cons, All-contains}
 use Rattle.std.proofs.lemmas.Option.{slice_get-map}
+use Rattle.abi_base.proofs.lemmas.Options.{some_same}
+use Rattle.abi_base.proofs.lemmas.Contained.{at_front, in_rest}
 use Rattle.abi_base.specs.Elf.{sym_size}
 use Rattle.abi_base.specs.Limits.{input_limit}
 use Rattle.abi_types.specs.Exports.{PlainExport}
@@ -18,9 +20,6 @@ use Rattle.library_read.specs.Debug.{debug_of}
 use Rattle.library_read.specs.Exports.{entry_for, has_address, typed, roots_among, typed_exports_of, untyped_exports_of, symbol_versions}
 use Rattle.library_read.proofs.DebugLemmas.{contents-small}
 use Rattle.library_read.proofs.NumberLemmas.{exports-numbered}
-
-some_same : {X : Type 0} (x y : X) → Some x ≡ Some y → x ≡ y
-some_same x y e = cc
 
 -- ---- the order of exports stays
 
@@ -80,18 +79,12 @@ file-numbered whole places f small none =
 
 -- ---- the entries of exports are roots
 
-front : {X : Type 0} (x : X) (xs : List X) → Contains (x ∷ xs) x
-front x xs = (0, omega arith, refl)
-
-behind : {X : Type 0} (x : X) (xs : List X) (y : X) → Contains xs y → Contains (x ∷ xs) y
-behind x xs y has = (suc has.0, omega (arith, has.1), has.2)
-
 given_first : {X Y : Type 0} (h : X → Option Y) (x : X) (y : Y) (ys : List Y) → h x ≡ Some y → Contains (cons_option (h x) ys) y
-given_first h x y ys is = rw is (front y ys)
+given_first h x y ys is = rw is (at_front y ys)
 
 given_later : {Y : Type 0} (o : Option Y) (y : Y) (ys : List Y) → Contains ys y → Contains (cons_option o ys) y
 given_later None y ys has = has
-given_later (Some x) y ys has = behind x ys y has
+given_later (Some x) y ys has = in_rest x ys y has
 
 -- what is given at a place of a list is among all that is given
 pub given-at : {X Y : Type 0} (h : X → Option Y) (xs : List X) (k : ℕ) (d : X) (y : Y) → k < length xs → h (get_or xs k d) ≡ Some y → Contains (filter_map h xs) y

@@ -14,7 +14,7 @@ use crate::laws::readable_files_are_libraries;
 use crate::listing::{Listing, read_listing};
 use crate::room::ask_room;
 use crate::typing::{Typed, with_types};
-use abi_base::{Effort, NoMemory, Refusal};
+use abi_base::{Effort, Limit, NoMemory, Refusal};
 use abi_types::{Index, Library};
 use dwarf_entries::Dwarf;
 use elf::file::read_elf;
@@ -46,7 +46,7 @@ fn read_parts<'a, Ix: Index>(alloc: Global, bytes: &'a [u8]) -> Result<Parts<'a,
     let file = read_elf(bytes)?;
     let Listing { soname, exports } = read_listing(alloc, &file)?;
     let limits = GraphLimits::for_file(bytes.len());
-    let letters = Effort::for_bytes(bytes.len());
+    let letters = Effort::for_bytes(Limit::DeclaredNames, bytes.len());
     let (typed, dwarf) = match with_types(alloc, &file, exports, letters, limits) {
         Ok(read) => read,
         Err(refused) => return Err(refused),

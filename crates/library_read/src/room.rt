@@ -1,6 +1,6 @@
 // How much the types of a library may hold, where each type counts all that it is compared by. A small file may ask for very much:
 // each typedef of a structure is compared by all of its members, and names may share their bytes.
-use abi_base::NoMemory;
+use abi_base::{Limit, NoMemory, taken};
 use abi_types::{Graph, Index, Label, Part, View};
 
 // How many parts types may have for each byte of the file. A member takes some ten bytes and stands in three or four types.
@@ -20,14 +20,6 @@ const LETTERS_AT_LEAST: usize = 1_048_576;
 struct Room {
     parts: usize,
     letters: usize,
-}
-
-// What is left of a number, less `many`.
-fn taken(left: usize, many: usize) -> Result<usize, NoMemory> {
-    if many > left {
-        return Err(NoMemory);
-    }
-    Ok(left - many)
 }
 
 // How many letters the name of a part has.
@@ -54,10 +46,10 @@ impl Room {
     // Takes the room of a view. It fails where less is left.
     fn take_view<Ix: Index>(&mut self, view: &View<Ix>) -> Result<(), NoMemory> {
         let parts = view.parts.as_slice();
-        self.parts = taken(self.parts, parts.len())?;
-        self.letters = taken(self.letters, view.tag.len())?;
+        self.parts = taken(Limit::Parts, self.parts, parts.len())?;
+        self.letters = taken(Limit::Letters, self.letters, view.tag.len())?;
         for part in parts {
-            self.letters = taken(self.letters, letters_of(part))?;
+            self.letters = taken(Limit::Letters, self.letters, letters_of(part))?;
         }
         Ok(())
     }
@@ -65,7 +57,7 @@ impl Room {
     // Takes the room of labels. It fails where less is left.
     fn take_labels(&mut self, labels: &[Label]) -> Result<(), NoMemory> {
         for label in labels {
-            self.letters = taken(self.letters, label.name.len())?;
+            self.letters = taken(Limit::Letters, self.letters, label.name.len())?;
         }
         Ok(())
     }

@@ -8,6 +8,9 @@ use Rattle.std.proofs.lemmas.Bool.{cases_order, and_parts, and_from, false_from_
 use Rattle.std.proofs.lemmas.List.Sums.{position_or_len_is}
 use Rattle.std.proofs.lemmas.Option.{same_Some, none-some, slice_get_within, slice_get-map, slice_get-get_or, get_or_from_slice_get}
 use Rattle.std.proofs.lemmas.Slice.Eq.{bytes_eq-Decides}
+use Rattle.abi_base.proofs.lemmas.Orders.{bytes_eq-refl}
+use Rattle.abi_base.proofs.lemmas.Outcomes.{fault_if-none}
+use Rattle.elf.proofs.lemmas.Faults.{none_both}
 use Rattle.abi_base.specs.declared.fault.Fault.{Fault}
 use Rattle.abi_base.specs.declared.fault.FaultKind.{FaultKind}
 use Rattle.abi_base.specs.Outcome.{fault_if, first}
@@ -17,11 +20,9 @@ use Rattle.elf.specs.versions.Versions.{PlainVersion}
 use Rattle.elf_bind.specs.Binding.{bind_to, has_version, has_first_version, only_default_version}
 use Rattle.elf_bind.specs.Exports.{same_name, is_same, duplicate_faults, export_fault, exports_with, version_fault_of}
 use Rattle.pair_compare.specs.Distinct.{AreDistinct, name_and_version}
+use Rattle.abi_base.proofs.lemmas.Lists.{slice_get-append}
 
 -- ---- the same name and version
-
-bytes_eq-refl : (xs : List ℕ) → bytes_eq xs xs ≡ true
-bytes_eq-refl xs = (bytes_eq-Decides xs xs).1 refl
 
 bytes_eq-sym : (xs ys : List ℕ) → bytes_eq xs ys ≡ true → bytes_eq ys xs ≡ true
 bytes_eq-sym xs ys e = (bytes_eq-Decides ys xs).1 (sym ((bytes_eq-Decides xs ys).0 e))
@@ -74,21 +75,13 @@ binds_to_itself exports k e distinct at = binds_with exports k e e.version refl 
 
 -- ---- no fault
 
-first-parts : (o : Option Fault) (os : List (Option Fault)) → first (o ∷ os) ≡ None → (o ≡ None) × (first os ≡ None)
-first-parts None os e = (refl, e)
-first-parts (Some f) os e = absurd (none-some f (sym e))
-
 first-both : (o : Option Fault) (os : List (Option Fault)) → o ≡ None → first os ≡ None → first (o ∷ os) ≡ None
 first-both None os is e = e
 first-both (Some f) os is e = absurd (none-some f (sym is))
 
 first-append : (os ps : List (Option Fault)) → first (os ++ ps) ≡ None → first ps ≡ None
 first-append [] ps e = e
-first-append (o ∷ os) ps e = first-append os ps (first-parts o (os ++ ps) e).1
-
-fault_if-none : (holds : Bool) (kind : FaultKind) (at : ℕ) → fault_if holds kind at ≡ None → holds ≡ false
-fault_if-none true kind at e = absurd (none-some (record { kind = kind; at = at }) (sym e))
-fault_if-none false kind at e = refl
+first-append (o ∷ os) ps e = first-append os ps (none_both o (os ++ ps) e).1
 
 none-fault_if : (holds : Bool) (kind : FaultKind) (at : ℕ) → holds ≡ false → fault_if holds kind at ≡ None
 none-fault_if holds kind at is = rw is refl
@@ -109,11 +102,6 @@ get_front [] ys j x below at = absurd (omega arith)
 get_front (y ∷ xs) ys zero x below at = at
 get_front (y ∷ xs) ys (suc j) x below at = get_front xs ys j x (omega arith) at
 
-in_front : {X : Type 0} (xs ys : List X) (j : ℕ) (x : X) → slice_get xs j ≡ Some x → slice_get (xs ++ ys) j ≡ Some x
-in_front [] ys j x at = absurd (none-some x at)
-in_front (y ∷ xs) ys zero x at = at
-in_front (y ∷ xs) ys (suc j) x at = in_front xs ys j x at
-
 get_next : {X : Type 0} (xs ys : List X) (x : X) → slice_get (xs ++ x ∷ ys) (length xs) ≡ Some x
 get_next [] ys x = refl
 get_next (y ∷ xs) ys x = get_next xs ys x
@@ -125,18 +113,18 @@ AreApart before exports = (j k : ℕ) (e f : PlainExport) → slice_get exports 
 apart : (before exports : List PlainExport) → first (duplicate_faults before exports) ≡ None → AreApart before exports
 apart before [] none j k e f at other below = absurd (none-some e at)
 apart before (x ∷ exports) none j zero e f at other below =
-    let parts = first-parts _ (duplicate_faults (before ++ x ∷ []) exports) none in
+    let parts = none_both _ (duplicate_faults (before ++ x ∷ []) exports) none in
     let unlike = fault_if-none (list_any (is_same x) before) _ _ parts.0 in
     ap (λ (y : PlainExport). is_same y f) (sym (same_Some x e at)) ∙ none_passes (is_same x) before j f unlike (get_front before (x ∷ exports) j f (omega arith) other)
 apart before (x ∷ exports) none j (suc k) e f at other below =
-    let parts = first-parts _ (duplicate_faults (before ++ x ∷ []) exports) none in
+    let parts = none_both _ (duplicate_faults (before ++ x ∷ []) exports) none in
     apart (before ++ x ∷ []) exports parts.1 j k e f at (rw append_assoc other) (omega (arith, length-append before (x ∷ [])))
 
 no_fault : (before exports : List PlainExport) → AreApart before exports → first (duplicate_faults before exports) ≡ None
 no_fault before [] apart = refl
 no_fault before (x ∷ exports) apart =
     let unlike : list_any (is_same x) before ≡ false = none_passes-from (is_same x) before (λ j f at.
-    apart j 0 x f refl (in_front before (x ∷ exports) j f at) (omega (arith, slice_get_within before j f at))) in
+    apart j 0 x f refl (slice_get-append before (x ∷ exports) j f at) (omega (arith, slice_get_within before j f at))) in
     first-both _ (duplicate_faults (before ++ x ∷ []) exports) (none-fault_if (list_any (is_same x) before) _ _ unlike)
     (no_fault (before ++ x ∷ []) exports (λ j k e f at other below.
     apart j (suc k) e f at (rw append_assoc at other) (omega (arith, below, length-append before (x ∷ [])))))

@@ -3,15 +3,13 @@ use Rattle.std.proofs.Common.{◌≡◌, ◌<◌, ◌&&◌, ◌==◌, not, ℕ, 
 use Rattle.std.specs.Prelude.{◌↔◌, option_and_then}
 use Rattle.std.proofs.lemmas.Bool.{eq-eqb, eqb-true}
 use Rattle.std.proofs.lemmas.Option.{same_Some}
-use Rattle.std.proofs.lemmas.Slice.Eq.{bytes_eq-Decides}
 use Rattle.abi_types.specs.declared.export.SymbolKind.{SymbolKind}
 use Rattle.abi_types.specs.declared.export.SymbolKind.TheVariants.{NoType, Object, Func, Common, Tls, Ifunc}
 use Rattle.abi_types.specs.declared.library.Marks.{Marks}
-use Rattle.abi_types.specs.Types.{PlainPart, Member, Enumerator, Target, Element, Outcome, Param, PlainView, PlainNode}
+use Rattle.abi_types.specs.Types.{PlainView, PlainNode}
 use Rattle.abi_types.specs.Exports.{PlainExport}
 use Rattle.abi_types.specs.Libraries.{PlainLibrary}
 use Rattle.abi_types.specs.Graphs.{part_at, view_at, to_of, node_of}
-use Rattle.abi_types.specs.Parts.{like}
 use Rattle.pair_rules.specs.ExportRules.{kinds_agree}
 use Rattle.pair_rules.specs.Matching.{match_of, IsMatch}
 use Rattle.pair_rules.specs.TypeRules.{breaks}
@@ -21,6 +19,7 @@ use Rattle.cert_check.specs.Compatible.{sides, KeepsExport, bound, task_of, IsCo
 use Rattle.pair_compare.specs.Distinct.{AreDistinct}
 use Rattle.pair_compare.proofs.Apart.{binds_to_itself}
 use Rattle.pair_compare.proofs.Pairs.{AreTypedPairs, typed_pair}
+use Rattle.pair_rules.proofs.lemmas.Parts.{like-same}
 
 -- ---- exports
 
@@ -54,18 +53,10 @@ pub record AreRules : Type 0 where
   pub none : (v : PlainView) → breaks v v ≡ []
   pub steps : (t : Task) (x y : Triple) (i : ℕ) → (step t x i ≡ Some y) ↔ IsStep t x i y
 
-like-refl : (p : PlainPart) → like p p ≡ true
-like-refl (Member name bit width to) = (bytes_eq-Decides name name).1 refl
-like-refl (Enumerator name value) = (bytes_eq-Decides name name).1 refl
-like-refl (Target to) = refl
-like-refl (Element to) = refl
-like-refl (Outcome to) = refl
-like-refl (Param to) = refl
-
 -- a part of a type matches itself
 own_match : AreRules → (v : PlainView) (i j : ℕ) → i < length v.parts → IsMatch v v i j → j ≡ i
 own_match rules v i j inside matched =
-    let own : IsMatch v v i i = record { inside = inside; alike = like-refl (part_at v i); as_many = refl } in
+    let own : IsMatch v v i i = record { inside = inside; alike = like-same (part_at v i); as_many = refl } in
     same_Some j i (sym ((rules.found v v i j).1 matched) ∙ (rules.found v v i i).1 own)
 
 -- two nodes are one

@@ -7,3 +7,4 @@ mod Judging
 mod Counting
 mod certificates_lemmas
 mod reports_lemmas
+pub mod lemmas

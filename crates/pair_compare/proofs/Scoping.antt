@@ -10,18 +10,14 @@ use Rattle.abi_types.specs.Graphs.{node_at}
 use Rattle.abi_types.specs.Libraries.{PlainLibrary}
 use Rattle.abi_types.specs.ClassLooks.{Look}
 use Rattle.pair_rules.specs.Steps.{is_marked}
-use Rattle.type_classes.specs.Classes.{PlainClasses, AreSound, rep_in, rep_of}
+use Rattle.type_classes.specs.Classes.{PlainClasses, AreSound}
 use Rattle.pair_explorer.specs.Scopes.{IsScope, AreEvenMarks}
 use Rattle.pair_explorer.specs.ByClass.{IsSound}
 use Rattle.cert_check.specs.Compatible.{sides, task_of}
 use Rattle.pair_compare.specs.Explored.{scope_of}
 use Rattle.pair_compare.specs.Marking.{AreMarksOf, no_marks}
 use Rattle.pair_compare.proofs.Pairs.{AreTypedPairs, inside}
-
--- past the end each number stands for itself
-rep_past : (c : PlainClasses) (a : ℕ) → AreSound c → length c.nodes ≤ a → rep_of c a ≡ a
-unfolding rep_in
-rep_past c a sound past = get_or_past c.reps a a (omega (arith, sound.each))
+use Rattle.type_classes.proofs.lemmas.Reps.{rep_of-past}
 
 -- marks that are even by labels are even by class
 even_by_class : (c : PlainClasses) (marks : List Bool) → AreSound c → length marks ≡ length c.nodes
@@ -31,11 +27,11 @@ even_by_class c marks sound each even = record {
   even = λ a b same. elim (cases_lt a (length c.nodes)) [
     | inl inside ↦ elim (cases_lt b (length c.nodes)) [
       | inl inside' ↦ even a b inside inside' (ap (λ (l : Look). l.labels) (sound.stable a b inside inside' same))
-      | inr past ↦ absurd (let own = rep_past c b sound past in let below = sound.inside a inside in omega (arith, own, below, same))
+      | inr past ↦ absurd (let own = rep_of-past c b sound past in let below = sound.inside a inside in omega (arith, own, below, same))
     ]
     | inr past ↦ elim (cases_lt b (length c.nodes)) [
-      | inl inside ↦ absurd (let own = rep_past c a sound past in let below = sound.inside b inside in omega (arith, own, below, same))
-      | inr past' ↦ ap (λ (k : ℕ). get_or marks k false) (sym (rep_past c a sound past) ∙ same ∙ rep_past c b sound past')
+      | inl inside ↦ absurd (let own = rep_of-past c a sound past in let below = sound.inside b inside in omega (arith, own, below, same))
+      | inr past' ↦ ap (λ (k : ℕ). get_or marks k false) (sym (rep_of-past c a sound past) ∙ same ∙ rep_of-past c b sound past')
     ]
   ];
 }

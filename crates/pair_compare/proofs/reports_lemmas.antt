@@ -2,7 +2,6 @@ pub mod AlikeDetails
 pub mod BelowLaws
 pub mod ListLemmas
 pub mod ExportLemmas
-pub mod MapLemmas
 pub mod NoneLemmas
 pub mod OneList
 pub mod OneReport

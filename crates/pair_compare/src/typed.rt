@@ -22,7 +22,7 @@ fn is_dropped(ground: &BoundPair, k: usize) -> bool
 }
 
 // The old export at a position.
-#[tactic(auto, using(crate::proofs::Reading::export_read))]
+#[tactic(auto, using(cert_check::proofs::lemmas::Exports::export_read))]
 fn export_at<'x, 'o>(ground: &BoundPair<'x, 'o, '_>, k: usize) -> &'x Export<'o>
     requires { k < length ground.now.old.now.exports }
     ensures { slice_get ground.now.old.now.exports k ≡ Some (plain_export result.now) }
@@ -42,7 +42,7 @@ fn place_at(ground: &BoundPair, k: usize) -> Option<usize>
 }
 
 // The new export at a position, where there is one.
-#[tactic(auto, using(crate::proofs::Reading::export_read, crate::proofs::Reading::none_read))]
+#[tactic(auto, using(cert_check::proofs::lemmas::Exports::export_read, cert_check::proofs::lemmas::Exports::none_read))]
 fn new_export_at<'x, 'n>(ground: &BoundPair<'x, '_, 'n>, place: usize) -> Option<&'x Export<'n>>
     ensures { MatchOption result (slice_get ground.now.new.now.exports place ≡ None) (λ export. slice_get ground.now.new.now.exports place ≡ Some (plain_export export.now)) }
 {

@@ -10,20 +10,19 @@ use Rattle.std.proofs.lemmas.Map.Keys.{IsDistinct-from_apart}
 use Rattle.std.proofs.lemmas.Map.Steps.{length-le_from_distinct_below}
 use Rattle.std.proofs.lemmas.Option.{slice_get_within, slice_get-map, get_or_from_slice_get}
 use Rattle.std.proofs.lemmas.Nat.{mul-add-lt, same_from_place}
+use Rattle.abi_base.proofs.lemmas.Ranges.{range_suc}
 use Rattle.abi_types.specs.declared.kind.Way.{Way}
 use Rattle.abi_types.specs.declared.kind.Way.TheVariants.{Direct, Pointer}
 use Rattle.pair_rules.specs.Steps.{Triple}
-use Rattle.pair_explorer.proofs.Ranges.{range_with_len_more}
 use Rattle.type_classes.specs.Classes.{PlainClasses, rep_of, class_reps, class_count}
 use Rattle.pair_explorer.specs.declared.visits.Visit.{Visit}
 use Rattle.pair_explorer.specs.Scopes.{Scope}
 use Rattle.pair_explorer.specs.Explorations.{most_triples}
 use Rattle.pair_explorer.specs.Visits.{seen}
-use Rattle.pair_explorer.proofs.Triples.{triple_eq}
-use Rattle.abi_base.proofs.lemmas.Lists.{any_found}
-use Rattle.pair_explorer.proofs.Growth.{at_below}
+use Rattle.abi_base.proofs.lemmas.Lists.{any_found, at_below}
 use Rattle.pair_explorer.proofs.Leading.{IsGround}
 use Rattle.pair_explorer.proofs.Visited.{IsPlaced, IsVisited}
+use Rattle.pair_rules.proofs.lemmas.Triples.{triple_eq}
 
 -- how many representatives stand before a node
 place : PlainClasses → ℕ → ℕ
@@ -38,7 +37,7 @@ unfolding place
 place-suc c a =
     let p : ℕ → Bool = λ i. rep_of c i == i in
     let at : 0 + a ≡ a = omega arith in
-    ap (λ xs. length (filter p xs)) (range_with_len_more 0 a ∙ ap (λ k. range_with_len 0 a ++ k ∷ []) at) ∙ ap length (filter-append p (range_with_len 0 a) (a ∷ [])) ∙ length-append (filter p (range_with_len 0 a)) (filter p (a ∷ []))
+    ap (λ xs. length (filter p xs)) (range_suc 0 a ∙ ap (λ k. range_with_len 0 a ++ k ∷ []) at) ∙ ap length (filter-append p (range_with_len 0 a) (a ∷ [])) ∙ length-append (filter p (range_with_len 0 a)) (filter p (a ∷ []))
 
 place-rises : (c : PlainClasses) (a b : ℕ) → a ≤ b → place c a ≤ place c b
 place-rises c a zero le = let e : a ≡ 0 = omega arith in rw e (omega arith)

@@ -4,6 +4,7 @@ use Rattle.std.proofs.lemmas.Bool.{cases_Bool}
 use Rattle.std.proofs.lemmas.List.{length-take-le, take_all, take_more_same}
 use Rattle.std.proofs.lemmas.List.Sums.{count_by-le-length, count_by_more_no, count_by_more_yes}
 use Rattle.std.proofs.lemmas.Option.{slice_get_within, get_or_from_slice_get}
+use Rattle.abi_base.proofs.lemmas.Lists.{at_below}
 use Rattle.abi_types.specs.Graphs.{view_at}
 use Rattle.pair_rules.specs.Steps.{is_marked}
 use Rattle.pair_explorer.specs.declared.visits.Visit.{Visit}
@@ -11,7 +12,7 @@ use Rattle.pair_explorer.specs.Scopes.{Scope}
 use Rattle.pair_explorer.specs.Visits.{seen}
 use Rattle.pair_explorer.specs.Adding.{added_some, entered, next_visit, expanded}
 use Rattle.pair_explorer.specs.Explorations.{is_compared, compared_count}
-use Rattle.pair_explorer.proofs.Growth.{Extends, Extends-refl, Extends-trans, Extends-added, at_below}
+use Rattle.pair_explorer.proofs.Growth.{Extends, Extends-refl, Extends-trans, Extends-added}
 
 -- ---- visits that grow begin as before
 

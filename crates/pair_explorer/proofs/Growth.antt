@@ -6,7 +6,7 @@ use Rattle.pair_rules.specs.Steps.{Triple}
 use Rattle.pair_explorer.specs.declared.visits.Visit.{Visit}
 use Rattle.pair_explorer.specs.Visits.{seen, has, IsVisit}
 use Rattle.pair_explorer.specs.Adding.{added}
-use Rattle.abi_base.proofs.lemmas.Lists.{any_found, slice_get-append}
+use Rattle.abi_base.proofs.lemmas.Lists.{any_found, slice_get-append, at_below}
 use Rattle.pair_explorer.proofs.Triples.{same_triple-refl, same_triple-is}
 
 -- what stands in `vs` stands in `ws`, at its place
@@ -31,13 +31,6 @@ Extends-refl vs = record { kept = λ n v e. e }
 
 pub Extends-trans : {us vs ws : List Visit} → Extends us vs → Extends vs ws → Extends us ws
 Extends-trans p q = record { kept = λ n v e. q.kept n v (p.kept n v e) }
-
-pub at_below : {X : Type 0} (xs : List X) (i : ℕ) → i < length xs → (x : X) × (slice_get xs i ≡ Some x)
-at_below xs i lt =
-    elim (slice_get_cases xs i).1 [
-      | inl there ↦ (there.0, there.2)
-      | inr past ↦ absurd (omega (arith, past.0))
-    ]
 
 pub Extends-added : (vs : List Visit) (x : Visit) → Extends vs (added vs x)
 unfolding added

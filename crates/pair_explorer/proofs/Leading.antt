@@ -3,7 +3,7 @@ use Rattle.std.proofs.Common.{◌≡◌, ◌<◌, ◌≤◌, ℕ, false, length,
 use Rattle.std.specs.Prelude.{◌↔◌}
 use Rattle.std.specs.Option.{option_map}
 use Rattle.std.proofs.lemmas.Option.{slice_get_within, same_Some, none-some}
-use Rattle.abi_types.specs.Types.{PlainNode, PlainView}
+use Rattle.abi_types.specs.Types.{PlainView}
 use Rattle.abi_types.specs.Graphs.{view_at, IsGraph}
 use Rattle.pair_rules.specs.Steps.{PlainRoot, Task, Triple, is_marked, step, next_of, IsStep}
 use Rattle.pair_rules.specs.Stable.{IsInside}
@@ -15,9 +15,10 @@ use Rattle.pair_explorer.specs.declared.visits.Visit.{Visit}
 use Rattle.pair_explorer.specs.Scopes.{Scope, AreGraphs, IsScope, rep, rep_step}
 use Rattle.pair_explorer.specs.Visits.{seen}
 use Rattle.pair_explorer.specs.Adding.{visit_of, visit_to, visit_of_root, next_visit, root_visit}
-use Rattle.pair_explorer.proofs.Triples.{triple_eq}
 use Rattle.pair_explorer.proofs.Order.{LedBefore}
 use Rattle.pair_explorer.proofs.Visited.{IsPlaced, MayFollow, MayEnter}
+use Rattle.pair_rules.proofs.lemmas.Triples.{triple_eq}
+use Rattle.pair_explorer.proofs.lemmas.Steps.{rep_step-parts, step-is}
 
 -- what the law of steps says
 pub record AreSteps (t : Task) : Type 0 where
@@ -38,35 +39,13 @@ pub rep_step_of : (s : Scope) (x y : Triple) (i : ℕ) → step s.task x i ≡ S
 unfolding rep_step
 rep_step_of s x y i e = ap (option_map (rep s)) e
 
--- what leads on over representatives
-pub record IsRepStep (s : Scope) (x : Triple) (i : ℕ) (z : Triple) : Type 0 where
-  pub to : Triple
-  pub stepped : step s.task x i ≡ Some to
-  pub is : rep s to ≡ z
-
-pub rep_step-parts : (s : Scope) (x z : Triple) (i : ℕ) → rep_step s x i ≡ Some z → IsRepStep s x i z
-unfolding rep_step
-rep_step-parts s x z i e = go (step s.task x i) refl e where
-  go : (o : Option Triple) → step s.task x i ≡ o → option_map (rep s) o ≡ Some z → IsRepStep s x i z
-  go None is e = absurd (none-some z e)
-  go (Some y) is e = record { to = y; stepped = is; is = same_Some (rep s y) z e }
-
 -- a step along a part leads on from an unmarked node, and the part is there
 pub step-part : (s : Scope) → IsGround s → (x y : Triple) (i : ℕ) → step s.task x i ≡ Some y → (is_marked s.task x.old x.way ≡ false) × (i < length (view_at s.task.old x.old).parts)
 step-part s ground x y i e = let is = (ground.steps.exact x y i).0 e in (is.unmarked, is.partners.old_inside)
 
--- the step that the code takes
-step-is : (s : Scope) (x : Triple) (i : ℕ) (v w : PlainView) → is_marked s.task x.old x.way ≡ false → v ≡ view_at s.task.old x.old → w ≡ view_at s.task.new x.new → step s.task x i ≡ next_of v w x.way i
-unfolding step
-step-is s x i v w unmarked old new = rw unmarked (ap (λ u. next_of u (view_at s.task.new x.new) x.way i) (sym old) ∙ ap (λ u. next_of v u x.way i) (sym new))
-
 -- and what it leads to is there
 pub next-inside : (s : Scope) (x to : Triple) (i : ℕ) (v w : PlainView) → AreSteps s.task → AreGraphs s → is_marked s.task x.old x.way ≡ false → v ≡ view_at s.task.old x.old → w ≡ view_at s.task.new x.new → Some to ≡ next_of v w x.way i → IsInside s.task to
 next-inside s x to i v w steps graphs unmarked old new e = steps.inside x to i graphs.old graphs.new (step-is s x i v w unmarked old new ∙ sym e)
-
--- a number that is read fits where the nodes are
-pub node-fits : (a b : ℕ) (xs ys : List PlainNode) → a ≡ b → xs ≡ ys → b < length ys → a < length xs
-node-fits a b xs ys same nodes lt = let e = ap length nodes in omega arith
 
 pub next_visit-none : (s : Scope) (n i : ℕ) (x : Triple) (v w : PlainView) → is_marked s.task x.old x.way ≡ false → v ≡ view_at s.task.old x.old → w ≡ view_at s.task.new x.new → None ≡ next_of v w x.way i → None ≡ next_visit s n x i
 unfolding next_visit rep_step

@@ -6,7 +6,6 @@ mod Keyed
 mod Leading
 mod Loop
 mod Order
-mod Ranges
 mod Representatives
 mod Scoped
 mod Sources
@@ -15,3 +14,4 @@ mod Triples
 mod Verdict
 mod Visited
 mod Walked
+pub mod lemmas

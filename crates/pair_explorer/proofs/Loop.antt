@@ -4,11 +4,12 @@ use Rattle.std.specs.List.{range_with_len}
 use Rattle.std.proofs.lemmas.Bool.{cases_order, cases_Bool, false≢true}
 use Rattle.std.proofs.lemmas.Grind.{flat_map-append}
 use Rattle.std.proofs.lemmas.Option.{slice_get_within, same_Some}
+use Rattle.abi_base.proofs.lemmas.Lists.{at_below}
+use Rattle.abi_base.proofs.lemmas.Ranges.{range_suc}
 use Rattle.abi_types.specs.Graphs.{view_at}
 use Rattle.pair_rules.specs.declared.rules.Broken.{Broken}
 use Rattle.pair_rules.specs.Steps.{PlainRoot, Task, Triple, is_marked}
 use Rattle.pair_rules.specs.Paths.{Path, From, Then, root_triple}
-use Rattle.pair_explorer.proofs.Ranges.{range_with_len_more}
 use Rattle.pair_explorer.specs.declared.visits.Parent.{Parent}
 use Rattle.pair_explorer.specs.declared.visits.Parent.TheVariants.{Root, Step}
 use Rattle.pair_explorer.specs.declared.visits.Visit.{Visit}
@@ -16,10 +17,11 @@ use Rattle.pair_explorer.specs.Scopes.{Scope, rep, rep_step, LeadsByRep}
 use Rattle.pair_explorer.specs.Visits.{seen, has, Along, AreEarlier, IsEarlier}
 use Rattle.pair_explorer.specs.Adding.{visit_of, entered, next_visit, root_visit, expanded}
 use Rattle.pair_explorer.specs.Explorations.{visit_breaks, some_breaks, breaks_below, IsExploration}
-use Rattle.pair_explorer.proofs.Growth.{Extends, Extends-refl, has_there, at_below}
+use Rattle.pair_explorer.proofs.Growth.{Extends, Extends-refl, has_there}
 use Rattle.pair_explorer.proofs.Order.{IsThereBy, first_of, same_path, path_before}
 use Rattle.pair_explorer.proofs.Visited.{IsLed, IsVisited, IsVisited-none, IsEntered-entered, IsThereBy-Extends}
-use Rattle.pair_explorer.proofs.Leading.{IsGround, IsUnder, under-more, step-part, rep_step_of, rep_step-parts, next_visit-parts, next_visit_at, root_visit-parts, root_visit_at, MayEnter-next, MayEnter-root}
+use Rattle.pair_explorer.proofs.Leading.{IsGround, IsUnder, under-more, step-part, rep_step_of, next_visit-parts, next_visit_at, root_visit-parts, root_visit_at, MayEnter-next, MayEnter-root}
+use Rattle.pair_explorer.proofs.lemmas.Steps.{rep_step-parts}
 
 pub record IsGoing (s : Scope) (vs : List Visit) (m : ℕ) (broken : List (ℕ × Broken)) : Type 0 where
   pub visited : IsVisited s vs
@@ -53,7 +55,7 @@ unfolding breaks_below
 breaks_below-suc t vs m =
     let f : ℕ → List (ℕ × Broken) = λ i. some_breaks t i (slice_get vs i) in
     let at : 0 + m ≡ m = omega arith in
-    ap (flat_map f) (range_with_len_more 0 m ∙ ap (λ k. range_with_len 0 m ++ k ∷ []) at) ∙ flat_map-append f (range_with_len 0 m) (m ∷ []) ∙ ap (λ xs. flat_map f (range_with_len 0 m) ++ xs) (append-nil (f m))
+    ap (flat_map f) (range_suc 0 m ∙ ap (λ k. range_with_len 0 m ++ k ∷ []) at) ∙ flat_map-append f (range_with_len 0 m) (m ∷ []) ∙ ap (λ xs. flat_map f (range_with_len 0 m) ++ xs) (append-nil (f m))
 
 pub breaks_below-more : (t : Task) (vs : List Visit) (m : ℕ) (v : Visit) → slice_get vs m ≡ Some v → breaks_below t vs (suc m) ≡ breaks_below t vs m ++ visit_breaks t m v
 breaks_below-more t vs m v at = breaks_below-suc t vs m ∙ ap (λ o. breaks_below t vs m ++ some_breaks t m o) at

@@ -7,16 +7,18 @@ use Rattle.abi_types.specs.declared.kind.Way.TheVariants.{Direct, Pointer}
 use Rattle.abi_types.specs.Types.{PlainNode, PlainView}
 use Rattle.abi_types.specs.Graphs.{node_at, view_at}
 use Rattle.pair_rules.specs.TypeRules.{breaks}
-use Rattle.pair_rules.specs.Steps.{Task, Triple, is_marked, breaks_of, step, next_of}
+use Rattle.pair_rules.specs.Steps.{Triple, is_marked, breaks_of, step, next_of}
 use Rattle.pair_rules.specs.Paths.{Path, From, Then, root_triple, PathLeadsTo}
 use Rattle.abi_types.specs.ClassLooks.{Look, look_of, view_seen}
 use Rattle.pair_rules.specs.Stable.{classed}
 use Rattle.type_classes.specs.Classes.{PlainClasses, AreSound, rep_of}
 use Rattle.pair_explorer.specs.Scopes.{Scope, rep, rep_step, LeadsByRep}
 use Rattle.pair_explorer.specs.ByClass.{IsSound}
-use Rattle.pair_explorer.proofs.Scoped.{rep_past}
-use Rattle.pair_explorer.proofs.Triples.{triple_eq}
-use Rattle.pair_explorer.proofs.Leading.{rep_step_of, rep_step-parts}
+use Rattle.pair_explorer.proofs.Leading.{rep_step_of}
+use Rattle.pair_rules.proofs.lemmas.Triples.{triple_eq}
+use Rattle.pair_explorer.proofs.lemmas.Steps.{rep_step-parts}
+use Rattle.pair_rules.proofs.lemmas.Steps.{step-from_next}
+use Rattle.type_classes.proofs.lemmas.Reps.{rep_of-past}
 
 -- what the law of rules says: rules and steps see of the nodes that parts name only which they are
 pub record AreUnseen : Type 0 where
@@ -29,11 +31,11 @@ all_stable c sound a b e =
     elim (cases_lt a (length c.nodes)) [
       | inl a_in ↦ elim (cases_lt b (length c.nodes)) [
         | inl b_in ↦ sound.stable a b a_in b_in e
-        | inr b_past ↦ let u = sound.inside a a_in in let v = rep_past c b sound b_past in absurd (omega arith)
+        | inr b_past ↦ let u = sound.inside a a_in in let v = rep_of-past c b sound b_past in absurd (omega arith)
       ]
       | inr a_past ↦ elim (cases_lt b (length c.nodes)) [
-        | inl b_in ↦ let u = sound.inside b b_in in let v = rep_past c a sound a_past in absurd (omega arith)
-        | inr b_past ↦ let same : a ≡ b = sym (rep_past c a sound a_past) ∙ e ∙ rep_past c b sound b_past in ap (λ (k : ℕ). look_of (rep_of c) (node_at c.nodes k)) same
+        | inl b_in ↦ let u = sound.inside b b_in in let v = rep_of-past c a sound a_past in absurd (omega arith)
+        | inr b_past ↦ let same : a ≡ b = sym (rep_of-past c a sound a_past) ∙ e ∙ rep_of-past c b sound b_past in ap (λ (k : ℕ). look_of (rep_of c) (node_at c.nodes k)) same
       ]
     ]
 
@@ -42,10 +44,6 @@ seen_same : (c : PlainClasses) (nodes : List PlainNode) (a b : ℕ) → AreSound
 seen_same c nodes a b sound same e =
     let looks : view_seen (rep_of c) (view_at c.nodes a) ≡ view_seen (rep_of c) (view_at c.nodes b) = ap (λ (l : Look). l.view) (all_stable c sound a b e) in
     rw same at looks
-
-step-from_next : (t : Task) (x : Triple) (i : ℕ) → is_marked t x.old x.way ≡ false → step t x i ≡ next_of (view_at t.old x.old) (view_at t.new x.new) x.way i
-unfolding step
-step-from_next t x i unmarked = rw unmarked refl
 
 module _ (unseen : AreUnseen) (s : Scope) (sound : IsSound s) where
   pub rep_twice : (x : Triple) → rep s (rep s x) ≡ rep s x

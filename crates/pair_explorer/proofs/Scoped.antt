@@ -1,12 +1,13 @@
 -- What the run-time tests of roots and marks tell.
 use Rattle.std.proofs.Common.{◌≡◌, ◌<◌, ◌≤◌, ◌+◌, ℕ, Bool, false, length, List, get_or, slice_get, Some, refl, sym, ◌∙◌, ap, subst, inl, inr, arith}
 use Rattle.std.proofs.lemmas.Bool.{cases_order, cases_lt}
-use Rattle.std.proofs.lemmas.List.{get_or_default, get_or_past}
+use Rattle.std.proofs.lemmas.List.{get_or_default}
 use Rattle.std.proofs.lemmas.Option.{slice_get_within, slice_get_read, same_Some}
 use Rattle.abi_types.specs.Types.{PlainNode}
 use Rattle.pair_rules.specs.Steps.{PlainRoot}
-use Rattle.type_classes.specs.Classes.{PlainClasses, AreSound, rep_in, rep_of}
+use Rattle.type_classes.specs.Classes.{PlainClasses, AreSound, rep_of}
 use Rattle.pair_explorer.specs.Scopes.{AreInside, AreAscending, AreEvenMarks}
+use Rattle.type_classes.proofs.lemmas.Reps.{rep_of-past}
 
 -- the roots before number n are nodes
 pub record AreInsideBelow (old new : List PlainNode) (roots : List PlainRoot) (n : ℕ) : Type 0 where
@@ -80,16 +81,11 @@ AreEvenBelow-more classes marks n r here there was n_inside r_inside is_r is_her
   ];
 }
 
--- past the end each number stands for itself
-pub rep_past : (classes : PlainClasses) (a : ℕ) → AreSound classes → length classes.nodes ≤ a → rep_of classes a ≡ a
-unfolding rep_in
-rep_past classes a sound past = get_or_past classes.reps a a (omega (arith, sound.each))
-
 own_mark : (classes : PlainClasses) (marks : List Bool) (n a : ℕ) → AreSound classes → AreEvenBelow classes marks n → length classes.nodes ≤ n → get_or marks a false ≡ get_or marks (rep_of classes a) false
 own_mark classes marks n a sound all whole =
     elim (cases_lt a n) [
       | inl below ↦ all.each a below
-      | inr past ↦ ap (λ k. get_or marks k false) (sym (rep_past classes a sound (omega arith)))
+      | inr past ↦ ap (λ k. get_or marks k false) (sym (rep_of-past classes a sound (omega arith)))
     ]
 
 pub AreEvenMarks-from_below : (classes : PlainClasses) (marks : List Bool) (n : ℕ) → AreSound classes → AreEvenBelow classes marks n → length classes.nodes ≤ n → length marks ≡ length classes.nodes → AreEvenMarks classes marks

@@ -14,8 +14,7 @@ use Rattle.pair_explorer.specs.declared.visits.Visit.{Visit}
 use Rattle.pair_explorer.specs.Visits.{seen}
 use Rattle.pair_explorer.specs.Explorations.{visit_breaks, breaks_below, IsExploration}
 use Rattle.abi_base.specs.Lists.{Ascends}
-use Rattle.abi_base.proofs.lemmas.Lists.{Ascends-append, Ascends-map, map_source, slice_get_append_cases}
-use Rattle.pair_explorer.proofs.Growth.{at_below}
+use Rattle.abi_base.proofs.lemmas.Lists.{Ascends-append, Ascends-map, map_source, slice_get_append_cases, at_below}
 use Rattle.pair_explorer.proofs.Loop.{breaks_below-more}
 use Rattle.pair_explorer.proofs.Verdict.{visit_breaks-marked, visit_breaks-unmarked, breaks_below-zero}
 

@@ -4,9 +4,9 @@ use Rattle.pair_explorer.specs.declared.visits.Parent.{Parent}
 use Rattle.pair_explorer.specs.declared.visits.Parent.TheVariants.{Root, Step}
 use Rattle.pair_explorer.specs.declared.visits.Visit.{Visit}
 use Rattle.pair_explorer.specs.Visits.{Along, AreEarlier, IsEarlier}
-use Rattle.pair_explorer.proofs.Growth.{at_below}
 use Rattle.pair_explorer.specs.Routes.{path_by, path_within, path_at}
 use Rattle.std.proofs.lemmas.Option.{slice_get_within}
+use Rattle.abi_base.proofs.lemmas.Lists.{at_below}
 
 along_within : (visits : List Visit) → AreEarlier visits → (depth n : ℕ) (v : Visit) → n < depth → slice_get visits n ≡ Some v → Along visits n (path_within depth visits n)
 unfolding path_within

@@ -5,6 +5,7 @@ use Rattle.abi_types.specs.declared.kind.Way.{Way}
 use Rattle.abi_types.specs.declared.kind.Way.TheVariants.{Direct, Pointer}
 use Rattle.pair_rules.specs.Steps.{Triple}
 use Rattle.pair_explorer.specs.Visits.{same_way, same_triple}
+use Rattle.pair_rules.proofs.lemmas.Triples.{triple_eq}
 
 pub same_way-refl : (w : Way) → same_way w w ≡ true
 same_way-refl Direct = refl
@@ -15,11 +16,6 @@ same_way-is Direct Direct e = refl
 same_way-is Direct Pointer e = absurd cc
 same_way-is Pointer Direct e = absurd cc
 same_way-is Pointer Pointer e = refl
-
-pub triple_eq : (x y : Triple) → x.old ≡ y.old → x.new ≡ y.new → x.way ≡ y.way → x ≡ y
-triple_eq x y a b c =
-    let mk : ℕ → ℕ → Way → Triple = λ m n w. record { old = m; new = n; way = w } in
-    ap (λ m. mk m x.new x.way) a ∙ ap (λ n. mk y.old n x.way) b ∙ ap (mk y.old y.new) c
 
 pub same_triple-refl : (x : Triple) → same_triple x x ≡ true
 same_triple-refl x = and_from _ _ (and_from _ _ (eq-eqb x.old x.old refl) (eq-eqb x.new x.new refl)) (same_way-refl x.way)

@@ -2,9 +2,10 @@
 use Rattle.std.proofs.Common.{◌≡◌, ◌<◌, ◌≤◌, ℕ, zero, suc, Bool, true, false, length, slice_get, List, [], ◌∷◌, ◌++◌, map, Some, refl, sym, ◌∙◌, ap, subst, inl, inr, arith, length-append}
 use Rattle.std.specs.List.{Contains}
 use Rattle.std.proofs.lemmas.Bool.{cases_order, cases_Bool}
-use Rattle.std.proofs.lemmas.List.{nil_from_length, length-map, get_or-map}
 use Rattle.std.proofs.lemmas.List.Elements.{Contains-append_left, Contains-append_right, Contains-append_cases}
 use Rattle.std.proofs.lemmas.Option.{slice_get_within, same_Some}
+use Rattle.abi_base.proofs.lemmas.Lists.{at_below, map-nil, left-nil, right-nil}
+use Rattle.abi_base.proofs.lemmas.Contained.{in_none, in_map, in_map_cases}
 use Rattle.pair_rules.specs.declared.rules.Broken.{Broken}
 use Rattle.pair_rules.specs.Steps.{Task, Triple, is_marked, breaks_of}
 use Rattle.pair_rules.specs.Paths.{Path, From, Then, IsReachable, PathLeadsTo}
@@ -14,38 +15,12 @@ use Rattle.pair_explorer.specs.Scopes.{Scope, rep, rep_step, LeadsByRep}
 use Rattle.pair_explorer.specs.Visits.{seen, has, IsVisit, Along}
 use Rattle.pair_explorer.specs.Explorations.{IsExploration, visit_breaks, breaks_below}
 use Rattle.pair_explorer.specs.ByClass.{IsSound, IsTold, IsToldBy, IsReached, covers}
-use Rattle.pair_explorer.proofs.Growth.{has_found, at_below}
-use Rattle.pair_explorer.proofs.Leading.{rep_step_of, rep_step-parts}
+use Rattle.pair_explorer.proofs.Growth.{has_found}
+use Rattle.pair_explorer.proofs.Leading.{rep_step_of}
 use Rattle.pair_explorer.proofs.Loop.{breaks_below-more}
 use Rattle.pair_explorer.proofs.Order.{same_path}
 use Rattle.pair_explorer.proofs.Representatives.{AreUnseen, rep_twice, marked_same, breaks_same, rep_step_same, goes, comes}
-
--- ---- lists
-
-map-nil : {X Y : Type 0} (f : X → Y) (xs : List X) → map f xs ≡ [] → xs ≡ []
-map-nil f [] e = refl
-map-nil f (x ∷ xs) e = cc
-
-left-nil : {X : Type 0} (xs ys : List X) → xs ++ ys ≡ [] → xs ≡ []
-left-nil xs ys e = nil_from_length xs (omega (arith, length-append xs ys, ap length e))
-
-right-nil : {X : Type 0} (xs ys : List X) → xs ++ ys ≡ [] → ys ≡ []
-right-nil xs ys e = nil_from_length ys (omega (arith, length-append xs ys, ap length e))
-
-pub Contains-mapped : {X Y : Type 0} (f : X → Y) (xs : List X) (x : X) → Contains xs x → Contains (map f xs) (f x)
-Contains-mapped f xs x (k, lt, is) =
-    let lt' : k < length (map f xs) = rw (length-map xs f) lt in
-    (k, lt', get_or-map f xs k x (f x) lt ∙ ap f is)
-
-pub Contains-map_source : {X Y : Type 0} (f : X → Y) (xs : List X) (y : Y) → Contains (map f xs) y → (x : X) × Contains xs x × (f x ≡ y)
-Contains-map_source f [] y (k, lt, is) = absurd (omega (arith, lt))
-Contains-map_source f (x ∷ xs) y (zero, lt, is) = (x, (0, omega arith, refl), is)
-Contains-map_source f (x ∷ xs) y (suc k, lt, is) =
-    let later = Contains-map_source f xs y (k, omega (arith, lt), is) in
-    (later.0, Contains-append_right (x ∷ []) xs later.0 later.1, later.2)
-
-not_contains_nil : {X : Type 0} (x : X) → Contains [] x → ⊥
-not_contains_nil x (k, lt, is) = omega (arith, lt)
+use Rattle.pair_explorer.proofs.lemmas.Steps.{rep_step-parts}
 
 -- ---- the breaks of visits
 
@@ -101,16 +76,16 @@ record IsBrokenAt (t : Task) (vs : List Visit) (n : ℕ) (b : Broken) : Type 0 w
 broken_visit : (t : Task) (vs : List Visit) (m n : ℕ) (v : Visit) (b : Broken) → slice_get vs m ≡ Some v → Contains (visit_breaks t m v) (n, b) → IsBrokenAt t vs n b
 broken_visit t vs m n v b at contains =
     elim (cases_Bool (is_marked t v.old v.way)) [
-      | inl marked ↦ absurd (not_contains_nil {X = ℕ × Broken} (n, b) (subst (λ (xs : List (ℕ × Broken)). Contains xs (n, b)) (visit_breaks-marked t m v marked) contains))
+      | inl marked ↦ absurd (in_none {X = ℕ × Broken} (n, b) (subst (λ (xs : List (ℕ × Broken)). Contains xs (n, b)) (visit_breaks-marked t m v marked) contains))
       | inr unmarked ↦
-          let source = Contains-map_source {X = Broken} {Y = ℕ × Broken} (λ c. (m, c)) (breaks_of t (seen v)) (n, b) (subst (λ (xs : List (ℕ × Broken)). Contains xs (n, b)) (visit_breaks-unmarked t m v unmarked) contains) in
+          let source = in_map_cases {X = Broken} {Y = ℕ × Broken} (λ c. (m, c)) (breaks_of t (seen v)) (n, b) (subst (λ (xs : List (ℕ × Broken)). Contains xs (n, b)) (visit_breaks-unmarked t m v unmarked) contains) in
           let number : m ≡ n = ap (λ (p : ℕ × Broken). p.0) source.2 in
           let is : source.0 ≡ b = ap (λ (p : ℕ × Broken). p.1) source.2 in
           record { visit = v; at = ap (slice_get vs) (sym number) ∙ at; unmarked = unmarked; breaks = subst (Contains (breaks_of t (seen v))) is source.1 }
     ]
 
 broken_below : (t : Task) (vs : List Visit) (m n : ℕ) (b : Broken) → m ≤ length vs → Contains (breaks_below t vs m) (n, b) → IsBrokenAt t vs n b
-broken_below t vs zero n b le contains = absurd (not_contains_nil {X = ℕ × Broken} (n, b) (subst (λ (xs : List (ℕ × Broken)). Contains xs (n, b)) (breaks_below-zero t vs) contains))
+broken_below t vs zero n b le contains = absurd (in_none {X = ℕ × Broken} (n, b) (subst (λ (xs : List (ℕ × Broken)). Contains xs (n, b)) (breaks_below-zero t vs) contains))
 broken_below t vs (suc m) n b le contains =
     let v = at_below vs m (omega arith) in
     elim (Contains-append_cases (breaks_below t vs m) (visit_breaks t m v.0) (n, b) (subst (λ (xs : List (ℕ × Broken)). Contains xs (n, b)) (breaks_below-more t vs m v.0 v.1) contains)) [
@@ -125,7 +100,7 @@ told_below t vs (suc m) n v b le lt at unmarked breaks =
     subst (λ (xs : List (ℕ × Broken)). Contains xs (n, b)) (sym (breaks_below-more t vs m last.0 last.1)) (elim (cases_order n m) [
       | inl same ↦
           let is : v ≡ last.0 = same_Some v last.0 (sym at ∙ ap (slice_get vs) same ∙ last.1) in
-          let here : Contains (visit_breaks t n v) (n, b) = subst (λ (xs : List (ℕ × Broken)). Contains xs (n, b)) (sym (visit_breaks-unmarked t n v unmarked)) (Contains-mapped {X = Broken} {Y = ℕ × Broken} (λ c. (n, c)) (breaks_of t (seen v)) b breaks) in
+          let here : Contains (visit_breaks t n v) (n, b) = subst (λ (xs : List (ℕ × Broken)). Contains xs (n, b)) (sym (visit_breaks-unmarked t n v unmarked)) (in_map {X = Broken} {Y = ℕ × Broken} (λ c. (n, c)) (breaks_of t (seen v)) b breaks) in
           let moved : visit_breaks t n v ≡ visit_breaks t m last.0 = ap (λ k. visit_breaks t k v) same ∙ ap (visit_breaks t m) is in
           Contains-append_right (breaks_below t vs m) (visit_breaks t m last.0) (n, b) (subst (λ (xs : List (ℕ × Broken)). Contains xs (n, b)) moved here)
       | inr (inl below) ↦ Contains-append_left (breaks_below t vs m) (visit_breaks t m last.0) (n, b) (told_below t vs m n v b (omega arith) below at unmarked breaks)

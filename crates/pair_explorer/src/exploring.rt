@@ -6,11 +6,10 @@ ghost use Rattle.pair_explorer.specs.GraphPairs.{scope_of};
 ghost use Rattle.pair_explorer.specs.Scopes.{AreGraphs, HasNodes, IsScope};
 
 use crate::graph_pair::{GraphPair, add_partners, add_roots, is_marked};
-use crate::visits::{Visit, Visits};
+use crate::visits::{Visit, VisitLimits, Visits};
 use abi_base::{List, NoMemory};
-use abi_types::{Graph, Index, NewIx, OldIx, View};
 use pair_rules::laws::steps_lead_to_nodes;
-use pair_rules::{Broken, Comparison, Steps};
+use pair_rules::{Broken, Comparison, PartBudget, Steps};
 use std::alloc::Global;
 use std::sync::ledger::Ledger;
 
@@ -30,41 +29,24 @@ const VISITS_A_TYPE: usize = 16;
 
 const VISITS_AT_LEAST: usize = 65_536;
 
-// The limit on visits between two graphs.
-fn most_visits(ground: &GraphPair) -> usize {
+// The limit on broken rules: so many for each type of both libraries, plus a constant. Where each type of a library is changed, few
+// types break more than two rules.
+const BREAKS_A_TYPE: usize = 4;
+
+const BREAKS_AT_LEAST: usize = 65_536;
+
+// The limits on an exploration of two graphs.
+fn limits_of(ground: &GraphPair) -> VisitLimits {
     let types = ground.old.len().saturating_add(ground.new.len());
-    types
-        .saturating_mul(VISITS_A_TYPE)
-        .saturating_add(VISITS_AT_LEAST)
-}
-
-// The limit on compared parts: so many for each part of the types of both libraries, plus a constant. Types built from one source
-// are compared in two ways at most.
-const PARTS_A_PART: usize = 16;
-
-const PARTS_AT_LEAST: usize = 65_536;
-
-// The number of parts of all types of a graph.
-fn parts_of<Ix: Index>(graph: &Graph<Ix>) -> usize {
-    let mut parts: usize = 0;
-    for number in 0..graph.len() {
-        let ix = Ix::of(number);
-        parts = parts.saturating_add(graph.view(ix).parts_len());
+    VisitLimits {
+        visits: types
+            .saturating_mul(VISITS_A_TYPE)
+            .saturating_add(VISITS_AT_LEAST),
+        parts: PartBudget::between(ground.old, ground.new),
+        breaks: types
+            .saturating_mul(BREAKS_A_TYPE)
+            .saturating_add(BREAKS_AT_LEAST),
     }
-    parts
-}
-
-// The limit on compared parts between two graphs.
-fn most_parts(ground: &GraphPair) -> usize {
-    let parts = parts_of(ground.old).saturating_add(parts_of(ground.new));
-    parts
-        .saturating_mul(PARTS_A_PART)
-        .saturating_add(PARTS_AT_LEAST)
-}
-
-// How many parts two types have.
-fn parts_between(old: &View<OldIx>, new: &View<NewIx>) -> usize {
-    old.parts_len().saturating_add(new.parts_len())
 }
 
 // Adds the breaks of a visit, each with the visit's number.
@@ -105,7 +87,8 @@ fn expand<L: Ledger>(
     let old = ground.old.view(visit.old);
     let new = ground.new.view(visit.new);
     let found = Comparison::of(alloc, old, new, steps)?;
-    explored.visits.take_parts(parts_between(old, new))?;
+    explored.visits.take_parts(old, new)?;
+    explored.visits.take_breaks(found.breaks.as_slice().len())?;
     add_breaks(&mut explored.breaks, number, found.breaks.as_slice())?;
     let matches = found.matches.as_slice();
     add_partners(ground, &mut explored.visits, number, visit, matches)
@@ -133,7 +116,7 @@ pub fn explore<L: Ledger>(
     ground.old_classes.known();
     ground.new_classes.known();
     let mut explored = Explored {
-        visits: Visits::new(alloc, most_visits(ground), most_parts(ground)),
+        visits: Visits::new(alloc, limits_of(ground)),
         breaks: List::new(alloc),
     };
     add_roots(ground, &mut explored.visits)?;

@@ -6,10 +6,10 @@ ghost use Rattle.pair_explorer.specs.Adding.{added};
 ghost use Rattle.pair_explorer.specs.Keys.{at_triple};
 ghost use Rattle.pair_explorer.specs.Visits.{seen};
 
-use abi_base::NoMemory;
-use abi_types::{NewIx, OldIx, Way};
+use abi_base::{Limit, NoMemory, taken};
+use abi_types::{NewIx, OldIx, View, Way};
 use indexmap::IndexSet;
-use pair_rules::Triple;
+use pair_rules::{PartBudget, Triple};
 use std::alloc::Global;
 use std::marker::Model;
 
@@ -48,16 +48,25 @@ impl Visit {
     }
 }
 
+/// The limits on an exploration.
+#[derive(Drop)]
+pub(crate) struct VisitLimits {
+    /// How many visits there may be.
+    pub(crate) visits: usize,
+    /// How many parts of types may be compared.
+    pub(crate) parts: PartBudget,
+    /// How many broken rules there may be.
+    pub(crate) breaks: usize,
+}
+
 /// The visits of an exploration, each of a different triple, in the order in which they were made. Contracts see them as a list.
 #[derive(Drop)]
 pub struct Visits {
     triples: IndexSet<Triple>,
     // What led to each triple.
     parents: Vec<Parent>,
-    // The limit on visits.
-    most: usize,
-    // How many parts of types may still be compared.
-    parts: usize,
+    // The limit on visits, and what may still be compared and broken.
+    limits: VisitLimits,
 }
 
 impl Model for Visits {
@@ -73,9 +82,15 @@ impl Model for Visits {
     ghost invariant = { λ visits. length visits.triples.keys ≡ length visits.parents.items };
 }
 
-// Returns `NoMemory` once the limit on visits is reached.
-fn is_below(count: usize, most: usize) -> Result<(), NoMemory> {
-    if count < most { Ok(()) } else { Err(NoMemory) }
+// Fails once the limit on visits is reached.
+fn ask_visit(count: usize, most: usize) -> Result<(), NoMemory>
+    ensures { OnOk result (count < most) }
+{
+    if count < most {
+        Ok(())
+    } else {
+        Err(NoMemory::Past(Limit::Pairs))
+    }
 }
 
 // Appends a triple if it is new, and returns whether it was.
@@ -90,14 +105,13 @@ fn put(triples: &mut IndexSet<Triple>, triple: Triple) -> Result<bool, NoMemory>
 
 impl Visits {
     /// An empty list with the limits on visits and on compared parts. It takes no memory yet.
-    pub(crate) fn new(alloc: Global, most: usize, parts: usize) -> Visits
+    pub(crate) fn new(alloc: Global, limits: VisitLimits) -> Visits
         ensures { result ≡ [] }
     {
         Visits {
             triples: IndexSet::new(alloc),
             parents: Vec::new(alloc),
-            most,
-            parts,
+            limits,
         }
     }
 
@@ -134,7 +148,7 @@ impl Visits {
     pub(crate) fn add(&mut self, visit: &Visit) -> Result<(), NoMemory>
         ensures { OnOk result (self.new ≡ added self.old visit.now) }
     {
-        is_below(self.parents.len(), self.most)?;
+        ask_visit(self.parents.len(), self.limits.visits)?;
         // This room is reserved first, so that nothing can fail once the triple is in the set.
         self.parents.reserve(1)?;
         if put(&mut self.triples, visit.triple())? {
@@ -143,14 +157,22 @@ impl Visits {
         Ok(())
     }
 
-    /// Counts so many parts as compared. Returns `NoMemory` where fewer may still be.
-    pub(crate) fn take_parts(&mut self, parts: usize) -> Result<(), NoMemory>
+    /// Counts the parts of two types as compared. Returns `NoMemory` where fewer may still be.
+    pub(crate) fn take_parts(
+        &mut self,
+        old: &View<OldIx>,
+        new: &View<NewIx>,
+    ) -> Result<(), NoMemory>
         ensures { self.new ≡ self.old }
     {
-        if parts > self.parts {
-            return Err(NoMemory);
-        }
-        self.parts -= parts;
+        self.limits.parts.take(old, new)
+    }
+
+    /// Counts so many broken rules. Returns `NoMemory` where fewer may still be.
+    pub(crate) fn take_breaks(&mut self, breaks: usize) -> Result<(), NoMemory>
+        ensures { self.new ≡ self.old }
+    {
+        self.limits.breaks = taken(Limit::Breaks, self.limits.breaks, breaks)?;
         Ok(())
     }
 }

@@ -1,7 +1,7 @@
 -- What one triple of each class tells of all others.
 use Rattle.std.proofs.Common.{◌≡◌, ltb, ℕ, Bool, true, false, length, Option, Some, None, refl, sym, ◌∙◌, ap}
 use Rattle.std.specs.Option.{option_map}
-use Rattle.std.proofs.lemmas.Bool.{and_parts, and_from, ltb-true, lt-ltb}
+use Rattle.std.proofs.lemmas.Bool.{and_parts, and_from}
 use Rattle.std.proofs.lemmas.Option.{same_Some, none-some}
 use Rattle.abi_types.specs.declared.kind.Way.{Way}
 use Rattle.abi_types.specs.Graphs.{node_at, view_at}
@@ -9,17 +9,11 @@ use Rattle.abi_types.specs.ClassLooks.{Look, look_of, view_seen}
 use Rattle.pair_rules.specs.TypeRules.{breaks}
 use Rattle.pair_rules.specs.Steps.{Task, Triple, is_marked, breaks_of, step, next_of}
 use Rattle.pair_rules.specs.Closed.{IsClosed}
-use Rattle.pair_rules.proofs.Leading.{step-from_next, step-parts, step-inside}
+use Rattle.pair_rules.proofs.Leading.{step-parts, step-inside}
 use Rattle.pair_rules.specs.Stable.{AreClasses, IsInside, is_inside, classed, StandsFor, related, LeadsLike}
 use Rattle.pair_rules.proofs.Unseen.{next_of-seen, breaks-seen}
-
-pub is_inside-from : (t : Task) (x : Triple) → IsInside t x → is_inside t x ≡ true
-is_inside-from t x inside = and_from _ _ (lt-ltb x.old (length t.old) inside.old) (lt-ltb x.new (length t.new) inside.new)
-
-pub IsInside-from : (t : Task) (x : Triple) → is_inside t x ≡ true → IsInside t x
-IsInside-from t x e =
-    let both = and_parts (ltb x.old (length t.old)) (ltb x.new (length t.new)) e in
-    record { old = ltb-true x.old (length t.old) both.0; new = ltb-true x.new (length t.new) both.1 }
+use Rattle.pair_rules.proofs.lemmas.Triples.{IsInside-from, is_inside-from}
+use Rattle.pair_rules.proofs.lemmas.Steps.{step-from_next}
 
 module _ (t : Task) (old new : ℕ → ℕ) (classes : AreClasses t old new) where
   old_same : (x y : Triple) → IsInside t x → IsInside t y → classed old new x ≡ classed old new y → look_of old (node_at t.old x.old) ≡ look_of old (node_at t.old y.old)

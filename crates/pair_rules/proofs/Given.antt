@@ -7,7 +7,7 @@ use Rattle.std.proofs.lemmas.List.{length_push}
 use Rattle.std.proofs.lemmas.List.Elements.{filter_map-append}
 use Rattle.std.proofs.lemmas.Option.{gets}
 use Rattle.std.proofs.lemmas.Grind.{common_steps}
-use Rattle.pair_rules.proofs.Ranges.{range_with_len_more}
+use Rattle.abi_base.proofs.lemmas.Ranges.{range_suc}
 
 given : {X : Type 0} → (ℕ → Option X) → ℕ → List X
 given f n = filter_map f (range_with_len 0 n)
@@ -16,7 +16,7 @@ given-more : {X : Type 0} (f : ℕ → Option X) (n : ℕ) → given f (suc n) �
 unfolding given
 given-more f n =
     let e : 0 + n ≡ n = omega arith in
-    ap (filter_map f) (range_with_len_more 0 n ∙ ap (λ k. range_with_len 0 n ++ k ∷ []) e) ∙ filter_map-append f (range_with_len 0 n) (n ∷ []) ∙ ap (λ ys. filter_map f (range_with_len 0 n) ++ ys) (single (f n))
+    ap (filter_map f) (range_suc 0 n ∙ ap (λ k. range_with_len 0 n ++ k ∷ []) e) ∙ filter_map-append f (range_with_len 0 n) (n ∷ []) ∙ ap (λ ys. filter_map f (range_with_len 0 n) ++ ys) (single (f n))
   where
     single : {X : Type 0} (o : Option X) → filter_map (λ (k : ℕ). o) (0 ∷ []) ≡ option_to_list o
     single None = refl

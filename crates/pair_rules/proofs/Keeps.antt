@@ -3,6 +3,7 @@ use Rattle.std.proofs.Common.{◌≡◌, ◌<◌, ℕ, Bool, true, false, cond, 
 use Rattle.std.specs.List.{filter, flat_map, list_all, range_with_len, AllPass}
 use Rattle.std.proofs.lemmas.Bool.{cases_Bool, and_parts, and_from, not-true, not_from_false, false≢true}
 use Rattle.std.proofs.lemmas.List.Sums.{AllPass-from_list_all}
+use Rattle.abi_base.proofs.lemmas.Lists.{list_all-weaker}
 use Rattle.abi_types.specs.declared.rule.Rule.{Rule}
 use Rattle.abi_types.specs.declared.rule.Rule.TheVariants.{KindOfType, TypeSize, ScalarGroup, TypeAlignment, DeclarationTag, MemberPresence, MemberOffset, BitFieldWidth, EnumeratorPresence, EnumeratorValue, ElementCount, ParameterCount, VariadicArguments, PassingPlace}
 use Rattle.abi_types.specs.Types.{PlainView}
@@ -10,6 +11,7 @@ use Rattle.pair_rules.specs.Same.{same_kind}
 use Rattle.pair_rules.specs.TypeRules.{is_declaration, are_compared, breaks_whole, breaks_part, speaks_of_parts, rules_asked, broken_at, broken, breaks}
 use Rattle.pair_rules.specs.Keeping.{part_rules, keeps_whole, keeps_part, keeps_parts}
 use Rattle.pair_rules.proofs.Ranges.{list_all-below, list_all-below_at}
+use Rattle.pair_rules.proofs.lemmas.Asked.{rules_asked-kinds, rules_asked-declared}
 
 -- ---- each rule speaks either of the types as a whole or of their parts
 
@@ -109,12 +111,6 @@ none_broken v w (r ∷ rs) e =
 
 -- ---- rule by rule, and part by part
 
-list_all-weaker : {X : Type 0} (p q : X → Bool) → ((x : X) → p x ≡ true → q x ≡ true) → (xs : List X) → list_all p xs ≡ true → list_all q xs ≡ true
-list_all-weaker p q weaker [] all = refl
-list_all-weaker p q weaker (x ∷ xs) all =
-    let both = and_parts (p x) (list_all p xs) all in
-    and_from (q x) (list_all q xs) (weaker x both.0) (list_all-weaker p q weaker xs both.1)
-
 whole_from_kept : (v w : PlainView) (r : Rule) → kept v w r ≡ true → not (breaks_whole r v w) ≡ true
 unfolding kept
 whole_from_kept v w r e =
@@ -138,12 +134,6 @@ kept_from_both v w parts r e =
       | inl of_parts ↦ rw of_parts (list_all-below (λ i. not (breaks_part r v w i)) (length v.parts) (λ i inside. among_part_rules (λ rule. not (breaks_part rule v w i)) r (list_all-below_at (keeps_part v w) (length v.parts) i inside parts) of_parts))
       | inr of_whole ↦ rw of_whole e
     ]
-
-rules_asked-kinds : (v w : PlainView) → same_kind v.kind w.kind ≡ false → rules_asked v w ≡ KindOfType ∷ []
-rules_asked-kinds v w e = rw e refl
-
-rules_asked-declared : (v w : PlainView) → same_kind v.kind w.kind ≡ true → is_declaration v w ≡ true → rules_asked v w ≡ DeclarationTag ∷ []
-rules_asked-declared v w e d = rw (e, d) refl
 
 rules_asked-defined : (v w : PlainView) → same_kind v.kind w.kind ≡ true → is_declaration v w ≡ false → rules_asked v w ≡ definition_rules
 rules_asked-defined v w e d = rw (e, d) refl

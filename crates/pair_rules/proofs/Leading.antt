@@ -12,6 +12,7 @@ use Rattle.pair_rules.specs.Stable.{IsInside}
 use Rattle.pair_rules.specs.Paths.{Path, From, Then, PathLeadsTo, root_triple}
 use Rattle.pair_rules.specs.Closed.{IsClosed, HoldsRoots}
 use Rattle.pair_rules.proofs.Partnering.{IsPartner-from_some, some_from_IsPartner}
+use Rattle.pair_rules.proofs.lemmas.Steps.{step-from_next}
 
 triple_of-parts : (at : Way) (o m : Option ℕ) (y : Triple) → triple_of at o m ≡ Some y → (o ≡ Some y.old) × (m ≡ Some y.new) × (y.way ≡ at)
 triple_of-parts at (Some a) (Some b) y e =
@@ -54,10 +55,6 @@ step-parts t x y i e =
       | inl marked ↦ absurd (none-some y (rw marked at e))
       | inr unmarked ↦ (unmarked, rw unmarked at e)
     ]
-
-pub step-from_next : (t : Task) (x : Triple) (i : ℕ) → is_marked t x.old x.way ≡ false → step t x i ≡ next_of (view_at t.old x.old) (view_at t.new x.new) x.way i
-unfolding step
-step-from_next t x i unmarked = rw unmarked refl
 
 -- a step is what its parts say, both ways
 pub IsStep-from_some : (t : Task) (x y : Triple) (i : ℕ) → step t x i ≡ Some y → IsStep t x i y

@@ -11,7 +11,7 @@ mod Occurrences
 mod OwnRules
 mod Partnering
 mod PlaceEq
-mod PlaceOf
 mod Ranges
 mod SameLemmas
 mod Unseen
+pub mod lemmas

@@ -1,18 +1,12 @@
 -- The k-th part of a sort and a name matches the k-th of that sort and name.
 use Rattle.std.proofs.Common.{◌≡◌, ◌≤◌, ◌<◌, ℕ, true, List, Some, None, length, take, refl, sym, ◌∙◌}
 use Rattle.std.specs.List.{filter}
-use Rattle.std.specs.Str.{bytes_eq}
-use Rattle.std.proofs.lemmas.Slice.Eq.{bytes_eq-Decides}
-use Rattle.abi_types.specs.Types.{PlainPart, Member, Enumerator, Target, Element, Outcome, Param, PlainView}
-use Rattle.abi_types.specs.Graphs.{part_at, no_part, to_of}
-use Rattle.abi_types.specs.Parts.{like, like_before}
+use Rattle.abi_types.specs.Types.{PlainView}
+use Rattle.abi_types.specs.Graphs.{part_at, no_part}
+use Rattle.abi_types.specs.Parts.{like}
 use Rattle.pair_rules.specs.Matching.{number_of, match_of, IsMatch}
-use Rattle.pair_rules.proofs.PlaceOf.{count_by-filter, place_of-some, place_of-at, place_of-none, place_of-found}
-
--- how many before are like the part, as a filter says it
-pub number_of-filter : (v : PlainView) (i : ℕ) → number_of v i ≡ length (filter (like (part_at v i)) (take i v.parts))
-unfolding like_before
-number_of-filter v i = count_by-filter (like (part_at v i)) (take i v.parts)
+use Rattle.pair_rules.proofs.lemmas.Parts.{like-same}
+use Rattle.pair_rules.proofs.lemmas.Places.{place_of-some, place_of-at, place_of-none, place_of-found, number_of-filter}
 
 pub IsMatch-from_some : (v w : PlainView) (i j : ℕ) → match_of v w i ≡ Some j → IsMatch v w i j
 unfolding match_of
@@ -38,30 +32,8 @@ few_from_none v w i none = rw (← number_of-filter v i) (place_of-found (like (
 pub match-inside : (v w : PlainView) (i j : ℕ) → match_of v w i ≡ Some j → j < length w.parts
 match-inside v w i j e = (IsMatch-from_some v w i j e).inside
 
-pub bytes_eq-same : (bytes : List ℕ) → bytes_eq bytes bytes ≡ true
-bytes_eq-same bytes = (bytes_eq-Decides bytes bytes).1 refl
-
--- each part is like itself
-pub like-same : (p : PlainPart) → like p p ≡ true
-like-same (Member name bit width to) = bytes_eq-same name
-like-same (Enumerator name value) = bytes_eq-same name
-like-same (Target to) = refl
-like-same (Element to) = refl
-like-same (Outcome to) = refl
-like-same (Param to) = refl
-
 -- of itself each part of a type is the match
 pub match_of-same : (v : PlainView) (i : ℕ) → i < length v.parts → match_of v v i ≡ Some i
 match_of-same v i inside = some_from_IsMatch v v i i (record { inside = inside; alike = like-same (part_at v i); as_many = refl })
-
--- where a part is like one that names a node, it names one too
-pub to_of-like : (p q : PlainPart) (to : ℕ) → like p q ≡ true → to_of p ≡ Some to → (there : ℕ) × (to_of q ≡ Some there)
-to_of-like (Member m b c at) (Member n d e there) to alike named = (there, refl)
-to_of-like (Enumerator m b) q to alike named = absurd cc
-to_of-like (Target at) (Target there) to alike named = (there, refl)
-to_of-like (Element at) (Element there) to alike named = (there, refl)
-to_of-like (Outcome at) (Outcome there) to alike named = (there, refl)
-to_of-like (Param at) (Param there) to alike named = (there, refl)
-to_of-like p q to alike named = absurd cc
 
 pub ruleset inside = (match-inside)

@@ -6,6 +6,7 @@ use Rattle.std.proofs.lemmas.Bool.{cases_Bool, and_parts}
 use Rattle.std.proofs.lemmas.List.Elements.{filter_agree}
 use Rattle.std.proofs.lemmas.List.Sums.{length-filter}
 use Rattle.std.proofs.lemmas.Slice.Eq.{bytes_eq-Decides}
+use Rattle.abi_base.proofs.lemmas.Lists.{fewer_before}
 use Rattle.abi_types.specs.declared.kind.Kind.{Kind}
 use Rattle.abi_types.specs.declared.kind.Kind.TheVariants as kind
 use Rattle.abi_types.specs.declared.kind.Way.{Way}
@@ -62,17 +63,6 @@ way_like way (Param at) (Param there) alike = refl
 way_like way p q alike = absurd cc
 
 -- ---- lists
-
--- fewer pass before one that passes than in all
-pub fewer_before : {X : Type 0} (p : X → Bool) (xs : List X) (i : ℕ) (d : X) → i < length xs → p (get_or xs i d) ≡ true → length (filter p (take i xs)) < length (filter p xs)
-fewer_before p [] i d inside passes = absurd (omega (arith, inside))
-fewer_before p (x ∷ xs) zero d inside passes = rw passes (omega arith)
-fewer_before p (x ∷ xs) (suc i) d inside passes =
-    let rest = fewer_before p xs i d (omega (arith, inside)) passes in
-    elim (cases_Bool (p x)) [
-      | inl here ↦ rw here (omega (arith, rest))
-      | inr other ↦ rw other rest
-    ]
 
 all_at : {X : Type 0} (p : X → Bool) (xs : List X) (i : ℕ) (d : X) → list_all p xs ≡ true → i < length xs → p (get_or xs i d) ≡ true
 all_at p [] i d all inside = absurd (omega (arith, inside))

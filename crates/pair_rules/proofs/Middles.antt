@@ -4,6 +4,9 @@ use Rattle.std.specs.Prelude.{IsSome}
 use Rattle.std.specs.List.{Contains}
 use Rattle.std.proofs.lemmas.Bool.{cases_Bool, and_parts, eqb-true}
 use Rattle.std.proofs.lemmas.List.Elements.{filter_agree}
+use Rattle.abi_base.proofs.lemmas.Lists.{fewer_before}
+use Rattle.abi_base.proofs.lemmas.Options.{some_of}
+use Rattle.abi_base.proofs.lemmas.Bools.{not_is_true, or_left_false}
 use Rattle.abi_types.specs.declared.kind.Kind.{Kind}
 use Rattle.abi_types.specs.declared.rule.Rule.TheVariants.{KindOfType, MemberPresence, ParameterCount}
 use Rattle.abi_types.specs.Types.{PlainPart, PlainView}
@@ -16,10 +19,11 @@ use Rattle.pair_rules.specs.Matching.{match_of, IsMatch}
 use Rattle.pair_rules.specs.Partners.{IsPartner}
 use Rattle.pair_rules.specs.TypeRules.{are_compared, is_declaration, params_of, breaks_whole, breaks_part, rules_asked, breaks, broken_at, IsBroken}
 use Rattle.pair_rules.specs.Middles.{MeetInTheMiddle}
-use Rattle.pair_rules.proofs.Matches.{IsMatch-from_some, few_from_none, like-same, to_of-like}
+use Rattle.pair_rules.proofs.Matches.{IsMatch-from_some, few_from_none}
 use Rattle.pair_rules.proofs.Occurrences.{among_breaks}
 use Rattle.pair_rules.proofs.SameLemmas.{equal_from_same_kind, same_kind-same}
-use Rattle.pair_rules.proofs.MiddleParts.{like_agree, way_like, fewer_before, as_many}
+use Rattle.pair_rules.proofs.MiddleParts.{like_agree, way_like, as_many}
+use Rattle.pair_rules.proofs.lemmas.Parts.{like-same, to_of-like}
 
 module _ (v u : PlainView) (none : breaks v u ≡ []) where
   unbroken : (b : Broken) → Contains (rules_asked v u) b.rule → IsBroken v u b → ⊥
@@ -75,24 +79,12 @@ match_between v u w i k j one far =
       as_many = counts (take j w.parts) ∙ far.as_many ∙ sym one.as_many ∙ sym (counts (take k u.parts));
     }
 
-some_of : (o : Option ℕ) → IsSome o → (n : ℕ) × (o ≡ Some n)
-some_of None is = absurd (search rules)
-some_of (Some n) is = (n, refl)
-
-not_true : (b : Bool) → not b ≡ true → b ≡ false
-not_true false e = refl
-not_true true e = absurd cc
-
-no_or : (a b : Bool) → (a || b) ≡ false → a ≡ false
-no_or false b e = refl
-no_or true b e = absurd cc
-
 no_or' : (a b : Bool) → (a || b) ≡ false → b ≡ false
 no_or' false b e = e
 no_or' true b e = absurd cc
 
 defined_from : (v w : PlainView) → are_compared v w ≡ true → is_declaration v w ≡ false
-defined_from v w compared = not_true (is_declaration v w) (and_parts (same_kind v.kind w.kind) (not (is_declaration v w)) compared).1
+defined_from v w compared = not_is_true (is_declaration v w) (and_parts (same_kind v.kind w.kind) (not (is_declaration v w)) compared).1
 
 compared_from : (v w : PlainView) → same_kind v.kind w.kind ≡ true → v.declared_only ≡ false → w.declared_only ≡ false → are_compared v w ≡ true
 compared_from v w same one other = rw (same, one, other) refl
@@ -100,7 +92,7 @@ compared_from v w same one other = rw (same, one, other) refl
 pub meet : (v u w : PlainView) (i j : ℕ) → HasForm v → HasForm u → u.declared_only ≡ false → breaks v u ≡ [] → IsPartner v w i j → MeetInTheMiddle v u w i j
 meet v u w i j form form' middle none partner =
     let far = defined_from v w partner.compared in
-    let old_defined : v.declared_only ≡ false = no_or v.declared_only w.declared_only far in
+    let old_defined : v.declared_only ≡ false = or_left_false v.declared_only w.declared_only far in
     let new_defined : w.declared_only ≡ false = no_or' v.declared_only w.declared_only far in
     let defined : is_declaration v u ≡ false = rw (old_defined, middle) refl in
     let same = one_kind v u none in

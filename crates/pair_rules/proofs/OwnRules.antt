@@ -13,10 +13,11 @@ use Rattle.abi_types.specs.Forms.{is_scalar, has_elements, is_function, is_membe
 use Rattle.pair_rules.specs.Same.{same_kind, same_group, same_place}
 use Rattle.pair_rules.specs.Matching.{number_of, match_of}
 use Rattle.pair_rules.specs.TypeRules.{has_size, has_alignment, is_outcome, bit_at, width_at, value_at, differs, matched, params_of, places_differ, param_moved, breaks_whole, breaks_part, speaks_of_parts, rules_asked, breaks}
-use Rattle.pair_rules.proofs.Matches.{match_of-same, bytes_eq-same}
+use Rattle.pair_rules.proofs.Matches.{match_of-same}
 use Rattle.pair_rules.proofs.SameLemmas.{same_kind-same, same_group-same, same_place-same}
 use Rattle.pair_rules.proofs.Ranges.{list_all-below}
 use Rattle.pair_rules.proofs.Keeps.{kept, none_broken}
+use Rattle.abi_base.proofs.lemmas.Orders.{bytes_eq-refl}
 
 not_same : (n : ℕ) → not (eqb n n) ≡ false
 not_same n = not_from_true (eqb n n) (eq-eqb n n refl)
@@ -31,7 +32,7 @@ whole_kept v KindOfType = not_from_true (same_kind v.kind v.kind) (same_kind-sam
 whole_kept v TypeSize = and_right (has_size v.kind) (not (eqb v.size v.size)) (not_same v.size)
 whole_kept v ScalarGroup = and_right (is_scalar v.kind) (not (same_group v.group v.group)) (not_from_true (same_group v.group v.group) (same_group-same v.group))
 whole_kept v TypeAlignment = and_right (has_alignment v.kind) (not (eqb v.align v.align)) (not_same v.align)
-whole_kept v DeclarationTag = rw (bytes_eq-same v.tag) refl
+whole_kept v DeclarationTag = rw (bytes_eq-refl v.tag) refl
 whole_kept v ElementCount = and_right (has_elements v.kind) (not (eqb v.count v.count)) (not_same v.count)
 whole_kept v ParameterCount = and_right (is_function v.kind) (not (eqb (params_of v) (params_of v))) (not_same (params_of v))
 whole_kept v VariadicArguments = and_right (is_function v.kind) (not (beq v.variadic v.variadic)) (not_same_truth v.variadic)

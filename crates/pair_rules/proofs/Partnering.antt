@@ -1,23 +1,15 @@
 -- Partners are parts that are there, and each of them names a node.
 use Rattle.std.proofs.Common.{◌≡◌, ◌<◌, ℕ, length, Option, Some, None, refl, sym, ap, rules, inl, inr}
 use Rattle.std.specs.Option.{IsSome}
-use Rattle.std.proofs.lemmas.Bool.{cases_Bool, cases_lt}
+use Rattle.std.proofs.lemmas.Bool.{cases_Bool}
 use Rattle.std.proofs.lemmas.Option.{same_Some, none-some}
-use Rattle.std.proofs.lemmas.List.{get_or_past}
 use Rattle.abi_types.specs.Types.{PlainView}
-use Rattle.abi_types.specs.Graphs.{part_at, no_part, to_of}
+use Rattle.abi_types.specs.Graphs.{part_at, to_of}
 use Rattle.pair_rules.specs.Matching.{match_of}
 use Rattle.pair_rules.specs.TypeRules.{are_compared}
 use Rattle.pair_rules.specs.Partners.{pair_of, partner_at, IsPartner}
-use Rattle.pair_rules.proofs.Matches.{IsMatch-from_some, some_from_IsMatch, to_of-like}
-
--- a part that names a node is there
-pub part-inside : (v : PlainView) (i to : ℕ) → to_of (part_at v i) ≡ Some to → i < length v.parts
-part-inside v i to named =
-    elim (cases_lt i (length v.parts)) [
-      | inl inside ↦ inside
-      | inr past ↦ absurd (none-some to (rw (get_or_past v.parts i no_part past) at named))
-    ]
+use Rattle.pair_rules.proofs.Matches.{IsMatch-from_some, some_from_IsMatch}
+use Rattle.pair_rules.proofs.lemmas.Parts.{to_of-like, part-inside}
 
 pair_of-parts : (i : ℕ) (o m : Option ℕ) (p : ℕ × ℕ) → pair_of i o m ≡ Some p → (to : ℕ) × (o ≡ Some to) × (m ≡ Some p.1) × (p.0 ≡ i)
 pair_of-parts i (Some to) (Some j) p e =

@@ -6,26 +6,14 @@ use Rattle.std.proofs.lemmas.List.Elements.{filter-append}
 use Rattle.std.proofs.lemmas.List.Folds.{list_all_at}
 use Rattle.std.proofs.lemmas.List.FromFn.{length-range_with_len, get_or-range_with_len, map-range_with_len_more}
 use Rattle.std.proofs.lemmas.List.Sums.{list_all-from_AllPass, AllPass-from_list_all}
-
--- one number more
-pub range_with_len_more : (a n : ℕ) → range_with_len a (suc n) ≡ range_with_len a n ++ (a + n) ∷ []
-range_with_len_more a zero = ap (λ k. k ∷ []) (omega arith)
-range_with_len_more a (suc n) =
-    let e : a + 1 + n ≡ a + suc n = omega arith in
-    ap (λ ks. a ∷ ks) (range_with_len_more (a + 1) n ∙ ap (λ k. range_with_len (a + 1) n ++ k ∷ []) e)
-
-below-more : (n : ℕ) → range_with_len 0 (n + 1) ≡ range_with_len 0 n ++ n ∷ []
-below-more n =
-    let e : n + 1 ≡ suc n = omega arith in
-    let z : 0 + n ≡ n = omega arith in
-    ap (range_with_len 0) e ∙ range_with_len_more 0 n ∙ ap (λ k. range_with_len 0 n ++ k ∷ []) z
+use Rattle.abi_base.proofs.lemmas.Ranges.{range_suc, below_more}
 
 -- a loop that pushes what a function gives, one number on
 pub map-more : {X : Type 0} (f : ℕ → X) (n : ℕ) (list more : List X) (x : X) → list ≡ map f (range_with_len 0 n) → more ≡ list ++ x ∷ [] → x ≡ f n → more ≡ map f (range_with_len 0 (n + 1))
 map-more f n list more x so_far pushed is = pushed ∙ ap (λ y. list ++ y ∷ []) is ∙ ap (λ ys. ys ++ f n ∷ []) so_far ∙ sym (map-range_with_len_more f 0 n n (omega arith))
 
 filter-more : {X : Type 0} (h : ℕ → X) (p : ℕ → Bool) (n : ℕ) → map h (filter p (range_with_len 0 (n + 1))) ≡ map h (filter p (range_with_len 0 n)) ++ map h (filter p (n ∷ []))
-filter-more h p n = ap (λ ks. map h (filter p ks)) (below-more n) ∙ ap (map h) (filter-append p (range_with_len 0 n) (n ∷ [])) ∙ map-append h (filter p (range_with_len 0 n)) (filter p (n ∷ []))
+filter-more h p n = ap (λ ks. map h (filter p ks)) (below_more n) ∙ ap (map h) (filter-append p (range_with_len 0 n) (n ∷ [])) ∙ map-append h (filter p (range_with_len 0 n)) (filter p (n ∷ []))
 
 -- a loop that pushes what passes, one number on
 pub filter-more_pushed : {X : Type 0} (h : ℕ → X) (p : ℕ → Bool) (n : ℕ) (base list more : List X) → list ≡ base ++ map h (filter p (range_with_len 0 n)) → p n ≡ true → more ≡ list ++ h n ∷ [] → more ≡ base ++ map h (filter p (range_with_len 0 (n + 1)))

@@ -6,12 +6,14 @@ use Rattle.std.specs.List.{range_with_len}
 use Rattle.std.proofs.lemmas.List.{length-map}
 use Rattle.std.proofs.lemmas.List.Elements.{filter_agree}
 use Rattle.std.proofs.lemmas.List.Sums.{sum_by-cons}
+use Rattle.abi_base.proofs.lemmas.Options.{option_map-same}
+use Rattle.abi_base.proofs.lemmas.Bools.{and_same}
 use Rattle.abi_types.specs.declared.kind.Way.{Way}
 use Rattle.abi_types.specs.declared.rule.Rule.{Rule}
 use Rattle.abi_types.specs.declared.rule.Rule.TheVariants.{MemberPresence, MemberOffset, BitFieldWidth, EnumeratorPresence, EnumeratorValue, ParameterCount, PassingPlace}
 use Rattle.abi_types.specs.Types.{PlainPart, Member, Enumerator, Target, Element, Outcome, Param, PlainView}
 use Rattle.abi_types.specs.Forms.{is_member, is_enumerator, is_param, is_function}
-use Rattle.abi_types.specs.Graphs.{part_at, no_part, to_of}
+use Rattle.abi_types.specs.Graphs.{part_at, to_of}
 use Rattle.abi_types.specs.Parts.{like, place_of, like_before}
 use Rattle.pair_rules.specs.Same.{same_place}
 use Rattle.pair_rules.specs.Matching.{number_of, match_of}
@@ -21,6 +23,7 @@ use Rattle.pair_rules.specs.Ways.{after}
 use Rattle.pair_rules.specs.Steps.{triple_of, led_by, next_of}
 use Rattle.pair_rules.specs.Stable.{classed}
 use Rattle.abi_types.specs.ClassLooks.{part_seen, view_seen}
+use Rattle.pair_rules.proofs.lemmas.Parts.{get_or-seen, after-seen, part_at-seen, named-seen}
 
 -- ---- what each part says
 
@@ -32,14 +35,6 @@ like-seen f g (Element _) (Element _) = refl
 like-seen f g (Outcome _) (Outcome _) = refl
 like-seen f g (Param _) (Param _) = refl
 like-seen f g _ _ = refl
-
-pub to_of-seen : (f : ℕ → ℕ) (p : PlainPart) → to_of (part_seen f p) ≡ option_map f (to_of p)
-to_of-seen f (Member _ _ _ _) = refl
-to_of-seen f (Enumerator _ _) = refl
-to_of-seen f (Target _) = refl
-to_of-seen f (Element _) = refl
-to_of-seen f (Outcome _) = refl
-to_of-seen f (Param _) = refl
 
 is_member-seen : (f : ℕ → ℕ) (p : PlainPart) → is_member (part_seen f p) ≡ is_member p
 is_member-seen f (Member _ _ _ _) = refl
@@ -69,14 +64,6 @@ value_of-seen : (f : ℕ → ℕ) (p : PlainPart) → value_of (part_seen f p) �
 value_of-seen f (Enumerator _ _) = refl
 value_of-seen f _ = refl
 
-after-seen : (f : ℕ → ℕ) (way : Way) (p : PlainPart) → after way (part_seen f p) ≡ after way p
-after-seen f way (Member _ _ _ _) = refl
-after-seen f way (Enumerator _ _) = refl
-after-seen f way (Target _) = refl
-after-seen f way (Element _) = refl
-after-seen f way (Outcome _) = refl
-after-seen f way (Param _) = refl
-
 -- ---- lists of parts
 
 place_of-map : {X Y : Type 0} (h : X → Y) (p : Y → Bool) (q : X → Bool) → ((x : X) → p (h x) ≡ q x) → (k : ℕ) (xs : List X) → place_of p k (map h xs) ≡ place_of q k xs
@@ -94,16 +81,7 @@ take-map h zero xs = refl
 take-map h (suc i) [] = refl
 take-map h (suc i) (x ∷ xs) = rw (take-map h i xs) refl
 
-get_or-seen : (f : ℕ → ℕ) (ps : List PlainPart) (k : ℕ) → get_or (map (part_seen f) ps) k no_part ≡ part_seen f (get_or ps k no_part)
-get_or-seen f [] k = refl
-get_or-seen f (p ∷ ps) zero = refl
-get_or-seen f (p ∷ ps) (suc k) = get_or-seen f ps k
-
 -- ---- views
-
-pub part_at-seen : (f : ℕ → ℕ) (v : PlainView) (k : ℕ) → part_at (view_seen f v) k ≡ part_seen f (part_at v k)
-unfolding view_seen
-part_at-seen f v k = get_or-seen f v.parts k
 
 pub length-seen : (f : ℕ → ℕ) (v : PlainView) → length (view_seen f v).parts ≡ length v.parts
 unfolding view_seen
@@ -159,9 +137,6 @@ partner_at-is : (v w : PlainView) (i : ℕ) → partner_at v w i ≡ partner_of 
 unfolding partner_at partner_of
 partner_at-is v w i = refl
 
-pub named-seen : (f : ℕ → ℕ) (v : PlainView) (i : ℕ) → to_of (part_at (view_seen f v) i) ≡ option_map f (to_of (part_at v i))
-named-seen f v i = ap to_of (part_at-seen f v i) ∙ to_of-seen f (part_at v i)
-
 pub partner_at-seen : (f g : ℕ → ℕ) (v w : PlainView) (i : ℕ) → partner_at (view_seen f v) (view_seen g w) i ≡ partner_at v w i
 partner_at-seen f g v w i =
     partner_at-is (view_seen f v) (view_seen g w) i
@@ -206,9 +181,6 @@ breaks_whole-seen f g ParameterCount v w =
     ∙ ap (λ n. is_function v.kind && not (params_of v == n)) (params_of-seen g w)
 breaks_whole-seen f g r v w = refl
 
-and_same : (a b c d : Bool) → a ≡ b → c ≡ d → (a && c) ≡ (b && d)
-and_same a b c d p q = ap (λ x. x && c) p ∙ ap (λ y. b && y) q
-
 pub bit_at-seen : (f : ℕ → ℕ) (v : PlainView) (i : ℕ) → bit_at (view_seen f v) i ≡ bit_at v i
 bit_at-seen = said-seen bit_of bit_of-seen
 
@@ -223,10 +195,6 @@ pub value_at-seen : (f : ℕ → ℕ) (v : PlainView) (i : ℕ) → value_at (vi
 value_at-seen f v i =
     ap (λ n. in_bytes n (value_of (part_at (view_seen f v) i))) (size-seen f v)
     ∙ ap (λ n. in_bytes v.size n) (said-seen value_of value_of-seen f v i)
-
-option_map-same : (s t : ℕ → ℕ) → ((j : ℕ) → s j ≡ t j) → (o : Option ℕ) → option_map s o ≡ option_map t o
-option_map-same s t same None = refl
-option_map-same s t same (Some j) = ap Some (same j)
 
 matched-seen : (said : PlainView → ℕ → ℕ) → ((f : ℕ → ℕ) (v : PlainView) (i : ℕ) → said (view_seen f v) i ≡ said v i) → (f g : ℕ → ℕ) (v w : PlainView) (i : ℕ) → differs (said (view_seen f v) i) (matched said (view_seen f v) (view_seen g w) i) ≡ differs (said v i) (matched said v w i)
 matched-seen said unseen f g v w i =

@@ -10,8 +10,8 @@ use Rattle.abi_types.specs.Types.{PlainNode}
 use Rattle.abi_types.specs.Graphs.{IsGraph, view_at, part_at, no_part, inner_of}
 use Rattle.abi_types.specs.Forms.{is_aggregate}
 use Rattle.psabi.specs.Alignment.{other_align, scalar_align, complex_align, vector_align, natural_align, greatest, named_or, inner_align, own_align, align_of}
-use Rattle.psabi.proofs.Recursion.{by_value-induction}
 use Rattle.psabi.proofs.AlignLemmas.{align_of-step}
+use Rattle.abi_types.proofs.lemmas.ByValue.{by_value-induction}
 
 other-bound : (size : ℕ) → other_align size ≤ 64
 other-bound size = go (nat_lt 8 size) refl where

@@ -7,7 +7,7 @@ use Rattle.abi_types.specs.Graphs.{IsGraph, view_at, part_at, no_part, inner_of}
 use Rattle.abi_types.specs.ByValue.{AsksInside}
 use Rattle.abi_types.specs.Forms.{is_aggregate}
 use Rattle.psabi.specs.Alignment.{natural_align, greatest, named_or, inner_align, own_align, align_step, align_of}
-use Rattle.psabi.proofs.Recursion.{by_value-step}
+use Rattle.abi_types.proofs.lemmas.ByValue.{by_value-step}
 
 greatest-same : {X : Type 0} (f g : X → ℕ) (xs : List X) (d : X) → ((k : ℕ) → k < length xs → f (get_or xs k d) ≡ g (get_or xs k d)) → greatest f xs ≡ greatest g xs
 unfolding greatest

@@ -11,6 +11,7 @@ use Rattle.abi_types.specs.declared.place.Place.TheVariants as place
 use Rattle.std.proofs.lemmas.List.{take_more, take_all}
 use Rattle.std.proofs.lemmas.List.Elements.{filter_map-append}
 use Rattle.std.proofs.lemmas.List.Sums.{fold-append, sum_by_more}
+use Rattle.abi_base.proofs.lemmas.Bools.{or_is_false}
 use Rattle.abi_types.specs.Types.{PlainPart, Member, Enumerator, Target, Element, Outcome, Param, PlainView, PlainNode}
 use Rattle.abi_types.specs.Forms.{is_function, no_call}
 use Rattle.abi_types.specs.Graphs.{no_part, to_of, room_of, view_at, param_of, params_of}
@@ -41,16 +42,12 @@ pub place-registers : (t : ArgumentRegisters) (size align : ℕ) (cs : List Clas
 unfolding place_in taken_with
 place-registers t size align cs some stack = (rw (some, stack) refl, rw (some, stack) refl)
 
-or-false : (a b : Bool) → (a || b) ≡ false → (a ≡ false) × (b ≡ false)
-or-false true b e = cc
-or-false false b e = (refl, e)
-
 -- registers suffice for an argument that does not go to the stack
 pub registers-suffice : (t : ArgumentRegisters) (cs : List Class) → goes_to_stack t cs ≡ false → (t.general + general_count cs ≤ 6) × (t.vector + vector_count cs ≤ 8)
 unfolding goes_to_stack
 registers-suffice t cs e =
-    let first = or-false (list_any is_stacked cs || nat_lt 6 (t.general + general_count cs)) (nat_lt 8 (t.vector + vector_count cs)) e in
-    let second = or-false (list_any is_stacked cs) (nat_lt 6 (t.general + general_count cs)) first.0 in
+    let first = or_is_false (list_any is_stacked cs || nat_lt 6 (t.general + general_count cs)) (nat_lt 8 (t.vector + vector_count cs)) e in
+    let second = or_is_false (list_any is_stacked cs) (nat_lt 6 (t.general + general_count cs)) first.0 in
     (ltb-false 6 (t.general + general_count cs) second.1, ltb-false 8 (t.vector + vector_count cs) first.1)
 
 -- ---- the stack

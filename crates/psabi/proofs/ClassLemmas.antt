@@ -5,6 +5,7 @@ use Rattle.std.specs.List.{fold, list_all}
 use Rattle.std.proofs.lemmas.List.FromFn.{fill_by_all}
 use Rattle.std.proofs.lemmas.Bool.{le-ltb, lt-ltb}
 use Rattle.std.proofs.lemmas.Bool.Decides.{nat_tests}
+use Rattle.abi_base.proofs.lemmas.Bools.{or_true}
 use Rattle.abi_types.specs.declared.kind.Kind.{Kind}
 use Rattle.abi_types.specs.declared.kind.Kind.TheVariants as kind
 use Rattle.abi_types.specs.declared.kind.Group.{Group}
@@ -50,17 +51,6 @@ aligned-from_merging nodes i r s e eightbytes =
     let held : MergesLeaves (leaves_of nodes i 0 0) nothing_merged s = subst P e eightbytes in
     sym held.aligned
 
-pub aggregate-no_leaf : (k : Kind) → is_aggregate k ≡ true → is_leaf k ≡ false
-aggregate-no_leaf kind.Structure e = refl
-aggregate-no_leaf kind.Union e = refl
-aggregate-no_leaf kind.Array e = refl
-aggregate-no_leaf kind.Void e = cc
-aggregate-no_leaf kind.Scalar e = cc
-aggregate-no_leaf kind.Pointer e = cc
-aggregate-no_leaf kind.Enumeration e = cc
-aggregate-no_leaf kind.Vector e = cc
-aggregate-no_leaf kind.Function e = cc
-
 pub classes-leaf : (nodes : List PlainNode) (i : ℕ) → is_leaf (view_at nodes i).kind ≡ true → classes_of nodes i ≡ row (view_at nodes i).kind (view_at nodes i).group (view_at nodes i).size
 unfolding classes_of
 classes-leaf nodes i leaf = rw leaf refl
@@ -73,10 +63,6 @@ classes-memory : (nodes : List PlainNode) (i : ℕ) → is_leaf (view_at nodes i
 unfolding classes_of
 classes-memory nodes i leaf whole memory = rw (leaf, whole, memory) refl
 
-or-true : (b : Bool) → (b || true) ≡ true
-or-true true = refl
-or-true false = refl
-
 pub classes-large : (nodes : List PlainNode) (i : ℕ) → is_leaf (view_at nodes i).kind ≡ false → is_aggregate (view_at nodes i).kind ≡ true → 64 < (view_at nodes i).size → classes_of nodes i ≡ all_memory_class
 unfolding in_memory
 classes-large nodes i leaf whole lt =
@@ -87,13 +73,13 @@ classes-large nodes i leaf whole lt =
 pub classes-past : (nodes : List PlainNode) (i : ℕ) → is_leaf (view_at nodes i).kind ≡ false → is_aggregate (view_at nodes i).kind ≡ true → ends_past nodes i ≡ true → classes_of nodes i ≡ all_memory_class
 unfolding in_memory
 classes-past nodes i leaf whole past =
-    let memory : in_memory nodes i ≡ true = rw (past, or-true (nat_lt 64 (view_at nodes i).size)) refl in
+    let memory : in_memory nodes i ≡ true = rw (past, or_true (nat_lt 64 (view_at nodes i).size)) refl in
     classes-memory nodes i leaf whole memory
 
 pub classes-unaligned : (nodes : List PlainNode) (i : ℕ) → is_leaf (view_at nodes i).kind ≡ false → is_aggregate (view_at nodes i).kind ≡ true → list_all is_aligned (leaves_of nodes i 0 0) ≡ false → classes_of nodes i ≡ all_memory_class
 unfolding in_memory
 classes-unaligned nodes i leaf whole odd =
-    let memory : in_memory nodes i ≡ true = rw odd (or-true (nat_lt 64 (view_at nodes i).size || ends_past nodes i)) in
+    let memory : in_memory nodes i ≡ true = rw odd (or_true (nat_lt 64 (view_at nodes i).size || ends_past nodes i)) in
     classes-memory nodes i leaf whole memory
 
 pub classes-merged : (nodes : List PlainNode) (i : ℕ) → is_leaf (view_at nodes i).kind ≡ false → is_aggregate (view_at nodes i).kind ≡ true → (view_at nodes i).size ≤ 64 → ends_past nodes i ≡ false → list_all is_aligned (leaves_of nodes i 0 0) ≡ true → classes_of nodes i ≡ cleaned_up (merged nodes i) (view_at nodes i).size

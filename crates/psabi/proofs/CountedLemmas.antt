@@ -7,6 +7,7 @@ use Rattle.std.proofs.lemmas.List.{take_more_same, take_all}
 use Rattle.std.proofs.lemmas.Option.{slice_get-get_or, get_or_from_slice_get}
 use Rattle.std.proofs.lemmas.Nat.{div-add-mod'}
 use Rattle.std.proofs.Math.Nat.{mod-lt, mul-le-mul_right}
+use Rattle.abi_base.proofs.lemmas.Bools.{not_is_true, not_is_false}
 use Rattle.abi_types.specs.declared.kind.Kind.TheVariants as kind
 use Rattle.abi_types.specs.declared.place.Place.{Place}
 use Rattle.abi_types.specs.declared.place.Place.TheVariants as place
@@ -48,14 +49,6 @@ stack-or-fits t cs =
     rw (more-than 6 (t.general + general_count cs), more-than 8 (t.vector + vector_count cs))
     (or-not (list_any is_stacked cs) (nat_le (t.general + general_count cs) 6) (nat_le (t.vector + vector_count cs) 8))
 
-not-true : (b : Bool) → not b ≡ true → b ≡ false
-not-true true e = cc
-not-true false e = refl
-
-not-false : (b : Bool) → not b ≡ false → b ≡ true
-not-false true e = refl
-not-false false e = cc
-
 same-slots : (t : ArgumentRegisters) (cs : List Class) → argument_slots t cs ≡ slots_after t.general t.vector cs
 unfolding argument_slots
 same-slots t cs = refl
@@ -69,10 +62,10 @@ place-counted t a = go (has_no_place a.size a.classes) (goes_to_stack t a.classe
   go : (x y : Bool) → has_no_place a.size a.classes ≡ x → goes_to_stack t a.classes ≡ y → place_in t a.size a.align a.classes ≡ place_after t.general t.vector t.stack a
   go true y none stack = (place-none t a.size a.align a.classes none).0 ∙ rw none refl
   go false true some stack =
-      let not_fit : fits t.general t.vector a.classes ≡ false = not-true (fits t.general t.vector a.classes) (sym (stack-or-fits t a.classes) ∙ stack) in
+      let not_fit : fits t.general t.vector a.classes ≡ false = not_is_true (fits t.general t.vector a.classes) (sym (stack-or-fits t a.classes) ∙ stack) in
       (place-stack t a.size a.align a.classes some stack).0 ∙ same-stack t a ∙ rw (some, not_fit) refl
   go false false some stack =
-      let fit : fits t.general t.vector a.classes ≡ true = not-false (fits t.general t.vector a.classes) (sym (stack-or-fits t a.classes) ∙ stack) in
+      let fit : fits t.general t.vector a.classes ≡ true = not_is_false (fits t.general t.vector a.classes) (sym (stack-or-fits t a.classes) ∙ stack) in
       (place-registers t a.size a.align a.classes some stack).0 ∙ ap place.Registers (same-slots t a.classes) ∙ rw (some, fit) refl
 
 -- what is taken after an argument, by its place

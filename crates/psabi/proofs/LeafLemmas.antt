@@ -1,6 +1,6 @@
 -- The leaves of a node are its step.
 use Rattle.std.proofs.Common.{◌≡◌, ◌<◌, ◌≤◌, ◌+◌, ◌*◌, ◌∙◌, ℕ, List, [], ◌∷◌, ◌++◌, length, get_or, Option, Some, None, ◌≢◌, refl, ap, subst, append-nil, arith}
-use Rattle.std.specs.Prelude.{Bool, true, false, ◌||◌, ◌==◌, nat_lt}
+use Rattle.std.specs.Prelude.{Bool, true, false, ◌==◌, nat_lt}
 use Rattle.std.specs.List.{flat_map, list_any, range_with_len}
 use Rattle.std.proofs.lemmas.List.Concat.{flat_map-append}
 use Rattle.abi_types.specs.declared.kind.Kind.TheVariants as kind
@@ -14,23 +14,20 @@ use Rattle.psabi.specs.Merging.{MergesLeaves}
 use Rattle.psabi.proofs.Merges.{MergesLeaves-none, MergesLeaves-append}
 use Rattle.std.proofs.lemmas.List.Folds.{list_any_at}
 use Rattle.std.proofs.lemmas.Bool.{ltb-false}
+use Rattle.abi_base.proofs.lemmas.Ranges.{range_more_to}
+use Rattle.abi_base.proofs.lemmas.Orders.{not_zero}
+use Rattle.abi_base.proofs.lemmas.Bools.{or_is_false, or_true}
 use Rattle.psabi.proofs.Named.{to_from_inner}
 use Rattle.psabi.proofs.PastLemmas.{ends_past-step, element-room}
-use Rattle.psabi.proofs.Ranges.{range-more}
 use Rattle.abi_types.specs.Inside.{Inside, member_inside, element_inside, inside_at, count_inside}
 use Rattle.abi_types.specs.Leaves.{leaf_of, leaves_inside, leaves_of_all, leaves_of, LeavesAreThoseInside}
 use Rattle.psabi.specs.Past.{extent, ends_past, part_past}
-
-same_Some_Inside : (x y : Inside) → Some x ≡ Some y → x ≡ y
-same_Some_Inside x y e = cc
-
-is_zero : (n : ℕ) → n ≢ 0 → (n == 0) ≡ false
-is_zero n ne = grind arith
+use Rattle.abi_types.proofs.lemmas.Kinds.{same_Some_Inside}
 
 leaves_of_all-more : (nodes : List PlainNode) (f : ℕ → ℕ → ℕ → List Leaf) (v : PlainView) (bit n : ℕ) → leaves_of_all nodes f v bit (n + 1) ≡ leaves_of_all nodes f v bit n ++ leaves_inside f bit (inside_at nodes v n)
 leaves_of_all-more nodes f v bit n =
     let F = λ (k : ℕ). leaves_inside f bit (inside_at nodes v k) in
-    ap (flat_map F) (range-more 0 n n (omega arith)) ∙ flat_map-append F (range_with_len 0 n) (n ∷ []) ∙ ap (λ (xs : List Leaf). flat_map F (range_with_len 0 n) ++ xs) (append-nil (F n))
+    ap (flat_map F) (range_more_to 0 n n (omega arith)) ∙ flat_map-append F (range_with_len 0 n) (n ∷ []) ∙ ap (λ (xs : List Leaf). flat_map F (range_with_len 0 n) ++ xs) (append-nil (F n))
 
 -- ---- what is merged on the way
 
@@ -38,10 +35,10 @@ pub merges-zero : LeavesAreThoseInside → (nodes : List PlainNode) → IsGraph 
 merges-zero steps nodes is i bit width s e = rw (steps nodes is i bit width, e) (MergesLeaves-none s)
 
 pub merges-leaf : LeavesAreThoseInside → (nodes : List PlainNode) → IsGraph nodes → (i bit width : ℕ) (a b : Eightbytes) → (view_at nodes i).size ≢ 0 → is_leaf (view_at nodes i).kind ≡ true → MergesLeaves (leaf_of (view_at nodes i) bit width ∷ []) a b → MergesLeaves (leaves_of nodes i bit width) a b
-merges-leaf steps nodes is i bit width a b ne leaf e = rw (steps nodes is i bit width, is_zero (view_at nodes i).size ne, leaf) e
+merges-leaf steps nodes is i bit width a b ne leaf e = rw (steps nodes is i bit width, not_zero (view_at nodes i).size ne, leaf) e
 
 pub merges-whole : LeavesAreThoseInside → (nodes : List PlainNode) → IsGraph nodes → (i bit width n : ℕ) (a b : Eightbytes) → (view_at nodes i).size ≢ 0 → is_leaf (view_at nodes i).kind ≡ false → is_aggregate (view_at nodes i).kind ≡ true → n ≡ count_inside (view_at nodes i) → MergesLeaves (leaves_of_all nodes (leaves_of nodes) (view_at nodes i) bit n) a b → MergesLeaves (leaves_of nodes i bit width) a b
-merges-whole steps nodes is i bit width n a b ne leaf whole all e = rw (steps nodes is i bit width, is_zero (view_at nodes i).size ne, leaf, whole, ← all) e
+merges-whole steps nodes is i bit width n a b ne leaf whole all e = rw (steps nodes is i bit width, not_zero (view_at nodes i).size ne, leaf, whole, ← all) e
 
 pub merges-more : (nodes : List PlainNode) (v : PlainView) (bit n : ℕ) (x : Inside) (a b c : Eightbytes) → inside_at nodes v n ≡ Some x → MergesLeaves (leaves_of_all nodes (leaves_of nodes) v bit n) a b → MergesLeaves (leaves_of nodes x.to (bit + x.bit) x.width) b c → MergesLeaves (leaves_of_all nodes (leaves_of nodes) v bit (n + 1)) a c
 merges-more nodes v bit n x a b c e f g = rw (leaves_of_all-more nodes (leaves_of nodes) v bit n, e) (MergesLeaves-append _ _ a b c f g)
@@ -57,14 +54,6 @@ list_any-none p xs k d lt e = go (p (get_or xs k d)) refl where
   go true is = let any = list_any_at p xs k d lt is in cc
   go false is = is
 
-or-false : (a b : Bool) → (a || b) ≡ false → (a ≡ false) × (b ≡ false)
-or-false true b e = cc
-or-false false b e = (refl, e)
-
-or-true_right : (b : Bool) → (b || true) ≡ true
-or-true_right true = refl
-or-true_right false = refl
-
 part-kept : (nodes : List PlainNode) → IsGraph nodes → (i k : ℕ) → is_aggregate (view_at nodes i).kind ≡ true → ends_past nodes i ≡ false → k < length (view_at nodes i).parts → part_past nodes (ends_past nodes) (view_at nodes i) (part_at (view_at nodes i) k) ≡ false
 part-kept nodes is i k whole kept lt =
     let step = ends_past-step nodes is i in
@@ -78,7 +67,7 @@ pub record IsKept (nodes : List PlainNode) (size : ℕ) (x : Inside) : Type 0 wh
 member-kept : (nodes : List PlainNode) (v : PlainView) (p : PlainPart) (x : Inside) → member_inside p ≡ Some x → part_past nodes (ends_past nodes) v p ≡ false → IsKept nodes v.size x
 member-kept nodes v (Member name bit width to) x e past =
     let same = same_Some_Inside _ _ e in
-    let both = or-false (nat_lt (8 * v.size) (bit + extent nodes width to)) (ends_past nodes to) past in
+    let both = or_is_false (nat_lt (8 * v.size) (bit + extent nodes width to)) (ends_past nodes to) past in
     subst (IsKept nodes v.size) same (record { kept = both.1; room = ltb-false (8 * v.size) (bit + extent nodes width to) both.0 })
 member-kept nodes v (Enumerator name value) x e past = cc
 member-kept nodes v (Target at) x e past = cc
@@ -119,7 +108,7 @@ element-led nodes v to n lt element past =
     let P : PlainPart → Type 0 = λ p. part_past nodes (ends_past nodes) v p ≡ false in
     let held : part_past nodes (ends_past nodes) v (Element to) ≡ false = subst P element past in
     let ne : v.count ≢ 0 = omega arith in
-    rw (is_zero v.count ne) at held
+    rw (not_zero v.count ne) at held
 
 element-kept : (nodes : List PlainNode) → IsGraph nodes → (i n : ℕ) (x : Inside) (o : Option ℕ) → (view_at nodes i).kind ≡ kind.Array → n < (view_at nodes i).count → inner_of (part_at (view_at nodes i) 0) ≡ o → element_inside nodes o n ≡ Some x → part_past nodes (ends_past nodes) (view_at nodes i) (part_at (view_at nodes i) 0) ≡ false → IsKept nodes (view_at nodes i).size x
 element-kept nodes is i n x None array lt named e past = cc
@@ -143,4 +132,4 @@ inside-kept nodes is i n x whole kept lt e = go (is_array (view_at nodes i).kind
 
 -- an aggregate takes all its bytes, whatever its width
 pub extent-whole : (nodes : List PlainNode) (width i : ℕ) → is_aggregate (view_at nodes i).kind ≡ true → extent nodes width i ≡ 8 * (view_at nodes i).size
-extent-whole nodes width i whole = rw (whole, or-true_right (width == 0)) refl
+extent-whole nodes width i whole = rw (whole, or_true (width == 0)) refl

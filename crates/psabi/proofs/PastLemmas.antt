@@ -5,14 +5,15 @@ use Rattle.std.specs.List.{list_any}
 use Rattle.std.proofs.lemmas.List.{take_all}
 use Rattle.std.proofs.lemmas.List.Folds.{list_any_more, list_any_at}
 use Rattle.std.proofs.Math.Nat.{mul-le-mul_left}
+use Rattle.abi_base.proofs.lemmas.Bools.{and_false}
 use Rattle.abi_types.specs.declared.kind.Kind.TheVariants as kind
 use Rattle.abi_types.specs.Types.{PlainPart, Member, Enumerator, Target, Element, Outcome, Param, PlainView, PlainNode}
 use Rattle.abi_types.specs.Forms.{has_elements, is_aggregate}
 use Rattle.abi_types.specs.Graphs.{IsGraph, view_at, part_at, no_part, to_of, inner_of}
 use Rattle.abi_types.specs.ByValue.{AsksInside}
 use Rattle.psabi.specs.Past.{own_past, led_to, part_past, past_step, ends_past}
-use Rattle.psabi.proofs.Recursion.{by_value-step}
 use Rattle.psabi.proofs.AlignLemmas.{named_or-same}
+use Rattle.abi_types.proofs.lemmas.ByValue.{by_value-step}
 
 -- ---- elements
 
@@ -38,10 +39,6 @@ list_any-same p q (x ∷ xs) d same =
     let here : p x ≡ q x = same 0 (omega arith) in
     let later = list_any-same p q xs d (λ k lt. same (suc k) (omega arith)) in
     rw (here, later) refl
-
-and-false : (b : Bool) → (b && false) ≡ false
-and-false true = refl
-and-false false = refl
 
 inner_from_led : (v : PlainView) (p : PlainPart) (to : ℕ) → led_to v p ≡ Some to → inner_of p ≡ Some to
 inner_from_led v (Member name bit width at) to e = e
@@ -81,7 +78,7 @@ pub past-none : (nodes : List PlainNode) → IsGraph nodes → (i k : ℕ) → l
 past-none nodes is i k past e =
     let all = take_all k (view_at nodes i).parts past in
     let none : list_any (part_past nodes (ends_past nodes) (view_at nodes i)) (view_at nodes i).parts ≡ false = rw (← all) e in
-    rw (ends_past-step nodes is i, none) (and-false (is_aggregate (view_at nodes i).kind))
+    rw (ends_past-step nodes is i, none) (and_false (is_aggregate (view_at nodes i).kind))
 
 -- one more part
 pub past-more : (nodes : List PlainNode) (v : PlainView) (k : ℕ) → k < length v.parts → list_any (part_past nodes (ends_past nodes) v) (take k v.parts) ≡ false → part_past nodes (ends_past nodes) v (part_at v k) ≡ false → list_any (part_past nodes (ends_past nodes) v) (take (k + 1) v.parts) ≡ false

@@ -1,31 +1,17 @@
--- A step that asks only of what stands inside is its own recursion equation.
+-- Steps that agree give the same, over nodes of the same ranks.
 use Rattle.std.proofs.Common.{◌≡◌, ◌<◌, ℕ, zero, suc, List, Some, refl, ap, ◌∙◌, arith}
 use Rattle.abi_types.specs.Types.{PlainNode}
-use Rattle.abi_types.specs.Graphs.{IsGraph, node_at, view_at, part_at, inner_of}
-use Rattle.abi_types.specs.ByValue.{within, by_value, AsksInside}
+use Rattle.abi_types.specs.Graphs.{node_at}
+use Rattle.abi_types.specs.ByValue.{within, by_value}
 
--- more steps than the rank add nothing
-within-enough : {X : Type 0} (d : X) (step : (ℕ → X) → ℕ → X) (nodes : List PlainNode) → IsGraph nodes → AsksInside nodes step → (m n i : ℕ) → (node_at nodes i).rank < m → (node_at nodes i).rank < n → within d step m i ≡ within d step n i
-unfolding within
-within-enough d step nodes is asks zero n i lm ln = absurd (omega arith)
-within-enough d step nodes is asks (suc m) zero i lm ln = absurd (omega arith)
-within-enough d step nodes is asks (suc m) (suc n) i lm ln =
-    asks (within d step m) (within d step n) i (λ k to e. let less = is.falls i k to e in within-enough d step nodes is asks m n to (omega arith) (omega arith))
-
-pub by_value-step : {X : Type 0} (d : X) (step : (ℕ → X) → ℕ → X) (nodes : List PlainNode) → IsGraph nodes → AsksInside nodes step → (i : ℕ) → by_value d step nodes i ≡ step (by_value d step nodes) i
-unfolding by_value within
-by_value-step d step nodes is asks i =
-    asks (within d step (node_at nodes i).rank) (by_value d step nodes) i
-    (λ k to e. let less = is.falls i k to e in within-enough d step nodes is asks (node_at nodes i).rank (suc (node_at nodes to).rank) to (omega arith) (omega arith))
-
-same_functions : {A B : Type 0} (f g : A → B) → ((a : A) → f a ≡ g a) → f ≡ g
-same_functions f g same = λ i a. same a i
+same_everywhere : {A B : Type 0} (f g : A → B) → ((a : A) → f a ≡ g a) → f ≡ g
+same_everywhere f g same = λ i a. same a i
 
 within-same : {X : Type 0} (d : X) (step other : (ℕ → X) → ℕ → X) → ((f : ℕ → X) (i : ℕ) → step f i ≡ other f i) → (n i : ℕ) → within d step n i ≡ within d other n i
 unfolding within
 within-same d step other same zero i = refl
 within-same {X} d step other same (suc n) i =
-    ap (λ (f : ℕ → X). step f i) (same_functions (within d step n) (within d other n) (within-same d step other same n)) ∙ same (within d other n) i
+    ap (λ (f : ℕ → X). step f i) (same_everywhere (within d step n) (within d other n) (within-same d step other same n)) ∙ same (within d other n) i
 
 -- over nodes of the same ranks, steps that agree give the same: so what a step over a graph gives does not change with the
 -- places of calls, where the step does not ask for them
@@ -33,11 +19,3 @@ pub by_value-same : {X : Type 0} (d : X) (step other : (ℕ → X) → ℕ → X
     → by_value d step nodes i ≡ by_value d other others i
 unfolding by_value
 by_value-same d step other nodes others ranks same i = ap (λ (rank : ℕ). within d step (suc rank) i) (ranks i) ∙ within-same d step other same (suc (node_at others i).rank) i
-
-induction-below : (P : ℕ → Type 0) (nodes : List PlainNode) → IsGraph nodes → ((i : ℕ) → ((k to : ℕ) → inner_of (part_at (view_at nodes i) k) ≡ Some to → P to) → P i) → (n i : ℕ) → (node_at nodes i).rank < n → P i
-induction-below P nodes is step zero i lt = absurd (omega arith)
-induction-below P nodes is step (suc n) i lt = step i (λ k to e. let less = is.falls i k to e in induction-below P nodes is step n to (omega arith))
-
--- what holds of a node where it holds of all that its parts name by value holds of every node
-pub by_value-induction : (P : ℕ → Type 0) (nodes : List PlainNode) → IsGraph nodes → ((i : ℕ) → ((k to : ℕ) → inner_of (part_at (view_at nodes i) k) ≡ Some to → P to) → P i) → (i : ℕ) → P i
-by_value-induction P nodes is step i = induction-below P nodes is step (suc (node_at nodes i).rank) i (omega arith)

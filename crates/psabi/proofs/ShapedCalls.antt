@@ -1,10 +1,11 @@
 -- Calls do not change with the places of calls that nodes hold.
 use Rattle.std.proofs.Common.{◌≡◌, ◌<◌, ◌≤◌, ◌∙◌, ℕ, List, [], ◌∷◌, length, map, Option, Some, None, refl, ap, arith, inl, inr}
 use Rattle.std.specs.Prelude.{Bool, true, false}
-use Rattle.std.specs.List.{flat_map, fold, list_any, range_with_len}
+use Rattle.std.specs.List.{fold, list_any, range_with_len}
 use Rattle.std.proofs.lemmas.Bool.{cases_lt}
 use Rattle.std.proofs.lemmas.List.{get_or_past}
 use Rattle.std.proofs.lemmas.List.FromFn.{get_or-map-range_with_len}
+use Rattle.abi_base.proofs.lemmas.Lists.{flat_map-same, same_functions}
 use Rattle.abi_types.specs.declared.leaf.Leaf.{Leaf}
 use Rattle.abi_types.specs.declared.place.Place.TheVariants as place
 use Rattle.abi_types.specs.declared.place.CallShape.{CallShape}
@@ -26,17 +27,11 @@ use Rattle.psabi.specs.Arguments.{place_of_node, taken_with_node, places}
 use Rattle.psabi.specs.Results.{result_of_node, outcome_of, registers_of_result}
 use Rattle.psabi.specs.Calls.{call_of, calls_of}
 use Rattle.psabi.proofs.CallLemmas.{call-none}
-
-flat_map-same : {X A : Type 0} (f g : X → List A) (xs : List X) → ((x : X) → f x ≡ g x) → flat_map f xs ≡ flat_map g xs
-flat_map-same f g [] same = refl
-flat_map-same f g (x ∷ xs) same = let later = flat_map-same f g xs same in rw (same x, later) refl
+use Rattle.abi_types.proofs.lemmas.Shaped.{node_at-shaped}
 
 list_any-same : {X : Type 0} (p q : X → Bool) (xs : List X) → ((x : X) → p x ≡ q x) → list_any p xs ≡ list_any q xs
 list_any-same p q [] same = refl
 list_any-same p q (x ∷ xs) same = let later = list_any-same p q xs same in rw (same x, later) refl
-
-same_functions : {A B C : Type 0} (f g : A → B → C) → ((a : A) (b : B) → f a b ≡ g a b) → f ≡ g
-same_functions f g same = λ i a b. same a b i
 
 module _ (nodes others : List PlainNode) (same : (i : ℕ) → IsSameButCall (node_at nodes i) (node_at others i)) where
   rank-same : (i : ℕ) → (node_at others i).rank ≡ (node_at nodes i).rank
@@ -153,10 +148,6 @@ module _ (nodes others : List PlainNode) (same : (i : ℕ) → IsSameButCall (no
 
 call_at-calls_of : (nodes : List PlainNode) (i : ℕ) → i < length nodes → call_at (calls_of nodes) i ≡ call_of nodes i
 call_at-calls_of nodes i lt = get_or-map-range_with_len (call_of nodes) 0 (length nodes) i i no_call lt (omega arith)
-
-node_at-shaped : (nodes : List PlainNode) (calls : List CallShape) (i : ℕ) → i < length nodes → node_at (shaped nodes calls) i ≡ shaped_node (node_at nodes i) (call_at calls i)
-unfolding shaped
-node_at-shaped nodes calls i lt = get_or-map-range_with_len (λ i. shaped_node (node_at nodes i) (call_at calls i)) 0 (length nodes) i i void_node lt (omega arith)
 
 given-inside : (nodes : List PlainNode) → IsGraph nodes → (i : ℕ) → i < length nodes → (view_at (shaped nodes (calls_of nodes)) i).call ≡ call_of nodes i
 given-inside nodes is i lt = ap (λ (n : PlainNode). n.view.call) (node_at-shaped nodes (calls_of nodes) i lt) ∙ ap (λ (call : CallShape). (shaped_node (node_at nodes i) call).view.call) (call_at-calls_of nodes i lt) ∙ go (is_function (view_at nodes i).kind) refl where

@@ -7,7 +7,7 @@ use crate::found::{Found, found_at};
 use crate::kinds::is_aggregate;
 use crate::overlong_members::ends_past;
 use crate::sizes::OBJECT_LIMIT;
-use abi_base::NoMemory;
+use abi_base::{Limit, NoMemory};
 use abi_types::{Graph, Index, Kind, View};
 use std::alloc::Global;
 use std::marker::Model;
@@ -126,7 +126,7 @@ impl Walks {
         }
         let steps = steps_of(graph, ix, self.steps.as_mut_slice());
         if steps > self.left {
-            return Err(NoMemory);
+            return Err(NoMemory::Past(Limit::Leaves));
         }
         self.left -= steps;
         Ok(())

@@ -2,6 +2,7 @@
 use Rattle.std.proofs.Common.{◌≡◌, ℕ, List, [], ◌∷◌, ◌++◌, Option, Some, None, refl, sym, ap, ◌∙◌, codes, decimal, unwrap_or}
 use Rattle.std.specs.List.{concat}
 use Rattle.std.specs.Option.{option_map}
+use Rattle.abi_base.proofs.lemmas.Options.{option_map-same}
 use Rattle.abi_types.specs.declared.rule.Rule.{Rule}
 use Rattle.abi_types.specs.declared.rule.Rule.TheVariants.{LibrarySoname, ExportPresence, ExportVersion, ExportKind, ExportSize, ExportType, KindOfType, TypeSize, ScalarGroup, TypeAlignment, DeclarationTag, MemberPresence, MemberOffset, BitFieldWidth, EnumeratorPresence, EnumeratorValue, ElementCount, ParameterCount, VariadicArguments, PassingPlace}
 use Rattle.abi_types.specs.Types.{PlainPart, Member, Enumerator, Target, Element, Outcome, Param, PlainView}
@@ -39,10 +40,6 @@ places_change-seen f g h (Target to) number v w = refl
 places_change-seen f g h (Element to) number v w = refl
 places_change-seen f g h (Outcome to) number v w = refl
 places_change-seen f g h (Param to) number v w = refl
-
-option_map-same : (s t : ℕ → ℕ) → ((j : ℕ) → s j ≡ t j) → (o : Option ℕ) → option_map s o ≡ option_map t o
-option_map-same s t same None = refl
-option_map-same s t same (Some j) = ap Some (same j)
 
 part_change-same : (sort said : List ℕ) (say : PlainView → ℕ → ℕ) (v v' w w' : PlainView) (i : ℕ) → part_name v' i ≡ part_name v i → say v' i ≡ say v i → matched say v' w' i ≡ matched say v w i
     → part_change sort said say v' w' i ≡ part_change sort said say v w i

@@ -88,3 +88,8 @@ type_is EnumeratorPresence v w i = Nothing
 type_is EnumeratorValue v w i = Number (unwrap_or (matched value_at v w i) 0)
 type_is PassingPlace v w i = Word (place_text (place_of (part_at v i) (number_of v i) w))
 type_is other v w i = whole_value other w
+
+-- the text of a word, and none of other values
+abbrev pub text_of : Value → List ℕ
+text_of (Word text) = text
+text_of value = []

@@ -1,5 +1,6 @@
 // A value of a rule.
 ghost use Rattle.std.specs.Prelude.{◌≡◌, IfOk};
+ghost use Rattle.report.specs.Values.{text_of};
 
 use abi_base::{List, NoMemory};
 use std::alloc::Global;
@@ -33,6 +34,16 @@ impl Value {
             Value::Count(number) => Ok(Value::Count(*number)),
             Value::Number(number) => Ok(Value::Number(*number)),
             Value::Word(text) => Ok(Value::Word(List::copy_of(alloc, text.as_slice())?)),
+        }
+    }
+
+    /// The text of a word, and none of other values.
+    pub fn text(&self) -> &[u8]
+        ensures { result.now ≡ text_of self.now }
+    {
+        match self {
+            Value::Word(text) => text.as_slice(),
+            _ => &[],
         }
     }
 }

@@ -1,19 +1,20 @@
 -- The exports that a library does not have, one after another.
-use Rattle.std.proofs.Common.{◌≡◌, ℕ, Bool, true, false, List, [], ◌∷◌, Option, Some, refl, sym, ◌∙◌, ap, inl, inr}
-use Rattle.std.specs.Prelude.{flat_map, slice_get}
+use Rattle.std.proofs.Common.{◌≡◌, ℕ, Bool, true, false, ◌&&◌, List, [], ◌∷◌, length, Option, None, Some, refl, sym, ◌∙◌, ap, inl, inr, arith}
+use Rattle.std.specs.Prelude.{◌==◌, not, flat_map, slice_get}
 use Rattle.std.specs.List.{list_any}
-use Rattle.std.specs.Option.{option_map_or}
-use Rattle.std.proofs.lemmas.Bool.{cases_Bool, and_parts, false≢true}
+use Rattle.std.proofs.Math.Dec.{eqb-suc-zero}
+use Rattle.std.proofs.lemmas.Bool.{cases_Bool, and_parts}
 use Rattle.std.proofs.lemmas.List.Folds.{flat_map-map, Any-from_list_any, list_any_at}
-use Rattle.std.proofs.lemmas.Option.{slice_get_cases, slice_get_within, get_or_from_slice_get, slice_get-get_or}
+use Rattle.std.proofs.lemmas.Option.{same_Some, slice_get_within, get_or_from_slice_get, slice_get-get_or}
 use Rattle.std.proofs.lemmas.Slice.Eq.{bytes_eq-Decides}
+use Rattle.abi_base.proofs.lemmas.Bools.{and_of_true}
+use Rattle.abi_base.proofs.lemmas.Contained.{at_front, in_none}
 use Rattle.abi_types.specs.declared.export.Export.{Export}
 use Rattle.abi_types.specs.Exports.{PlainExport}
-use Rattle.abi_types.specs.Names.{AreNamed}
 use Rattle.abi_types.specs.Plain.{plain_export, plain_exports}
+use Rattle.abi_types.specs.Versions.{AreVersioned}
 use Rattle.elf_bind.specs.Binding.{has_version, is_named}
 use Rattle.elf_bind.specs.Exports.{same_name}
-use Rattle.elf_bind.specs.Named.{passes_at}
 use Rattle.type_notes.specs.declared.note.Note.{Note}
 use Rattle.side_notes.specs.Added.{added_note, added_notes, has_export, notes_if_added}
 
@@ -31,45 +32,40 @@ added_all old (e ∷ es) =
 pub added_each : (old : List PlainExport) (es : List Export) (plain : List PlainExport) → plain_exports es ≡ plain → flat_map (λ (e : Export). notes_if_added old (plain_export e)) es ≡ added_notes old plain
 added_each old es plain is = sym (flat_map-map (notes_if_added old) plain_export es) ∙ ap (flat_map (notes_if_added old)) is ∙ added_all old plain
 
--- ---- whether an export is among those of a name
+-- ---- whether an export is among those of a name and a version
 
-passes : (q : PlainExport → Bool) (exports : List PlainExport) (k : ℕ) (e : PlainExport) → slice_get exports k ≡ Some e → passes_at q exports k ≡ q e
-passes q exports k e at = ap (λ (o : Option PlainExport). option_map_or q o false) at
+same_version : (a b : Option (List ℕ)) → a ≡ b → same_name a b ≡ true
+same_version None None e = refl
+same_version None (Some y) e = cc
+same_version (Some x) None e = cc
+same_version (Some x) (Some y) e = (bytes_eq-Decides x y).1 (same_Some x y e)
 
-passed : (q : PlainExport → Bool) (exports : List PlainExport) (k : ℕ) → passes_at q exports k ≡ true → (e : PlainExport) × (slice_get exports k ≡ Some e) × (q e ≡ true)
-passed q exports k is = elim ((slice_get_cases exports k).1) [
-  | inl there ↦ (there.0, there.2, sym (passes q exports k there.0 there.2) ∙ is)
-  | inr past ↦ absurd (false≢true (sym (ap (λ (o : Option PlainExport). option_map_or q o false) past.1) ∙ is))
+version_from_same : (a b : Option (List ℕ)) → same_name a b ≡ true → a ≡ b
+version_from_same None None e = refl
+version_from_same None (Some y) e = cc
+version_from_same (Some x) None e = cc
+version_from_same (Some x) (Some y) e = ap Some ((bytes_eq-Decides x y).0 e)
+
+none_there : (exports : List PlainExport) (name : List ℕ) (version : Option (List ℕ)) → AreVersioned exports name version [] → list_any (has_version name version) exports ≡ false
+none_there exports name version are = elim (cases_Bool (list_any (has_version name version) exports)) [
+  | inl some ↦
+      let found = Any-from_list_any (has_version name version) exports some in
+      let at : slice_get exports found.0 ≡ Some found.1 = slice_get-get_or exports found.0 found.1 found.2 ∙ ap Some found.3 in
+      let parts = and_parts (is_named name found.1) (same_name found.1.version version) found.4 in
+      let there = (are.exact found.0).1 (record { exported = found.1; at = at; named = (bytes_eq-Decides found.1.name name).0 parts.0; versioned = version_from_same found.1.version version parts.1 }) in
+      absurd (in_none found.0 there)
+  | inr none ↦ none
 ]
 
-among_gives : (q : PlainExport → Bool) (exports : List PlainExport) (places : List ℕ) → list_any (passes_at q exports) places ≡ true → list_any q exports ≡ true
-among_gives q exports places any =
-    let found = Any-from_list_any (passes_at q exports) places any in
-    let e = passed q exports found.1 found.4 in
-    list_any_at q exports found.1 e.0 (slice_get_within exports found.1 e.0 e.1) (ap q (get_or_from_slice_get exports found.1 e.0 e.0 e.1) ∙ e.2)
+one_there : (exports : List PlainExport) (name : List ℕ) (version : Option (List ℕ)) (place : ℕ) (places : List ℕ) → AreVersioned exports name version (place ∷ places) → list_any (has_version name version) exports ≡ true
+one_there exports name version place places are =
+    let here = (are.exact place).0 (at_front place places) in
+    let e : PlainExport = here.exported in
+    list_any_at (has_version name version) exports place e (slice_get_within exports place e here.at)
+    (ap (has_version name version) (get_or_from_slice_get exports place e e here.at) ∙ and_of_true _ _ ((bytes_eq-Decides e.name name).1 here.named) (same_version e.version version here.versioned))
 
-given_among : (q : PlainExport → Bool) (exports : List PlainExport) (name : List ℕ) (places : List ℕ) → AreNamed exports name places → ((e : PlainExport) → q e ≡ true → e.name ≡ name)
-    → list_any q exports ≡ true → list_any (passes_at q exports) places ≡ true
-given_among q exports name places named says any =
-    let found = Any-from_list_any q exports any in
-    let at : slice_get exports found.0 ≡ Some found.1 = slice_get-get_or exports found.0 found.1 found.2 ∙ ap Some found.3 in
-    let there = (named.exact found.0).1 (record { exported = found.1; at = at; named = says found.1 found.4 }) in
-    list_any_at (passes_at q exports) places there.0 found.0 there.1 (ap (passes_at q exports) there.2 ∙ passes q exports found.0 found.1 at ∙ found.4)
-
-same_tests : (a b : Bool) → (a ≡ true → b ≡ true) → (b ≡ true → a ≡ true) → a ≡ b
-same_tests true b forth back = sym (forth refl)
-same_tests false true forth back = back refl
-same_tests false false forth back = refl
-
-has_name : (name : List ℕ) (version : Option (List ℕ)) (e : PlainExport) → has_version name version e ≡ true → e.name ≡ name
-has_name name version e is = (bytes_eq-Decides e.name name).0 ((and_parts (is_named name e) (same_name e.version version) is).0)
-
-pub among_is : (exports : List PlainExport) (name : List ℕ) (version : Option (List ℕ)) (places : List ℕ) → AreNamed exports name places
-    → list_any (passes_at (has_version name version) exports) places ≡ list_any (has_version name version) exports
-among_is exports name version places named = same_tests _ _ (among_gives (has_version name version) exports places) (given_among (has_version name version) exports name places named (has_name name version))
-
-pub export_there : (e : PlainExport) (given plain : List PlainExport) (places : List ℕ) (found : Bool) → given ≡ plain → AreNamed plain e.name places
-    → found ≡ list_any (passes_at (has_version e.name e.version) given) places → found ≡ has_export plain e
+-- an old library has an export exactly where it has places for its name and its version
+pub export_there : (e : PlainExport) (exports : List PlainExport) (places : List ℕ) (empty : Bool) → AreVersioned exports e.name e.version places → empty ≡ (length places == 0) → not empty ≡ has_export exports e
 unfolding has_export
-export_there e given plain places found same named is =
-    is ∙ ap (λ (es : List PlainExport). list_any (passes_at (has_version e.name e.version) es) places) same ∙ among_is plain e.name e.version places named
+export_there e exports [] empty are is = ap not is ∙ sym (none_there exports e.name e.version are)
+export_there e exports (place ∷ places) empty are is = ap not (is ∙ eqb-suc-zero (length places)) ∙ sym (one_there exports e.name e.version place places are)

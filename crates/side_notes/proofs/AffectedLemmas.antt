@@ -2,22 +2,23 @@
 use Rattle.std.proofs.Common.{◌≡◌, ◌<◌, ◌+◌, ℕ, Bool, true, false, not, cond, List, [], ◌∷◌, ◌++◌, length, map, take, get_or, slice_get, Some, None, refl, sym, ◌∙◌, ap, subst, inl, inr, arith}
 use Rattle.std.specs.Prelude.{Contains, flat_map}
 use Rattle.std.specs.List.{list_any}
-use Rattle.std.proofs.lemmas.Bool.{cases_Bool}
 use Rattle.std.proofs.lemmas.Grind.{flat_map-append}
 use Rattle.std.proofs.lemmas.List.{append-nil, map_push, take_more}
 use Rattle.std.proofs.lemmas.List.Elements.{Contains-push_cases}
+use Rattle.abi_base.proofs.lemmas.Lists.{list_any-map}
+use Rattle.abi_base.proofs.lemmas.Bools.{not_is_true, not_is_false}
 use Rattle.abi_base.specs.Lists.{firsts, firsts_after, with_first}
 use Rattle.abi_types.specs.Graphs.{IsGraph}
 use Rattle.abi_types.specs.Types.{PlainNode}
 use Rattle.abi_types.specs.Libraries.{PlainLibrary}
 use Rattle.abi_types.specs.declared.rule.Rule.TheVariants.{LibrarySoname}
 use Rattle.pair_rules.specs.declared.rules.Broken.{Broken}
-use Rattle.pair_rules.specs.Paths.{Path, From, Then, PathLeadsTo}
+use Rattle.pair_rules.specs.Paths.{Path, From, PathLeadsTo}
 use Rattle.pair_rules.specs.Steps.{PlainRoot, Task, Triple}
 use Rattle.pair_explorer.specs.declared.visits.Visit.{Visit}
 use Rattle.pair_explorer.specs.ByClass.{IsSound}
 use Rattle.pair_explorer.specs.Explorations.{IsExploration}
-use Rattle.pair_explorer.specs.Routes.{followed, path_at, path_of}
+use Rattle.pair_explorer.specs.Routes.{path_at, path_of}
 use Rattle.pair_explorer.specs.Scopes.{Scope, rep, scope, LeadsByRep}
 use Rattle.pair_compare.specs.Explored.{scope_of}
 use Rattle.pair_compare.specs.reports.TypeFindings.{IsCoarse}
@@ -28,28 +29,10 @@ use Rattle.pair_compare.specs.reports.Findings.{export_of}
 use Rattle.pair_compare.specs.reports.PathTexts.{IsWalk, label_at, steps_text}
 use Rattle.type_notes.specs.declared.note.Note.{Note}
 use Rattle.side_notes.specs.Affected.{AddsRow, AreRowNotes, AreSpelled, LeadToRow, as_row, note_beside, notes_by, pair_at, row_notes, row_text, same_pair, same_types}
+use Rattle.pair_compare.proofs.lemmas.Paths.{export_of-followed}
+use Rattle.pair_rules.proofs.lemmas.Lists.{firsts_after-more}
 
 -- ---- the visits with breaks, each two types once
-
-firsts_after-more : {X : Type 0} (same : X → X → Bool) (kept xs : List X) (x : X) → firsts_after same kept (xs ++ x ∷ []) ≡ with_first same (firsts_after same kept xs) x
-unfolding firsts_after
-firsts_after-more same kept [] x = refl
-firsts_after-more same kept (y ∷ xs) x = firsts_after-more same (with_first same kept y) xs x
-
-list_any-map : {X Y : Type 0} (p : Y → Bool) (f : X → Y) (xs : List X) → list_any (λ x. p (f x)) xs ≡ list_any p (map f xs)
-list_any-map p f [] = refl
-list_any-map p f (x ∷ xs) = elim (cases_Bool (p (f x))) [
-  | inl here ↦ rw here refl
-  | inr other ↦ rw other (list_any-map p f xs)
-]
-
-from_not : (b : Bool) → not b ≡ true → b ≡ false
-from_not true e = absurd cc
-from_not false e = refl
-
-from_not_not : (b : Bool) → not b ≡ false → b ≡ true
-from_not_not true e = refl
-from_not_not false e = absurd cc
 
 -- what an index out of a list of breaks gives past its end
 abbrev no_break : ℕ × Broken
@@ -94,7 +77,7 @@ module _ (visits : List Visit) where
         → IsTelling breaks (i + 1) more (kept ++ (get_or breaks i no_break).0 ∷ [])
     unfolding n
     IsTelling-more more added is_added holds inserted =
-        let new : list_any (same_pair pair) pairs ≡ false = from_not (list_any (same_pair pair) pairs) (sym is_added ∙ holds) in
+        let new : list_any (same_pair pair) pairs ≡ false = not_is_true (list_any (same_pair pair) pairs) (sym is_added ∙ holds) in
         let pushed : more ≡ pairs ++ pair ∷ [] = inserted ∙ ap (λ b. cond b pairs (pairs ++ pair ∷ [])) new in
         let other = sym any_pair ∙ new in
         record {
@@ -105,16 +88,12 @@ module _ (visits : List Visit) where
     pub IsTelling-still : (more : List (ℕ × ℕ)) (added : Bool) → added ≡ not (list_any (same_pair pair) pairs) → added ≡ false → more ≡ cond (list_any (same_pair pair) pairs) pairs (pairs ++ pair ∷ []) → IsTelling breaks (i + 1) more kept
     unfolding n
     IsTelling-still more added is_added fails inserted =
-        let there : list_any (same_pair pair) pairs ≡ true = from_not_not (list_any (same_pair pair) pairs) (sym is_added ∙ fails) in
+        let there : list_any (same_pair pair) pairs ≡ true = not_is_false (list_any (same_pair pair) pairs) (sym is_added ∙ fails) in
         let still : more ≡ pairs = inserted ∙ ap (λ b. cond b pairs (pairs ++ pair ∷ [])) there in
         let same = sym any_pair ∙ there in
         record { are = sym (grown ∙ ap (λ b. cond b kept (kept ++ n ∷ [])) same); typed = still ∙ was.typed }
 
 -- ---- the notes at one row
-
-export_of-followed : (path : Path) (parts : List ℕ) → export_of (followed path parts) ≡ export_of path
-export_of-followed path [] = refl
-export_of-followed path (part ∷ parts) = export_of-followed (Then path part) parts
 
 -- the text that the code makes is that of the row
 pub row_made : (l : PlainLibrary) (export : ℕ) (parts label steps text made : List ℕ) → label ≡ label_at l export → steps ≡ steps_text l (path_of export parts) → text ≡ [] → made ≡ text ++ as_row label steps

@@ -4,15 +4,13 @@ use Rattle.std.specs.Prelude.{flat_map}
 use Rattle.std.specs.List.{range_with_len}
 use Rattle.std.proofs.lemmas.List.{append-nil, flat_map_more, length-map, map-id}
 use Rattle.std.proofs.lemmas.List.FromFn.{map-range_with_len_more}
+use Rattle.abi_base.proofs.lemmas.Ranges.{below_more}
 use Rattle.abi_types.specs.declared.export.Export.{Export}
 use Rattle.abi_types.specs.Exports.{PlainExport}
 use Rattle.abi_types.specs.Plain.{plain_export, plain_exports}
 use Rattle.type_notes.specs.declared.note.Note.{Note}
 use Rattle.side_notes.specs.Bound.{bound_in}
 use Rattle.side_notes.specs.OldExports.{notes_at, notes_to, notes_upto, old_export_notes}
-
-pub range_more : (n : ℕ) → range_with_len 0 (n + 1) ≡ range_with_len 0 n ++ n ∷ []
-range_more n = sym (map-id (range_with_len 0 (n + 1))) ∙ map-range_with_len_more (λ (k : ℕ). k) 0 n n (omega arith) ∙ ap (λ (ks : List ℕ). ks ++ n ∷ []) (map-id (range_with_len 0 n))
 
 pub notes_none : (dropped : List Bool) (old new : List PlainExport) (start : List Note) → start ≡ start ++ notes_upto dropped old new 0
 unfolding notes_upto
@@ -21,7 +19,7 @@ notes_none dropped old new start = sym (append-nil start)
 pub notes_more : (dropped : List Bool) (old new : List PlainExport) (start notes more : List Note) (k : ℕ) → notes ≡ start ++ notes_upto dropped old new k → more ≡ notes ++ notes_at dropped old new k → more ≡ start ++ notes_upto dropped old new (k + 1)
 unfolding notes_upto
 notes_more dropped old new start notes more k are grown =
-    grown ∙ ap (λ (ns : List Note). ns ++ notes_at dropped old new k) are ∙ flat_map_more (notes_at dropped old new) start (range_with_len 0 k) k ∙ ap (λ (ks : List ℕ). start ++ flat_map (notes_at dropped old new) ks) (sym (range_more k))
+    grown ∙ ap (λ (ns : List Note). ns ++ notes_at dropped old new k) are ∙ flat_map_more (notes_at dropped old new) start (range_with_len 0 k) k ∙ ap (λ (ks : List ℕ). start ++ flat_map (notes_at dropped old new) ks) (sym (below_more k))
 
 pub notes_all : (dropped : List Bool) (old new : List PlainExport) (start notes : List Note) (exports : List Export) (k : ℕ) → notes ≡ start ++ notes_upto dropped old new k → plain_exports exports ≡ old → k ≤ length exports → length exports ≤ k → notes ≡ start ++ old_export_notes dropped old new
 notes_all dropped old new start notes exports k are same low high =

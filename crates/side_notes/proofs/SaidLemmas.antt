@@ -5,47 +5,38 @@ use Rattle.std.specs.List.{flat_map, list_any, range_with_len}
 use Rattle.std.specs.Str.{bytes_eq}
 use Rattle.std.specs.declared.alloc.Global.{Global}
 use Rattle.std.proofs.lemmas.Bool.{cases_Bool, cases_lt}
-use Rattle.std.proofs.lemmas.List.{append-nil, append_assoc, length_push, map-id, take_all, take-append-le}
+use Rattle.std.proofs.lemmas.List.{append-nil, append_assoc, length_push, take_all, take-append-le}
 use Rattle.std.proofs.lemmas.List.Elements.{filter-append}
-use Rattle.std.proofs.lemmas.List.FromFn.{map-range_with_len_more}
 use Rattle.std.proofs.lemmas.List.Folds.{list_any-append}
 use Rattle.std.proofs.lemmas.Grind.{flat_map-append}
 use Rattle.std.proofs.lemmas.Option.{slice_get_within}
 use Rattle.std.proofs.lemmas.Slice.Eq.{bytes_eq-Decides}
+use Rattle.abi_base.proofs.lemmas.Lists.{slice_get_last, slice_get-before}
+use Rattle.abi_base.proofs.lemmas.Ranges.{below_more}
+use Rattle.abi_base.proofs.lemmas.Bools.{not_is_true, not_is_false, and_is_true, or_false, and_left_true}
 use Rattle.type_notes.specs.declared.note.Note.{Note}
 use Rattle.side_notes.specs.SaidOnce.{AreSaid, NameSet, has_names, has_said, is_said, kept_at, kept_if_new, names_none, names_types, said_once, say_same}
+use Rattle.pair_rules.proofs.lemmas.Truths.{cond_or}
 
 -- ---- one note more
-
-range_more : (n : ℕ) → range_with_len 0 (n + 1) ≡ range_with_len 0 n ++ n ∷ []
-range_more n = sym (map-id (range_with_len 0 (n + 1))) ∙ map-range_with_len_more (λ k. k) 0 n n (omega arith) ∙ ap (λ (ks : List ℕ). ks ++ n ∷ []) (map-id (range_with_len 0 n))
 
 flat_map-same : {X : Type 0} (f g : ℕ → List X) (a n : ℕ) → ((k : ℕ) → k < a + n → f k ≡ g k) → flat_map f (range_with_len a n) ≡ flat_map g (range_with_len a n)
 flat_map-same f g a zero same = refl
 flat_map-same f g a (suc n) same =
     ap (λ (xs : List _). xs ++ flat_map f (range_with_len (a + 1) n)) (same a (omega arith)) ∙ ap (λ (xs : List _). g a ++ xs) (flat_map-same f g (a + 1) n (λ k lt. same k (omega arith)))
 
-get-front : {X : Type 0} (xs ys : List X) (n : ℕ) → n < length xs → slice_get (xs ++ ys) n ≡ slice_get xs n
-get-front [] ys n lt = absurd (omega arith)
-get-front (x ∷ xs) ys zero lt = refl
-get-front (x ∷ xs) ys (suc n) lt = get-front xs ys n (omega arith)
-
-get-last : {X : Type 0} (xs : List X) (x : X) → slice_get (xs ++ x ∷ []) (length xs) ≡ Some x
-get-last [] x = refl
-get-last (y ∷ xs) x = get-last xs x
-
 kept-front : (xs : List Note) (x : Note) (n : ℕ) → n < length xs → kept_at (xs ++ x ∷ []) n ≡ kept_at xs n
-kept-front xs x n lt = ap (λ before. kept_if_new before (slice_get (xs ++ x ∷ []) n)) (take-append-le n xs (x ∷ []) (omega arith)) ∙ ap (kept_if_new (take n xs)) (get-front xs (x ∷ []) n lt)
+kept-front xs x n lt = ap (λ before. kept_if_new before (slice_get (xs ++ x ∷ []) n)) (take-append-le n xs (x ∷ []) (omega arith)) ∙ ap (kept_if_new (take n xs)) (slice_get-before xs (x ∷ []) n lt)
 
 kept-last : (xs : List Note) (x : Note) → kept_at (xs ++ x ∷ []) (length xs) ≡ kept_if_new xs (Some x)
 kept-last xs x =
     ap (λ before. kept_if_new before (slice_get (xs ++ x ∷ []) (length xs))) (take-append-le (length xs) xs (x ∷ []) (omega arith) ∙ take_all (length xs) xs (omega arith))
-    ∙ ap (kept_if_new xs) (get-last xs x)
+    ∙ ap (kept_if_new xs) (slice_get_last xs x)
 
 pub said_push : (xs : List Note) (x : Note) → said_once (xs ++ x ∷ []) ≡ said_once xs ++ kept_if_new xs (Some x)
 unfolding said_once
 said_push xs x =
-    ap (λ n. flat_map (kept_at (xs ++ x ∷ [])) (range_with_len 0 n)) (length_push xs x) ∙ ap (flat_map (kept_at (xs ++ x ∷ []))) (range_more (length xs))
+    ap (λ n. flat_map (kept_at (xs ++ x ∷ [])) (range_with_len 0 n)) (length_push xs x) ∙ ap (flat_map (kept_at (xs ++ x ∷ []))) (below_more (length xs))
     ∙ flat_map-append (kept_at (xs ++ x ∷ [])) (range_with_len 0 (length xs)) (length xs ∷ [])
     ∙ ap (λ (ns : List Note). ns ++ flat_map (kept_at (xs ++ x ∷ [])) (length xs ∷ [])) (flat_map-same (kept_at (xs ++ x ∷ [])) (kept_at xs) 0 (length xs) (λ k lt. kept-front xs x k (omega (arith, lt))))
     ∙ ap (λ (ns : List Note). said_once xs ++ ns) (append-nil (kept_at (xs ++ x ∷ []) (length xs)) ∙ kept-last xs x)
@@ -65,24 +56,6 @@ any_one p x = elim (cases_Bool (p x)) [ inl passes ↦ rw passes refl | inr fail
 
 names_more : (xs : List Note) (x : Note) (was is : List ℕ) → list_any (has_names was is) (xs ++ x ∷ []) ≡ (list_any (has_names was is) xs || has_names was is x)
 names_more xs x was is = list_any-append (has_names was is) xs (x ∷ []) ∙ ap (λ (b : Bool). list_any (has_names was is) xs || b) (any_one (has_names was is) x)
-
-or_false : (b : Bool) → (b || false) ≡ b
-or_false true = refl
-or_false false = refl
-
-cond_or : (a b : Bool) → cond a true b ≡ (b || a)
-cond_or true true = refl
-cond_or true false = refl
-cond_or false true = refl
-cond_or false false = refl
-
-not_true : (b : Bool) → not b ≡ true → b ≡ false
-not_true true is = sym is
-not_true false is = refl
-
-not_false : (b : Bool) → not b ≡ false → b ≡ true
-not_false true is = refl
-not_false false is = sym is
 
 -- a note that names no types
 pub new_free : (xs : List Note) (x : Note) → names_types x ≡ false → true ≡ not (is_said xs x)
@@ -123,13 +96,13 @@ kept_start = refl
 pub kept_new : (xs : List Note) (x : Note) (kept after : List Note) (new : Bool) → kept ≡ said_once xs → new ≡ not (is_said xs x) → new ≡ true → after ≡ kept ++ x ∷ []
     → after ≡ said_once (xs ++ x ∷ [])
 kept_new xs x kept after new are is there grown =
-    let unsaid : is_said xs x ≡ false = not_true (is_said xs x) (sym is ∙ there) in
+    let unsaid : is_said xs x ≡ false = not_is_true (is_said xs x) (sym is ∙ there) in
     let here : kept_if_new xs (Some x) ≡ x ∷ [] = ap (λ (b : Bool). if b then [] else x ∷ []) unsaid in
     grown ∙ ap (λ (ns : List Note). ns ++ x ∷ []) are ∙ ap (λ (ns : List Note). said_once xs ++ ns) (sym here) ∙ sym (said_push xs x)
 
 pub kept_old : (xs : List Note) (x : Note) (kept : List Note) (new : Bool) → kept ≡ said_once xs → new ≡ not (is_said xs x) → new ≡ false → kept ≡ said_once (xs ++ x ∷ [])
 kept_old xs x kept new are is gone =
-    let said : is_said xs x ≡ true = not_false (is_said xs x) (sym is ∙ gone) in
+    let said : is_said xs x ≡ true = not_is_false (is_said xs x) (sym is ∙ gone) in
     let here : kept_if_new xs (Some x) ≡ [] = ap (λ (b : Bool). if b then [] else x ∷ []) said in
     are ∙ sym (said_push xs x ∙ ap (λ (ns : List Note). said_once xs ++ ns) here ∙ append-nil (said_once xs))
 
@@ -149,13 +122,6 @@ left_push xs x said = sym (kept_old xs x (said_once xs) false refl (sym (ap not 
 is_said_push : (xs : List Note) (y x : Note) → is_said (xs ++ y ∷ []) x ≡ (is_said xs x || say_same x y)
 is_said_push xs y x = list_any-append (say_same x) xs (y ∷ []) ∙ ap (λ (b : Bool). is_said xs x || b) (any_one (say_same x) y)
 
-both_true : (a b : Bool) → (a && b) ≡ true → (a ≡ true) × (b ≡ true)
-both_true true b is = (refl, is)
-both_true false b is = absurd cc
-
-first_true : (a b : Bool) → (a && b) ≡ true → a ≡ true
-first_true a b is = (both_true a b is).0
-
 or_known : (a b : Bool) → (b ≡ true → a ≡ true) → a ≡ (a || b)
 or_known true b implied = refl
 or_known false true implied = implied refl
@@ -164,9 +130,9 @@ or_known false false implied = refl
 -- notes that say the same are said by the same notes
 same_said : (xs : List Note) (x y : Note) → say_same x y ≡ true → is_said xs y ≡ true → is_said xs x ≡ true
 same_said xs x y same said =
-    let x_names = both_true (names_types x) (has_names x.was x.is y) same in
-    let y_names = both_true (names_types y) (bytes_eq y.was x.was && bytes_eq y.is x.is) x_names.1 in
-    let names = both_true (bytes_eq y.was x.was) (bytes_eq y.is x.is) y_names.1 in
+    let x_names = and_is_true (names_types x) (has_names x.was x.is y) same in
+    let y_names = and_is_true (names_types y) (bytes_eq y.was x.was && bytes_eq y.is x.is) x_names.1 in
+    let names = and_is_true (bytes_eq y.was x.was) (bytes_eq y.is x.is) y_names.1 in
     let was : y.was ≡ x.was = (bytes_eq-Decides y.was x.was).0 names.0 in
     let is : y.is ≡ x.is = (bytes_eq-Decides y.is x.is).0 names.1 in
     said_by_names xs x ∙ ap (λ (b : Bool). b && list_any (has_names x.was x.is) xs) (x_names.0 ∙ sym y_names.0)
@@ -183,7 +149,7 @@ said_by_kept x notes = one_after_another (λ (xs : List Note). is_said (said_onc
     ]
 
 names_if_said : (xs : List Note) (y : Note) → is_said xs y ≡ true → names_types y ≡ true
-names_if_said xs y said = first_true (names_types y) (list_any (has_names y.was y.is) xs) (sym (said_by_names xs y) ∙ said)
+names_if_said xs y said = and_left_true (names_types y) (list_any (has_names y.was y.is) xs) (sym (said_by_names xs y) ∙ said)
 
 pub others_kept : (notes : List Note) → filter names_none (said_once notes) ≡ filter names_none notes
 others_kept notes = one_after_another (λ (xs : List Note). filter names_none (said_once xs) ≡ filter names_none xs) step notes [] (ap (filter names_none) kept_start)
@@ -203,10 +169,10 @@ AreOnce ks = (n : ℕ) (a : Note) → slice_get ks n ≡ Some a → is_said (tak
 once_push : (ks : List Note) (x : Note) → is_said ks x ≡ false → AreOnce ks → AreOnce (ks ++ x ∷ [])
 unfolding AreOnce
 once_push ks x unsaid once n a at = elim (cases_lt n (length ks)) [
-  | inl front ↦ ap (λ (ns : List Note). is_said ns a) (take-append-le n ks (x ∷ []) (omega (arith, front))) ∙ once n a (sym (get-front ks (x ∷ []) n front) ∙ at)
+  | inl front ↦ ap (λ (ns : List Note). is_said ns a) (take-append-le n ks (x ∷ []) (omega (arith, front))) ∙ once n a (sym (slice_get-before ks (x ∷ []) n front) ∙ at)
   | inr back ↦
       let last : n ≡ length ks = let inside = slice_get_within (ks ++ x ∷ []) n a at in omega (arith, back, inside, length_push ks x) in
-      let same : x ≡ a = let here = sym (get-last ks x) ∙ ap (slice_get (ks ++ x ∷ [])) (sym last) ∙ at in cc in
+      let same : x ≡ a = let here = sym (slice_get_last ks x) ∙ ap (slice_get (ks ++ x ∷ [])) (sym last) ∙ at in cc in
       let all : take n (ks ++ x ∷ []) ≡ ks = ap (λ m. take m (ks ++ x ∷ [])) last ∙ take-append-le (length ks) ks (x ∷ []) (omega arith) ∙ take_all (length ks) ks (omega arith) in
       ap (λ (ns : List Note). is_said ns a) all ∙ ap (is_said ks) (sym same) ∙ unsaid
 ]

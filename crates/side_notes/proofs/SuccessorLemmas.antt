@@ -12,19 +12,18 @@ use Rattle.std.proofs.lemmas.List.Sums.{position_or_len_is, prefix_len-le-length
 use Rattle.std.proofs.lemmas.List.Folds.{position_or_len_push}
 use Rattle.std.proofs.lemmas.Option.{get_or_from_slice_get, slice_get-get_or, slice_get_within, none-some, same_Some}
 use Rattle.std.proofs.lemmas.Slice.Eq.{bytes_eq-Decides}
+use Rattle.abi_base.proofs.lemmas.Lists.{position_is, position_none}
+use Rattle.abi_base.proofs.lemmas.Options.{absent}
+use Rattle.abi_base.proofs.lemmas.Cases.{bool_cases}
 use Rattle.abi_types.specs.declared.export.Export.{Export}
 use Rattle.abi_types.specs.Exports.{PlainExport}
 use Rattle.abi_types.specs.Names.{AreNamed, IsNamed}
 use Rattle.abi_types.specs.Plain.{plain_export, plain_exports}
 use Rattle.elf_bind.specs.Binding.{is_named}
-use Rattle.elf_bind.specs.Places.{Places, place_under}
 use Rattle.side_notes.specs.Added.{has_export}
+use Rattle.side_notes.specs.Places.{Places, place_under}
 use Rattle.side_notes.specs.Stems.{stem}
 use Rattle.side_notes.specs.Successors.{AreKin, KeepsFirst, is_kin}
-
-bool_cases : {P : Type 0} (b : Bool) → (b ≡ true → P) → (b ≡ false → P) → P
-bool_cases true here other = here refl
-bool_cases false here other = other refl
 
 abbrev key : List ℕ → Bor (List ℕ)
 key q = record { ref_ptr = (0, 0); now = q }
@@ -34,10 +33,6 @@ key q = record { ref_ptr = (0, 0); now = q }
 or_none : (o : Option ℕ) → o ≡ option_or o None
 or_none None = refl
 or_none (Some x) = refl
-
-pub absent : {X : Type 0} (o : Option X) (b : Bool) → b ≡ is_some o → b ≡ false → o ≡ None
-absent None b is none = refl
-absent (Some x) b is none = absurd cc
 
 -- a stem that has no place takes it
 pub first_kept : (before after : Places) (s : List ℕ) (place : ℕ) → place_under before s ≡ None
@@ -138,16 +133,6 @@ kin_more old exports before after i d inside were keeps s =
     ∙ ap (position (is_kin old s)) (sym (next_export exports i d inside))
 
 -- ---- the first export of a name
-
-position_is : {X : Type 0} (p : X → Bool) (xs : List X) (i : ℕ) (d : X) → i < length xs → ((k : ℕ) → k < i → p (get_or xs k d) ≡ false) → p (get_or xs i d) ≡ true → position p xs ≡ Some i
-position_is p xs i d inside before here =
-    let is = position_or_len_is p xs i d (omega (arith, inside)) before (λ lt. here) in
-    ap (λ n. cond (nat_lt n (length xs)) (Some n) None) is ∙ at_within i (length xs) inside
-
-position_none : {X : Type 0} (p : X → Bool) (xs : List X) (d : X) → ((k : ℕ) → k < length xs → p (get_or xs k d) ≡ false) → position p xs ≡ None
-position_none p xs d fails =
-    let is = position_or_len_is p xs (length xs) d (omega arith) fails (λ lt. absurd (omega (arith, lt))) in
-    at_end (position_or_len p xs) (length xs) (omega (arith, is))
 
 module _ (exports : List PlainExport) (name : List ℕ) (places : List ℕ) (named : AreNamed exports name places) where
   -- an export that passes stands at one of the places

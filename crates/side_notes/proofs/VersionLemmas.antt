@@ -9,6 +9,7 @@ use Rattle.std.proofs.lemmas.Bool.{cases_Bool}
 use Rattle.std.proofs.lemmas.List.{append-nil, map-append, take_more}
 use Rattle.std.proofs.lemmas.List.Elements.{filter_map-append}
 use Rattle.std.proofs.lemmas.List.Folds.{flat_map-map}
+use Rattle.abi_base.proofs.lemmas.Lists.{any-map}
 use Rattle.indexmap.specs.IndexSet.{insert_key}
 use Rattle.abi_base.specs.Lists.{firsts, firsts_after, with_first}
 use Rattle.abi_types.specs.declared.export.Export.{Export}
@@ -23,20 +24,13 @@ bytes_at v = v.now
 abbrev pub same_bytes : Bor (List ℕ) → Bor (List ℕ) → Bool
 same_bytes v w = bytes_eq v.now w.now
 
-list_any-map : {X Y : Type 0} (p : Y → Bool) (f : X → Y) (xs : List X) → list_any p (map f xs) ≡ list_any (λ x. p (f x)) xs
-list_any-map p f [] = refl
-list_any-map p f (x ∷ xs) = elim (cases_Bool (p (f x))) [
-  | inl here ↦ rw here refl
-  | inr other ↦ rw other (list_any-map p f xs)
-]
-
 -- a key that is inserted, and what it points to
 pub put_is : (keys grown : List (Bor (List ℕ))) (v : Bor (List ℕ)) → grown ≡ insert_key same_bytes keys v → map bytes_at grown ≡ with_first bytes_eq (map bytes_at keys) v.now
 put_is keys grown v is = ap (map bytes_at) is ∙ go (list_any (same_bytes v) keys) refl
   where
     go : (b : Bool) → list_any (same_bytes v) keys ≡ b → map bytes_at (insert_key same_bytes keys v) ≡ with_first bytes_eq (map bytes_at keys) v.now
-    go true there = let known : list_any (bytes_eq v.now) (map bytes_at keys) ≡ true = list_any-map (bytes_eq v.now) bytes_at keys ∙ there in rw (there, known) refl
-    go false new = let unknown : list_any (bytes_eq v.now) (map bytes_at keys) ≡ false = list_any-map (bytes_eq v.now) bytes_at keys ∙ new in rw (new, unknown) (map-append bytes_at keys (v ∷ []))
+    go true there = let known : list_any (bytes_eq v.now) (map bytes_at keys) ≡ true = any-map (bytes_eq v.now) bytes_at keys ∙ there in rw (there, known) refl
+    go false new = let unknown : list_any (bytes_eq v.now) (map bytes_at keys) ≡ false = any-map (bytes_eq v.now) bytes_at keys ∙ new in rw (new, unknown) (map-append bytes_at keys (v ∷ []))
 
 firsts_after-more : (kept xs : List (List ℕ)) (x : List ℕ) → firsts_after bytes_eq kept (xs ++ x ∷ []) ≡ with_first bytes_eq (firsts_after bytes_eq kept xs) x
 unfolding firsts_after
@@ -64,7 +58,7 @@ versions_more exports i d keys grown lt is grows =
 
 -- whether a version is one of the keys
 pub known_is : (keys : List (Bor (List ℕ))) (v : Bor (List ℕ)) → list_any (same_bytes v) keys ≡ list_any (bytes_eq v.now) (map bytes_at keys)
-known_is keys v = sym (list_any-map (bytes_eq v.now) bytes_at keys)
+known_is keys v = sym (any-map (bytes_eq v.now) bytes_at keys)
 
 -- the notes on the versions that are new
 notes_new : (known versions : List (List ℕ)) → flat_map (notes_if_new known) versions ≡ map version_note (filter (λ version. not (list_any (bytes_eq version) known)) versions)

@@ -9,6 +9,7 @@ pub mod Idle
 pub mod Made
 pub mod NoteTexts
 pub mod OldExports
+pub mod Places
 pub mod SaidOnce
 pub mod Stems
 pub mod Successors

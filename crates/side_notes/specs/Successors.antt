@@ -5,11 +5,11 @@ use Rattle.std.specs.Str.{bytes_eq}
 use Rattle.abi_types.specs.Exports.{PlainExport}
 use Rattle.abi_types.specs.Shown.{label}
 use Rattle.elf_bind.specs.Binding.{is_named}
-use Rattle.elf_bind.specs.Places.{Places, place_under}
 use Rattle.type_notes.specs.declared.note.Note.{Note}
 use Rattle.type_notes.specs.declared.note.NoteKind.TheVariants.{Successor}
 use Rattle.side_notes.specs.Added.{has_export}
 use Rattle.side_notes.specs.Made.{note_on_export}
+use Rattle.side_notes.specs.Places.{Places, place_under}
 use Rattle.side_notes.specs.Stems.{stem}
 
 -- an export of the new library that the old one does not have, whose name has this stem

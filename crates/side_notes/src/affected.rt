@@ -16,7 +16,7 @@ ghost use Rattle.side_notes.specs.Affected as spec;
 ghost use Rattle.side_notes.specs.NoteTexts.{behind};
 
 use crate::making::bytes_of;
-use abi_base::{Effort, List, NoMemory};
+use abi_base::{Effort, Limit, List, NoMemory, taken};
 use abi_types::{Index, Library, NewIx, OldIx};
 use indexmap::IndexSet;
 use leading_exports::{Arrow, Walk, arrows_of, exports_to, numbers_of};
@@ -135,6 +135,47 @@ fn push_beside(
     })
 }
 
+// The bytes of notes for each byte of the file, and how many more there may be.
+const BYTES_A_BYTE: usize = 16;
+
+const BYTES_AT_LEAST: usize = 1_048_576;
+
+// What a note takes besides its texts, in bytes.
+const NOTE: usize = 128;
+
+// What the notes on exports may still take: steps along the visits and arrows at each row, and bytes.
+#[derive(Drop)]
+struct NoteRoom {
+    steps: Effort,
+    bytes: usize,
+}
+
+impl NoteRoom {
+    // The room beside an old library, by the size of its file.
+    fn beside(library: &Library<OldIx>) -> NoteRoom {
+        let bytes = library.file().len();
+        NoteRoom {
+            steps: Effort::for_bytes(Limit::AffectedExports, bytes.saturating_add(BYTES_AT_LEAST)),
+            bytes: bytes
+                .saturating_mul(BYTES_A_BYTE)
+                .saturating_add(BYTES_AT_LEAST),
+        }
+    }
+
+    // Takes the notes on exports at a row.
+    fn take_notes(&mut self, row: &TypeRow, exports: &[u32]) -> Result<(), NoMemory> {
+        for export in exports {
+            let letters = match row.library.exports().get(*export as usize) {
+                Some(export) => export.name.len(),
+                None => 0,
+            };
+            let bytes = letters.saturating_add(row.text.len()).saturating_add(NOTE);
+            self.bytes = taken(Limit::AffectedExports, self.bytes, bytes)?;
+        }
+        Ok(())
+    }
+}
+
 // Adds the notes on the exports that lead to the types of a row.
 fn push_others(
     alloc: Global,
@@ -157,6 +198,7 @@ fn push_at(
     ground: &Ground,
     number: usize,
     exports: &[u32],
+    room: &mut NoteRoom,
 ) -> Result<(), NoMemory>
     requires { AreSpelled ground.now.library.now ground.now.walk.now.visits.now }
     ensures { OnOk result (notes.new ≡ notes.old ++ row_notes ground.now.library.now ground.now.walk.now.visits.now (number, exports.now)) }
@@ -172,6 +214,7 @@ fn push_at(
         export: route.export,
         text: text.as_slice(),
     };
+    room.take_notes(&row, exports)?;
     push_others(alloc, notes, &row, exports)
 }
 
@@ -183,7 +226,7 @@ fn push_row(
     notes: &mut List<Note>,
     ground: &Ground,
     number: usize,
-    effort: &mut Effort,
+    room: &mut NoteRoom,
 ) -> Result<(), NoMemory>
     requires spelled { AreSpelled ground.now.library.now ground.now.walk.now.visits.now }
     requires walk { IsWalk (scope_of ground.now.walk.now.ground.now) ground.now.walk.now.visits.now ground.now.walk.now.numbers.now.entries }
@@ -192,37 +235,22 @@ fn push_row(
 {
     let (old, new) = pair_at(ground.walk.visits, number);
     let pair = (OldIx::of(old), NewIx::of(new));
-    let exports = exports_to(alloc, ground.walk, ground.arrows, pair, effort)?;
-    push_at(alloc, notes, ground, number, exports.as_slice())
+    let exports = exports_to(alloc, ground.walk, ground.arrows, pair, &mut room.steps)?;
+    push_at(alloc, notes, ground, number, exports.as_slice(), room)
 }
 
-// A 64th of the steps that may be taken: each visit at each row is one, and each arrow that is followed.
-const EFFORT: usize = 1 << 24;
-
-// How many notes there may be.
-const MOST_NOTES: usize = 1 << 20;
-
-// Fails where there are more notes than there may be.
-fn are_few(notes: &[Note]) -> Result<(), NoMemory> {
-    if notes.len() > MOST_NOTES {
-        return Err(NoMemory);
-    }
-    Ok(())
-}
-
-// The notes at the rows of the visits with these numbers. Where it takes too many steps, or there are too many notes, memory counts
-// as run out.
+// The notes at the rows of the visits with these numbers. Where it takes too many steps, or the notes have too many bytes, memory
+// counts as run out.
 fn rows_of(alloc: Global, ground: &Ground, numbers: &[usize]) -> Result<List<Note>, NoMemory>
     requires spelled { AreSpelled ground.now.library.now ground.now.walk.now.visits.now }
     requires walk { IsWalk (scope_of ground.now.walk.now.ground.now) ground.now.walk.now.visits.now ground.now.walk.now.numbers.now.entries }
     requires arrows { ground.now.arrows.now ≡ all_arrows (scope_of ground.now.walk.now.ground.now) ground.now.walk.now.visits.now ground.now.walk.now.numbers.now.entries }
     ensures { IfOk result (AreRowNotes ground.now.library.now (scope_of ground.now.walk.now.ground.now) ground.now.walk.now.visits.now numbers.now) }
 {
-    let mut effort = Effort::for_bytes(EFFORT);
+    let mut room = NoteRoom::beside(ground.library);
     let mut notes = List::new(alloc);
     'rows: for k in 0..numbers.len() {
-        push_row(alloc, &mut notes, ground, numbers[k], &mut effort)?;
-        are_few(notes.as_slice())?;
+        push_row(alloc, &mut notes, ground, numbers[k], &mut room)?;
     }
     Ok(notes)
 }

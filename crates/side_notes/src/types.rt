@@ -151,7 +151,7 @@ fn with_both(
     match read_rules(alloc, rules) {
         Ok(rules) => with_rules(alloc, old, new, &rules),
         Err(Refusal::Fault(_)) => Ok(nothing(alloc)),
-        Err(Refusal::NoMemory) => Err(NoMemory),
+        Err(Refusal::NoMemory(cause)) => Err(cause),
     }
 }
 
@@ -171,7 +171,7 @@ fn with_old(
     match read_with_debug(alloc, new) {
         Ok(read) => with_both(alloc, old, &read, rules),
         Err(Refusal::Fault(_)) => Ok(nothing(alloc)),
-        Err(Refusal::NoMemory) => Err(NoMemory),
+        Err(Refusal::NoMemory(cause)) => Err(cause),
     }
 }
 
@@ -186,7 +186,7 @@ fn of_files(alloc: Global, old: &[u8], new: &[u8], rules: &[u8]) -> Result<Besid
     match read_with_debug(alloc, old) {
         Ok(read) => with_old(alloc, &read, new, rules),
         Err(Refusal::Fault(_)) => Ok(nothing(alloc)),
-        Err(Refusal::NoMemory) => Err(NoMemory),
+        Err(Refusal::NoMemory(cause)) => Err(cause),
     }
 }
 
@@ -236,7 +236,7 @@ fn own_counts(
     match read_rules(alloc, rules) {
         Ok(rules) => own_counts_by_rules(alloc, library, &rules),
         Err(Refusal::Fault(_)) => Ok(None),
-        Err(Refusal::NoMemory) => Err(NoMemory),
+        Err(Refusal::NoMemory(cause)) => Err(cause),
     }
 }
 
@@ -249,7 +249,7 @@ fn same_counts(alloc: Global, file: &[u8], rules: &[u8]) -> Result<Option<Counts
     match read_library(alloc, file) {
         Ok(library) => own_counts(alloc, &library, rules),
         Err(Refusal::Fault(_)) => Ok(None),
-        Err(Refusal::NoMemory) => Err(NoMemory),
+        Err(Refusal::NoMemory(cause)) => Err(cause),
     }
 }
 

@@ -4,6 +4,7 @@ use Rattle.std.specs.Prelude.{if◌then◌else◌, not, nat_lt, ◌&&◌, slice_
 use Rattle.std.specs.List.{range_with_len}
 use Rattle.std.specs.Str.{is_utf8}
 use Rattle.std.proofs.lemmas.Bool.{cases_eq}
+use Rattle.abi_base.proofs.lemmas.Options.{some_same}
 use Rattle.abi_base.specs.declared.fault.Fault.{Fault}
 use Rattle.abi_base.specs.declared.fault.FaultKind.{FaultKind}
 use Rattle.abi_base.specs.declared.fault.FaultKind.TheVariants as kind
@@ -16,9 +17,6 @@ use Rattle.suppression_text.specs.Rules.{PlainSection, sections_of}
 use Rattle.suppression_text.specs.Faults.{fault_at, has, has_brace, pattern_limit, text_fault, checked_faults, checked_fault, key_fault, named_fault, placed_fault, property_fault, form_fault, section_above, line_fault, line_faults, is_empty_rule, section_fault, rule_fault}
 use Rattle.suppression_text.specs.FirstFaults.{IsClear, IsOfLine, IsOfSection, IsFirstFault, IsFaultless}
 
-same_some : {X : Type 0} (x y : X) → Some x ≡ Some y → x ≡ y
-same_some x y e = cc
-
 -- ---- faults of one place
 
 abbrev IsAt : ℕ → Option Fault → Type 0
@@ -28,7 +26,7 @@ none_at : (n : ℕ) → IsAt n None
 none_at n f e = cc
 
 one_at : (n : ℕ) (k : FaultKind) → IsAt n (Some (fault_at k n))
-one_at n k f e = ap (λ (g : Fault). g.at) (sym (same_some (fault_at k n) f e))
+one_at n k f e = ap (λ (g : Fault). g.at) (sym (some_same (fault_at k n) f e))
 
 if_at : (n : ℕ) (b : Bool) (k : FaultKind) → IsAt n (fault_if b k n)
 if_at n true k = one_at n k
@@ -147,7 +145,7 @@ section_in s ss f None here is later =
       at = rest.at;
       is = rest.is;
       before = λ j. elim j as (λ j. (other : PlainSection) → j < suc rest.place → slice_get (s ∷ ss) j ≡ Some other → section_fault other ≡ None) [
-        | zero ↦ λ other lt at. ap section_fault (sym (same_some s other at)) ∙ here
+        | zero ↦ λ other lt at. ap section_fault (sym (some_same s other at)) ∙ here
         | suc k ↦ λ other lt at. rest.before k other (omega (arith, lt)) at
       ];
     }
@@ -175,7 +173,7 @@ sections_clear : (ss : List PlainSection) → first (map section_fault ss) ≡ N
 sections_clear [] is j section at = cc
 sections_clear (s ∷ ss) is zero section at =
     let both = sections_clear_in s ss (section_fault s) refl is in
-    ap is_empty_rule (sym (same_some s section at)) ∙ selects (is_empty_rule s) s.line both.0
+    ap is_empty_rule (sym (some_same s section at)) ∙ selects (is_empty_rule s) s.line both.0
 sections_clear (s ∷ ss) is (suc j) section at =
     let both = sections_clear_in s ss (section_fault s) refl is in
     sections_clear ss both.1 j section at

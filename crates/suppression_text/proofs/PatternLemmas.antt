@@ -1,10 +1,15 @@
 -- Patterns that were read, and texts that are none.
-use Rattle.std.proofs.Common.{◌≡◌, ◌<◌, ◌≤◌, ℕ, Bool, true, false, List, Option, None, Some, IsSomeAnd, IfSome, get_or, length, refl, sym, chars, inl, inr, ◌⊎◌}
-use Rattle.std.specs.Prelude.{◌≢◌, nat_le}
+use Rattle.std.proofs.Common.{◌≡◌, ◌<◌, ◌≤◌, ℕ, Bool, true, false, List, [], ◌∷◌, map, Option, None, Some, IsSomeAnd, IfSome, get_or, length, refl, sym, ◌∙◌, ap₂, chars, inl, inr, ◌⊎◌}
+use Rattle.std.specs.Prelude.{◌≢◌, ◌↔◌, ◌||◌, nat_le, IsTrue, All, Any}
+use Rattle.std.specs.List.{list_any}
 use Rattle.std.specs.Option.{option_map_or}
 use Rattle.std.specs.Str.{IsUtf8, is_utf8}
 use Rattle.std.proofs.lemmas.Bool.{le-leb, lt-leb}
+use Rattle.std.proofs.lemmas.List.Elements.{All-head, All-tail}
+use Rattle.std.proofs.lemmas.List.Folds.{Any-from_list_any, list_any-from_Any}
 use Rattle.std.proofs.lemmas.Str.{IsUtf8-from_is_utf8}
+use Rattle.abi_base.proofs.lemmas.Bools.{same_tests}
+use Rattle.abi_base.proofs.lemmas.Lists.{any-map}
 use Rattle.regex_hir.specs.declared.hir.Hir.{Hir}
 use Rattle.regex_hir.specs.Meaning.{meaning}
 use Rattle.regex_syntax.specs.Brackets.{Nested}
@@ -15,7 +20,7 @@ use Rattle.regex.specs.Patterns.{Re, SameCaptures, Reads, Refuses}
 use Rattle.regex.specs.Bytes.{regex_pattern, regex_source, regex_config, IsReadFromSource}
 use Rattle.regex.specs.declared.bytes.regex.Regex.{Regex}
 use Rattle.regex.proofs.ForCallers.{is_match_alike}
-use Rattle.suppression_text.specs.Patterns.{bytes_config, nest_limit, read_in, is_pattern, is_found, has_match, IsSearch}
+use Rattle.suppression_text.specs.Patterns.{bytes_config, nest_limit, read_in, is_pattern, is_found, has_match, IsSearch, IsSearchForOne}
 
 -- what is known of a tree that was read as the grammar reads it
 abbrev AsRead : Hir → Names → Option (Nested Re × Names) → Type 0
@@ -74,3 +79,28 @@ from_test false not_so = refl
 
 pub is_utf8-not : (bytes : List ℕ) → (IsUtf8 bytes → ⊥) → is_utf8 bytes ≡ false
 is_utf8-not bytes not_so = from_test (is_utf8 bytes) (λ e. not_so (IsUtf8-from_is_utf8 bytes e))
+
+-- ---- several patterns
+
+abbrev IsReadByDefault : Regex → Type 0
+IsReadByDefault r = (regex_config r ≡ bytes_config) × IsReadFromSource r
+
+abbrev IsText : List ℕ → Type 0
+IsText text = is_utf8 text ≡ true
+
+-- regexes that were read from texts search for the patterns that the texts write
+pub searches_for_one : (rs : List Regex) → All IsReadByDefault rs → All IsText (map regex_source rs) → IsSearchForOne (map regex_source rs) (map regex_pattern rs)
+searches_for_one [] known utf8 bytes fit = refl
+searches_for_one (r ∷ rs) known utf8 bytes fit =
+    let here = All-head IsReadByDefault r rs known in
+    let text = All-head IsText (regex_source r) (map regex_source rs) utf8 in
+    let rest = searches_for_one rs (All-tail IsReadByDefault r rs known) (All-tail IsText (regex_source r) (map regex_source rs) utf8) bytes fit in
+    ap₂ (λ (a b : Bool). a || b) (searches r (regex_source r) refl here.0 here.1 text bytes fit) rest
+
+-- the answer that is yes exactly if one of them passes
+pub is_any : (p : Re → Bool) (xs : List Re) (answer : Bool) → (IsTrue answer ↔ Any IsTrue (map p xs)) → answer ≡ list_any p xs
+is_any p xs answer is =
+    same_tests answer (list_any (λ (b : Bool). b) (map p xs))
+    (λ yes. list_any-from_Any (λ (b : Bool). b) (map p xs) (is.0 yes))
+    (λ yes. is.1 (Any-from_list_any (λ (b : Bool). b) (map p xs) yes))
+    ∙ any-map (λ (b : Bool). b) p xs

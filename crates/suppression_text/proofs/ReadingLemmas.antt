@@ -116,7 +116,7 @@ read_clear bytes left k sections was none = was.same ∙ place_end (line_fault (
 -- a refusal stays right where each fault of one text is a fault of the other
 pub refused : (e : Refusal) (a b : Option Fault) → Refuses e a → ((f : Fault) → a ≡ Some f → b ≡ Some f) → Refuses e b
 refused (refusal.Fault f) a b is same = same f is
-refused refusal.NoMemory a b is same = tt
+refused (refusal.NoMemory cause) a b is same = tt
 
 -- ---- faults of lines before those of sections
 

@@ -1,5 +1,6 @@
 -- The meaning of a pattern: its text is read by the grammar of `regex`, and searched for anywhere in bytes.
 use Rattle.std.specs.Prelude.{◌≡◌, ◌<◌, ◌&&◌, not, ℕ, Bool, false, nat_le, if◌then◌else◌, List, Option, None, is_some, chars, slice_index}
+use Rattle.std.specs.List.{list_any}
 use Rattle.std.specs.Option.{option_map_or}
 use Rattle.std.specs.Str.{is_utf8}
 use Rattle.regex_syntax.specs.Brackets.{Nested}
@@ -39,3 +40,13 @@ is_found text bytes = option_map_or (λ p. has_match bytes p.0.value) (read_in t
 -- a search for the second is a search for the pattern with this text
 abbrev pub IsSearch : List ℕ → Re → Type 0
 IsSearch text pattern = (bytes : List ℕ) → ((k : ℕ) → slice_index bytes k < 256) → is_found text bytes ≡ has_match bytes pattern
+
+-- ---- several patterns
+
+-- one of the patterns with these texts has a match in the bytes
+abbrev pub is_one_found : List (List ℕ) → List ℕ → Bool
+is_one_found texts bytes = list_any (λ text. is_found text bytes) texts
+
+-- a search for one of the second is a search for one of the patterns with these texts
+abbrev pub IsSearchForOne : List (List ℕ) → List Re → Type 0
+IsSearchForOne texts patterns = (bytes : List ℕ) → ((k : ℕ) → slice_index bytes k < 256) → is_one_found texts bytes ≡ list_any (has_match bytes) patterns

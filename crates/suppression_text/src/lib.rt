@@ -1,11 +1,13 @@
 //! The rule file of a packager: its lines, its faults, and its sections with their patterns.
 #![tactic(auto)]
 
+mod classes;
 mod judging;
 mod key;
 pub mod laws;
 mod line;
 mod pattern;
+pub mod pattern_set;
 mod property;
 mod reading;
 mod rules;

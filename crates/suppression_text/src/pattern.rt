@@ -28,8 +28,8 @@ impl Model for Pattern {
     ghost invariant = { λ p. IsSearch (regex_source p.regex) (regex_pattern p.regex) };
 }
 
-// The bytes as a text, if they are UTF-8.
-fn text_in(bytes: &[u8]) -> Option<&str>
+/// The bytes as a text, if they are UTF-8.
+pub fn text_in(bytes: &[u8]) -> Option<&str>
     ensures text { IfSome result (λ text. (text.now ≡ bytes.now) × (is_utf8 bytes.now ≡ true)) }
     ensures none { IfNone result (is_utf8 bytes.now ≡ false) }
 {
@@ -62,7 +62,7 @@ pub fn is_pattern(alloc: Global, text: &[u8]) -> Result<bool, NoMemory>
             Ok(true)
         }
         Err(error) => match error.kind {
-            ErrorKind::OutOfMemory => Err(NoMemory),
+            ErrorKind::OutOfMemory => Err(NoMemory::Allocation),
             _ => Ok(false),
         },
     }
@@ -75,11 +75,11 @@ impl Pattern {
         ensures { IfOk result (λ pattern. pattern ≡ text.now) }
     {
         let Some(source) = text_in(text) else {
-            return Err(NoMemory);
+            return Err(NoMemory::Allocation);
         };
         match Regex::new(alloc, source) {
             Ok(regex) => Ok(Pattern { regex }),
-            Err(_) => Err(NoMemory),
+            Err(_) => Err(NoMemory::Allocation),
         }
     }
 

@@ -6,13 +6,17 @@ ghost use Rattle.suppression_text.specs.Lines.{forms_of};
 ghost use Rattle.suppression_text.specs.Rules.{rules_of, sections_of};
 ghost use Rattle.suppression_text.specs.Faults.{line_faults, rule_fault};
 
+use crate::classes::classes_in;
 use crate::judging::{read_line, text_fault};
 use crate::line::{first_line, line_of};
 use crate::rules::Rules;
 use crate::section::{Section, fault_of_sections};
-use abi_base::Refusal;
+use abi_base::{Limit, NoMemory, Refusal};
 use sha2::{Digest, Sha256};
 use std::alloc::Global;
+
+// The most classes in the values of a rule file. Three hundred patterns with a class each take less than a tenth.
+const MOST_CLASSES: usize = 4096;
 
 fn digest_of(bytes: &[u8]) -> [u8; 32]
     ensures { result ≡ sha256 bytes.now }
@@ -28,7 +32,12 @@ fn read_sections(alloc: Global, bytes: &[u8]) -> Result<Vec<Section>, Refusal>
     let mut sections = Vec::new(alloc);
     let mut left = bytes;
     let mut number = 1u64;
+    let mut classes = 0usize;
     'lines: while let Some(next) = first_line(left) {
+        classes = classes.saturating_add(classes_in(next.line));
+        if classes > MOST_CLASSES {
+            return Err(Refusal::NoMemory(NoMemory::Past(Limit::Patterns)));
+        }
         read_line(alloc, &mut sections, number, line_of(next.line))?;
         left = next.rest;
         number += 1;

@@ -6,6 +6,7 @@ use Rattle.std.proofs.Math.Seq.{take-add}
 use Rattle.std.proofs.lemmas.List.{length-map, length-take-le, take_more}
 use Rattle.std.proofs.lemmas.List.Elements.{filter-append}
 use Rattle.std.proofs.lemmas.List.Folds.{list_any-append}
+use Rattle.abi_base.proofs.lemmas.Cases.{bool_cases}
 use Rattle.abi_types.specs.declared.kind.Way.{Way}
 use Rattle.abi_types.specs.declared.kind.Way.TheVariants.{Direct, Pointer}
 use Rattle.abi_types.specs.Exports.{PlainExport}
@@ -17,10 +18,6 @@ use Rattle.suppressions.specs.Flags.{AreFlags, either, AreEither, AreOfOneSize}
 use Rattle.suppressions.specs.Names.{asks_names, is_chosen, chosen}
 use Rattle.suppressions.specs.Meaning.{section_holds, some_section_holds, drops, marks_name, marks_names, is_dropped, is_marked}
 use Rattle.suppressions.specs.Subjects.{PlainSubject, export_subject, label_subject}
-
-cases : {P : Type 0} (b : Bool) → (b ≡ true → P) → (b ≡ false → P) → P
-cases true here other = here refl
-cases false here other = other refl
 
 or_first : (a r f g : Bool) → r ≡ (f || g) → (a || r) ≡ ((a || f) || g)
 or_first true r f g e = refl
@@ -48,7 +45,7 @@ any_parts : (h q : PlainSection → Bool) (xs : List PlainSection) → list_any 
 any_parts h q [] = refl
 any_parts h q (x ∷ xs) =
     let rest = any_parts h q xs in
-    cases (q x)
+    bool_cases (q x)
     (λ yes. rw yes (or_first (h x) (list_any h xs) (list_any h (filter q xs)) (list_any h (filter (λ y. not (q y)) xs)) rest))
     (λ no. rw no (or_second (h x) (list_any h xs) (list_any h (filter q xs)) (list_any h (filter (λ y. not (q y)) xs)) rest))
 

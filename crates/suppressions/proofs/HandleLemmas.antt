@@ -1,23 +1,21 @@
 -- The order of sections by their handles, and the search for a handle.
 use Rattle.std.proofs.Common.{zero, suc, ◌≡◌, ◌<◌, ◌≤◌, ◌+◌, ◌-◌, ℕ, Bool, true, false, List, [], ◌∷◌, ◌++◌, length, take, drop, get_or, refl, sym, ap, ◌∙◌, inl, inr, arith}
-use Rattle.std.specs.Prelude.{All, Contains, IsPermutation}
-use Rattle.std.specs.List.{range_with_len}
+use Rattle.std.specs.Prelude.{Contains}
 use Rattle.std.specs.List.Sorted.{IsPartitionedBy, IsPartitionPoint}
 use Rattle.std.specs.Cmp.{IsTotalOrder, IsStrictWeakOrder}
 use Rattle.std.specs.Cmp.Lexicographic.{slice_cmp}
-use Rattle.std.specs.Ordering.{nat_cmp, ordering_then, ordering_reverse, is_lt, is_le, is_gt, is_eq}
+use Rattle.std.specs.Ordering.{nat_cmp, ordering_reverse, is_lt, is_le, is_gt}
 use Rattle.std.specs.declared.cmp.Ordering.{Ordering}
 use Rattle.std.specs.declared.cmp.Ordering.TheVariants.{Less, Equal, Greater}
 use Rattle.std.proofs.lemmas.Bool.{cases_lt}
-use Rattle.std.proofs.lemmas.Bool.Decides.{nat_tests}
 use Rattle.std.proofs.lemmas.Cmp.{nat_cmp_total, nat_list_cmp_total, then_total, on_total, tied_itself, upto}
 use Rattle.std.proofs.lemmas.List.{length-drop, length-take-le, get_or-drop, get_or-take}
-use Rattle.std.proofs.lemmas.List.Elements.{All-from_get_or, All-get_or}
-use Rattle.std.proofs.lemmas.List.FromFn.{length-range_with_len, get_or-range_with_len}
-use Rattle.std.proofs.lemmas.List.Sorted.{ranks_by, sorted_far, All-permutation, Contains-permutation}
-use Rattle.std.proofs.lemmas.Map.Text.{is_eq-slice_cmp}
-use Rattle.std.proofs.lemmas.Slice.Eq.{bytes_eq-Decides}
+use Rattle.std.proofs.lemmas.List.Elements.{All-get_or}
+use Rattle.std.proofs.lemmas.List.Sorted.{ranks_by, sorted_far}
+use Rattle.abi_base.proofs.lemmas.Contained.{in_permutation}
+use Rattle.abi_base.proofs.lemmas.Orders.{nat_equal, le_from_not_gt, not_gt_from_le, equal_between, le_from_lt, bytes_equal, then_equal}
 use Rattle.suppressions.specs.Handles.{PlainHandle, handle_cmp, handle_at, place_cmp, IsHandleOrder, AreAt}
+use Rattle.abi_types.proofs.lemmas.Ranges.{below_all}
 
 -- ---- the order
 
@@ -47,59 +45,13 @@ less_down x y z below less = go (handle_cmp x y) refl below where
   go Equal is e = ap is_lt (handle_total.congr x y z is) ∙ less
   go Greater is e = cc
 
-le_from_not_gt : (o : Ordering) → is_gt o ≡ false → is_le o ≡ true
-le_from_not_gt Less e = refl
-le_from_not_gt Equal e = refl
-le_from_not_gt Greater e = cc
-
-not_gt_from_le : (o : Ordering) → is_le o ≡ true → is_gt o ≡ false
-not_gt_from_le Less e = refl
-not_gt_from_le Equal e = refl
-not_gt_from_le Greater e = cc
-
-equal_between : (o : Ordering) → is_lt o ≡ false → is_le o ≡ true → o ≡ Equal
-equal_between Less e f = cc
-equal_between Equal e f = refl
-equal_between Greater e f = cc
-
-le_from_lt : (o : Ordering) → is_lt o ≡ true → is_le o ≡ true
-le_from_lt Less e = refl
-le_from_lt Equal e = cc
-le_from_lt Greater e = cc
-
-both_equal : (o q : Ordering) → ordering_then o q ≡ Equal → (o ≡ Equal) × (q ≡ Equal)
-both_equal Less q e = cc
-both_equal Equal q e = (refl, e)
-both_equal Greater q e = cc
-
-numbers_equal : (x y : ℕ) → nat_cmp x y ≡ Equal → x ≡ y
-numbers_equal x y e = grind (arith, nat_tests)
-
-names_equal : (x y : List ℕ) → slice_cmp nat_cmp x y ≡ Equal → x ≡ y
-names_equal x y e = (bytes_eq-Decides x y).0 (sym (is_eq-slice_cmp x y) ∙ ap is_eq e)
-
 one_pair : (x y : PlainHandle) → x.0 ≡ y.0 → x.1 ≡ y.1 → x ≡ y
 one_pair x y first second = λ i. (first i, second i)
 
 one_handle : (x y : PlainHandle) → handle_cmp x y ≡ Equal → x ≡ y
 one_handle x y e =
-    let both = both_equal (nat_cmp x.0 y.0) (slice_cmp nat_cmp x.1 y.1) e in
-    one_pair x y (numbers_equal x.0 y.0 both.0) (names_equal x.1 y.1 both.1)
-
--- ---- all positions
-
-below_all : (n : ℕ) (places : List ℕ) → IsPermutation (range_with_len 0 n) places → All (λ (k : ℕ). k < n) places
-below_all n places moved =
-    All-permutation (λ (k : ℕ). k < n) (range_with_len 0 n) places moved
-    (All-from_get_or (λ (k : ℕ). k < n) (range_with_len 0 n) 0 (λ k lt.
-    let inside : k < n = rw (length-range_with_len 0 n) at lt in
-    let here : get_or (range_with_len 0 n) k 0 ≡ 0 + k = get_or-range_with_len 0 n k 0 inside in
-    omega (arith, here)))
-
-all_there : (n : ℕ) (places : List ℕ) (k : ℕ) → IsPermutation (range_with_len 0 n) places → k < n → Contains places k
-all_there n places k moved inside =
-    let here : get_or (range_with_len 0 n) k k ≡ 0 + k = get_or-range_with_len 0 n k k inside in
-    Contains-permutation (range_with_len 0 n) places k moved (k, rw (length-range_with_len 0 n) inside, omega (arith, here))
+    let both = then_equal (nat_cmp x.0 y.0) (slice_cmp nat_cmp x.1 y.1) e in
+    one_pair x y (nat_equal x.0 y.0 both.0) (bytes_equal x.1 y.1 both.1)
 
 -- ---- a search
 
@@ -160,7 +112,7 @@ module _ (handles : List PlainHandle) (places : List ℕ) (handle : PlainHandle)
 
     there : (k : ℕ) → (k < length handles) × (handle_at handles k ≡ handle) → Contains slice k
     there k is =
-        let has = all_there (length handles) places k order.all is.0 in
+        let has = in_permutation (length handles) places k order.all is.0 in
         let m = has.0 in
         let inside = has.1 in
         let same : handle_cmp (handle_at handles (get_or places m k)) handle ≡ Equal =
@@ -180,11 +132,3 @@ module _ (handles : List PlainHandle) (places : List ℕ) (handle : PlainHandle)
 
     pub AreAt-slice : AreAt handles handle slice
     AreAt-slice k = (listed k, there k)
-
--- one more number
-pub range-more : (a n j : ℕ) → a + n ≡ j → range_with_len a (n + 1) ≡ range_with_len a n ++ j ∷ []
-range-more a zero j e = let f : j ≡ a = omega arith in rw f refl
-range-more a (suc n) j e =
-    let later = range-more (a + 1) n j (omega arith) in
-    let p : suc n + 1 ≡ suc (n + 1) = omega arith in
-    rw p (ap (λ (xs : List ℕ). a ∷ xs) later)

@@ -3,7 +3,6 @@ use Rattle.std.proofs.Common.{◌≡◌, ◌<◌, ◌+◌, ℕ, Bool, true, fals
 use Rattle.std.proofs.lemmas.List.{length-map, get_or-map, take_more, map-append}
 use Rattle.abi_types.specs.Types.{PlainNode, PlainLabel}
 use Rattle.abi_types.specs.Graphs.{node_at, void_node}
-use Rattle.abi_types.specs.declared.library.Marks.{Marks}
 use Rattle.abi_types.specs.declared.kind.Way.TheVariants.{Direct, Pointer}
 use Rattle.abi_types.specs.Libraries.{PlainLibrary}
 use Rattle.suppression_text.specs.Rules.{PlainSection, PlainRules}
@@ -13,9 +12,7 @@ use Rattle.suppressions.specs.Names.{chosen}
 use Rattle.suppressions.proofs.FlagLemmas.{together-chosen, joined}
 use Rattle.suppressions.specs.Marks.{IsEven, AreEvenMarks, marks_of}
 use Rattle.suppressions.specs.Meaning.{is_dropped, is_marked}
-
-abbrev pub marks_with : List ℕ → List Bool → List Bool → List Bool → Marks
-marks_with digest exports direct pointer = record { digest = digest; exports = exports; direct = direct; pointer = pointer }
+use Rattle.abi_types.proofs.lemmas.Records.{marks_with}
 
 even : (f : List PlainLabel → Bool) (nodes : List PlainNode) (flags : List Bool) → flags ≡ map (λ (n : PlainNode). f n.labels) nodes → IsEven nodes flags
 even f nodes flags is =

@@ -6,12 +6,14 @@ use Rattle.std.specs.HashMap.{get_by}
 use Rattle.std.specs.Str.{bytes_eq}
 use Rattle.std.proofs.lemmas.Bool.{and_parts, eqb-true}
 use Rattle.std.proofs.lemmas.Slice.Eq.{bytes_eq-Decides}
+use Rattle.abi_base.proofs.lemmas.Cases.{bool_cases}
 use Rattle.abi_types.specs.declared.kind.LabelKind.{LabelKind}
 use Rattle.abi_types.specs.declared.kind.LabelKind.TheVariants.{Structure, Union, Enumeration, Typedef, Builtin}
 use Rattle.abi_types.specs.Types.{PlainLabel}
 use Rattle.suppression_text.specs.Rules.{PlainSection}
 use Rattle.suppressions.specs.declared.accessed_through.MarkedByWay.{MarkedByWay}
 use Rattle.suppressions.specs.Known.{Known, kind_number, name_ways, IsKnown}
+use Rattle.abi_types.proofs.lemmas.Records.{one_label}
 
 abbrev key : LabelKind → List ℕ → ℕ × Bor (List ℕ)
 key kind name = (kind_number kind, record { ref_ptr = (0, 0); now = name })
@@ -44,16 +46,8 @@ one_kind Builtin Enumeration e = cc
 one_kind Builtin Typedef e = cc
 one_kind Builtin Builtin e = refl
 
-one_label : (l m : PlainLabel) → l.kind ≡ m.kind → l.name ≡ m.name → l ≡ m
-one_label l m kinds names =
-    ap (λ (k : LabelKind). let x : PlainLabel = record { kind = k; name = l.name } in x) kinds ∙ ap (λ (n : List ℕ). let x : PlainLabel = record { kind = m.kind; name = n } in x) names
-
 same_some : (x y : MarkedByWay) → Some x ≡ Some y → x ≡ y
 same_some x y e = cc
-
-cases : {P : Type 0} (b : Bool) → (b ≡ true → P) → (b ≡ false → P) → P
-cases true here other = here refl
-cases false here other = other refl
 
 -- the key has this number and this name
 abbrev names : ℕ → List ℕ → ℕ × Bor (List ℕ) → Bool
@@ -68,7 +62,7 @@ pub known_more : (sections : List PlainSection) (soname : Option (List ℕ)) (ol
     → ((q : ℕ × Bor (List ℕ)) → under new q ≡ cond (names n label.name q) (Some ways) (under old q)) → IsKnown sections soname new
 known_more sections soname old new label n ways was number is adds l found held =
     let q = key l.kind l.name in
-    cases (names n label.name q) (λ same.
+    bool_cases (names n label.name q) (λ same.
     let both = and_parts (n == kind_number l.kind) (bytes_eq label.name l.name) same in
     let kinds : label.kind ≡ l.kind = one_kind label.kind l.kind (sym number ∙ eqb-true n (kind_number l.kind) both.0) in
     let e : label ≡ l = one_label label l kinds ((bytes_eq-Decides label.name l.name).0 both.1) in

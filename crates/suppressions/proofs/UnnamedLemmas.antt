@@ -2,6 +2,7 @@
 use Rattle.std.proofs.Common.{◌≡◌, ℕ, Bool, true, false, List, [], ◌∷◌, Option, refl, sym, ◌∙◌, ap}
 use Rattle.std.specs.Prelude.{◌||◌}
 use Rattle.std.specs.List.{list_all, list_any}
+use Rattle.abi_base.proofs.lemmas.Bools.{or_is_false}
 use Rattle.abi_types.specs.declared.kind.Way.TheVariants.{Direct, Pointer}
 use Rattle.abi_types.specs.Exports.{PlainExport}
 use Rattle.abi_types.specs.Types.{PlainLabel}
@@ -14,10 +15,6 @@ use Rattle.suppressions.specs.Subjects.{PlainSubject, asked, unnamed, section_of
 use Rattle.suppressions.specs.Meaning.{property_holds, section_holds, some_section_holds, drops}
 use Rattle.suppressions.specs.Known.{name_ways}
 use Rattle.suppressions.specs.Names.{asks_name, asks_names, some_ask, judged_label}
-
-neither : (a b : Bool) → (a || b) ≡ false → (a ≡ false) × (b ≡ false)
-neither true b e = cc
-neither false b e = (refl, e)
 
 module _ (s : PlainSubject) where
   -- the subject and the one without names have the same bytes
@@ -42,7 +39,7 @@ module _ (s : PlainSubject) where
       → list_all (property_holds s) ps ≡ list_all (property_holds (unnamed s)) ps
   same_all [] none = refl
   same_all (p ∷ ps) none =
-      let both = neither (asks_name p.key) (list_any (λ (q : PlainProperty). asks_name q.key) ps) none in
+      let both = or_is_false (asks_name p.key) (list_any (λ (q : PlainProperty). asks_name q.key) ps) none in
       rw (same_property p both.0, same_all ps both.1) refl
 
   same_section : (section : PlainSection) → asks_names section ≡ false → section_holds s section ≡ section_holds (unnamed s) section
@@ -52,7 +49,7 @@ module _ (s : PlainSubject) where
   pub same_unnamed : (sections : List PlainSection) → some_ask sections ≡ false → some_section_holds sections s ≡ some_section_holds sections (unnamed s)
   same_unnamed [] none = refl
   same_unnamed (section ∷ sections) none =
-      let both = neither (asks_names section) (list_any asks_names sections) none in
+      let both = or_is_false (asks_names section) (list_any asks_names sections) none in
       rw (same_section section both.0, same_unnamed sections both.1) refl
 
 -- a name and the name that is judged for it have equal marks

@@ -2,6 +2,7 @@
 use Rattle.std.proofs.Common.{◌≡◌, ℕ, Bool, true, false, List, [], ◌∷◌, map, Option, refl}
 use Rattle.std.specs.Prelude.{◌||◌}
 use Rattle.std.specs.List.{list_all, list_any}
+use Rattle.abi_base.proofs.lemmas.Bools.{or_is_false}
 use Rattle.abi_types.specs.declared.kind.Way.TheVariants.{Direct, Pointer}
 use Rattle.abi_types.specs.Libraries.{PlainLibrary}
 use Rattle.abi_types.specs.Types.{PlainLabel, PlainNode}
@@ -14,10 +15,6 @@ use Rattle.suppressions.specs.Subjects.{asked, label_subject}
 use Rattle.suppressions.specs.Meaning.{property_holds, section_holds, marks_name, marks_names, is_marked}
 use Rattle.suppressions.specs.Marks.{AreAtBothWays, marks_of}
 use Rattle.suppressions.specs.Reasons.{HasNoWays}
-
-neither : (a b : Bool) → (a || b) ≡ false → (a ≡ false) × (b ≡ false)
-neither true b e = cc
-neither false b e = (refl, e)
 
 module _ (soname : Option (List ℕ)) (l : PlainLabel) where
   -- the subject has the same bytes by value and through a pointer
@@ -42,7 +39,7 @@ module _ (soname : Option (List ℕ)) (l : PlainLabel) where
       → list_all (property_holds (label_subject soname Direct l)) ps ≡ list_all (property_holds (label_subject soname Pointer l)) ps
   same_all [] none = refl
   same_all (p ∷ ps) none =
-      let both = neither (same_key AccessedThrough p.key) (list_any (λ (q : PlainProperty). same_key AccessedThrough q.key) ps) none in
+      let both = or_is_false (same_key AccessedThrough p.key) (list_any (λ (q : PlainProperty). same_key AccessedThrough q.key) ps) none in
       rw (same_holds p both.0, same_all ps both.1) refl
 
   same_section : (s : PlainSection) → has AccessedThrough s ≡ false → section_holds (label_subject soname Direct l) s ≡ section_holds (label_subject soname Pointer l) s
@@ -52,7 +49,7 @@ module _ (soname : Option (List ℕ)) (l : PlainLabel) where
   same_sections : (ss : List PlainSection) → list_any (has AccessedThrough) ss ≡ false → marks_name ss soname Direct l ≡ marks_name ss soname Pointer l
   same_sections [] none = refl
   same_sections (s ∷ ss) none =
-      let both = neither (has AccessedThrough s) (list_any (has AccessedThrough) ss) none in
+      let both = or_is_false (has AccessedThrough s) (list_any (has AccessedThrough) ss) none in
       rw (same_section s both.0, same_sections ss both.1) refl
 
 pub same_ways : (sections : List PlainSection) (soname : Option (List ℕ)) (labels : List PlainLabel) → list_any (has AccessedThrough) sections ≡ false → marks_names sections soname Direct labels ≡ marks_names sections soname Pointer labels

@@ -1,10 +1,10 @@
--- The handle of a section: the exact name by which it is found.
-use Rattle.std.specs.Prelude.{◌≡◌, ◌<◌, ◌↔◌, ℕ, List, [], length, map, Option, Some, None, slice_index_or, Contains, IsPermutation, IsSorted}
+-- The handle of a section: the exact name by which it is found, or that it has a pattern for names.
+use Rattle.std.specs.Prelude.{◌≡◌, ◌<◌, ◌↔◌, ℕ, List, [], length, map, filter_map, Option, Some, None, slice_index_or, Contains, IsPermutation, IsSorted}
 use Rattle.std.specs.List.{range_with_len}
 use Rattle.std.specs.Ordering.{nat_cmp, ordering_then}
 use Rattle.std.specs.Cmp.Lexicographic.{slice_cmp}
 use Rattle.std.specs.declared.cmp.Ordering.{Ordering}
-use Rattle.suppression_text.specs.declared.key.Key.TheVariants.{Name, SymbolName}
+use Rattle.suppression_text.specs.declared.key.Key.TheVariants.{Name, NameRegexp, SymbolName, SymbolNameRegexp}
 use Rattle.suppression_text.specs.Rules.{PlainSection, value_in}
 
 -- the number of the kind of handle, and the name
@@ -14,17 +14,36 @@ PlainHandle = ℕ × List ℕ
 abbrev pub any_handle : PlainHandle
 any_handle = (0, [])
 
-abbrev pub symbol_handle : Option (List ℕ) → PlainHandle
-symbol_handle (Some name) = (2, name)
-symbol_handle None = any_handle
+abbrev pub gate_handle : PlainHandle
+gate_handle = (3, [])
 
-abbrev pub name_handle : Option (List ℕ) → Option (List ℕ) → PlainHandle
-name_handle (Some name) symbol = (1, name)
-name_handle None symbol = symbol_handle symbol
+abbrev pub first_value : Option (List ℕ) → Option (List ℕ) → Option (List ℕ)
+first_value (Some value) other = Some value
+first_value None other = other
 
--- the handle of a section: its `name`, or else its `symbol_name`
+-- A pattern that must match a name of what the section matches: its `name_regexp`, or else its `symbol_name_regexp`.
+abbrev pub gate_of : PlainSection → Option (List ℕ)
+gate_of section = first_value (value_in NameRegexp section) (value_in SymbolNameRegexp section)
+
+-- these patterns of the sections
+abbrev pub gates_of : List PlainSection → List (List ℕ)
+gates_of sections = filter_map gate_of sections
+
+abbrev pub pattern_handle : Option (List ℕ) → PlainHandle
+pattern_handle (Some text) = gate_handle
+pattern_handle None = any_handle
+
+abbrev pub symbol_handle : Option (List ℕ) → Option (List ℕ) → PlainHandle
+symbol_handle (Some name) gate = (2, name)
+symbol_handle None gate = pattern_handle gate
+
+abbrev pub name_handle : Option (List ℕ) → Option (List ℕ) → Option (List ℕ) → PlainHandle
+name_handle (Some name) symbol gate = (1, name)
+name_handle None symbol gate = symbol_handle symbol gate
+
+-- the handle of a section: its `name`, or else its `symbol_name`, or else that it has a pattern for names
 abbrev pub handle_of : PlainSection → PlainHandle
-handle_of section = name_handle (value_in Name section) (value_in SymbolName section)
+handle_of section = name_handle (value_in Name section) (value_in SymbolName section) (gate_of section)
 
 abbrev pub handles_of : List PlainSection → List PlainHandle
 handles_of sections = map handle_of sections

@@ -1,12 +1,19 @@
 //! Sections with compiled patterns.
-ghost use Rattle.std.specs.Prelude.{◌≡◌, IfOk};
+ghost use Rattle.std.specs.Prelude.{◌≡◌, map, IfOk};
+ghost use Rattle.std.specs.Option.{ForSome};
+ghost use Rattle.suppressions.specs.Handles.{gates_of};
 ghost use Rattle.suppressions.specs.Names as spec;
 
 use crate::boxed::BoxedProperty;
+use crate::handle::gate_of;
 use abi_base::NoMemory;
 use std::alloc::Global;
 use std::marker::Model;
+use suppression_text::pattern_set::{PatternSet, SetFinder};
 use suppression_text::{Key, Section};
+
+// Fewer patterns are not compiled together.
+const FEWEST_TOGETHER: usize = 4;
 
 // Whether a property tests a name.
 fn asks_name(key: Key) -> bool
@@ -100,9 +107,9 @@ impl<'r> CompiledSection<'r> {
     }
 }
 
-/// Compiles the chosen sections: with `asking` those that test names, else the others.
+// Compiles the chosen sections: with `asking` those that test names, else the others.
 #[tactic(auto, unfolding(crate::specs::Names::chosen))]
-pub fn compiled<'r>(
+fn chosen_compiled<'r>(
     alloc: Global,
     sections: &'r [Section],
     asking: bool,
@@ -116,4 +123,90 @@ pub fn compiled<'r>(
         }
     }
     Ok(compiled)
+}
+
+// The patterns of sections for names.
+fn gates_in<'c>(alloc: Global, sections: &'c [CompiledSection]) -> Result<Vec<&'c [u8]>, NoMemory>
+    ensures { IfOk result (λ texts. map (λ text. text.now) texts.items ≡ gates_of sections.now) }
+{
+    let mut texts = Vec::new(alloc);
+    for section in sections {
+        if let Some(text) = gate_of(section.section()) {
+            texts.push(text)?;
+        }
+    }
+    Ok(texts)
+}
+
+// The patterns of sections for names, compiled together, unless there are few.
+fn gate(alloc: Global, sections: &[CompiledSection]) -> Result<Option<Box<PatternSet>>, NoMemory>
+    ensures { IfOk result (λ gate. ForSome gate (λ set. set.value ≡ gates_of sections.now)) }
+{
+    let texts = gates_in(alloc, sections)?;
+    if texts.len() < FEWEST_TOGETHER {
+        return Ok(None);
+    }
+    let set = PatternSet::compile(alloc, texts.as_slice())?;
+    Ok(Some(Box::new(alloc, set)?))
+}
+
+/// Sections with their patterns compiled, those for names also all together. Contracts see the list of the sections.
+#[derive(Drop)]
+pub struct CompiledSections<'r> {
+    sections: Vec<CompiledSection<'r>>,
+    gate: Option<Box<PatternSet>>,
+}
+
+impl<'r> Model for CompiledSections<'r> {
+    ghost use Rattle.std.specs.Prelude.{◌≡◌, List};
+    ghost use Rattle.std.specs.Option.{ForSome};
+    ghost use Rattle.suppression_text.specs.Rules.{PlainSection};
+    ghost use Rattle.suppressions.specs.Handles.{gates_of};
+
+    ghost Value = { List PlainSection };
+
+    ghost view = { λ c. c.sections.items };
+
+    ghost invariant = { λ c. ForSome c.gate (λ set. set.value ≡ gates_of c.sections.items) };
+}
+
+impl<'r> CompiledSections<'r> {
+    // Compiles the patterns for names together.
+    fn together(
+        alloc: Global,
+        sections: Vec<CompiledSection<'r>>,
+    ) -> Result<CompiledSections<'r>, NoMemory>
+        ensures { IfOk result (λ compiled. compiled ≡ sections.entry.items) }
+    {
+        let gate = gate(alloc, sections.as_slice())?;
+        Ok(CompiledSections { sections, gate })
+    }
+
+    /// Compiles the chosen sections: with `asking` those that test names, else the others.
+    pub fn chosen(
+        alloc: Global,
+        sections: &'r [Section],
+        asking: bool,
+    ) -> Result<CompiledSections<'r>, NoMemory>
+        ensures { IfOk result (λ compiled. compiled ≡ spec.chosen asking sections.now) }
+    {
+        CompiledSections::together(alloc, chosen_compiled(alloc, sections, asking)?)
+    }
+
+    /// The sections.
+    pub fn sections(&self) -> &[CompiledSection<'r>]
+        ensures { result.now ≡ self.now }
+    {
+        self.sections.as_slice()
+    }
+
+    /// A searcher for all patterns for names, if they are compiled together.
+    pub fn gate(&self, alloc: Global) -> Result<Option<Box<SetFinder<'_>>>, NoMemory>
+        ensures { IfOk result (λ gate. ForSome gate (λ finder. finder.value ≡ gates_of self.now)) }
+    {
+        match &self.gate {
+            None => Ok(None),
+            Some(set) => Ok(Some(Box::new(alloc, set.finder(alloc)?)?)),
+        }
+    }
 }

@@ -1,5 +1,6 @@
-// The handle of a section: the exact name by which it is found.
+// The handle of a section: the exact name by which it is found, or that it has a pattern for names.
 ghost use Rattle.std.specs.Prelude.{◌≡◌};
+ghost use Rattle.std.specs.Option.{option_copied};
 ghost use Rattle.suppressions.specs.Handles.{handle_cmp};
 ghost use Rattle.suppressions.specs.Handles as spec;
 ghost use Rattle.suppressions.specs.PlainHandles.{plain_handle, class_of};
@@ -7,15 +8,17 @@ ghost use Rattle.suppressions.specs.PlainHandles.{plain_handle, class_of};
 use std::cmp::Ordering;
 use suppression_text::{Key, Section};
 
-/// The exact name that a section requires. A section with `name` or `symbol_name` can match only that name.
+/// How a section is found. A section with `name` or `symbol_name` can match only that name.
 #[derive(Clone, Copy)]
 pub enum Handle<'x> {
-    /// Neither property: the section can match any name.
+    /// None of the other properties: the section can match any name.
     Any,
     /// The value of `name`.
     Name(&'x [u8]),
     /// The value of `symbol_name`, in a section without `name`.
     Symbol(&'x [u8]),
+    /// A pattern for a name or for the name of a symbol, in a section without either name.
+    Pattern,
 }
 
 // The number of a kind of handles.
@@ -26,6 +29,17 @@ fn class(handle: Handle) -> u8
         Handle::Any => 0,
         Handle::Name(_) => 1,
         Handle::Symbol(_) => 2,
+        Handle::Pattern => 3,
+    }
+}
+
+/// A pattern that must match a name of what the section matches: that of `name_regexp`, or else that of `symbol_name_regexp`.
+pub fn gate_of(section: &Section) -> Option<&[u8]>
+    ensures { option_copied result ≡ spec.gate_of section.now }
+{
+    match section.value(Key::NameRegexp) {
+        Some(text) => Some(text),
+        None => section.value(Key::SymbolNameRegexp),
     }
 }
 
@@ -39,16 +53,26 @@ impl<'x> Handle<'x> {
         }
         match section.value(Key::SymbolName) {
             Some(name) => Handle::Symbol(name),
+            None => Handle::unnamed(section),
+        }
+    }
+
+    // The handle of a section without `name` and `symbol_name`.
+    fn unnamed(section: &Section) -> Handle<'x>
+        ensures { plain_handle result ≡ spec.pattern_handle (spec.gate_of section.now) }
+    {
+        match gate_of(section) {
+            Some(_) => Handle::Pattern,
             None => Handle::Any,
         }
     }
 
-    // The name, or no bytes for `Any`.
+    // The name, or no bytes where there is none.
     fn name(self) -> &'x [u8]
         ensures { result.now ≡ (plain_handle self.entry).1 }
     {
         match self {
-            Handle::Any => &[],
+            Handle::Any | Handle::Pattern => &[],
             Handle::Name(name) => name,
             Handle::Symbol(name) => name,
         }

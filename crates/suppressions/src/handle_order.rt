@@ -1,17 +1,22 @@
 // The order of sections by their handles, in which a binary search finds the sections of a handle.
-ghost use Rattle.std.specs.Prelude.{◌≡◌, ◌≤◌, ◌-◌, false, true, length, take, drop, map, IfOk};
+ghost use Rattle.std.specs.Prelude.{◌≡◌, ◌≤◌, ◌-◌, false, true, length, take, drop, map, IfErr, IfOk};
 ghost use Rattle.std.specs.List.{range_with_len};
 ghost use Rattle.std.specs.List.Sorted.{IsPartitionPoint};
 ghost use Rattle.std.specs.Ordering.{is_lt, is_le};
+ghost use Rattle.abi_base.specs.declared.fault.NoMemory.TheVariants.{Past};
+ghost use Rattle.abi_base.specs.declared.limit.Limit.TheVariants.{Patterns};
 ghost use Rattle.suppressions.specs.Handles.{handle_cmp, handles_of, place_cmp, IsHandleOrder, AreAt};
 ghost use Rattle.suppressions.specs.Handles as spec;
 ghost use Rattle.suppressions.specs.PlainHandles.{plain_handle, plain_handles};
 
 use crate::compiled::CompiledSection;
 use crate::handle::Handle;
-use abi_base::NoMemory;
+use abi_base::{Limit, NoMemory};
 use std::alloc::Global;
 use std::cmp::Ordering;
+
+// The most sections of a block that are found by one handle, since each of them is tested with each name that has this handle.
+const MOST_OF_A_HANDLE: usize = 1024;
 
 // The handle at a position. Past the end it is `Any`.
 fn handle_at<'x>(handles: &[Handle<'x>], k: usize) -> Handle<'x>
@@ -135,6 +140,16 @@ impl<'r> std::marker::Model for HandleOrder<'r> {
     ghost invariant = { λ o. IsHandleOrder o.places.items (plain_handles o.handles.items) };
 }
 
+// Whether some handle is that of more sections than the limit. Equal handles follow each other in the order of the handles.
+fn is_crowded(handles: &[Handle], places: &[usize]) -> bool {
+    for at in MOST_OF_A_HANDLE..places.len() {
+        if place_order(handles, places[at - MOST_OF_A_HANDLE], places[at]).is_eq() {
+            return true;
+        }
+    }
+    false
+}
+
 impl<'r> HandleOrder<'r> {
     /// Sorts sections by their handles.
     pub fn of(alloc: Global, sections: &[CompiledSection<'r>]) -> Result<HandleOrder<'r>, NoMemory>
@@ -143,6 +158,16 @@ impl<'r> HandleOrder<'r> {
         let handles = handles_in(alloc, sections)?;
         let places = places_of(alloc, handles.as_slice())?;
         Ok(HandleOrder { handles, places })
+    }
+
+    /// Returns `NoMemory` if too many sections have one handle.
+    pub fn check_limit(&self) -> Result<(), NoMemory>
+        ensures { IfErr result (λ e. e ≡ Past Patterns) }
+    {
+        if is_crowded(self.handles.as_slice(), self.places.as_slice()) {
+            return Err(NoMemory::Past(Limit::Patterns));
+        }
+        Ok(())
     }
 
     /// The numbers of the sections that have this handle.

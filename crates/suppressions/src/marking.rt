@@ -11,8 +11,8 @@ ghost use Rattle.suppression_text.specs.declared.key.SectionKind.TheVariants.{Fu
 ghost use Rattle.suppressions.specs.Names.{chosen, some_ask};
 
 use crate::accessed_through::names_once;
-use crate::block::{block_end, check_limits};
-use crate::compiled::{CompiledSection, compiled};
+use crate::block::{block_end, check_letters, check_limits};
+use crate::compiled::CompiledSections;
 use crate::ready_section::ReadyRules;
 use crate::subject::{Subject, section_of_symbol};
 use abi_base::{List, NoMemory};
@@ -38,8 +38,8 @@ fn chosen_drop(
 ) -> Result<bool, NoMemory>
     ensures { IfOk result (λ drop. drop ≡ drops (chosen asking sections.now) (option_copied soname.entry) (plain_export export.now)) }
 {
-    let compiled = compiled(alloc, sections, asking)?;
-    let mut ready = ReadyRules::of(alloc, compiled.as_slice())?;
+    let compiled = CompiledSections::chosen(alloc, sections, asking)?;
+    let mut ready = ReadyRules::of(alloc, &compiled)?;
     Ok(ready.some_holds(&Subject::of_export(soname, export)))
 }
 
@@ -78,7 +78,7 @@ fn marks_labels(
 // Whether compiled sections mark a type that has these names.
 fn compiled_mark(
     alloc: Global,
-    compiled: &[CompiledSection],
+    compiled: &CompiledSections,
     soname: Option<&[u8]>,
     labels: &[Label],
     way: Way,
@@ -100,10 +100,10 @@ pub fn drops_labels(
 ) -> Result<bool, NoMemory>
     ensures { IfOk result (λ drops. drops ≡ is_marked rules.now (option_copied soname.entry) (map plain_label labels.now) way) }
 {
-    let named = compiled(alloc, rules.sections(), true)?;
-    let others = compiled(alloc, rules.sections(), false)?;
-    let by_name = compiled_mark(alloc, named.as_slice(), soname, labels, way)?;
-    let by_kind = compiled_mark(alloc, others.as_slice(), soname, labels, way)?;
+    let named = CompiledSections::chosen(alloc, rules.sections(), true)?;
+    let others = CompiledSections::chosen(alloc, rules.sections(), false)?;
+    let by_name = compiled_mark(alloc, &named, soname, labels, way)?;
+    let by_kind = compiled_mark(alloc, &others, soname, labels, way)?;
     Ok(one_of(by_name, by_kind))
 }
 
@@ -214,8 +214,8 @@ fn chosen_flags(
 ) -> Result<Flags, NoMemory>
     ensures { IfOk result (AreFlags (chosen asking sections.now) old.now) }
 {
-    let compiled = compiled(alloc, sections, asking)?;
-    let mut ready = ReadyRules::of(alloc, compiled.as_slice())?;
+    let compiled = CompiledSections::chosen(alloc, sections, asking)?;
+    let mut ready = ReadyRules::of(alloc, &compiled)?;
     let soname = old.soname();
     let exports = export_flags(alloc, &mut ready, soname, old.exports())?;
     let NodeFlags { direct, pointer } = node_flags(alloc, &mut ready, soname, old.graph())?;
@@ -281,6 +281,7 @@ pub fn marks(alloc: Global, rules: &Rules, old: &Library<OldIx>) -> Result<Marks
 {
     let sections = rules.sections();
     check_limits(sections, old.soname())?;
+    check_letters(sections, old)?;
     let named = flags_of(alloc, sections, true, old)?;
     let others = flags_of(alloc, sections, false, old)?;
     let flags = either_flags(alloc, &named, &others)?;

@@ -4,18 +4,20 @@ ghost use Rattle.std.specs.List.{list_all};
 ghost use Rattle.suppressions.specs.PlainHandles.{plain_handle};
 ghost use Rattle.suppressions.specs.PlainSubjects.{plain_subject};
 ghost use Rattle.suppressions.specs.Names as spec;
-ghost use Rattle.suppressions.specs.Holding.{one_section_holds, IsOneOfHandle};
+ghost use Rattle.suppressions.specs.Handles.{gate_handle};
+ghost use Rattle.suppressions.specs.Holding.{one_section_holds, IsLetIn, IsOneOfHandle};
 ghost use Rattle.suppressions.specs.Meaning.{property_holds, section_holds, some_section_holds};
 ghost use Rattle.suppressions.specs.Meaning as meaning;
 
 use crate::boxed::{BoxedProperty, BoxedTest};
-use crate::compiled::{CompiledSection, asks_names};
+use crate::compiled::{CompiledSection, CompiledSections, asks_names};
 use crate::handle::Handle;
 use crate::handle_order::HandleOrder;
 use crate::subject::Subject;
 use abi_base::NoMemory;
 use std::alloc::Global;
 use std::marker::Model;
+use suppression_text::pattern_set::SetFinder;
 use suppression_text::{Key, Section, SectionKind};
 
 /// A section that is ready to be matched. Contracts see the section.
@@ -158,39 +160,50 @@ fn one_holds(sections: &mut [ReadySection], numbers: &[usize], subject: &Subject
 }
 
 /// Sections that are ready to be matched, indexed by the exact names that they require. A search for a name looks only at the
-/// sections that require exactly this name, and at those that require no exact name. Contracts see the list of the sections.
+/// sections that require exactly this name, and at those that require no exact name. If these have patterns for names, one search
+/// for all their patterns comes first: where it finds none, the sections are not looked at. Contracts see the list of the sections.
 #[derive(Drop)]
 pub struct ReadyRules<'c> {
     sections: Vec<ReadySection<'c>>,
     order: HandleOrder<'c>,
     asks: bool,
+    gate: Option<Box<SetFinder<'c>>>,
 }
 
 impl<'c> Model for ReadyRules<'c> {
     ghost use Rattle.std.specs.Prelude.{◌≡◌, List};
     ghost use Rattle.suppression_text.specs.Rules.{PlainSection};
-    ghost use Rattle.suppressions.specs.Handles.{handles_of};
+    ghost use Rattle.std.specs.Option.{ForSome};
+    ghost use Rattle.suppressions.specs.Handles.{gates_of, handles_of};
     ghost use Rattle.suppressions.specs.Names.{some_ask};
 
     ghost Value = { List PlainSection };
 
     ghost view = { λ r. r.sections.items };
 
-    ghost invariant = { λ r. (r.order ≡ handles_of r.sections.items) × (r.asks ≡ some_ask r.sections.items) };
+    ghost invariant = { λ r. (r.order ≡ handles_of r.sections.items) × (r.asks ≡ some_ask r.sections.items) × ForSome r.gate (λ finder. finder.value ≡ gates_of r.sections.items) };
 }
 
 impl<'c> ReadyRules<'c> {
-    /// Prepares compiled sections.
-    pub fn of(alloc: Global, compiled: &'c [CompiledSection]) -> Result<ReadyRules<'c>, NoMemory>
+    /// Prepares compiled sections. Returns `NoMemory` if memory runs out, or if some of them test names and too many are found by one.
+    pub fn of<'r>(
+        alloc: Global,
+        compiled: &'c CompiledSections<'r>,
+    ) -> Result<ReadyRules<'c>, NoMemory>
         ensures { IfOk result (λ ready. ready ≡ compiled.now) }
     {
-        let sections = ready_sections(alloc, compiled)?;
-        let order = HandleOrder::of(alloc, compiled)?;
-        let asks = some_ask(compiled);
+        let sections = ready_sections(alloc, compiled.sections())?;
+        let order = HandleOrder::of(alloc, compiled.sections())?;
+        let asks = some_ask(compiled.sections());
+        if asks {
+            order.check_limit()?;
+        }
+        let gate = compiled.gate(alloc)?;
         Ok(ReadyRules {
             sections,
             order,
             asks,
+            gate,
         })
     }
 
@@ -213,6 +226,34 @@ impl<'c> ReadyRules<'c> {
         )
     }
 
+    // Whether a pattern for names matches a name of a subject. Where the patterns are not compiled together, the answer is yes.
+    fn lets_in(&mut self, subject: &Subject) -> bool
+        ensures found { IsLetIn self.old (plain_subject subject.now) result }
+        ensures same { self.new ≡ self.old }
+    {
+        let Some(gate) = &mut self.gate else {
+            return true;
+        };
+        if gate.finds(subject.name) {
+            return true;
+        }
+        if let Some(symbol) = subject.symbol {
+            return gate.finds(symbol);
+        }
+        false
+    }
+
+    // Whether a section with a pattern for names, and without a name, matches a subject.
+    fn pattern_holds(&mut self, subject: &Subject) -> bool
+        ensures some { IsOneOfHandle self.old (plain_subject subject.now) gate_handle result }
+        ensures same { self.new ≡ self.old }
+    {
+        if !self.lets_in(subject) {
+            return false;
+        }
+        self.holds_at(Handle::Pattern, subject)
+    }
+
     /// Whether some section matches a subject.
     pub fn some_holds(&mut self, subject: &Subject) -> bool
         ensures some { result ≡ some_section_holds self.old (plain_subject subject.now) }
@@ -220,6 +261,7 @@ impl<'c> ReadyRules<'c> {
     {
         if self.holds_at(Handle::Any, subject)
             || self.holds_at(Handle::Name(subject.name), subject)
+            || self.pattern_holds(subject)
         {
             return true;
         }

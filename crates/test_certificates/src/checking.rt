@@ -219,7 +219,7 @@ fn answer(
     match read_cert(alloc, text.as_bytes()) {
         Ok(cert) => judged(alloc, old, new, marks, &cert),
         Err(Refusal::Fault(fault)) => unreadable(alloc, fault),
-        Err(Refusal::NoMemory) => Err(NoMemory),
+        Err(Refusal::NoMemory(cause)) => Err(cause),
     }
 }
 

@@ -81,7 +81,7 @@ fn fault_of(alloc: Global, text: &str) -> Result<String, NoMemory> {
     let (number, at) = match read_cert(alloc, text.as_bytes()) {
         Ok(_) => (0, 0),
         Err(Refusal::Fault(fault)) => (fault.kind.number(), fault.at),
-        Err(Refusal::NoMemory) => return Err(NoMemory),
+        Err(Refusal::NoMemory(cause)) => return Err(cause),
     };
     Ok(format!(in alloc; "{number} {at}")?)
 }

@@ -1,5 +1,5 @@
 // Each kind of fault has a sentence, with its place.
-use abi_base::{Fault, FaultKind, NoMemory, Remark, SizedExports};
+use abi_base::{Fault, FaultKind, Limit, NoMemory, Remark, SizedExports};
 use commands::{File, Input, Outcome, Verdict};
 use explain::{failure_sentence, fault_sentence, notes_on, untyped_sentence};
 use std::alloc::Global;
@@ -298,10 +298,11 @@ fn an_outcome_has_its_notes(rt: HostRuntime) -> Result<(), Fail> {
         (Outcome::ReadFault(Input::Old), 1, "a.so: no such file"),
         (Outcome::ReadFault(Input::Library), 0, ""),
         (
-            Outcome::NoMemory,
+            Outcome::NoMemory(NoMemory::Past(Limit::Pairs)),
             1,
-            "out of memory, or past a limit (LIMITS in abi(1))",
+            "past the limit on pairs of types (LIMITS in abi(1))",
         ),
+        (Outcome::NoMemory(NoMemory::Allocation), 1, "out of memory"),
         (Outcome::WriteFault, 1, "writing failed"),
         (Outcome::Help, 0, ""),
         (Outcome::Usage, 0, ""),

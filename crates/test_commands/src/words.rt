@@ -1,4 +1,5 @@
 // Arguments and their meaning.
+use cli_args::commands::{AppWords, CertificateWords, CheckWords, ComposeWords, LayoutWords};
 use cli_args::{ParsedArguments, Request, parse_arguments};
 use report::styles::ReportStyle;
 use std::alloc::Global;
@@ -11,12 +12,12 @@ const fn check<'a>(
     report: ReportStyle,
     old: &'a str,
 ) -> ParsedArguments<'a> {
-    ParsedArguments::Request(Request::Check {
+    ParsedArguments::Request(Request::Check(CheckWords {
         rules,
         report,
         old,
         new: "B",
-    })
+    }))
 }
 
 #[test]
@@ -109,44 +110,44 @@ fn options_stand_anywhere(rt: HostRuntime) -> Result<(), Fail> {
 
 // A verification against the certificate C.
 const fn verify<'a>(rules: Option<&'a str>) -> ParsedArguments<'a> {
-    ParsedArguments::Request(Request::Verify {
+    ParsedArguments::Request(Request::Verify(CertificateWords {
         rules,
         old: "A",
         new: "B",
         certificate: "C",
-    })
+    }))
 }
 
 // A migration of the certificate C.
 const fn migrate<'a>(rules: Option<&'a str>) -> ParsedArguments<'a> {
-    ParsedArguments::Request(Request::Migrate {
+    ParsedArguments::Request(Request::Migrate(CertificateWords {
         rules,
         old: "A",
         new: "B",
         certificate: "C",
-    })
+    }))
 }
 
 #[test]
 fn later_commands_have_their_words(rt: HostRuntime) -> Result<(), Fail> {
-    let compose = ParsedArguments::Request(Request::Compose {
+    let compose = ParsedArguments::Request(Request::Compose(ComposeWords {
         first: "A",
         middle: "B",
         last: "C",
         certificate1: "D",
         certificate2: "E",
-    });
-    let layout = ParsedArguments::Request(Request::Layout {
+    }));
+    let layout = ParsedArguments::Request(Request::Layout(LayoutWords {
         library: "A",
         tag: "s",
-    });
-    let app = ParsedArguments::Request(Request::App {
+    }));
+    let app = ParsedArguments::Request(Request::App(AppWords {
         rules: Some("F"),
         report: ReportStyle::Counts,
-        app: "A",
+        program: "A",
         old: "B",
         new: "C",
-    });
+    }));
     let rows: [(&[&str], ParsedArguments<'_>); 11] = [
         (
             &["app", "--rules", "F", "A", "--report", "counts", "B", "C"],
@@ -180,8 +181,8 @@ fn later_commands_have_their_words(rt: HostRuntime) -> Result<(), Fail> {
 
 #[test]
 fn commands_have_their_files_and_options(rt: HostRuntime) -> Result<(), Fail> {
-    let entries = ParsedArguments::Request(Request::Entries { library: "A" });
-    let exports = ParsedArguments::Request(Request::Exports { library: "A" });
+    let entries = ParsedArguments::Request(Request::Entries("A"));
+    let exports = ParsedArguments::Request(Request::Exports("A"));
     let rows: [(&[&str], ParsedArguments<'_>); 12] = [
         (&["verify", "A", "B", "C"], verify(None)),
         (
@@ -214,7 +215,7 @@ fn commands_have_their_files_and_options(rt: HostRuntime) -> Result<(), Fail> {
 // Expects that a trial with this word requests so many functions.
 fn trial_is(rt: &impl Abort, alloc: Global, word: &str, want: Option<u32>) -> Result<(), Fail> {
     let asked = match want {
-        Some(count) => ParsedArguments::Request(Request::Trial { count }),
+        Some(count) => ParsedArguments::Request(Request::Trial(count)),
         None => ParsedArguments::Usage,
     };
     assert_eq!(rt; parse_arguments(alloc, &["trial", word])?, asked, "{word}");

@@ -98,7 +98,7 @@ impl Listener for Keeping {
 
     fn tell(&mut self, row: &Row) -> Result<More, NoMemory> {
         if self.rows.len() as u64 >= self.most {
-            return Err(NoMemory);
+            return Err(NoMemory::Allocation);
         }
         self.rows.push(row.copy(self.alloc)?)?;
         Ok(More::Go)

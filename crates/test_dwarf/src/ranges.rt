@@ -1,7 +1,7 @@
 ghost use Rattle.std.specs.Prelude.{◌≤◌, length};
 ghost use Rattle.abi_base.specs.Limits.{input_limit};
 
-use abi_base::{Effort, Fault, FaultKind, INPUT_LIMIT};
+use abi_base::{Effort, Fault, FaultKind, INPUT_LIMIT, Limit};
 use dwarf_forms::Sections;
 use dwarf_text::Bases;
 use dwarf_text::ranges::*;
@@ -169,7 +169,7 @@ fn a_list_takes_the_effort_for_its_bytes_up_to_its_first_range(rt: HostRuntime) 
     ];
     for row in &rows {
         assert!(rt; row.bytes.len() <= INPUT_LIMIT);
-        let mut effort = Effort::for_bytes(1);
+        let mut effort = Effort::for_bytes(Limit::RangeLists, 1);
         let spent = spend_first(row.list, &BASES, &sections(row.bytes), &mut effort);
         assert!(rt; spent.is_ok(), "at {:?} of {:?}", row.list, row.bytes);
         let rest = effort.spend(EFFORT.saturating_sub(row.want));
@@ -177,7 +177,7 @@ fn a_list_takes_the_effort_for_its_bytes_up_to_its_first_range(rt: HostRuntime) 
         let more = effort.spend(1);
         assert!(rt; more.is_err(), "at {:?} of {:?}", row.list, row.bytes);
     }
-    let mut no_effort = Effort::for_bytes(0);
+    let mut no_effort = Effort::for_bytes(Limit::RangeLists, 0);
     let refused = spend_first(
         ListAt::Offset(0),
         &BASES,

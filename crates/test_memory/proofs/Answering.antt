@@ -4,14 +4,18 @@ use Rattle.std.proofs.Common.{◌≡◌, ◌≢◌, ◌↔◌, ◌≤◌, ◌+�
 use Rattle.std.specs.Prelude.{codes, map}
 use Rattle.abi_base.specs.Causes.{Rose, SameCounts}
 use Rattle.abi_base.specs.Limits.{sink_room}
+use Rattle.abi_base.specs.declared.fault.NoMemory.{NoMemory as Cause}
 use Rattle.abi_base.specs.declared.remark.Remark.{Remark}
-use Rattle.abi_top.specs.Answer.{Answers, Asks, AsksForTold, Call, HasRoom, row_of}
-use Rattle.abi_top.specs.Rows.{library_at, rules_at}
-use Rattle.abi_top.specs.Says.{CheckSays, check_says}
-use Rattle.cli_args.specs.ParsedArguments.{PlainRequest, arguments_by, check, request, usage, help}
+use Rattle.abi_top.specs.Answer.{Answers, Asks, AsksForTold, HasRoom, row_of}
+use Rattle.abi_top.specs.Calls.{Call}
+use Rattle.abi_top.specs.Inputs.{library_at, rules_at}
+use Rattle.abi_top.specs.Rows.Check.{CheckSays, check_says}
+use Rattle.cli_args.specs.Commands.{PlainRequest, check}
+use Rattle.cli_args.specs.ParsedArguments.{arguments_by, request, usage, help}
 use Rattle.cli_args.specs.Words.{IsNoOption}
 use Rattle.commands.specs.Commands.{named, places_of}
 use Rattle.commands.specs.declared.input.Input.TheVariants.{Old, New}
+use Rattle.commands.specs.Outcomes.{IsNoMemory}
 use Rattle.commands.specs.Reading.{AreTold, reading_of}
 use Rattle.commands.specs.Replies.{Replies}
 use Rattle.commands.specs.Served.{AreServed, IsServed, IsVerdict}
@@ -42,6 +46,11 @@ no_option_new same = cc
 pub not_risen : (before now : ℕ) → before ≡ 0 → now ≡ before → Rose before now → ⊥
 not_risen before now none same rose = omega (arith, none, same, rose)
 
+-- memory did not run out, if the outcome is another one
+pub is_other : (outcome : Outcome) → ((cause : Cause) → outcome ≢ NoMemory cause) → IsNoMemory outcome → ⊥
+is_other (NoMemory cause) other is = other cause refl
+is_other outcome other is = absurd is
+
 -- ---- the answers to a call are the replies of what it asks for
 
 asks_this : (call : Call) (asked : PlainRequest) (P : PlainRequest → Type 0) → arguments_by call.words ≡ request asked → Asks call P → P asked
@@ -64,7 +73,7 @@ module _ (call : Call) (asked : PlainRequest) (is : arguments_by call.words ≡ 
   reply_of (Judged v untyped) text answer = this (Judged v untyped) text answer
   reply_of (Unreadable which fault) text answer = this (Unreadable which fault) text answer
   reply_of (ReadFault which) text answer = this (ReadFault which) text answer
-  reply_of NoMemory text answer = this NoMemory text answer
+  reply_of (NoMemory cause) text answer = this (NoMemory cause) text answer
   reply_of WriteFault text answer = this WriteFault text answer
 
   -- where all inputs are served, the answer is a verdict
@@ -146,12 +155,12 @@ module _ {I L : Type 0} (told : I → List ℕ → Option (List ℕ)) (faults : 
   -- the clause on right words, readable inputs, and devices that did not fail
   abbrev pub IsComplete : Type 0
   IsComplete = (asked : PlainRequest) (all : List (List ℕ)) → arguments_by words ≡ request asked → AreServed the_call.reading (row_of the_call asked).inputs all
-      → (Rose before after → ⊥) → outcome ≢ NoMemory → IsVerdict (row_of the_call asked).says all outcome P
+      → (Rose before after → ⊥) → (IsNoMemory outcome → ⊥) → IsVerdict (row_of the_call asked).says all outcome P
 
   pub exact : IsComplete → (AsksForTold the_call → SameCounts (faults first) (faults last)) → (HasRoom the_call sink_room → after ≡ before)
       → listeners ≡ [] → arguments_by words ≡ request this_check → rule_fault [] ≡ None
       → told first (codes "old") ≡ Some old → told first (codes "new") ≡ Some new → ((name : List ℕ) → faults first name ≡ 0) → before ≡ 0
-      → outcome ≢ NoMemory → FitsInMemory old new → IsExact old new outcome
+      → (IsNoMemory outcome → ⊥) → FitsInMemory old new → IsExact old new outcome
   exact complete steady steady_sink none_heard is no_rules old_told new_told none none_of_sink memory fits =
       let unheard : map voice listeners ≡ [] = ap (λ (l : List L). map voice l) none_heard in
       let same = steady (asks_for_told the_call old new fits unheard is old_told new_told) in

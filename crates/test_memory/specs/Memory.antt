@@ -2,7 +2,7 @@
 use Rattle.std.specs.Prelude.{◌≡◌, ◌≤◌, ℕ, List, [], length, Option, None}
 use Rattle.abi_base.specs.Limits.{input_limit, sink_room}
 use Rattle.abi_base.specs.declared.remark.Remark.{Remark}
-use Rattle.abi_top.specs.Says.{CheckSays}
+use Rattle.abi_top.specs.Rows.Check.{CheckSays}
 use Rattle.commands.specs.declared.verdict.Verdict.{Verdict}
 use Rattle.library_read.specs.Faults.{library_fault}
 

@@ -55,7 +55,7 @@ pub fn check_in_memory(alloc: Global, old: Vec<u8>, new: Vec<u8>) -> Result<Outc
     let words = ["check", "old", "new"];
     let ended = run(alloc, &words, &mut inputs, &mut sink, Vec::new(alloc));
     match ended.outcome {
-        Outcome::NoMemory => Err(NoMemory),
+        Outcome::NoMemory(cause) => Err(cause),
         outcome => Ok(outcome),
     }
 }

@@ -40,7 +40,7 @@ pub(crate) fn status_of(outcome: Outcome) -> Status {
         Outcome::Usage => Status::Usage,
         Outcome::Unreadable(_, _) => Status::Unreadable,
         Outcome::ReadFault(_) => Status::ReadFault,
-        Outcome::NoMemory => Status::NoMemory,
+        Outcome::NoMemory(_) => Status::NoMemory,
         Outcome::WriteFault => Status::WriteFault,
     }
 }

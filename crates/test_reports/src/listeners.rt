@@ -53,7 +53,7 @@ impl Listener for Counting {
 
     fn tell(&mut self, row: &Row) -> Result<More, NoMemory> {
         if self.rows.len() >= self.most {
-            return Err(NoMemory);
+            return Err(NoMemory::Allocation);
         }
         self.rows.push(row.copy(self.alloc)?)?;
         Ok(More::Go)
@@ -187,7 +187,10 @@ fn the_texts_before_it_stay_where_memory_runs_out(rt: HostRuntime) -> Result<(),
         Box::new(alloc, keeping(alloc, 3, 2, &dropped)?)?,
     )?;
     let mut out = b"no\n".to_vec(alloc)?;
-    assert_eq!(rt; tell_all(listeners, &rows, &mut out), Err(NoMemory));
+    assert_eq!(rt;
+        tell_all(listeners, &rows, &mut out),
+        Err(NoMemory::Allocation)
+    );
     assert_eq!(rt; out.as_slice(), b"no\n2".as_slice());
     let numbers = dropped.try_borrow()?;
     assert_eq!(rt; numbers.as_slice(), [1, 2, 3].as_slice());

@@ -49,7 +49,7 @@ fn answer(alloc: Global, bytes: &[u8]) -> Result<String, NoMemory> {
     let (number, at) = match read_rules(alloc, bytes) {
         Ok(_) => (0, 0),
         Err(Refusal::Fault(fault)) => (fault.kind.number(), fault.at),
-        Err(Refusal::NoMemory) => return Err(NoMemory),
+        Err(Refusal::NoMemory(cause)) => return Err(cause),
     };
     Ok(format!(in alloc; "{number} {at}")?)
 }

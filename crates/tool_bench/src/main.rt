@@ -47,6 +47,6 @@ fn main(rt: HostRuntime) -> io::Result<()> {
     let words: Vec<&str> = owned.iter().map(|word| word.as_str()).collect(alloc)?;
     match line(alloc, &words) {
         Ok(line) => println!(rt; "{line}"),
-        Err(NoMemory) => println!(rt; "no memory"),
+        Err(_) => println!(rt; "no memory"),
     }
 }

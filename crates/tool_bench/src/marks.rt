@@ -38,20 +38,20 @@ struct Plan {
 // Why there is no result.
 #[derive(Drop)]
 enum Trouble {
-    NoMemory,
+    NoMemory(NoMemory),
     // The rule file has a fault, or the library is not valid.
     Wrong,
 }
 
 impl From<NoMemory> for Trouble {
-    fn from(_: NoMemory) -> Self {
-        Trouble::NoMemory
+    fn from(cause: NoMemory) -> Self {
+        Trouble::NoMemory(cause)
     }
 }
 
 impl From<AllocError> for Trouble {
     fn from(_: AllocError) -> Self {
-        Trouble::NoMemory
+        Trouble::NoMemory(NoMemory::Allocation)
     }
 }
 
@@ -99,7 +99,7 @@ fn rule_text(alloc: Global, plan: Plan) -> Result<String, AllocError> {
 fn rules_of(alloc: Global, text: &str) -> Result<Rules, Trouble> {
     match read_rules(alloc, text.as_bytes()) {
         Ok(rules) => Ok(rules),
-        Err(RuleRefusal::NoMemory) => Err(Trouble::NoMemory),
+        Err(RuleRefusal::NoMemory(cause)) => Err(Trouble::NoMemory(cause)),
         Err(RuleRefusal::Fault(_)) => Err(Trouble::Wrong),
     }
 }
@@ -217,7 +217,7 @@ pub(crate) fn line(alloc: Global, words: &[&str]) -> Result<String, NoMemory> {
     };
     match total(alloc, plan) {
         Ok(total) => Ok(format!(in alloc; "{total} marks")?),
-        Err(Trouble::NoMemory) => Err(NoMemory),
+        Err(Trouble::NoMemory(cause)) => Err(cause),
         Err(Trouble::Wrong) => Ok("no library".to_string(alloc)?),
     }
 }

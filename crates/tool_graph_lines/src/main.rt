@@ -59,7 +59,7 @@ impl From<Refusal> for Stop {
     fn from(refusal: Refusal) -> Stop {
         match refusal {
             Refusal::Fault(fault) => Stop::Fault(fault),
-            Refusal::NoMemory => Stop::NoMemory,
+            Refusal::NoMemory(_) => Stop::NoMemory,
         }
     }
 }

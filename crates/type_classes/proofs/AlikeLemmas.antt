@@ -6,31 +6,15 @@ use Rattle.std.proofs.lemmas.Bool.{eqb-true, eq-eqb, ltb-true, lt-ltb, and_parts
 use Rattle.std.proofs.lemmas.List.FromFn.{length-range_with_len, get_or-range_with_len}
 use Rattle.std.proofs.lemmas.List.Folds.{Any-from_list_any, list_any_at}
 use Rattle.abi_types.specs.Types.{PlainPart, Member, Enumerator, Target, Element, Outcome, Param, PlainView, PlainNode}
-use Rattle.abi_types.specs.Graphs.{IsGraph, node_at, view_at, part_at, no_part, to_of}
+use Rattle.abi_types.specs.Graphs.{IsGraph, node_at, view_at, part_at, to_of}
 use Rattle.pair_rules.specs.TypeRules.{breaks}
 use Rattle.pair_rules.specs.Partners.{partner_at}
 use Rattle.abi_types.specs.ClassLooks.{part_seen, view_seen, Look, look_of, shape_of}
 use Rattle.type_classes.specs.Alike.{AreAlike}
 use Rattle.pair_rules.specs.Stable.{IsStable}
+use Rattle.pair_rules.proofs.lemmas.Parts.{named-seen}
 
 -- ---- what parts name, with other numbers
-
-to_of-seen : (f : ℕ → ℕ) (p : PlainPart) → to_of (part_seen f p) ≡ option_map f (to_of p)
-to_of-seen f (Member name bit width to) = refl
-to_of-seen f (Enumerator name value) = refl
-to_of-seen f (Target to) = refl
-to_of-seen f (Element to) = refl
-to_of-seen f (Outcome to) = refl
-to_of-seen f (Param to) = refl
-
-get_or-seen : (f : ℕ → ℕ) (ps : List PlainPart) (k : ℕ) → get_or (map (part_seen f) ps) k no_part ≡ part_seen f (get_or ps k no_part)
-get_or-seen f [] k = refl
-get_or-seen f (p ∷ ps) zero = refl
-get_or-seen f (p ∷ ps) (suc k) = get_or-seen f ps k
-
-named-seen : (f : ℕ → ℕ) (v : PlainView) (k : ℕ) → to_of (part_at (view_seen f v) k) ≡ option_map f (to_of (part_at v k))
-unfolding view_seen
-named-seen f v k = ap to_of (get_or-seen f v.parts k) ∙ to_of-seen f (part_at v k)
 
 -- ---- looks
 

@@ -4,6 +4,7 @@ use Rattle.std.specs.List.{range_with_len}
 use Rattle.std.proofs.lemmas.Bool.{cases_lt}
 use Rattle.std.proofs.lemmas.List.{get_or_past, get_or_read}
 use Rattle.std.proofs.lemmas.List.FromFn.{length-range_with_len, get_or-range_with_len}
+use Rattle.abi_base.proofs.lemmas.Ranges.{range_suc}
 use Rattle.abi_types.specs.Types.{PlainNode}
 use Rattle.abi_types.specs.Graphs.{node_at}
 use Rattle.abi_types.specs.ClassLooks.{look_of}
@@ -30,17 +31,11 @@ rep_of-inside s t same sound i r inside at =
 
 -- ---- each node alone
 
-range_with_len_more : (a n : ℕ) → range_with_len a (suc n) ≡ range_with_len a n ++ (a + n) ∷ []
-range_with_len_more a zero = ap (λ k. k ∷ []) (omega arith)
-range_with_len_more a (suc n) =
-    let e : a + 1 + n ≡ a + suc n = omega arith in
-    ap (λ ks. a ∷ ks) (range_with_len_more (a + 1) n ∙ ap (λ k. range_with_len (a + 1) n ++ k ∷ []) e)
-
 -- one number more
 pub range_pushed : (n : ℕ) (xs ys : List ℕ) → xs ≡ range_with_len 0 n → ys ≡ xs ++ n ∷ [] → ys ≡ range_with_len 0 (n + 1)
 range_pushed n xs ys before pushed =
     let e : 0 + n ≡ n = omega arith in
-    pushed ∙ ap (λ (zs : List ℕ). zs ++ n ∷ []) before ∙ ap (λ (k : ℕ). range_with_len 0 n ++ k ∷ []) (sym e) ∙ sym (range_with_len_more 0 n) ∙ ap (range_with_len 0) (sym (add-one n))
+    pushed ∙ ap (λ (zs : List ℕ). zs ++ n ∷ []) before ∙ ap (λ (k : ℕ). range_with_len 0 n ++ k ∷ []) (sym e) ∙ sym (range_suc 0 n) ∙ ap (range_with_len 0) (sym (add-one n))
 
 pub alone : (n i : ℕ) → rep_in (range_with_len 0 n) i ≡ i
 unfolding rep_in

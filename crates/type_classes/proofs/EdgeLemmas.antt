@@ -12,6 +12,7 @@ use Rattle.type_classes.specs.declared.edges.Edge.{Edge}
 use Rattle.type_classes.specs.declared.edges.Incoming.{Incoming}
 use Rattle.type_classes.specs.Blocks.{at}
 use Rattle.type_classes.specs.Edges.{node_count, no_edge, edge_at, IsLast, HasLinks, AreLinked, LeadsFrom, IsIncoming, Names, AreIncoming, IsAdded}
+use Rattle.pair_rules.proofs.lemmas.Lists.{same_pair}
 
 contains_along : (xs ys : List (ℕ × ℕ)) (e : ℕ × ℕ) → xs ≡ ys → Contains xs e → Contains ys e
 contains_along xs ys e same h = subst (λ (zs : List (ℕ × ℕ)). Contains zs e) same h
@@ -205,9 +206,6 @@ IsWalking-all incoming node link base pairs none walking = subst (λ (n : ℕ). 
 
 -- ---- the parts of a node
 
-pair_is : (e : ℕ × ℕ) (a b : ℕ) → e.0 ≡ a → e.1 ≡ b → e ≡ (a, b)
-pair_is (x, y) a b p q = ap (λ (z : ℕ). let r : ℕ × ℕ = (z, y) in r) p ∙ ap (λ (z : ℕ). let r : ℕ × ℕ = (a, z) in r) q
-
 -- what is known after the parts of a node below a position
 pub record IsAdding (nodes : List PlainNode) (old now : Incoming) (node p : ℕ) : Type 0 where
   pub many : node_count now ≡ length nodes
@@ -243,7 +241,7 @@ IsAdding-more nodes old now new node p part adding is_part linked many pairs = r
             | inl less ↦ from (inl (from_old (inr (is, less, names))))
             | inr ge ↦
                 let e0 : e.0 ≡ p = omega arith in
-                from (inr (ap to_of is_part ∙ ap (λ (q : ℕ). to_of (part_at (view_at nodes node) q)) (sym e0) ∙ names, pair_is e p node e0 is))
+                from (inr (ap to_of is_part ∙ ap (λ (q : ℕ). to_of (part_at (view_at nodes node) q)) (sym e0) ∙ names, same_pair e p node e0 is))
           ]
         ],
       );

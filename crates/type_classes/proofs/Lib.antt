@@ -12,3 +12,4 @@ mod SameLemmas
 mod ShapeLemmas
 mod SpellingLemmas
 mod SplitLemmas
+pub mod lemmas

@@ -1,62 +1,60 @@
 -- Shapes that are numbered one after the other.
-use Rattle.std.proofs.Common.{◌≡◌, ◌+◌, ◌<◌, ℕ, eqb, Bool, true, false, cond, ◌&&◌, ◌⊎◌, inl, inr, List, [], ◌∷◌, ◌++◌, length, get_or, Some, None, refl, sym, ◌∙◌, ap, arith, subst}
+use Rattle.std.proofs.Common.{◌≡◌, ◌+◌, ◌<◌, ℕ, Bool, true, cond, ◌⊎◌, inl, inr, List, [], ◌∷◌, ◌++◌, length, get_or, Some, None, refl, sym, ◌∙◌, ap, arith, subst}
 use Rattle.std.specs.Prelude.{◌↔◌, Contains, IsPermutation}
 use Rattle.std.specs.Global.{Vec}
-use Rattle.std.specs.HashMap.{get_by}
+use Rattle.std.specs.BTreeMap.{get_by}
+use Rattle.std.specs.declared.cmp.Ordering.{Ordering}
+use Rattle.std.specs.declared.cmp.Ordering.TheVariants.{Less, Equal, Greater}
+use Rattle.std.specs.Ordering.{is_eq, nat_cmp, ordering_then}
 use Rattle.std.specs.Map.{lookup}
-use Rattle.std.specs.Cmp.Lexicographic.{pointwise}
-use Rattle.std.proofs.lemmas.Bool.{cases_lt, cases_Bool, eqb-true, eq-eqb, and_parts, and_from, false≢true}
+use Rattle.std.specs.Cmp.Lexicographic.{slice_cmp}
+use Rattle.std.proofs.lemmas.Bool.{cases_lt, cases_Bool}
+use Rattle.std.proofs.lemmas.Cmp.{nat_list_cmp_total, tied_itself}
 use Rattle.std.proofs.lemmas.List.{get_or_default}
 use Rattle.std.proofs.lemmas.List.Elements.{Contains-push, Contains-push_cases, Contains-append_left}
 use Rattle.std.proofs.lemmas.List.Sorted.{Contains-permutation, IsPermutation-sym}
 use Rattle.std.proofs.lemmas.Option.{same_Some, none-some}
+use Rattle.abi_base.proofs.lemmas.Bools.{same_tests}
+use Rattle.abi_base.proofs.lemmas.Orders.{bytes_equal, then_equal}
 use Rattle.abi_types.specs.Types.{PlainNode, PlainLabel, PlainView}
 use Rattle.abi_types.specs.Graphs.{node_at, view_at}
 use Rattle.abi_types.specs.ClassLooks.{Look, shape_of}
 use Rattle.type_classes.specs.declared.spelling.Spelling.{Spelling}
-use Rattle.type_classes.specs.Numbered.{Numbers, same_numbers, same_spelling, number_in, AreOneSpelling, IsSpellingOf, IsNumbered}
+use Rattle.type_classes.specs.Numbered.{Numbers, same_spelling, spelling_cmp, number_in, AreOneSpelling, IsSpellingOf, IsNumbered}
 use Rattle.type_classes.specs.Splits.{number_at, stands_beside, HaveSameKeys}
 use Rattle.type_classes.proofs.SpellingLemmas.{own_look, AreTold, AreSpelledAlike, same_from_spelling, spelling_from_same}
 use Rattle.type_classes.proofs.RefineLemmas.{beside-contains, contains-beside}
 
--- ---- equal lists of numbers
+-- ---- equal spellings
 
-items_same : (xs ys : List ℕ) → pointwise eqb xs ys ≡ true → xs ≡ ys
-items_same [] [] e = refl
-items_same [] (y ∷ ys) e = absurd (false≢true e)
-items_same (x ∷ xs) [] e = absurd (false≢true e)
-items_same (x ∷ xs) (y ∷ ys) e =
-    let (one, more) = and_parts (eqb x y) (pointwise eqb xs ys) e in
-    let here = eqb-true x y one in
-    let later = items_same xs ys more in
-    cc
+equal_from_test : (o : Ordering) → is_eq o ≡ true → o ≡ Equal
+equal_from_test Less e = cc
+equal_from_test Equal e = refl
+equal_from_test Greater e = cc
 
 one_from_test : (s t : Spelling) → same_spelling s t ≡ true → AreOneSpelling s t
 one_from_test s t e =
-    let (numbers, letters) = and_parts (same_numbers s.numbers.items t.numbers.items) (same_numbers s.letters.items t.letters.items) e in
-    record { numbers = items_same s.numbers.items t.numbers.items numbers; letters = items_same s.letters.items t.letters.items letters }
+    let both = then_equal (slice_cmp nat_cmp s.numbers.items t.numbers.items) (slice_cmp nat_cmp s.letters.items t.letters.items) (equal_from_test (spelling_cmp s t) e) in
+    record { numbers = bytes_equal s.numbers.items t.numbers.items both.0; letters = bytes_equal s.letters.items t.letters.items both.1 }
 
 pub one-sym : (s t : Spelling) → AreOneSpelling s t → AreOneSpelling t s
 one-sym s t e = record { numbers = sym e.numbers; letters = sym e.letters }
 
-tests_of : (numbers letters : List ℕ) → Spelling → Bool
-tests_of numbers letters q = same_numbers numbers q.numbers.items && same_numbers letters q.letters.items
+compares_to : (numbers letters : List ℕ) → Spelling → Ordering
+compares_to numbers letters q = ordering_then (slice_cmp nat_cmp numbers q.numbers.items) (slice_cmp nat_cmp letters q.letters.items)
 
 -- what stands under one spelling stands under the other
 pub number_in-same : (numbers : Numbers) (s t : Spelling) → AreOneSpelling s t → number_in numbers s ≡ number_in numbers t
-unfolding tests_of
+unfolding compares_to
 number_in-same numbers s t e =
-    ap (λ (xs : List ℕ). get_by (tests_of xs s.letters.items) numbers) e.numbers
-    ∙ ap (λ (xs : List ℕ). get_by (tests_of t.numbers.items xs) numbers) e.letters
+    ap (λ (xs : List ℕ). get_by (compares_to xs s.letters.items) numbers) e.numbers
+    ∙ ap (λ (xs : List ℕ). get_by (compares_to t.numbers.items xs) numbers) e.letters
 
-items_refl : (xs : List ℕ) → same_numbers xs xs ≡ true
-items_refl [] = refl
-items_refl (x ∷ xs) = and_from (eqb x x) (pointwise eqb xs xs) (eq-eqb x x refl) (items_refl xs)
+tied : (xs ys : List ℕ) → xs ≡ ys → slice_cmp nat_cmp xs ys ≡ Equal
+tied xs ys e = ap (slice_cmp nat_cmp xs) (sym e) ∙ tied_itself nat_list_cmp_total xs
 
 test_from_one : (s t : Spelling) → AreOneSpelling s t → same_spelling s t ≡ true
-test_from_one s t e =
-    and_from (same_numbers s.numbers.items t.numbers.items) (same_numbers s.letters.items t.letters.items)
-    (ap (same_numbers s.numbers.items) (sym e.numbers) ∙ items_refl s.numbers.items) (ap (same_numbers s.letters.items) (sym e.letters) ∙ items_refl s.letters.items)
+test_from_one s t e = rw (tied s.numbers.items t.numbers.items e.numbers, tied s.letters.items t.letters.items e.letters) refl
 
 -- ---- one shape more
 
@@ -171,11 +169,6 @@ sorted_inside nodes pairs sorted numbered moved i inside =
     let here : Contains sorted (e.0, e.1) = (i, inside, get_or_default sorted i e (0, 0) inside) in
     numbered.of_nodes e.0 e.1 (Contains-permutation sorted pairs.items (e.0, e.1) (IsPermutation-sym pairs.items sorted moved) here)
 
-same_bools : (a b : Bool) → (a ≡ true → b ≡ true) → (b ≡ true → a ≡ true) → a ≡ b
-same_bools true b to from = sym (to refl)
-same_bools false true to from = from refl
-same_bools false false to from = refl
-
 pub sorted_shapes : (nodes : List PlainNode) (pairs : Vec (ℕ × ℕ)) (sorted : List (ℕ × ℕ)) → IsNumbered nodes pairs → IsPermutation pairs.items sorted → (x y : ℕ) → x < length nodes → y < length nodes
     → HaveSameKeys sorted x y ↔ (shape_of (node_at nodes x) ≡ shape_of (node_at nodes y))
 sorted_shapes nodes pairs sorted numbered moved x y x_in y_in =
@@ -186,7 +179,7 @@ sorted_shapes nodes pairs sorted numbered moved x y x_in y_in =
           let beside : stands_beside sorted j y ≡ true = sym (keys j) ∙ contains-beside sorted j x (Contains-permutation pairs.items sorted (j, x) moved at_x) in
           let there = Contains-permutation sorted pairs.items (j, y) back (beside-contains sorted j y beside) in
           (numbered.shapes j j x y at_x there).0 refl,
-      λ shapes key. same_bools (stands_beside sorted key x) (stands_beside sorted key y)
+      λ shapes key. same_tests (stands_beside sorted key x) (stands_beside sorted key y)
           (λ e.
           let there = Contains-permutation sorted pairs.items (key, x) back (beside-contains sorted key x e) in
           let same : key ≡ k = (numbered.shapes key k x y there at_y).1 shapes in

@@ -9,6 +9,7 @@ use Rattle.std.proofs.lemmas.Map.Keys.{IsDistinct-from_apart}
 use Rattle.std.proofs.lemmas.Map.Steps.{length-le_from_distinct_below}
 use Rattle.type_classes.specs.declared.blocks.Block.{Block}
 use Rattle.std.proofs.lemmas.List.Folds.{Any-from_list_any, list_any_at}
+use Rattle.abi_base.proofs.lemmas.Bools.{and_is_true, same_tests, and_of_true}
 use Rattle.abi_types.specs.Types.{PlainNode}
 use Rattle.abi_types.specs.Graphs.{IsGraph, node_at, view_at, part_at, to_of}
 use Rattle.type_classes.specs.declared.blocks.Blocks.{Blocks}
@@ -19,26 +20,16 @@ use Rattle.type_classes.specs.declared.edges.Incoming.{Incoming}
 use Rattle.type_classes.specs.Edges.{node_count, IsIncoming, AreIncoming}
 use Rattle.type_classes.specs.Refined.{IsRefined}
 use Rattle.type_classes.proofs.AlikeLemmas.{named_too}
+use Rattle.pair_rules.proofs.lemmas.Lists.{same_pair}
 
 -- ---- who stands beside a key
-
-both : (a b : Bool) → (a && b) ≡ true → (a ≡ true) × (b ≡ true)
-both true true e = (refl, refl)
-both true false e = cc
-both false b e = cc
-
-together : (a b : Bool) → a ≡ true → b ≡ true → (a && b) ≡ true
-together a b p q = rw (p, q) refl
-
-pair_is : (e : ℕ × ℕ) (a b : ℕ) → e.0 ≡ a → e.1 ≡ b → e ≡ (a, b)
-pair_is (x, y) a b p q = ap (λ (z : ℕ). let r : ℕ × ℕ = (z, y) in r) p ∙ ap (λ (z : ℕ). let r : ℕ × ℕ = (a, z) in r) q
 
 pub beside-contains : (pairs : List (ℕ × ℕ)) (k x : ℕ) → stands_beside pairs k x ≡ true → Contains pairs (k, x)
 unfolding stands_beside
 beside-contains pairs k x e =
     let (i, pair, below, at, holds) = Any-from_list_any (λ (p : ℕ × ℕ). eqb p.0 k && eqb p.1 x) pairs e in
-    let (one, two) = both (eqb pair.0 k) (eqb pair.1 x) holds in
-    let is : pair ≡ (k, x) = pair_is pair k x (eqb-true pair.0 k one) (eqb-true pair.1 x two) in
+    let (one, two) = and_is_true (eqb pair.0 k) (eqb pair.1 x) holds in
+    let is : pair ≡ (k, x) = same_pair pair k x (eqb-true pair.0 k one) (eqb-true pair.1 x two) in
     (i, below, get_or_default pairs i (k, x) pair below ∙ at ∙ is)
 
 pub contains-beside : (pairs : List (ℕ × ℕ)) (k x : ℕ) → Contains pairs (k, x) → stands_beside pairs k x ≡ true
@@ -46,12 +37,7 @@ unfolding stands_beside
 contains-beside pairs k x (i, below, at) =
     let one : (get_or pairs i (k, x)).0 ≡ k = ap (λ (p : ℕ × ℕ). p.0) at in
     let two : (get_or pairs i (k, x)).1 ≡ x = ap (λ (p : ℕ × ℕ). p.1) at in
-    list_any_at (λ (p : ℕ × ℕ). eqb p.0 k && eqb p.1 x) pairs i (k, x) below (together (eqb (get_or pairs i (k, x)).0 k) (eqb (get_or pairs i (k, x)).1 x) (eq-eqb (get_or pairs i (k, x)).0 k one) (eq-eqb (get_or pairs i (k, x)).1 x two))
-
-same_bools : (a b : Bool) → (a ≡ true → b ≡ true) → (b ≡ true → a ≡ true) → a ≡ b
-same_bools true b to from = sym (to refl)
-same_bools false true to from = from refl
-same_bools false false to from = refl
+    list_any_at (λ (p : ℕ × ℕ). eqb p.0 k && eqb p.1 x) pairs i (k, x) below (and_of_true (eqb (get_or pairs i (k, x)).0 k) (eqb (get_or pairs i (k, x)).1 x) (eq-eqb (get_or pairs i (k, x)).0 k one) (eq-eqb (get_or pairs i (k, x)).1 x two))
 
 -- ---- a class as a splitter
 
@@ -77,7 +63,7 @@ AreOfClass-from : (nodes : List PlainNode) (edges : Incoming) (members : List �
     → ((s : ℕ) → Contains members s ↔ ((s < length nodes) × (class s ≡ c)))
     → ((e : ℕ × ℕ) → Contains pairs e ↔ ((s : ℕ) × Contains members s × IsIncoming edges s e)) → AreOfClass nodes class c pairs
 AreOfClass-from nodes edges members pairs class c graph incoming of_class joined = record {
-  are = λ k x x_in. same_bools (stands_beside pairs k x) (named_in class c (to_of (part_at (view_at nodes x) k)))
+  are = λ k x x_in. same_tests (stands_beside pairs k x) (named_in class c (to_of (part_at (view_at nodes x) k)))
       (λ e.
       let (s, member, there) = (joined (k, x)).0 (beside-contains pairs k x e) in
       let (s_in, s_of) = (of_class s).0 member in
@@ -125,7 +111,7 @@ members_inside nodes edges members class c n incoming of_nodes of_class s member
 alike_named : (nodes : List PlainNode) (class : ℕ → ℕ) (c x y k : ℕ) → IsGraph nodes → ((u v : ℕ) → u < length nodes → v < length nodes → AreAlike nodes u v → class u ≡ class v) → AreAlike nodes x y
     → named_in class c (to_of (part_at (view_at nodes x) k)) ≡ named_in class c (to_of (part_at (view_at nodes y) k))
 alike_named nodes class c x y k graph keeps (r, is, h) =
-    same_bools (named_in class c (to_of (part_at (view_at nodes x) k))) (named_in class c (to_of (part_at (view_at nodes y) k)))
+    same_tests (named_in class c (to_of (part_at (view_at nodes x) k))) (named_in class c (to_of (part_at (view_at nodes y) k)))
     (λ e.
     let (a, names, of_c) = named_in-true class c (to_of (part_at (view_at nodes x) k)) e in
     let (b, names') = named_too (node_at nodes x) (node_at nodes y) k a (is.shapes x y h) names in

@@ -2,7 +2,7 @@
 use Rattle.std.proofs.Common.{◌≡◌, ◌+◌, ◌<◌, ◌≤◌, ℕ, inl, inr, List, [], ◌∷◌, ◌++◌, length, get_or, set, refl, sym, ◌∙◌, ap, arith, subst}
 use Rattle.std.specs.Prelude.{◌↔◌, Contains}
 use Rattle.std.proofs.lemmas.Bool.{cases_eq, cases_lt}
-use Rattle.std.proofs.lemmas.List.{length-set, get_or-set_same, get_or-set_other, length_push, get_or_push, get_or_append_left, get_or_default, get_or_past}
+use Rattle.std.proofs.lemmas.List.{length-set, get_or-set_same, get_or-set_other, length_push, get_or_push, get_or_append_left, get_or_default}
 use Rattle.abi_types.specs.Types.{PlainNode}
 use Rattle.abi_types.specs.Graphs.{IsGraph, node_at}
 use Rattle.type_classes.specs.declared.blocks.Blocks.{Blocks}
@@ -16,6 +16,7 @@ use Rattle.type_classes.specs.Refined.{IsRefined}
 use Rattle.type_classes.specs.Reps.{entry_at, AreOfClasses, IsLowered, AreReps}
 use Rattle.type_classes.proofs.AlikeLemmas.{alike_from_stable}
 use Rattle.type_classes.proofs.LookLemmas.{same_look}
+use Rattle.type_classes.proofs.lemmas.Reps.{rep_in-past}
 
 -- ---- a node for each class
 
@@ -135,10 +136,6 @@ rep_inside : (reps : List ℕ) (x : ℕ) → x < length reps → rep_in reps x �
 unfolding rep_in
 rep_inside reps x lt = get_or_default reps x x 0 lt
 
-rep_past : (reps : List ℕ) (x : ℕ) → length reps ≤ x → rep_in reps x ≡ x
-unfolding rep_in
-rep_past reps x past = get_or_past reps x x past
-
 -- nodes have one representative exactly where they are of one class
 pub same_rep : (nodes : List PlainNode) (class : ℕ → ℕ) (reps : List ℕ) → AreReps nodes class reps → (x y : ℕ) → x < length nodes → y < length nodes → (rep_in reps x ≡ rep_in reps y) ↔ (class x ≡ class y)
 same_rep nodes class reps is x y x_in y_in =
@@ -167,11 +164,11 @@ AreSound-reps nodes class reps graph is refined =
             let v = is.inside i lt in
             let r_in : rep_in reps i < length nodes = omega arith in
             (same_rep nodes class reps is (rep_in reps i) i r_in lt).1 (ap class u ∙ is.own i lt)
-        | inr past ↦ ap (rep_in reps) (rep_past reps i (omega arith))
+        | inr past ↦ ap (rep_in reps) (rep_in-past reps i (omega arith))
       ];
       least = λ i. elim (cases_lt i (length nodes)) [
         | inl lt ↦ let u = ap (entry_at nodes) (rep_inside reps i (omega arith)) in let v = is.least i lt in omega arith
-        | inr past ↦ let u = ap (entry_at nodes) (rep_past reps i (omega arith)) in omega arith
+        | inr past ↦ let u = ap (entry_at nodes) (rep_in-past reps i (omega arith)) in omega arith
       ];
       stable = reps_stable nodes class reps graph is refined;
     }

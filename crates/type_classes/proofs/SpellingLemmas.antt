@@ -4,6 +4,7 @@ use Rattle.std.specs.Prelude.{◌↔◌, flat_map}
 use Rattle.std.proofs.lemmas.Bool.{eq-eqb, false≢true}
 use Rattle.std.proofs.lemmas.List.{length-map}
 use Rattle.std.proofs.lemmas.Nat.{div-mul-add, mod-mul-add}
+use Rattle.abi_base.proofs.lemmas.Lists.{append_none}
 use Rattle.abi_types.specs.declared.kind.Kind.{Kind}
 use Rattle.abi_types.specs.declared.kind.Kind.TheVariants as kind
 use Rattle.abi_types.specs.declared.kind.Group.{Group}
@@ -411,10 +412,6 @@ letters-seen (p ∷ ps) = rw (letters_of_part-seen p, letters-seen ps) refl
 letters_unseen : (n : PlainNode) → letters_of (shape_of n) ≡ letters_of (own_look n)
 unfolding letters_of view_seen
 letters_unseen n = ap (λ (ls : List ℕ). flat_map letters_of_label n.labels ++ n.view.tag ++ ls) (letters-seen n.view.parts)
-
-append_none : (xs : List ℕ) → xs ++ [] ≡ xs
-append_none [] = refl
-append_none (x ∷ xs) = ap (λ (ys : List ℕ). x ∷ ys) (append_none xs)
 
 -- nodes are spelled alike
 pub record AreSpelledAlike (m n : PlainNode) : Type 0 where

@@ -1,11 +1,10 @@
 -- Shapes, numbered by the first node of each.
-use Rattle.std.specs.Prelude.{◌≡◌, ◌<◌, ◌↔◌, ◌==◌, ◌&&◌, ℕ, Bool, List, [], ◌∷◌, length, Option, Contains}
+use Rattle.std.specs.Prelude.{◌≡◌, ◌<◌, ◌↔◌, ℕ, Bool, List, length, Option, Contains}
 use Rattle.std.specs.Global.{Vec}
-use Rattle.std.specs.Cmp.Lexicographic.{pointwise}
-use Rattle.std.specs.Hash.{HashWrites}
-use Rattle.std.specs.HashMap.{HashMap, get_by}
-use Rattle.std.specs.declared.hash.FoldHasher.{FoldHasher}
-use Rattle.std.specs.declared.hash.BuildHasherDefault.{BuildHasherDefault}
+use Rattle.std.specs.declared.cmp.Ordering.{Ordering}
+use Rattle.std.specs.Ordering.{is_eq, nat_cmp, ordering_then}
+use Rattle.std.specs.Cmp.Lexicographic.{slice_cmp}
+use Rattle.std.specs.BTreeMap.{BTreeMap, get_by}
 use Rattle.abi_types.specs.Types.{PlainNode}
 use Rattle.abi_types.specs.Graphs.{node_at}
 use Rattle.abi_types.specs.ClassLooks.{Look, shape_of}
@@ -22,23 +21,20 @@ pub record AreOneSpelling (s t : Spelling) : Type 0 where
   pub numbers : s.numbers.items ≡ t.numbers.items
   pub letters : s.letters.items ≡ t.letters.items
 
--- letters that are fed to a hasher at once
-abbrev pub fed_text : List ℕ → HashWrites
-fed_text letters = letters ∷ []
-
-abbrev pub same_numbers : List ℕ → List ℕ → Bool
-same_numbers = pointwise (λ m n. m == n)
+-- the order of spellings: by their numbers, and those of the same numbers by their letters
+abbrev pub spelling_cmp : Spelling → Spelling → Ordering
+spelling_cmp s t = ordering_then (slice_cmp nat_cmp s.numbers.items t.numbers.items) (slice_cmp nat_cmp s.letters.items t.letters.items)
 
 abbrev pub same_spelling : Spelling → Spelling → Bool
-same_spelling s t = same_numbers s.numbers.items t.numbers.items && same_numbers s.letters.items t.letters.items
+same_spelling s t = is_eq (spelling_cmp s t)
 
 -- numbers of spellings
 abbrev pub Numbers : Type 0
-Numbers = HashMap Spelling ℕ (BuildHasherDefault FoldHasher)
+Numbers = BTreeMap Spelling ℕ
 
 -- the number of a spelling
 abbrev pub number_in : Numbers → Spelling → Option ℕ
-number_in numbers s = get_by (same_spelling s) numbers
+number_in numbers s = get_by (spelling_cmp s) numbers
 
 -- the pairs are those of all nodes, and their numbers are equal exactly where the shapes are
 pub record IsNumbered (nodes : List PlainNode) (pairs : Vec (ℕ × ℕ)) : Type 0 where

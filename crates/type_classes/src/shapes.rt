@@ -12,12 +12,12 @@ use abi_base::NoMemory;
 use abi_types::{Graph, Index};
 use pair_rules::laws::the_same_are_equal;
 use std::alloc::Global;
-use std::collections::HashMap;
+use std::collections::BTreeMap;
 
 // The number of a spelling, which becomes `fresh` where it has none yet.
 fn number_of(
     alloc: Global,
-    numbers: &mut HashMap<Spelling, usize>,
+    numbers: &mut BTreeMap<Spelling, usize>,
     spelling: &Spelling,
     fresh: usize,
 ) -> Result<usize, NoMemory>
@@ -39,7 +39,7 @@ fn numbered<Ix: Index>(alloc: Global, graph: &Graph<Ix>) -> Result<Vec<(usize, u
     ensures { IfOk result (IsNumbered graph.now) }
 {
     the_same_are_equal();
-    let mut numbers = HashMap::new(alloc);
+    let mut numbers = BTreeMap::new(alloc);
     let mut pairs = Vec::with_capacity(alloc, graph.len())?;
     let mut spelling = Spelling {
         numbers: Vec::new(alloc),

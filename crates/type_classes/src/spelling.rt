@@ -1,39 +1,24 @@
 // The spelling of a node's shape: the node without the nodes that its parts name, as numbers and letters.
 ghost use Rattle.std.specs.Prelude.{◌≡◌, ◌<◌, ◌++◌, [], ◌∷◌, length, map, flat_map, IfOk, OnOk};
-ghost use Rattle.std.specs.Hash as fed;
-ghost use Rattle.std.specs.Hash.{same_Alike, on_Alike, items_Alike, and-Alike};
-ghost use Rattle.std.specs.Cmp.{unsigned_Decides};
-ghost use Rattle.std.specs.Cmp.Lexicographic.{pointwise_decides};
 ghost use Rattle.abi_types.specs.Plain.{plain_label};
 ghost use Rattle.abi_types.specs.Parts.{plain_part};
 ghost use Rattle.pair_rules.specs.Same as same;
 ghost use Rattle.type_classes.specs.Shapes.{spelled_list, spelled_slot, spelled_place, spelled_call, spelled_part, spelled_label, spelled_numbers, spelled_view, spelled, letters_of_label, letters_of};
 ghost use Rattle.type_classes.specs.Shapes as shapes_spec;
-ghost use Rattle.type_classes.specs.Numbered.{fed_text, AreOneSpelling, IsSpellingOf};
+ghost use Rattle.type_classes.specs.Numbered.{AreOneSpelling, IsSpellingOf};
 ghost use Rattle.type_classes.specs.declared.spelling.Spelling.{Spelling};
 
 use abi_base::NoMemory;
 use abi_types::{Call, Group, Index, Kind, Label, LabelKind, Part, Place, Slot, View};
 use std::alloc::Global;
-use std::hash::{Hash, Hasher};
 
 /// The spelling of a shape: its numbers, including the length of each name, and the letters of its names, one name after the other.
-#[derive(PartialEq, Eq, Drop)]
+/// Spellings are ordered by their numbers, and then by their letters. A file chooses both, so spellings are kept in search trees: in a
+/// table of hash codes a file could make them collide.
+#[derive(PartialEq, Eq, PartialOrd, Ord, Drop)]
 pub struct Spelling {
     pub numbers: Vec<u64>,
     pub letters: Vec<u8>,
-}
-
-// Hashes the letters as one text, which is faster than one by one.
-impl Hash for Spelling {
-    ghost hash_input = { λ s. fed.slice fed.u64 s.numbers.items ++ fed_text s.letters.items };
-
-    ghost respects_eq = { (and-Alike (on_Alike (λ s. s.numbers.items) (items_Alike (same_Alike fed.u64 unsigned_Decides))) (on_Alike (λ s. s.letters.items) (same_Alike fed_text (pointwise_decides unsigned_Decides)))).fed };
-
-    fn hash<H: Hasher>(&self, state: &mut H) {
-        self.numbers.hash(state);
-        state.write(self.letters.as_slice());
-    }
 }
 
 // Each kind has its own number, as have groups, kinds of labels, slots, places and parts.

@@ -15,8 +15,9 @@ use Rattle.type_reach.specs.Flat.{Flat, core_of, moved, declared_bit, given_by, 
 use Rattle.type_reach.specs.PeeledCores.{StandsForNone, IsFound, IsPeeledCore}
 use Rattle.type_reach.specs.TypeLaws.{IsShallow, TypeLaws}
 use Rattle.std.proofs.lemmas.Option.{none-some}
+use Rattle.abi_base.proofs.lemmas.Lists.{map-map}
 use Rattle.type_graph.specs.Placed.{replacing}
-use Rattle.type_graph.proofs.ListLemmas.{map-map, map-same}
+use Rattle.type_graph.proofs.ListLemmas.{map-same}
 use Rattle.type_graph.proofs.ViewLemmas.{found-shallow}
 
 -- the members of the first parts were put, each moved

@@ -3,6 +3,7 @@ use Rattle.std.proofs.Common.{◌≡◌, ◌==◌, ℕ, Bool, true, false, cond,
 use Rattle.std.specs.Prelude.{flat_map, IfSome, ◌&&◌}
 use Rattle.std.specs.List.{list_all}
 use Rattle.std.proofs.lemmas.Bool.{cases_Bool, false≢true}
+use Rattle.abi_base.proofs.lemmas.Bools.{and_is_true}
 use Rattle.dwarf_tree.specs.Trees.{PlainTree}
 use Rattle.dwarf_entries.specs.Addresses.{tag_at, is_declared_only}
 use Rattle.dwarf_entries.specs.Debug.{PlainDwarf}
@@ -123,11 +124,6 @@ declared-parts d laws name c shallow last role.Wrapper tag only = absurd (false�
 declared-parts d laws name c shallow last role.Part tag only = absurd (false≢true tag)
 declared-parts d laws name c shallow last role.Unknown tag only = absurd (false≢true tag)
 
--- both hold
-both-hold : (a b : Bool) → (a && b) ≡ true → (a ≡ true) × (b ≡ true)
-both-hold true b h = (refl, h)
-both-hold false b h = absurd (false≢true h)
-
 size-from : (d : PlainDwarf) → TypeLaws d → (c : ℕ) → (IsTooDeep d.tree (Some c) → ⊥) → (facts_of d (Some c)).size ≡ size_for (role_of d.tree c) d.tree c (map (facts_of d) (steps_of d.tree c))
 unfolding facts_from
 size-from d laws c shallow = ap (λ (x : Facts). x.size) (laws.facts (Some c) shallow)
@@ -163,8 +159,8 @@ form-core d laws name align (Some c) shallow last =
       variadic = here.variadic;
       call = λ e. refl;
       parts = here.parts;
-      unsized = λ e. let both = both-hold (has_tag (kind_for (role_of d.tree c) d.tree c)) (is_declared_only d.tree c) e in size ∙ declared-size d c (role_of d.tree c) facts both.0 both.1;
-      empty = λ e. let both = both-hold (has_tag (kind_for (role_of d.tree c) d.tree c)) (is_declared_only d.tree c) e in declared-parts d laws name c shallow last (role_of d.tree c) both.0 both.1;
+      unsized = λ e. let both = and_is_true (has_tag (kind_for (role_of d.tree c) d.tree c)) (is_declared_only d.tree c) e in size ∙ declared-size d c (role_of d.tree c) facts both.0 both.1;
+      empty = λ e. let both = and_is_true (has_tag (kind_for (role_of d.tree c) d.tree c)) (is_declared_only d.tree c) e in declared-parts d laws name c shallow last (role_of d.tree c) both.0 both.1;
     }
 
 -- only arrays have elements

@@ -6,6 +6,8 @@ use Rattle.std.proofs.lemmas.Bool.{cases_order, cases_lt, eq-eqb, false≢true}
 use Rattle.std.proofs.lemmas.List.{get_or_past}
 use Rattle.std.proofs.lemmas.Map.Keys.{apart_from_distinct}
 use Rattle.std.proofs.lemmas.Option.{same_Some, none-some, slice_get_within, get_or_from_slice_get}
+use Rattle.abi_base.proofs.lemmas.Lists.{contains_at, at_below, slice_get-mapped}
+use Rattle.abi_base.proofs.lemmas.Contained.{in_front, in_none}
 use Rattle.dwarf_tree.specs.Trees.{PlainTree, entry_at, IsOrdered}
 use Rattle.dwarf_entries.specs.Debug.{PlainDwarf}
 use Rattle.abi_types.specs.Types.{PlainPart, Target, Element, Outcome, Param, PlainNode}
@@ -20,7 +22,7 @@ use Rattle.type_reach.specs.PeeledCores.{IsFound}
 use Rattle.type_reach.specs.TypeLaws.{TypeLaws}
 use Rattle.type_reach.specs.Views.{offset_of, member_part, enumerator_part, param_part, enumerators_of, parts_under, core_view, view_by}
 use Rattle.type_graph.specs.Nodes.{number_in, found_types, made_nodes}
-use Rattle.type_graph.proofs.ListLemmas.{in_front, not_in_none, from_map, slice_get_contains, at_below, slice_get-mapped, get-cases}
+use Rattle.type_graph.proofs.ListLemmas.{from_map, get-cases}
 use Rattle.type_graph.proofs.ViewLemmas.{made_at, made_length, stands_at, type_found, own_there, part_there, found-shallow}
 
 abbrev pub rank_of : PlainDwarf → Type_ → ℕ
@@ -76,13 +78,13 @@ module _ (d : PlainDwarf) (laws : TypeLaws d) (found : List ℕ) (closed : IsClo
       let ty_there = type_found d.tree found c ty closed there (own_there d.tree c (ap has_type is)) in
       elim (in_front (Target (number_in found ty)) [] p has) [
         | inl same ↦ subst (IsNamed d found (Some c)) same (record { to = λ n e. (ty, ty_there, sym (same_Some (number_in found ty) n e)); inner = λ n e. absurd (none-some n e) })
-        | inr none ↦ absurd (not_in_none p none)
+        | inr none ↦ absurd (in_none p none)
       ]
   named-parts c role.Array is there p has =
       let ty = type_of d.tree c in
       elim (in_front (Element (number_in found ty)) [] p has) [
         | inl same ↦ subst (IsNamed d found (Some c)) same (by-value c ty (Element (number_in found ty)) there (own_there d.tree c (ap has_type is)) (ap holds_none is) (λ n e. same_Some (number_in found ty) n e) (λ n e. e))
-        | inr none ↦ absurd (not_in_none p none)
+        | inr none ↦ absurd (in_none p none)
       ]
   named-parts c role.Aggregate is there p has = named-member c there p has
   named-parts c role.Function is there p has =
@@ -95,10 +97,10 @@ module _ (d : PlainDwarf) (laws : TypeLaws d) (found : List ℕ) (closed : IsClo
             subst (IsNamed d found (Some c)) from.2 (by-value c ty (Param (number_in found ty)) there (part_there d.tree c from.0 from.1) (ap holds_none is) (λ n e. same_Some (number_in found ty) n e) (λ n e. e))
       ]
   named-parts c role.Enumeration is there p has = named-enumerator c (enumerators_of d.tree c) p has
-  named-parts c role.Wrapper is there p has = absurd (not_in_none p has)
-  named-parts c role.Part is there p has = absurd (not_in_none p has)
-  named-parts c role.Base is there p has = absurd (not_in_none p has)
-  named-parts c role.Unknown is there p has = absurd (not_in_none p has)
+  named-parts c role.Wrapper is there p has = absurd (in_none p has)
+  named-parts c role.Part is there p has = absurd (in_none p has)
+  named-parts c role.Base is there p has = absurd (in_none p has)
+  named-parts c role.Unknown is there p has = absurd (in_none p has)
 
   -- the parts of the view of a type
   named-view : (r : Type_) → IsFound found r → (k : ℕ) → IsNamed d found r (part_at (view_by (number_in found) d r) k)
@@ -123,7 +125,7 @@ module _ (d : PlainDwarf) (laws : TypeLaws d) (found : List ℕ) (closed : IsClo
   node-cases zero = inl (None, tt, refl)
   node-cases (suc i) =
       elim (cases_lt i (length found)) [
-        | inl lt ↦ let e = at_below found i lt in inl (Some e.0, slice_get_contains found i e.0 e.1, slice_get-mapped (λ x. Some x) found i e.0 e.1)
+        | inl lt ↦ let e = at_below found i lt in inl (Some e.0, contains_at found i e.0 e.1, slice_get-mapped (λ x. Some x) found i e.0 e.1)
         | inr past ↦ inr (omega (arith, past, made_length d found))
       ]
 

@@ -3,6 +3,7 @@ use Rattle.std.proofs.Common.{◌≡◌, ◌<◌, ◌≤◌, ◌+◌, ℕ, Bool,
 use Rattle.std.specs.Prelude.{Contains, not, nat_lt, ◌||◌, ◌↔◌}
 use Rattle.std.proofs.lemmas.List.{at_drop_more, drop_all}
 use Rattle.std.proofs.lemmas.Option.{none-some}
+use Rattle.abi_base.proofs.lemmas.Contained.{in_front, in_none}
 use Rattle.abi_base.specs.declared.fault.Fault.{Fault}
 use Rattle.abi_base.specs.declared.fault.FaultKind.TheVariants as fault
 use Rattle.abi_base.specs.declared.fault.Refusal.{Refusal}
@@ -22,7 +23,6 @@ use Rattle.type_reach.specs.TypeLaws.{IsShallow, TypeLaws}
 use Rattle.type_reach.specs.Sizes.{is_too_large}
 use Rattle.type_graph.specs.Large.{are_too_large}
 use Rattle.type_reach.specs.Faults.{steps_on, at_entry, shape_fault, deep_fault, large_fault, depth_fault, types_fault}
-use Rattle.type_graph.proofs.ListLemmas.{in_front, not_in_none}
 
 -- ---- one entry after the other
 
@@ -59,7 +59,7 @@ pass-one g x e xs None later h is rest = elim (in_front x xs e h) [ inl same ↦
 pass-one g x e xs (Some f) later h is rest = absurd (none-some f (sym rest))
 
 all-pass : (g : ℕ → Option Fault) (xs : List ℕ) (e : ℕ) → first (map g xs) ≡ None → Contains xs e → g e ≡ None
-all-pass g [] e none h = absurd (not_in_none e h)
+all-pass g [] e none h = absurd (in_none e h)
 all-pass g (x ∷ xs) e none h = pass-one g x e xs (g x) (all-pass g xs e) h refl none
 
 shape-back : (d : PlainDwarf) (e : ℕ) → shape_fault d e ≡ None → has_shape d e ≡ true
@@ -120,7 +120,7 @@ module _ (d : PlainDwarf) (roots order : List ℕ) (is : order ≡ reached_of d.
 -- a refusal that stands for one fault stands for another that is there where the one is
 pub refuses-too : (e : Refusal) (one other : Option Fault) → ((f : Fault) → one ≡ Some f → other ≡ Some f) → Refuses e one → Refuses e other
 refuses-too (refusal.Fault f) one other on is = on f is
-refuses-too refusal.NoMemory one other on is = tt
+refuses-too (refusal.NoMemory cause) one other on is = tt
 
 -- ---- no fault at all
 

@@ -8,6 +8,7 @@ use Rattle.std.proofs.lemmas.List.Sums.{sum_by-cons}
 use Rattle.std.specs.Option.{unwrap_or}
 use Rattle.std.proofs.lemmas.List.Elements.{Contains-append_cases}
 use Rattle.std.proofs.lemmas.Option.{same_Some}
+use Rattle.abi_base.proofs.lemmas.Contained.{list_all_in, in_front, at_front, in_rest, in_none}
 use Rattle.abi_base.specs.Limits.{depth_limit, weight_limit}
 use Rattle.abi_types.specs.Limits.{size_limit, bit_limit, align_limit, room_limit}
 use Rattle.dwarf_tree.specs.Trees.{entry_at, IsOrdered}
@@ -35,7 +36,7 @@ use Rattle.type_reach.specs.TypeLaws.{TypeLaws}
 use Rattle.type_reach.specs.Sizes.{begins_beyond, has_member_beyond, is_too_large}
 use Rattle.type_reach.specs.Views.{bit_number, member_part, enumerator_part, param_part, enumerators_of, parts_under, kind_of, core_view, view_by}
 use Rattle.type_graph.specs.Nodes.{number_in, made_nodes}
-use Rattle.type_graph.proofs.ListLemmas.{in_front, first_of_all, behind_first, not_in_none, from_map, get-cases}
+use Rattle.type_graph.proofs.ListLemmas.{from_map, get-cases}
 use Rattle.type_graph.proofs.ViewLemmas.{made_at, made_length, stands_at, type_found, own_there, part_there, found-shallow}
 use Rattle.type_graph.proofs.FormLemmas.{form-void, form-core, elements-of}
 use Rattle.type_graph.proofs.GraphLemmas.{rank_of, node-cases, graph-inside, graph-falls, graph-apart}
@@ -47,7 +48,7 @@ not_le : (a b : ℕ) → nat_le a b ≡ false → b < a
 not_le a b is = elim (cases_lt b a) [ inl lt ↦ lt | inr le ↦ absurd (false≢true (sym is ∙ le-leb a b le)) ]
 
 pub none_beyond : (xs : List Flat) (x : Flat) → list_any begins_beyond xs ≡ false → Contains xs x → is_out_of_range x.bit ≡ false
-none_beyond [] x none h = absurd (not_in_none x h)
+none_beyond [] x none h = absurd (in_none x h)
 none_beyond (y ∷ ys) x none h =
     let both = or_parts (is_out_of_range y.bit) (list_any begins_beyond ys) none in
     elim (in_front y ys x h) [ inl same ↦ subst (λ (z : Flat). is_out_of_range z.bit ≡ false) same both.0 | inr later ↦ none_beyond ys x both.1 later ]
@@ -79,22 +80,16 @@ IsNarrow x = x.width < bit_limit
 
 -- what the members of a type give is narrow, where the flat members of their types are
 given-narrow : (d : PlainDwarf) (m : ℕ) (name : Option (List ℕ)) → width_of d m < bit_limit → ((x : Flat) → Contains (flat_of d (type_of d.tree m)) x → IsNarrow x) → (x : Flat) → Contains (given_by d m name (flat_of d (type_of d.tree m))) x → IsNarrow x
-given-narrow d m (Some name) own below x h = elim (in_front _ [] x h) [ inl same ↦ subst IsNarrow same own | inr none ↦ absurd (not_in_none x none) ]
+given-narrow d m (Some name) own below x h = elim (in_front _ [] x h) [ inl same ↦ subst IsNarrow same own | inr none ↦ absurd (in_none x none) ]
 given-narrow d m None own below x h =
-    elim (cases_Bool (facts_of d (type_of d.tree m)).aggregate) [ inl yes' ↦ let from = from_map (moved (declared_bit d m)) (flat_of d (type_of d.tree m)) x (rw yes' at h) in subst IsNarrow from.2 (below from.0 from.1) | inr no' ↦ absurd (not_in_none x (rw no' at h)) ]
+    elim (cases_Bool (facts_of d (type_of d.tree m)).aggregate) [ inl yes' ↦ let from = from_map (moved (declared_bit d m)) (flat_of d (type_of d.tree m)) x (rw yes' at h) in subst IsNarrow from.2 (below from.0 from.1) | inr no' ↦ absurd (in_none x (rw no' at h)) ]
 
 from_flat_map : {X Y : Type 0} (f : X → List Y) (xs : List X) (y : Y) → Contains (flat_map f xs) y → (x : X) × Contains xs x × Contains (f x) y
-from_flat_map f [] y h = absurd (not_in_none y h)
+from_flat_map f [] y h = absurd (in_none y h)
 from_flat_map f (x ∷ xs) y h = elim (Contains-append_cases (f x) (flat_map f xs) y h) [
-  | inl here ↦ (x, first_of_all x xs, here)
-  | inr later ↦ let r = from_flat_map f xs y later in (r.0, behind_first x xs r.0 r.1, r.2)
+  | inl here ↦ (x, at_front x xs, here)
+  | inr later ↦ let r = from_flat_map f xs y later in (r.0, in_rest x xs r.0 r.1, r.2)
 ]
-
-all-hold : {X : Type 0} (p : X → Bool) (xs : List X) (x : X) → list_all p xs ≡ true → Contains xs x → p x ≡ true
-all-hold p [] x all h = absurd (not_in_none x h)
-all-hold p (y ∷ ys) x all h =
-    let both = and_parts (p y) (list_all p ys) all in
-    elim (in_front y ys x h) [ inl same ↦ subst (λ z. p z ≡ true) same both.0 | inr later ↦ all-hold p ys x both.1 later ]
 
 small-number : (o : Option ℕ) → is_small o ≡ true → unwrap_or o 0 < 2 ^ 63
 small-number None is = omega arith
@@ -118,20 +113,20 @@ unfolding has_shape members_of
 shaped-members d e m shape has = go (role_of d.tree e) (and_parts (has_shape_for (role_of d.tree e) d e) _ (and_parts (list_all (is_type d.tree) (types_of d.tree e)) _ shape).1).0 has where
   go : (k : Role) → has_shape_for k d e ≡ true → Contains (members_for k d.tree e) m → is_good_member d m ≡ true
   go role.Aggregate is h =
-      elim (cases_Bool (is_declared_only d.tree e)) [ inl only ↦ absurd (not_in_none m (rw only at h)) | inr defined ↦ all-hold (is_good_member d) (parts_of d.tree e) m (and_parts (has_size_unless_declared d.tree e) (list_all (is_good_member d) (parts_of d.tree e)) is).1 (rw defined at h) ]
-  go role.Wrapper is h = absurd (not_in_none m h)
-  go role.Function is h = absurd (not_in_none m h)
-  go role.Part is h = absurd (not_in_none m h)
-  go role.Pointer is h = absurd (not_in_none m h)
-  go role.Array is h = absurd (not_in_none m h)
-  go role.Enumeration is h = absurd (not_in_none m h)
-  go role.Base is h = absurd (not_in_none m h)
-  go role.Unknown is h = absurd (not_in_none m h)
+      elim (cases_Bool (is_declared_only d.tree e)) [ inl only ↦ absurd (in_none m (rw only at h)) | inr defined ↦ list_all_in (is_good_member d) (parts_of d.tree e) m (and_parts (has_size_unless_declared d.tree e) (list_all (is_good_member d) (parts_of d.tree e)) is).1 (rw defined at h) ]
+  go role.Wrapper is h = absurd (in_none m h)
+  go role.Function is h = absurd (in_none m h)
+  go role.Part is h = absurd (in_none m h)
+  go role.Pointer is h = absurd (in_none m h)
+  go role.Array is h = absurd (in_none m h)
+  go role.Enumeration is h = absurd (in_none m h)
+  go role.Base is h = absurd (in_none m h)
+  go role.Unknown is h = absurd (in_none m h)
 
 module _ (d : PlainDwarf) (laws : TypeLaws d) (found : List ℕ) (closed : IsClosed d.tree found) (shallow : (e : ℕ) → Contains found e → IsTooDeep d.tree (Some e) → ⊥) (shaped : (e : ℕ) → Contains found e → has_shape d e ≡ true) where
   narrow-core : (r c : Type_) (n : ℕ) → ((ty : Type_) → IsFound found ty → rank_of d ty < n → (x : Flat) → Contains (flat_of d ty) x → IsNarrow x) → IsFound found c → IfSome c (StandsForNone d) → (IsTooDeep d.tree c → ⊥) → rank_of d c < suc n
       → (x : Flat) → Contains (flat_of d c) x → IsNarrow x
-  narrow-core r None n below there last core_shallow low x has = absurd (not_in_none x (subst (λ xs. Contains xs x) laws.flats_void has))
+  narrow-core r None n below there last core_shallow low x has = absurd (in_none x (subst (λ xs. Contains xs x) laws.flats_void has))
   narrow-core r (Some c) n below there last core_shallow low x has =
       let from = from_flat_map (member_gives d) (members_of d.tree c) x (subst (λ xs. Contains xs x) (laws.members c core_shallow last) has) in
       let m = from.0 in
@@ -171,13 +166,13 @@ module _ (d : PlainDwarf) (name : Type_ → ℕ) (c : ℕ) (near : list_any begi
   part-bits : (k : Role) (p : PlainPart) → Contains (parts_under k name d c) p → KeepsBits p
   part-bits role.Aggregate p h = member-bits p h
   part-bits role.Function p h = elim (in_front (Outcome (name (type_of d.tree c))) (map (param_part name d.tree) (parts_of d.tree c)) p h) [ inl same ↦ subst KeepsBits same tt | inr param ↦ param-bits (parts_of d.tree c) p param ]
-  part-bits role.Pointer p h = elim (in_front (Target (name (type_of d.tree c))) [] p h) [ inl same ↦ subst KeepsBits same tt | inr none ↦ absurd (not_in_none p none) ]
-  part-bits role.Array p h = elim (in_front (Element (name (type_of d.tree c))) [] p h) [ inl same ↦ subst KeepsBits same tt | inr none ↦ absurd (not_in_none p none) ]
+  part-bits role.Pointer p h = elim (in_front (Target (name (type_of d.tree c))) [] p h) [ inl same ↦ subst KeepsBits same tt | inr none ↦ absurd (in_none p none) ]
+  part-bits role.Array p h = elim (in_front (Element (name (type_of d.tree c))) [] p h) [ inl same ↦ subst KeepsBits same tt | inr none ↦ absurd (in_none p none) ]
   part-bits role.Enumeration p h = enumerator-bits (enumerators_of d.tree c) p h
-  part-bits role.Wrapper p h = absurd (not_in_none p h)
-  part-bits role.Part p h = absurd (not_in_none p h)
-  part-bits role.Base p h = absurd (not_in_none p h)
-  part-bits role.Unknown p h = absurd (not_in_none p h)
+  part-bits role.Wrapper p h = absurd (in_none p h)
+  part-bits role.Part p h = absurd (in_none p h)
+  part-bits role.Base p h = absurd (in_none p h)
+  part-bits role.Unknown p h = absurd (in_none p h)
 
 -- ---- room for parameters
 
@@ -210,11 +205,11 @@ module _ (d : PlainDwarf) (laws : TypeLaws d) (found : List ℕ) (closed : IsClo
   unfolding total
   params-fit c there [] inside le = omega arith
   params-fit c there (p ∷ ps) inside le =
-      let ty_there = type_found d.tree found c (type_of d.tree p) closed there (part_there d.tree c p (inside p (first_of_all p ps))) in
+      let ty_there = type_found d.tree found c (type_of d.tree p) closed there (part_there d.tree c p (inside p (at_front p ps))) in
       let here = node-size (type_of d.tree p) ty_there in
       let rest : ℕ = total (map facts_room (map (facts_of d) (map (type_of d.tree) ps))) in
       let small : rest ≤ room_limit = omega (arith, le) in
-      let later = params-fit c there ps (λ q h. inside q (behind_first p ps q h)) small in
+      let later = params-fit c there ps (λ q h. inside q (in_rest p ps q h)) small in
       let sum = sum_by-cons (room_of (made_nodes d found)) (Param (number_in found (type_of d.tree p))) (map (param_part (number_in found) d.tree) ps) in
       omega (arith, sum, here, later, le)
 

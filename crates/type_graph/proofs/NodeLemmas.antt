@@ -6,6 +6,7 @@ use Rattle.std.proofs.lemmas.Int.{ints}
 use Rattle.std.proofs.lemmas.List.{take_more, take_all, map-append}
 use Rattle.std.proofs.lemmas.List.Elements.{Contains-get_or}
 use Rattle.std.proofs.lemmas.Option.{slice_get_within, get_or_from_slice_get}
+use Rattle.abi_base.proofs.lemmas.Lists.{map-map}
 use Rattle.dwarf_tree.specs.Trees.{PlainTree}
 use Rattle.dwarf_entries.specs.Debug.{PlainDwarf}
 use Rattle.abi_types.specs.Types.{PlainNode}
@@ -18,7 +19,7 @@ use Rattle.type_reach.specs.Sizes.{begins_beyond}
 use Rattle.type_graph.specs.declared.flatten.Placed.{Placed}
 use Rattle.type_graph.specs.Sharing.{first_node, first_nodes}
 use Rattle.type_graph.specs.Placed.{plain_member, plain_members}
-use Rattle.type_graph.proofs.ListLemmas.{Contains-map, map-map}
+use Rattle.type_graph.proofs.ListLemmas.{Contains-map}
 use Rattle.type_graph.proofs.LimitLemmas.{none_beyond}
 
 -- ---- members

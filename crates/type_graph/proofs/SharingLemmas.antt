@@ -4,6 +4,7 @@ use Rattle.std.proofs.lemmas.Bool.{cases_order, eq-eqb}
 use Rattle.std.proofs.lemmas.List.{length-map, length-set, get_or-set_other, ext_get_or}
 use Rattle.std.proofs.lemmas.Grind.{get_or-set_at}
 use Rattle.std.proofs.lemmas.Option.{same_Some, slice_get_within, get_or_from_slice_get}
+use Rattle.abi_base.proofs.lemmas.Lists.{at_below, slice_get-mapped}
 use Rattle.dwarf_entries.specs.Debug.{PlainDwarf}
 use Rattle.abi_types.specs.Types.{PlainNode}
 use Rattle.abi_types.specs.Graphs.{void_node, node_at}
@@ -15,7 +16,6 @@ use Rattle.type_reach.specs.TypeLaws.{TypeLaws}
 use Rattle.type_reach.specs.Views.{core_view, view_by}
 use Rattle.type_graph.specs.Nodes.{number_in, made_node, found_types, made_nodes}
 use Rattle.type_graph.specs.Sharing.{is_other, first_view, first_node, first_nodes, with_parts, AreShared}
-use Rattle.type_graph.proofs.ListLemmas.{at_below, slice_get-mapped}
 use Rattle.type_graph.proofs.ViewLemmas.{made_at, made_length}
 
 -- ---- one node

@@ -6,6 +6,8 @@ use Rattle.std.proofs.lemmas.Bool.{cases_Bool, eqb-true, eq-eqb}
 use Rattle.std.proofs.lemmas.List.{length-map}
 use Rattle.std.proofs.lemmas.List.Elements.{Contains-append_right}
 use Rattle.std.proofs.lemmas.Option.{same_Some, none-some}
+use Rattle.abi_base.proofs.lemmas.Lists.{map-map, contains_at, at_below, slice_get-mapped}
+use Rattle.abi_base.proofs.lemmas.Contained.{in_front, at_front, in_none}
 use Rattle.dwarf_tree.specs.Trees.{PlainTree}
 use Rattle.dwarf_entries.specs.Debug.{PlainDwarf}
 use Rattle.abi_types.specs.Types.{Target, Element, Outcome, Param, PlainNode}
@@ -21,7 +23,7 @@ use Rattle.type_reach.specs.PeeledCores.{IsFound}
 use Rattle.type_reach.specs.TypeLaws.{TypeLaws}
 use Rattle.type_reach.specs.Views.{offset_of, member_part, enumerator_part, param_part, enumerators_of, parts_under, core_view, view_by, view_of}
 use Rattle.type_graph.specs.Nodes.{number_in, renamed_part, renamed, entry_named, IsNodeOf, AreNodesOf, made_node, found_types, made_nodes}
-use Rattle.type_graph.proofs.ListLemmas.{in_front, first_of_all, not_in_none, Contains-map, map-map, map-same, slice_get_contains, at_below, slice_get-mapped}
+use Rattle.type_graph.proofs.ListLemmas.{Contains-map, map-same}
 
 -- ---- renaming
 
@@ -50,7 +52,7 @@ renamed-core f name d align (Some c) =
 
 pub own_there : (t : PlainTree) (e : ℕ) → has_type (role_of t e) ≡ true → Contains (types_of t e) (type_of t e)
 unfolding types_of own_types
-own_there t e has = rw has (first_of_all (type_of t e) (map (type_of t) (parts_of t e)))
+own_there t e has = rw has (at_front (type_of t e) (map (type_of t) (parts_of t e)))
 
 pub part_there : (t : PlainTree) (e p : ℕ) → Contains (parts_of t e) p → Contains (types_of t e) (type_of t p)
 unfolding types_of
@@ -94,7 +96,7 @@ pub stands_at : (found : List ℕ) (r : Type_) → IsFound found r → slice_get
 stands_at found None there = refl
 stands_at found (Some e) there = go found there where
   go : (xs : List ℕ) → Contains xs e → slice_get (map (λ x. Some x) xs) (position_or_len (nat_eq e) xs) ≡ Some (Some e)
-  go [] h = absurd (not_in_none e h)
+  go [] h = absurd (in_none e h)
   go (x ∷ xs) h = elim (cases_Bool (nat_eq e x)) [ inl here ↦ rw here (ap (λ y. Some (Some y)) (sym (eqb-true e x here))) | inr other ↦ elim (in_front x xs e h) [ inl same ↦ absurd (let is = eq-eqb e x (sym same) in cc) | inr later ↦ let k : 1 + position_or_len (nat_eq e) xs ≡ suc (position_or_len (nat_eq e) xs) = omega arith in rw (other, k) (go xs later) ] ]
 
 -- read as entries, numbers of nodes are offsets
@@ -154,5 +156,5 @@ are-nodes d laws roots found walk closed shallow = record {
   at zero lt = (None, tt, node-is d laws found closed shallow 0 None tt refl)
   at (suc i) lt =
       let e = at_below found i (omega (arith, lt)) in
-      let there = slice_get_contains found i e.0 e.1 in
+      let there = contains_at found i e.0 e.1 in
       (Some e.0, (walk.exact e.0).0 there, node-is d laws found closed shallow (suc i) (Some e.0) there (slice_get-mapped (λ x. Some x) found i e.0 e.1))

@@ -16,7 +16,7 @@ use crate::judged::JudgedTypes;
 use crate::labels::name_or_empty;
 use crate::limits::GraphLimits;
 use crate::parts::enumerators_of;
-use abi_base::NoMemory;
+use abi_base::{Limit, NoMemory, taken};
 use dwarf_entries::Dwarf;
 use std::alloc::Global;
 use type_reach::laws::laws_of_types;
@@ -32,16 +32,6 @@ pub(crate) struct Room {
     pub(crate) letters: usize,
 }
 
-/// What is left of a number, less `many`.
-pub(crate) fn taken(left: usize, many: usize) -> Result<usize, NoMemory>
-    ensures { IfOk result (λ rest. rest + many ≡ left) }
-{
-    if left < many {
-        return Err(NoMemory);
-    }
-    Ok(left - many)
-}
-
 impl Room {
     /// The room within limits.
     pub(crate) fn within(limits: GraphLimits) -> Room
@@ -54,13 +44,13 @@ impl Room {
         }
     }
 
-    // What is left of the room, less so many parts.
-    fn without_parts(self, many: usize) -> Result<Room, NoMemory>
+    // What is left of the room, less so many parts, which this limit counts.
+    fn without_parts(self, limit: Limit, many: usize) -> Result<Room, NoMemory>
         ensures parts { IfOk result (λ rest. rest.parts + many ≡ self.parts) }
         ensures letters { IfOk result (λ rest. rest.letters ≡ self.letters) }
     {
         Ok(Room {
-            parts: taken(self.parts, many)?,
+            parts: taken(limit, self.parts, many)?,
             letters: self.letters,
         })
     }
@@ -72,7 +62,7 @@ impl Room {
     {
         Ok(Room {
             parts: self.parts,
-            letters: taken(self.letters, many)?,
+            letters: taken(Limit::Letters, self.letters, many)?,
         })
     }
 }
@@ -94,7 +84,7 @@ fn after_members(types: &JudgedTypes<'_, '_>, c: usize, left: Room) -> Result<Ro
     let parts = parts_at(dwarf, types.found, types.leads, number, c);
     let leads_to = types_at(dwarf, types.found, types.leads, number, c);
     let members = members_among(dwarf, c, role_of(dwarf, c), parts);
-    let mut rest = left.without_parts(members.len())?;
+    let mut rest = left.without_parts(Limit::Members, members.len())?;
     'members: for k in 0..members.len() {
         if let Some(name) = dwarf.name_of(members[k] as usize) {
             rest = rest.without_letters(name.len())?;
@@ -129,7 +119,7 @@ fn after_params(
         Role::Function => {
             let number = types.found.number_of(c);
             let params = parts_at(types.dwarf, types.found, types.leads, number, c);
-            left.without_parts(params.len())
+            left.without_parts(Limit::Members, params.len())
         }
         _ => Ok(left),
     }
@@ -164,7 +154,7 @@ pub(crate) fn ask_types(types: usize, most: usize) -> Result<(), NoMemory>
     ensures { OnOk result (types ≤ most) }
 {
     if most < types {
-        return Err(NoMemory);
+        return Err(NoMemory::Past(Limit::Types));
     }
     Ok(())
 }
@@ -193,7 +183,7 @@ fn after_names(dwarf: &Dwarf, entries: &[usize], left: usize) -> Result<usize, N
 {
     let mut rest = left;
     'entries: for k in 0..entries.len() {
-        rest = taken(rest, name_or_empty(dwarf, entries[k]).len())?;
+        rest = taken(Limit::Letters, rest, name_or_empty(dwarf, entries[k]).len())?;
     }
     Ok(rest)
 }
@@ -207,7 +197,7 @@ fn after_enumerators(alloc: Global, dwarf: &Dwarf, e: usize, left: Room) -> Resu
     match role_of(dwarf, e) {
         Role::Enumeration => {
             let enumerators = enumerators_of(alloc, dwarf, e)?;
-            let rest = left.without_parts(enumerators.len())?;
+            let rest = left.without_parts(Limit::Enumerators, enumerators.len())?;
             Ok(Room {
                 parts: rest.parts,
                 letters: after_names(dwarf, enumerators.as_slice(), rest.letters)?,

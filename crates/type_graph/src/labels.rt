@@ -10,12 +10,11 @@ ghost use Rattle.type_reach.specs.Flat.{text_or_empty, own_label};
 ghost use Rattle.type_reach.specs.Flat as flat;
 ghost use Rattle.type_graph.specs.Counts.{label_letters};
 
-use crate::counts::taken;
 use abi_base::dwarf::{
     DW_TAG_base_type, DW_TAG_enumeration_type, DW_TAG_structure_type, DW_TAG_typedef,
     DW_TAG_union_type,
 };
-use abi_base::{List, NoMemory};
+use abi_base::{Limit, List, NoMemory, taken};
 use abi_types::{Label, LabelKind};
 use dwarf_entries::Dwarf;
 use std::alloc::Global;
@@ -66,7 +65,7 @@ fn push_label<'a>(
     match label_kind(dwarf.tag(e)) {
         Some(kind) => {
             let name = name_or_empty(dwarf, e);
-            *letters = taken(*letters, name.len())?;
+            *letters = taken(Limit::Letters, *letters, name.len())?;
             // Most types have one name or none.
             labels.reserve_exact(1)?;
             labels.push(Label { kind, name })?;

@@ -10,13 +10,12 @@ ghost use Rattle.type_graph.specs.Nodes.{made_nodes};
 ghost use Rattle.type_graph.specs.Sharing.{first_node};
 ghost use Rattle.type_graph.specs.Sharing as sharing_spec;
 
-use crate::counts::taken;
 use crate::judged::JudgedTypes;
 use crate::labels::labels_of;
 use crate::limits::{LABELS_A_TYPE, LABELS_AT_LEAST};
 use crate::sharing::share_parts;
 use crate::views::view;
-use abi_base::{List, NoMemory};
+use abi_base::{Limit, List, NoMemory, taken};
 use abi_types::{Index, Node};
 use dwarf_entries::Dwarf;
 use std::alloc::Global;
@@ -54,7 +53,7 @@ fn node<'a, Ix: Index>(
     let own = summary_at(types.dwarf, types.found, types.summaries, ty);
     let entry = offset_of(types.dwarf, ty);
     let view = view(alloc, types, ty, &own)?;
-    *letters = taken(*letters, view.tag.len())?;
+    *letters = taken(Limit::Letters, *letters, view.tag.len())?;
     let labels = labels_of(alloc, types.dwarf, ty, letters)?;
     Ok(Node {
         entry,
@@ -92,7 +91,7 @@ fn first_nodes<'a, Ix: Index>(
     'found: for number in 0..types.found.len() {
         let e = types.found.at(number);
         let made = node(alloc, types, Some(e), &mut letters)?;
-        labels = taken(labels, made.labels.as_slice().len())?;
+        labels = taken(Limit::TypeNames, labels, made.labels.as_slice().len())?;
         nodes.push(made)?;
     }
     Ok(nodes)

@@ -12,7 +12,7 @@ ghost use Rattle.type_reach.specs.PeeledCores.{StandsForNone};
 ghost use Rattle.dwarf_entries.specs.Chains.{name_of};
 ghost use Rattle.type_reach.specs.Flat.{text_or_empty, flat_of};
 ghost use Rattle.type_reach.specs.Sizes.{begins_beyond, is_too_large};
-ghost use Rattle.type_reach.specs.Views.{group_for, variadic_for, core_view, view_by};
+ghost use Rattle.type_reach.specs.Views.{group_for, core_view, view_by};
 ghost use Rattle.type_reach.specs.Views as views;
 ghost use Rattle.type_graph.specs.Nodes.{number_in};
 ghost use Rattle.type_graph.specs.Sharing.{first_view};
@@ -24,12 +24,12 @@ use crate::judged::JudgedTypes;
 use crate::labels::name_or_empty;
 use crate::parts::parts_of_peeled;
 use abi_base::NoMemory;
-use abi_base::dwarf::{DW_AT_GNU_vector, DW_TAG_structure_type, DW_TAG_unspecified_parameters};
+use abi_base::dwarf::{DW_AT_GNU_vector, DW_TAG_structure_type};
 use abi_types::{Call, Group, Index, Kind, Parts, View};
 use dwarf_entries::Dwarf;
 use std::alloc::Global;
 use type_reach::laws::laws_of_types;
-use type_reach::{Role, Summary, body_of, role_of, summary_by_number};
+use type_reach::{Role, Summary, role_of, summary_by_number, variadic_at};
 
 // Whether an array is a vector of the machine.
 #[tactic(auto, unfolding(type_reach::specs::Views::is_vector))]
@@ -75,21 +75,6 @@ fn has_tag(kind: Kind) -> bool
     ensures { result ≡ forms.has_tag kind }
 {
     matches!(kind, Kind::Structure | Kind::Union | Kind::Enumeration)
-}
-
-// Whether a function is variadic.
-#[tactic(auto, unfolding(type_reach::specs::References::tagged_children))]
-fn variadic(alloc: Global, dwarf: &Dwarf, c: usize, role: Role) -> Result<bool, NoMemory>
-    requires { c < length dwarf.now.tree.entries }
-    ensures { IfOk result (λ further. further ≡ variadic_for role dwarf.now.tree c) }
-{
-    match role {
-        Role::Function => {
-            let further = dwarf.tagged(alloc, body_of(dwarf, c), DW_TAG_unspecified_parameters)?;
-            Ok(!further.is_empty())
-        }
-        _ => Ok(false),
-    }
 }
 
 // What the bits of a core of a size mean.
@@ -155,7 +140,7 @@ fn view_of_peeled<'a, Ix: Index>(
     let own = summary_by_number(dwarf, types.found, types.summaries, number, c);
     let role = role_of(dwarf, c);
     let kind = kind_of(dwarf, c, role);
-    let variadic = variadic(alloc, dwarf, c, role)?;
+    let variadic = variadic_at(dwarf, types.found, types.leads, number, c);
     let parts = if other {
         Parts::new(alloc)
     } else {

@@ -1,6 +1,5 @@
 -- Whether an item of a list passes a test, item by item.
 use Rattle.std.proofs.Common.{◌≡◌, ◌<◌, ◌≤◌, ◌+◌, ◌∙◌, ℕ, zero, suc, Bool, true, false, List, [], ◌∷◌, length, take, get_or, ap, sym, arith, refl}
-use Rattle.std.specs.Prelude.{◌||◌}
 use Rattle.std.specs.List.{list_any}
 use Rattle.std.proofs.lemmas.List.Folds.{list_any_more}
 use Rattle.std.proofs.lemmas.List.{take_all}
@@ -12,20 +11,3 @@ any_more p xs k d lt so_far e = rw (list_any_more p xs k d lt, so_far) e
 -- all of them
 pub any_all : {X : Type 0} (p : X → Bool) (xs : List X) (k : ℕ) → length xs ≤ k → list_any p (take k xs) ≡ false → list_any p xs ≡ false
 any_all p xs k past so_far = sym (ap (list_any p) (take_all k xs past)) ∙ so_far
-
-or_true : (b c : Bool) → c ≡ true → (b || c) ≡ true
-or_true true c h = refl
-or_true false c h = h
-
-or_left : (b c : Bool) → b ≡ true → (b || c) ≡ true
-or_left true c h = refl
-or_left false c h = cc
-
-passes_in : {X : Type 0} (p : X → Bool) (xs : List X) (k : ℕ) (d : X) → k < length xs → p (get_or xs k d) ≡ true → list_any p xs ≡ true
-passes_in p [] k d lt e = absurd (omega arith)
-passes_in p (x ∷ xs) zero d lt e = or_left (p x) (list_any p xs) e
-passes_in p (x ∷ xs) (suc k) d lt e = or_true (p x) (list_any p xs) (passes_in p xs k d (omega arith) e)
-
--- one that passes
-pub any_at : {X : Type 0} (p : X → Bool) (xs : List X) (k : ℕ) (d : X) → k < length xs → p (get_or xs k d) ≡ true → list_any p xs ≡ true
-any_at p xs k d lt e = passes_in p xs k d lt e

@@ -1,7 +1,6 @@
 -- The way from a type to what it stands for, entry by entry.
 use Rattle.std.proofs.Common.{◌≡◌, ◌<◌, ◌≤◌, ◌+◌, ◌-◌, ◌∙◌, ℕ, suc, zero, Bool, true, false, Some, None, ap, sym, arith, refl}
 use Rattle.std.specs.Prelude.{◌&&◌, ◌||◌, ◌==◌}
-use Rattle.std.proofs.lemmas.Bool.Decides.{nat_tests}
 use Rattle.dwarf_tree.specs.Trees.{PlainTree}
 use Rattle.dwarf_entries.specs.Addresses.{tag_at}
 use Rattle.type_reach.specs.declared.role.Role.{Role}
@@ -9,10 +8,10 @@ use Rattle.type_reach.specs.declared.role.Role.TheVariants as role
 use Rattle.type_reach.specs.References.{Type_, role_of, type_of}
 use Rattle.type_notes.specs.Chains.{behind, is_passed, led_on, leads_further}
 
-one_less : (n k : ℕ) → k < n → n - k ≡ suc (n - (k + 1))
+pub one_less : (n k : ℕ) → k < n → n - k ≡ suc (n - (k + 1))
 one_less n k h = omega arith
 
-none_left : (n k : ℕ) → n ≤ k → n - k ≡ zero
+pub none_left : (n k : ℕ) → n ≤ k → n - k ≡ zero
 none_left n k h = omega arith
 
 -- ---- what stands behind
@@ -76,6 +75,3 @@ passed_last t tag n k e h is = passed_on t tag n k e h ∙ not_on (leads_further
 pub passed_end : (t : PlainTree) (tag n k : ℕ) (r : Type_) → n ≤ k → is_passed t tag (n - k) r ≡ false
 unfolding is_passed
 passed_end t tag n k r h = ap (λ (m : ℕ). is_passed t tag m r) (none_left n k h)
-
-pub other_tag : (m n : ℕ) → (m ≡ n → ⊥) → (m == n) ≡ false
-other_tag m n h = grind (arith, nat_tests)

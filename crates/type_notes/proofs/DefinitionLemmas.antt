@@ -12,6 +12,7 @@ use Rattle.std.proofs.lemmas.Grind.{flat_map-append}
 use Rattle.std.proofs.lemmas.List.{append-nil, append_assoc, take_more}
 use Rattle.std.proofs.lemmas.List.Elements.{All-append, All-filter, All-head, All-nil, Contains-get_or, filter-append}
 use Rattle.std.proofs.lemmas.Slice.Eq.{bytes_eq-Decides}
+use Rattle.abi_base.proofs.lemmas.Ranges.{below_more}
 use Rattle.abi_base.proofs.lemmas.Places.{places, places_more}
 use Rattle.dwarf_tree.specs.Parents.{StandsBelow}
 use Rattle.dwarf_tree.specs.Trees.{PlainTree, children_of, is_tagged}
@@ -21,7 +22,8 @@ use Rattle.type_reach.specs.References.{Type_, role_of, tagged_children, type_of
 use Rattle.type_notes.specs.declared.difference.Difference.{Difference}
 use Rattle.type_notes.specs.DefinedElsewhere.{Named, TextSet, at_top_of, definitions_of, definitions_named, defines, first_in, first_of, has_definitions, has_text, is_among, is_unit_tag, list_or_none, places_under, tops_below, tops_of}
 use Rattle.type_notes.specs.DefinitionTexts.{goes_on, type_text, type_word}
-use Rattle.type_notes.proofs.RangeLemmas.{range_next}
+use Rattle.pair_rules.proofs.lemmas.Truths.{cond_or}
+use Rattle.type_notes.proofs.ChainLemmas.{one_less, none_left}
 
 abbrev key : List ℕ → Bor (List ℕ)
 key q = record { ref_ptr = (0, 0); now = q }
@@ -62,7 +64,7 @@ pub tops_more : (p : ℕ → Bool) (t : PlainTree) (tag n : ℕ) (so_far next : 
     → next ≡ filter p (tops_below t tag (n + 1))
 tops_more p t tag n so_far next was is =
     is ∙ ap (λ (l : List ℕ). l ++ filter p (at_top_of t tag n)) was ∙ sym (filter-append p (tops_below t tag n) (at_top_of t tag n))
-    ∙ ap (filter p) (ap (λ (xs : List ℕ). tops_below t tag n ++ xs) (sym (append-nil (at_top_of t tag n))) ∙ sym (flat_map-append (at_top_of t tag) (range_with_len 0 n) (n ∷ [])) ∙ sym (ap (flat_map (at_top_of t tag)) (range_next n)))
+    ∙ ap (filter p) (ap (λ (xs : List ℕ). tops_below t tag n ++ xs) (sym (append-nil (at_top_of t tag n))) ∙ sym (flat_map-append (at_top_of t tag) (range_with_len 0 n) (n ∷ [])) ∙ sym (ap (flat_map (at_top_of t tag)) (below_more n)))
 
 -- ---- what is found is an entry
 
@@ -111,12 +113,6 @@ tests_same p q same = λ i x. same x i
 pub position_same : {X : Type 0} (p q : X → Bool) → ((x : X) → p x ≡ q x) → (xs : List X) → position p xs ≡ position q xs
 position_same p q same xs = ap (λ r. position r xs) (tests_same p q same)
 
-cond_or : (b c : Bool) → cond b true c ≡ (c || b)
-cond_or true true = refl
-cond_or true false = refl
-cond_or false true = refl
-cond_or false false = refl
-
 -- one text more in a set
 pub among_more : (old new : TextSet) (texts : List (List ℕ)) (k : ℕ) (d text : List ℕ) → k < length texts → text ≡ get_or texts k d
     → ((q : Bor (List ℕ)) → has_text new q.now ≡ cond (bytes_eq text q.now) true (has_text old q.now))
@@ -142,12 +138,6 @@ changes_passed f k n o lt is none = changes_more f k n lt (sym is ∙ none_of o 
 -- a text that grew by one part, before the rest
 pub append_apart : (old word rest new : List ℕ) → new ≡ old ++ word → new ++ rest ≡ old ++ (word ++ rest)
 append_apart old word rest new is = ap (λ (xs : List ℕ). xs ++ rest) is ∙ append_assoc old word rest
-
-one_less : (n k : ℕ) → k < n → n - k ≡ suc (n - (k + 1))
-one_less n k h = omega arith
-
-none_left : (n k : ℕ) → n ≤ k → n - k ≡ zero
-none_left n k h = omega arith
 
 pub text_void : (d : PlainDwarf) (n k : ℕ) → k < n → type_text d (n - k) None ≡ codes "void"
 unfolding type_text

@@ -3,12 +3,11 @@ use Rattle.std.proofs.Common.{◌≡◌, ◌<◌, ◌∙◌, ℕ, zero, suc, Boo
 use Rattle.std.specs.Prelude.{◌&&◌, if◌then◌else◌, is_none, option_to_list, cond, map, max, slice_get}
 use Rattle.std.specs.List.{flat_map, range_with_len}
 use Rattle.std.specs.Option.{option_map}
-use Rattle.std.specs.Str.{bytes_eq}
-use Rattle.std.proofs.lemmas.Slice.Eq.{bytes_eq-Decides}
 use Rattle.std.proofs.lemmas.List.{append-nil}
+use Rattle.abi_base.proofs.lemmas.Orders.{bytes_eq-refl}
 use Rattle.abi_types.specs.Graphs.{node_at, view_at, no_part}
 use Rattle.abi_types.specs.Parts.{like, place_of}
-use Rattle.abi_types.specs.Types.{PlainPart, Member, Enumerator, Target, Element, Outcome, Param, PlainNode, PlainView}
+use Rattle.abi_types.specs.Types.{PlainNode, PlainView}
 use Rattle.dwarf_tree.specs.Trees.{entry_of}
 use Rattle.dwarf_entries.specs.Addresses.{tag_at}
 use Rattle.dwarf_entries.specs.Debug.{PlainDwarf}
@@ -29,12 +28,10 @@ use Rattle.type_notes.specs.Padding.{fills, padding_changes, part_changes, is_st
 use Rattle.type_notes.specs.Texts.{said}
 use Rattle.type_notes.specs.TypeNames.{labels_text, name_change}
 use Rattle.type_notes.specs.Unions.{union_change}
-
-same_bytes : (xs : List ℕ) → bytes_eq xs xs ≡ true
-same_bytes xs = (bytes_eq-Decides xs xs).1 refl
+use Rattle.pair_rules.proofs.lemmas.Parts.{like-same}
 
 not_differing : (kind : NoteKind) (text : List ℕ) → differing kind text text ≡ None
-not_differing kind text = rw (same_bytes text) refl
+not_differing kind text = rw (bytes_eq-refl text) refl
 
 -- ---- entries
 
@@ -71,14 +68,6 @@ definition_itself d e =
 
 -- ---- members
 
-like_itself : (p : PlainPart) → like p p ≡ true
-like_itself (Member name bit width to) = same_bytes name
-like_itself (Enumerator name value) = same_bytes name
-like_itself (Target to) = refl
-like_itself (Element to) = refl
-like_itself (Outcome to) = refl
-like_itself (Param to) = refl
-
 is_none_map : {X Y : Type 0} (f : X → Y) (o : Option X) → is_none (option_map f o) ≡ is_none o
 is_none_map f None = refl
 is_none_map f (Some x) = refl
@@ -98,7 +87,7 @@ nothing_in f d (x ∷ xs) none = rw (none zero (omega arith)) (nothing_in f d xs
 
 not_new : (nodes : List PlainNode) (v : PlainView) (k : ℕ) → k < length v.parts → part_changes nodes nodes v (get_or v.parts k no_part) ≡ []
 unfolding fills
-not_new nodes v k lt = rw (has_place (like (get_or v.parts k no_part)) v.parts k no_part lt (like_itself (get_or v.parts k no_part))) refl
+not_new nodes v k lt = rw (has_place (like (get_or v.parts k no_part)) v.parts k no_part lt (like-same (get_or v.parts k no_part))) refl
 
 if_none : (b : Bool) (xs : List Difference) → xs ≡ [] → (if b then xs else []) ≡ []
 if_none true xs e = e

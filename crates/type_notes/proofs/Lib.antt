@@ -2,5 +2,4 @@ pub mod AnyLemmas
 pub mod ChainLemmas
 pub mod DefinitionLemmas
 pub mod LawLemmas
-pub mod RangeLemmas
 pub mod WalkLemmas

@@ -7,15 +7,16 @@ use Rattle.std.proofs.lemmas.List.{append-nil}
 use Rattle.std.proofs.lemmas.List.Folds.{list_any_more}
 use Rattle.std.proofs.lemmas.Option.{get_or_from_slice_get, slice_get_within}
 use Rattle.std.proofs.lemmas.Grind.{flat_map-append}
+use Rattle.abi_base.proofs.lemmas.Ranges.{below_more}
 use Rattle.abi_types.specs.Graphs.{IsGraph}
 use Rattle.type_classes.specs.Classes.{PlainClasses}
 use Rattle.pair_rules.specs.declared.rules.Broken.{Broken}
-use Rattle.pair_rules.specs.Paths.{Path, Then, From, PathLeadsTo}
+use Rattle.pair_rules.specs.Paths.{Path, From, PathLeadsTo}
 use Rattle.pair_rules.specs.Steps.{Triple, is_marked}
 use Rattle.pair_explorer.specs.declared.visits.Visit.{Visit}
 use Rattle.pair_explorer.specs.ByClass.{IsSound}
 use Rattle.pair_explorer.specs.Explorations.{IsExploration}
-use Rattle.pair_explorer.specs.Routes.{followed, path_at, path_of}
+use Rattle.pair_explorer.specs.Routes.{path_at, path_of}
 use Rattle.pair_explorer.specs.Scopes.{Scope, rep, LeadsByRep}
 use Rattle.pair_explorer.specs.Visits.{seen, Along, AreEarlier}
 use Rattle.cert_check.specs.Compatible.{Sides, task_of}
@@ -25,8 +26,9 @@ use Rattle.pair_compare.specs.reports.PathTexts.{label_at, steps_text, IsWalk}
 use Rattle.type_notes.specs.declared.difference.Difference.{Difference}
 use Rattle.type_notes.specs.declared.note.Note.{Note}
 use Rattle.type_notes.specs.DefinedElsewhere.{definitions_behind}
-use Rattle.type_notes.proofs.RangeLemmas.{range_next}
 use Rattle.type_notes.specs.NotedPairs.{PlainPair, AreCompared, AreReadable, Numbers, definitions_at, difference_note, is_of, new_core, noted_at, notes_at, notes_below, old_core, was_compared}
+use Rattle.pair_compare.proofs.lemmas.Paths.{export_of-followed}
+use Rattle.abi_base.proofs.lemmas.Lists.{at_below}
 
 -- what the laws below say that is used here
 pub record WalkLaws : Type 0 where
@@ -35,18 +37,12 @@ pub record WalkLaws : Type 0 where
   pub along : (visits : List Visit) (n : ℕ) (v : Visit) → AreEarlier visits → slice_get visits n ≡ Some v → Along visits n (path_at visits n)
   pub one : (visits : List Visit) (n : ℕ) (p q : Path) → Along visits n p → Along visits n q → p ≡ q
 
--- the item at a place that a list has
-there : {X : Type 0} (xs : List X) (n : ℕ) → n < length xs → (x : X) × (slice_get xs n ≡ Some x)
-there [] n lt = absurd (omega arith)
-there (x ∷ xs) zero lt = (x, refl)
-there (x ∷ xs) (suc n) lt = there xs n (omega arith)
-
 pub readable : WalkLaws → (s : Sides) (old new : PlainClasses) (vs : List Visit) (broken : List (ℕ × Broken)) → IsGraph s.old.graph → IsGraph s.new.graph
     → IsSound (scope_of s old new) → IsExploration (scope_of s old new) vs broken → AreReadable s vs
 readable laws s old new vs broken old_graph new_graph sound e = record {
   earlier = e.earlier;
   each = λ n lt.
-      let v = there vs n lt in
+      let v = at_below vs n lt in
       let inside = e.inside n v.0 v.1 in
       let reached = e.reached n v.0 v.1 in
       let same : reached.0 ≡ path_at vs n = laws.one vs n reached.0 (path_at vs n) reached.1 (laws.along vs n v.0 e.earlier v.1) in
@@ -62,10 +58,6 @@ readable laws s old new vs broken old_graph new_graph sound e = record {
 
 -- ---- the note of a path
 
-export_of-followed : (path : Path) (parts : List ℕ) → export_of (followed path parts) ≡ export_of path
-export_of-followed path [] = refl
-export_of-followed path (part ∷ parts) = export_of-followed (Then path part) parts
-
 -- the notes of differences under the texts of a path are those at the visit to which it leads
 pub noted : (s : Sides) (vs : List Visit) (n export : ℕ) (parts label steps : List ℕ) (found : List Difference) → path_of export parts ≡ path_at vs n
     → label ≡ label_at s.old export → steps ≡ steps_text s.old (path_of export parts) → map (difference_note label steps) found ≡ map (noted_at s vs n) found
@@ -78,7 +70,7 @@ noted s vs n export parts label steps found same is_label is_steps =
 
 pub notes_more : (p : PlainPair) (vs : List Visit) (n : ℕ) → notes_below p vs (n + 1) ≡ notes_below p vs n ++ notes_at p vs n
 notes_more p vs n =
-    ap (flat_map (notes_at p vs)) (range_next n) ∙ flat_map-append (notes_at p vs) (range_with_len 0 n) (n ∷ [])
+    ap (flat_map (notes_at p vs)) (below_more n) ∙ flat_map-append (notes_at p vs) (range_with_len 0 n) (n ∷ [])
     ∙ ap (λ (xs : List Note). notes_below p vs n ++ xs) (append-nil (notes_at p vs n))
 
 -- ---- the definitions that were compared

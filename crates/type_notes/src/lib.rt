@@ -21,6 +21,7 @@ mod noted_pair;
 mod packing;
 mod padding;
 mod rest;
+mod room;
 mod said;
 mod sign;
 mod type_names;

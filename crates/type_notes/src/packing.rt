@@ -42,7 +42,7 @@ fn stands_off<Ix: Index>(graph: &Graph<Ix>, ix: Ix, k: usize) -> bool
 }
 
 // Whether some member of a type does not stand at its natural alignment.
-#[tactic(auto, using(crate::proofs::AnyLemmas::any_more, crate::proofs::AnyLemmas::any_all, crate::proofs::AnyLemmas::any_at))]
+#[tactic(auto, using(crate::proofs::AnyLemmas::any_more, crate::proofs::AnyLemmas::any_all, pair_rules::proofs::lemmas::Lists::any_is))]
 fn is_packed<Ix: Index>(graph: &Graph<Ix>, ix: Ix) -> bool
     requires { Ix.number_of ix < length graph.now }
     ensures { result ≡ spec.is_packed graph.now (Ix.number_of ix) }

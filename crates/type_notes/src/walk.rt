@@ -17,6 +17,7 @@ use crate::elsewhere::{Kin, definitions_by, kin_change};
 use crate::entries::EntryPair;
 use crate::note::Note;
 use crate::noted_pair::NotedPair;
+use crate::room::NoteRoom;
 use crate::type_pair::TypePair;
 use abi_base::{List, NoMemory};
 use abi_types::{Index, OldIx, Way};
@@ -143,6 +144,7 @@ fn push_under_path(
     ground: &NotedPair,
     place: (&Visits, usize),
     found: &[Difference],
+    room: &mut NoteRoom,
 ) -> Result<(), NoMemory>
     requires readable { IsReadable (sides_of ground.now.pair) place.0.now place.1 }
     requires earlier { AreEarlier place.0.now }
@@ -153,6 +155,7 @@ fn push_under_path(
     let route = route_to(alloc, visits, number)?;
     let export = label_at(alloc, ground.pair.old, route.export)?;
     let path = steps_text(alloc, ground.pair.old, &route)?;
+    room.take_notes(export.as_str(), path.as_str(), found)?;
     push_all(alloc, notes, export.as_str(), path.as_str(), found)
 }
 
@@ -169,6 +172,7 @@ fn change_of(
     alloc: Global,
     walk: &Walk,
     found: (usize, usize),
+    room: &mut NoteRoom,
 ) -> Result<Option<Difference>, NoMemory>
     requires definitions { AreOfBoth walk.now.ground.now.old_dwarf.now walk.now.ground.now.new_dwarf.now walk.now.definitions.now }
     requires old { found.0 < length walk.now.ground.now.old_dwarf.now.tree.entries }
@@ -185,6 +189,7 @@ fn change_of(
         old: old.as_slice(),
         new: new.as_slice(),
     };
+    room.take_kin(alloc, &kin)?;
     kin_change(alloc, &kin)
 }
 
@@ -195,6 +200,7 @@ fn push_definitions(
     compared: &mut HashSet<usize>,
     walk: &Walk,
     found: Option<(usize, usize)>,
+    room: &mut NoteRoom,
 ) -> Result<(), NoMemory>
     requires definitions { AreOfBoth walk.now.ground.now.old_dwarf.now walk.now.ground.now.new_dwarf.now walk.now.definitions.now }
     requires old { IfSome found (λ found. found.0 < length walk.now.ground.now.old_dwarf.now.tree.entries) }
@@ -209,7 +215,7 @@ fn push_definitions(
     if !compared.insert(found.0)? {
         return Ok(());
     }
-    push_found(list, change_of(alloc, walk, found)?)
+    push_found(list, change_of(alloc, walk, found, room)?)
 }
 
 // Adds the notes of a visit.
@@ -220,6 +226,7 @@ fn push_visit(
     compared: &mut HashSet<usize>,
     walk: &Walk,
     number: usize,
+    room: &mut NoteRoom,
 ) -> Result<(), NoMemory>
     requires definitions { AreOfBoth walk.now.ground.now.old_dwarf.now walk.now.ground.now.new_dwarf.now walk.now.definitions.now }
     requires readable { IsReadable (sides_of walk.now.ground.now.pair) walk.now.visits.now number }
@@ -232,9 +239,10 @@ fn push_visit(
     if is_marked(walk.ground, visit.old, visit.way) {
         return Ok(());
     }
+    room.take_visit(alloc, walk.ground, &visit)?;
     let mut found = differences_at(alloc, walk.ground, &visit)?;
     let defined = definitions_of_types(walk.ground, walk.definitions, &visit);
-    push_definitions(alloc, &mut found, compared, walk, defined)?;
+    push_definitions(alloc, &mut found, compared, walk, defined, room)?;
     if found.as_slice().is_empty() {
         return Ok(());
     }
@@ -244,6 +252,7 @@ fn push_visit(
         walk.ground,
         (walk.visits, number),
         found.as_slice(),
+        room,
     )
 }
 
@@ -255,8 +264,9 @@ fn notes_along(alloc: Global, walk: &Walk) -> Result<List<Note>, NoMemory>
 {
     let mut notes = List::new(alloc);
     let mut compared = HashSet::new(alloc);
+    let mut room = NoteRoom::beside(walk.ground);
     'visits: for number in 0..walk.visits.len() {
-        push_visit(alloc, &mut notes, &mut compared, walk, number)?;
+        push_visit(alloc, &mut notes, &mut compared, walk, number, &mut room)?;
     }
     Ok(notes)
 }
@@ -313,7 +323,8 @@ fn counted_notes<L: Ledger>(
 }
 
 /// The notes on the types of two libraries: each difference between two compared types that no rule judges, with the first path to
-/// them. Each type stands for itself, even if others are alike. Types that a rule file marks have no notes.
+/// them. Each type stands for itself, even if others are alike. Types that a rule file marks have no notes. Past the limit on notes
+/// there are none at all.
 pub fn type_notes(alloc: Global, ground: &NotedPair) -> Result<List<Note>, NoMemory>
     requires bound { IsBinding ground.now.pair }
     requires marks { AreMarksOf ground.now.pair.old.now ground.now.pair.marks.now }

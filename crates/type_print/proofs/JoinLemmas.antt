@@ -6,12 +6,13 @@ use Rattle.std.specs.List.Sorted.{IsPermutation}
 use Rattle.std.proofs.lemmas.Bool.{cases_lt, and_parts, and_cases, eqb-true, eqb-false}
 use Rattle.std.proofs.lemmas.List.{nil_from_length}
 use Rattle.std.proofs.lemmas.List.Elements.{Contains-append_left, Contains-append_right, Contains-append_cases}
+use Rattle.abi_base.proofs.lemmas.Contained.{in_none, in_front, at_front, in_rest, in_map, in_map_cases}
 use Rattle.type_print.specs.declared.extent.Extent.{Extent}
 use Rattle.type_print.specs.declared.row.LayoutRow.{LayoutRow}
 use Rattle.type_print.specs.declared.row.LayoutRow.TheVariants.{Member, Hole, Padding, Overlap, Outside}
 use Rattle.type_print.specs.Members.{end_of, IsHeld, Meet, IsBelow, rank_of, member_key, Precedes, AreInOrder, AreNumbered, NamesAll, row_of}
 use Rattle.type_print.specs.Rows.{Fits, IsHole, IsPadding, IsOverlap, IsOutside, IsOverlapRow, IsOutsideRow, IsFittingRow, IsRow, key_of, AreExactly, AreRows}
-use Rattle.type_print.proofs.ListLemmas.{in_none, in_head, in_tail, in_cases, in_map, in_map_cases, pairs_append, pairs_map}
+use Rattle.type_print.proofs.ListLemmas.{pairs_append, pairs_map}
 use Rattle.type_print.proofs.OrderLemmas.{below_not_both, below_not_itself, below_trans, section_below, precede_cases, back, forth, names_itself}
 
 -- ---- the first member that meets another
@@ -42,18 +43,18 @@ first_meeting b (x ∷ xs) = elim (first_meeting b xs) [
   | inl none ↦ elim (meet_cases x b) [
     | inl joint ↦ inr (record {
       member = x;
-      there = in_head x xs;
+      there = at_front x xs;
       meets = joint;
-      first = λ t there before meet. elim (in_cases x xs t there) [ inl same ↦ not_itself x t same before | inr rest ↦ none t rest meet ];
+      first = λ t there before meet. elim (in_front x xs t there) [ inl same ↦ not_itself x t same before | inr rest ↦ none t rest meet ];
     })
-    | inr apart ↦ inl (λ t there meet. elim (in_cases x xs t there) [ inl same ↦ apart (let P : Extent → Type 0 = λ m. Meet m b in subst P (sym same) meet) | inr rest ↦ none t rest meet ])
+    | inr apart ↦ inl (λ t there meet. elim (in_front x xs t there) [ inl same ↦ apart (let P : Extent → Type 0 = λ m. Meet m b in subst P (sym same) meet) | inr rest ↦ none t rest meet ])
   ]
   | inr found ↦
       let kept : ((Precedes x found.member → Meet x b → ⊥)) → FirstMeeting b (x ∷ xs) = λ never. record {
         member = found.member;
-        there = in_tail x xs found.member found.there;
+        there = in_rest x xs found.member found.there;
         meets = found.meets;
-        first = λ t there before meet. elim (in_cases x xs t there) [
+        first = λ t there before meet. elim (in_front x xs t there) [
           | inl same ↦ never (let P : Extent → Type 0 = λ m. Precedes m found.member in subst P (sym same) before) (let P : Extent → Type 0 = λ m. Meet m b in subst P (sym same) meet)
           | inr rest ↦ found.first t rest before meet
         ];
@@ -62,9 +63,9 @@ first_meeting b (x ∷ xs) = elim (first_meeting b xs) [
         | inl joint ↦ elim (precede_cases x found.member) [
           | inl before ↦ inr (record {
             member = x;
-            there = in_head x xs;
+            there = at_front x xs;
             meets = joint;
-            first = λ t there earlier meet. elim (in_cases x xs t there) [
+            first = λ t there earlier meet. elim (in_front x xs t there) [
               | inl same ↦ not_itself x t same earlier
               | inr rest ↦ found.first t rest (below_trans (member_key 0 t) (member_key 0 x) (member_key 0 found.member) earlier before) meet
             ];
@@ -267,7 +268,7 @@ module _ (members sorted : List Extent) (bits : ℕ) (numbered : AreNumbered mem
 
     first_of : (rows : List LayoutRow) → 0 < length rows → (row : LayoutRow) × Contains rows row
     first_of [] some = absurd (omega arith)
-    first_of (row ∷ rows) some = (row, in_head row rows)
+    first_of (row ∷ rows) some = (row, at_front row rows)
 
     pub overlaps_clash : 0 < length overlaps → Fits members bits → ⊥
     overlaps_clash some = let one = first_of overlaps some in over_clash one.0 (over.each one.0 one.1)

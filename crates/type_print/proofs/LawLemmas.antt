@@ -4,13 +4,14 @@ use Rattle.std.specs.List.{AllPairs, Contains}
 use Rattle.std.proofs.lemmas.Bool.{cases_lt, cases_order, both_ways}
 use Rattle.std.proofs.lemmas.List.{get_or_default}
 use Rattle.std.proofs.lemmas.List.Elements.{Contains-get_or}
+use Rattle.abi_base.proofs.lemmas.Contained.{in_none, in_front, at_front, in_rest}
 use Rattle.type_print.specs.declared.extent.Extent.{Extent}
 use Rattle.type_print.specs.declared.row.LayoutRow.{LayoutRow}
 use Rattle.type_print.specs.declared.row.LayoutRow.TheVariants.{Member, Hole, Padding, Overlap, Outside}
 use Rattle.type_print.specs.Members.{Holds, IsHeld, IsBelow, AreNumbered, row_of}
 use Rattle.type_print.specs.Rows.{Fits, IsHole, IsPadding, IsRow, key_of, AreRows}
 use Rattle.type_print.specs.Laws.{Lies, RowHolds, row_end, row_at, IsClean, CoverEachBitOnce, RowsNameClashes, RowsAreDetermined}
-use Rattle.type_print.proofs.ListLemmas.{in_none, in_head, in_tail, in_cases, pairs_head, pairs_tail}
+use Rattle.type_print.proofs.ListLemmas.{pairs_head, pairs_tail}
 use Rattle.type_print.proofs.OrderLemmas.{below_not_both, below_not_itself, precede_cases, names_itself, same_member}
 use Rattle.type_print.proofs.SweepLemmas.{held_head, held_tail, held_cases}
 use Rattle.type_print.proofs.JoinLemmas.{overlap_there}
@@ -273,13 +274,13 @@ rises members rows = AllPairs (λ (a b : LayoutRow). IsBelow (key_of members a) 
 -- lists in strict order with the same rows are one
 same_rows : (members : List Extent) (xs ys : List LayoutRow) → rises members xs → rises members ys → ((r : LayoutRow) → Contains xs r → Contains ys r) → ((r : LayoutRow) → Contains ys r → Contains xs r) → xs ≡ ys
 same_rows members [] [] first second to from = refl
-same_rows members [] (y ∷ ys) first second to from = absurd (in_none y (from y (in_head y ys)))
-same_rows members (x ∷ xs) [] first second to from = absurd (in_none x (to x (in_head x xs)))
+same_rows members [] (y ∷ ys) first second to from = absurd (in_none y (from y (at_front y ys)))
+same_rows members (x ∷ xs) [] first second to from = absurd (in_none x (to x (at_front x xs)))
 same_rows members (x ∷ xs) (y ∷ ys) first second to from =
     let R : LayoutRow → LayoutRow → Type 0 = λ a b. IsBelow (key_of members a) (key_of members b) in
-    let head : x ≡ y = elim (in_cases y ys x (to x (in_head x xs))) [
+    let head : x ≡ y = elim (in_front y ys x (to x (at_front x xs))) [
       | inl same ↦ sym same
-      | inr behind ↦ elim (in_cases x xs y (from y (in_head y ys))) [
+      | inr behind ↦ elim (in_front x xs y (from y (at_front y ys))) [
         | inl same ↦ same
         | inr past ↦ absurd (below_not_both (key_of members x) (key_of members y) (pairs_head R x xs first y past) (pairs_head R y ys second x behind))
       ]
@@ -287,8 +288,8 @@ same_rows members (x ∷ xs) (y ∷ ys) first second to from =
     let not_x : Contains xs x → ⊥ = λ there. below_not_itself (key_of members x) (pairs_head R x xs first x there) in
     let not_y : Contains ys y → ⊥ = λ there. below_not_itself (key_of members y) (pairs_head R y ys second y there) in
     let rest : xs ≡ ys = same_rows members xs ys (pairs_tail R x xs first) (pairs_tail R y ys second)
-    (λ r there. elim (in_cases y ys r (to r (in_tail x xs r there))) [ inl same ↦ absurd (not_x (subst (Contains xs) (sym same ∙ sym head) there)) | inr rest ↦ rest ])
-    (λ r there. elim (in_cases x xs r (from r (in_tail y ys r there))) [ inl same ↦ absurd (not_y (subst (Contains ys) (sym same ∙ head) there)) | inr rest ↦ rest ]) in
+    (λ r there. elim (in_front y ys r (to r (in_rest x xs r there))) [ inl same ↦ absurd (not_x (subst (Contains xs) (sym same ∙ sym head) there)) | inr rest ↦ rest ])
+    (λ r there. elim (in_front x xs r (from r (in_rest y ys r there))) [ inl same ↦ absurd (not_y (subst (Contains ys) (sym same ∙ head) there)) | inr rest ↦ rest ]) in
     ap (λ (r : LayoutRow). r ∷ xs) head ∙ ap (λ (l : List LayoutRow). y ∷ l) rest
 
 pub determined : RowsAreDetermined

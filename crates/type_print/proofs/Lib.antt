@@ -6,3 +6,4 @@ mod OrderLemmas
 mod OverlapLemmas
 mod StructureLemmas
 mod SweepLemmas
+pub mod lemmas

@@ -2,35 +2,7 @@
 use Rattle.std.proofs.Common.{◌≡◌, ◌<◌, zero, suc, List, [], ◌∷◌, ◌++◌, length, get_or, map, ◌⊎◌, inl, inr, subst, arith}
 use Rattle.std.specs.List.{AllPairs, Contains}
 use Rattle.std.proofs.lemmas.List.Elements.{Contains-get_or, Contains-append_left, Contains-append_right, Contains-push, Contains-push_cases, Contains-append_cases}
-
-pub in_none : {X : Type 0} (x : X) → Contains [] x → ⊥
-in_none x there = let below : there.0 < 0 = there.1 in omega arith
-
-pub in_head : {X : Type 0} (x : X) (xs : List X) → Contains (x ∷ xs) x
-in_head x xs = Contains-append_left (x ∷ []) xs x (Contains-push [] x)
-
-pub in_tail : {X : Type 0} (x : X) (xs : List X) (y : X) → Contains xs y → Contains (x ∷ xs) y
-in_tail x xs y there = Contains-append_right (x ∷ []) xs y there
-
-pub in_one : {X : Type 0} (x y : X) → Contains (x ∷ []) y → x ≡ y
-in_one x y there = elim (Contains-push_cases [] x y there) [ inl none ↦ absurd (in_none y none) | inr same ↦ same ]
-
-pub in_cases : {X : Type 0} (x : X) (xs : List X) (y : X) → Contains (x ∷ xs) y → (x ≡ y) ⊎ Contains xs y
-in_cases x xs y there = elim (Contains-append_cases (x ∷ []) xs y there) [ inl one ↦ inl (in_one x y one) | inr rest ↦ inr rest ]
-
-pub in_map : {X Y : Type 0} (f : X → Y) (xs : List X) (x : X) → Contains xs x → Contains (map f xs) (f x)
-in_map f [] x there = absurd (in_none x there)
-in_map f (y ∷ xs) x there = elim (in_cases y xs x there) [
-  | inl same ↦ subst (λ v. Contains (map f (y ∷ xs)) (f v)) same (in_head (f y) (map f xs))
-  | inr rest ↦ in_tail (f y) (map f xs) (f x) (in_map f xs x rest)
-]
-
-pub in_map_cases : {X Y : Type 0} (f : X → Y) (xs : List X) (y : Y) → Contains (map f xs) y → (x : X) × Contains xs x × (f x ≡ y)
-in_map_cases f [] y there = absurd (in_none y there)
-in_map_cases f (x ∷ xs) y there = elim (in_cases (f x) (map f xs) y there) [
-  | inl same ↦ (x, in_head x xs, same)
-  | inr rest ↦ let found = in_map_cases f xs y rest in (found.0, in_tail x xs found.0 found.1, found.2)
-]
+use Rattle.abi_base.proofs.lemmas.Contained.{in_none, in_front, at_front, in_rest, in_one, in_map, in_map_cases}
 
 -- ---- pairs
 
@@ -53,8 +25,8 @@ pub pairs_append : {X : Type 0} (R : X → X → Type 0) (xs ys : List X) → Al
 pairs_append R [] ys first second between = second
 pairs_append R (x ∷ xs) ys first second between =
     pairs_cons R x (xs ++ ys)
-    (λ y there. elim (Contains-append_cases xs ys y there) [ inl here ↦ pairs_head R x xs first y here | inr behind ↦ between x y (in_head x xs) behind ])
-    (pairs_append R xs ys (pairs_tail R x xs first) second (λ v w here behind. between v w (in_tail x xs v here) behind))
+    (λ y there. elim (Contains-append_cases xs ys y there) [ inl here ↦ pairs_head R x xs first y here | inr behind ↦ between x y (at_front x xs) behind ])
+    (pairs_append R xs ys (pairs_tail R x xs first) second (λ v w here behind. between v w (in_rest x xs v here) behind))
 
 pub pairs_map : {X Y : Type 0} (R : Y → Y → Type 0) (f : X → Y) (xs : List X) → AllPairs (λ a b. R (f a) (f b)) xs → AllPairs R (map f xs)
 pairs_map R f [] all = pairs_none R

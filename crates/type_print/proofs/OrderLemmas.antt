@@ -13,8 +13,10 @@ use Rattle.std.proofs.lemmas.Cmp.{nat_cmp_total, then_total, on_total}
 use Rattle.std.proofs.lemmas.List.{get_or_default}
 use Rattle.std.proofs.lemmas.List.Sorted.{ranks_by, sorted_far, IsPermutation-sym, Contains-permutation}
 use Rattle.std.proofs.lemmas.Map.Keys.{IsDistinct-from_apart, IsDistinct-IsPermutation, apart_from_distinct}
+use Rattle.abi_base.proofs.lemmas.Orders.{nat_less}
 use Rattle.type_print.specs.declared.extent.Extent.{Extent}
 use Rattle.type_print.specs.Members.{Key, IsBelow, rank_of, member_key, Precedes, AreInOrder, extent_cmp, no_member, member_at, AreNumbered, NamesAll}
+use Rattle.abi_types.proofs.lemmas.Numbers.{nat_same}
 
 -- ---- keys
 
@@ -120,12 +122,6 @@ extents_total : IsTotalOrder extent_cmp
 extents_total =
     then_total (then_total (on_total (λ (e : Extent). e.bit) nat_cmp_total) (on_total (λ (e : Extent). nat_lt 0 e.width) bools_total)) (on_total (λ (e : Extent). e.part) nat_cmp_total)
 
-cmp_less : (x y : ℕ) → x < y → nat_cmp x y ≡ Less
-cmp_less x y less = grind (arith, nat_tests)
-
-cmp_same : (x y : ℕ) → x ≡ y → nat_cmp x y ≡ Equal
-cmp_same x y same = grind (arith, nat_tests)
-
 -- what the widths say, in one of three ways
 widths : (v w : ℕ) → rank_of v ≤ rank_of w → (bool_cmp (nat_lt 0 v) (nat_lt 0 w) ≡ Less) ⊎ ((bool_cmp (nat_lt 0 v) (nat_lt 0 w) ≡ Equal) × (rank_of v ≡ rank_of w))
 widths v w le = elim (cases_lt 0 v) [
@@ -145,12 +141,12 @@ less_from_precedes a b order =
     let parts = nat_cmp a.part b.part in
     elim (cases_order a.bit b.bit) [
       | inl same ↦
-          let first = ap (λ (o : Ordering). is_lt (ordering_then (ordering_then o wide) parts)) (cmp_same a.bit b.bit same) in
+          let first = ap (λ (o : Ordering). is_lt (ordering_then (ordering_then o wide) parts)) (nat_same a.bit b.bit same) in
           elim (widths a.width b.width (order.ranks refl same)) [
             | inl less ↦ first ∙ ap (λ (o : Ordering). is_lt (ordering_then o parts)) less
-            | inr both ↦ first ∙ ap (λ (o : Ordering). is_lt (ordering_then o parts)) both.0 ∙ ap is_lt (cmp_less a.part b.part (order.parts refl same both.1))
+            | inr both ↦ first ∙ ap (λ (o : Ordering). is_lt (ordering_then o parts)) both.0 ∙ ap is_lt (nat_less a.part b.part (order.parts refl same both.1))
           ]
-      | inr (inl less) ↦ ap (λ (o : Ordering). is_lt (ordering_then (ordering_then o wide) parts)) (cmp_less a.bit b.bit less)
+      | inr (inl less) ↦ ap (λ (o : Ordering). is_lt (ordering_then (ordering_then o wide) parts)) (nat_less a.bit b.bit less)
       | inr (inr more) ↦ let le = order.bits refl in absurd (omega arith)
     ]
 

@@ -5,13 +5,14 @@ use Rattle.std.specs.List.{Contains}
 use Rattle.std.proofs.lemmas.Bool.{cases_lt, cases_order, lt-ltb, le-ltb, eq-eqb, ne_eqb}
 use Rattle.std.proofs.lemmas.List.{get_or_default}
 use Rattle.std.proofs.lemmas.List.Elements.{Contains-get_or, Contains-append_left, Contains-append_right, Contains-append_cases}
+use Rattle.abi_base.proofs.lemmas.Contained.{in_none, at_front, in_one}
 use Rattle.type_print.specs.declared.extent.Extent.{Extent}
 use Rattle.type_print.specs.declared.row.LayoutRow.{LayoutRow}
 use Rattle.type_print.specs.declared.row.LayoutRow.TheVariants.{Member, Hole, Padding, Overlap, Outside}
 use Rattle.type_print.specs.Members.{end_of, Holds, Meet, IsBelow, member_key, Precedes, AreInOrder, no_member, member_at, NamesAll}
 use Rattle.type_print.specs.Rows.{IsOverlap, IsOutside, IsOverlapRow, IsOutsideRow, key_of, AreExactly}
 use Rattle.type_print.specs.Sweeps.{overlap_rows, outside_rows}
-use Rattle.type_print.proofs.ListLemmas.{in_none, in_head, in_one, pairs_none, pairs_one, pairs_append}
+use Rattle.type_print.proofs.ListLemmas.{pairs_none, pairs_one, pairs_append}
 use Rattle.type_print.proofs.OrderLemmas.{below_not_both, below_not_itself, precede_in, same_member}
 
 abbrev below_key : List Extent → LayoutRow → LayoutRow → Type 0
@@ -217,7 +218,7 @@ module _ (sorted : List Extent) (order : AreInOrder sorted) where
               ];
               all = λ row holds. elim (upto_cases row holds) [
                 | inl old ↦ Contains-append_left rows (new_row ∷ []) row (is.all row old)
-                | inr found ↦ Contains-append_right rows (new_row ∷ []) row (subst (Contains (new_row ∷ [])) found.2 (in_head new_row []))
+                | inr found ↦ Contains-append_right rows (new_row ∷ []) row (subst (Contains (new_row ∷ [])) found.2 (at_front new_row []))
               ];
               rise = pairs_append (below_key all) rows (new_row ∷ []) is.rise (pairs_one (below_key all) new_row)
                   (λ a b one two. subst (below_key all a) (in_one new_row b two) (before_here a (is.each a one)));
@@ -344,7 +345,7 @@ module _ (sorted : List Extent) (order : AreInOrder sorted) where
             ];
             all = λ row holds. elim (out_cases row holds) [
               | inl old ↦ Contains-append_left rows (last_row ∷ []) row (is.all row old)
-              | inr found ↦ Contains-append_right rows (last_row ∷ []) row (subst (Contains (last_row ∷ [])) found.1 (in_head last_row []))
+              | inr found ↦ Contains-append_right rows (last_row ∷ []) row (subst (Contains (last_row ∷ [])) found.1 (at_front last_row []))
             ];
             rise = pairs_append (below_key all) rows (last_row ∷ []) is.rise (pairs_one (below_key all) last_row)
                 (λ a b one two. subst (below_key all a) (in_one last_row b two) (out_before a (is.each a one)));

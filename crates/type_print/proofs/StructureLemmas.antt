@@ -5,7 +5,7 @@ use Rattle.std.proofs.lemmas.Bool.{cases_lt}
 use Rattle.std.proofs.lemmas.List.{length-append, length-map, get_or-map, get_or_append_left, get_or_default, get_or_push}
 use Rattle.std.proofs.lemmas.List.Elements.{Contains-get_or}
 use Rattle.std.proofs.lemmas.List.FromFn.{length-range_with_len, get_or-range_with_len, map-range_with_len_more}
-use Rattle.abi_types.specs.Types.{PlainPart, Member, Enumerator, Target, Element, Outcome, Param, PlainView, PlainNode}
+use Rattle.abi_types.specs.Types.{Member, PlainView, PlainNode}
 use Rattle.abi_types.specs.Graphs.{part_at}
 use Rattle.type_print.specs.declared.extent.Extent.{Extent}
 use Rattle.type_print.specs.declared.row.LayoutRow.{LayoutRow}
@@ -14,14 +14,7 @@ use Rattle.type_print.specs.Members.{no_member, member_at, AreNumbered}
 use Rattle.type_print.specs.Rows.{IsRow, AreRows}
 use Rattle.type_print.specs.Structures.{extent_in, members_of}
 use Rattle.type_print.specs.Texts.{IsInside, AreInside}
-
-part_is : (nodes : List PlainNode) (k : ℕ) (part : PlainPart) → (extent_in nodes k part).part ≡ k
-part_is nodes k (Member name bit width to) = refl
-part_is nodes k (Enumerator name value) = refl
-part_is nodes k (Target to) = refl
-part_is nodes k (Element to) = refl
-part_is nodes k (Outcome to) = refl
-part_is nodes k (Param to) = refl
+use Rattle.type_print.proofs.lemmas.Extents.{part_is}
 
 pub length_members : (nodes : List PlainNode) (v : PlainView) → length (members_of nodes v) ≡ length v.parts
 unfolding members_of

@@ -4,13 +4,14 @@ use Rattle.std.specs.Prelude.{nat_lt}
 use Rattle.std.specs.List.{AllPairs, Contains}
 use Rattle.std.proofs.lemmas.Bool.{cases_lt, cases_order, ltb-true, ltb-false, lt-ltb, le-ltb, cond-true, cond-false}
 use Rattle.std.proofs.lemmas.List.{drop_more}
+use Rattle.abi_base.proofs.lemmas.Contained.{in_none, in_front, at_front, in_rest}
 use Rattle.type_print.specs.declared.extent.Extent.{Extent}
 use Rattle.type_print.specs.declared.row.LayoutRow.{LayoutRow}
 use Rattle.type_print.specs.declared.row.LayoutRow.TheVariants.{Member, Hole, Padding, Overlap, Outside}
 use Rattle.type_print.specs.Members.{Holds, IsHeld, Key, IsBelow, rank_of, member_key, Precedes, AreInOrder, row_of, member_at, no_member}
 use Rattle.type_print.specs.Rows.{Fits, IsFittingRow, key_of, AreExactly}
 use Rattle.type_print.specs.Sweeps.{next_bit, gap_end, gap_row, padding_rows, Follows, FitsFrom, IsHoleFrom, IsPaddingFrom, IsRowFrom, AreRowsFrom, IsSwept}
-use Rattle.type_print.proofs.ListLemmas.{in_none, in_head, in_tail, in_cases, pairs_none, pairs_head, pairs_tail, pairs_cons, pairs_stronger}
+use Rattle.type_print.proofs.ListLemmas.{pairs_none, pairs_head, pairs_tail, pairs_cons, pairs_stronger}
 
 -- ---- bits that members hold
 
@@ -18,13 +19,13 @@ held_none : (x : ℕ) → IsHeld [] x → ⊥
 held_none x held = in_none held.member held.there
 
 pub held_head : (e : Extent) (es : List Extent) (x : ℕ) → Holds e x → IsHeld (e ∷ es) x
-held_head e es x holds = record { member = e; there = in_head e es; holds = holds }
+held_head e es x holds = record { member = e; there = at_front e es; holds = holds }
 
 pub held_tail : (e : Extent) (es : List Extent) (x : ℕ) → IsHeld es x → IsHeld (e ∷ es) x
-held_tail e es x held = record { member = held.member; there = in_tail e es held.member held.there; holds = held.holds }
+held_tail e es x held = record { member = held.member; there = in_rest e es held.member held.there; holds = held.holds }
 
 pub held_cases : (e : Extent) (es : List Extent) (x : ℕ) → IsHeld (e ∷ es) x → Holds e x ⊎ IsHeld es x
-held_cases e es x held = elim (in_cases e es held.member held.there) [
+held_cases e es x held = elim (in_front e es held.member held.there) [
   | inl same ↦ inl (subst (λ (m : Extent). Holds m x) (sym same) held.holds)
   | inr rest ↦ inr (record { member = held.member; there = rest; holds = held.holds })
 ]
@@ -91,12 +92,12 @@ next_is (e ∷ es) bit follow is = go (λ given. next_is es bit (pairs_tail Foll
       let same : e.bit ≡ bit = let given = rw some at is in cc in
       let wide : 0 < e.width = ltb-true 0 e.width some in
       record {
-        lowest = λ a there positive. elim (in_cases e es a there) [
+        lowest = λ a there positive. elim (in_front e es a there) [
           | inl here ↦ let eq : e.bit ≡ a.bit = ap (λ (m : Extent). m.bit) here in omega arith
           | inr rest ↦ let clear : e.bit + e.width ≤ a.bit = (pairs_head Follows e es follow a rest).clear wide positive in omega arith
         ];
         held = held_head e es bit (record { from = omega arith; below = omega arith });
-        there = (e, in_head e es, same);
+        there = (e, at_front e es, same);
       }
   go further false none =
       let given : next_bit es ≡ Some bit = rw none at is in
@@ -104,12 +105,12 @@ next_is (e ∷ es) bit follow is = go (λ given. next_is es bit (pairs_tail Foll
       let most : e.width ≤ 0 = ltb-false 0 e.width none in
       let empty : e.width ≡ 0 = omega arith in
       record {
-        lowest = λ a there positive. elim (in_cases e es a there) [
+        lowest = λ a there positive. elim (in_front e es a there) [
           | inl here ↦ let eq : e.width ≡ a.width = ap (λ (m : Extent). m.width) here in absurd (omega arith)
           | inr rest ↦ next.lowest a rest positive
         ];
         held = held_tail e es bit next.held;
-        there = (next.there.0, in_tail e es next.there.0 next.there.1, next.there.2);
+        there = (next.there.0, in_rest e es next.there.0 next.there.1, next.there.2);
       }
 
 -- no member holds a bit
@@ -122,7 +123,7 @@ next_none (e ∷ es) is a there positive = go (λ given rest. next_none es given
       let given : next_bit es ≡ None = rw none at is in
       let most : e.width ≤ 0 = ltb-false 0 e.width none in
       let empty : e.width ≡ 0 = omega arith in
-      elim (in_cases e es a there) [
+      elim (in_front e es a there) [
         | inl here ↦ let eq : e.width ≡ a.width = ap (λ (m : Extent). m.width) here in omega arith
         | inr rest ↦ further given rest
       ]
@@ -191,24 +192,24 @@ module _ (all left : List Extent) (bits held : ℕ) (fits : FitsFrom held left b
         (begins, omega arith)
 
     hole_all : (tail : List LayoutRow) → AreRowsFrom all up left bits tail → (row : LayoutRow) → IsRowFrom held left bits row → Contains (Hole held (up - held) ∷ tail) row
-    hole_all tail rows (Member part bit width) is = in_tail (Hole held (up - held)) tail (Member part bit width) (rows.all (Member part bit width) is)
+    hole_all tail rows (Member part bit width) is = in_rest (Hole held (up - held)) tail (Member part bit width) (rows.all (Member part bit width) is)
     hole_all tail rows (Hole bit width) is = elim (cases_lt bit up) [
       | inl below ↦
           let alone = hole_alone bit width below is in
           let same : Hole held (up - held) ≡ Hole bit width = ap (λ (b : ℕ). Hole b (up - held)) alone.0 ∙ ap (λ (w : ℕ). Hole bit w) alone.1 in
-          subst (Contains (Hole held (up - held) ∷ tail)) same (in_head (Hole held (up - held)) tail)
-      | inr not ↦ in_tail (Hole held (up - held)) tail (Hole bit width) (rows.all (Hole bit width) (hole_up held up left bit width (omega arith) not is))
+          subst (Contains (Hole held (up - held) ∷ tail)) same (at_front (Hole held (up - held)) tail)
+      | inr not ↦ in_rest (Hole held (up - held)) tail (Hole bit width) (rows.all (Hole bit width) (hole_up held up left bit width (omega arith) not is))
     ]
     hole_all tail rows (Padding bit width) is = elim (cases_lt bit up) [
       | inl below ↦ absurd (is.free up (omega arith) next.held)
-      | inr not ↦ in_tail (Hole held (up - held)) tail (Padding bit width) (rows.all (Padding bit width) (padding_up held up left bits bit width (omega arith) not is))
+      | inr not ↦ in_rest (Hole held (up - held)) tail (Padding bit width) (rows.all (Padding bit width) (padding_up held up left bits bit width (omega arith) not is))
     ]
     hole_all tail rows (Overlap part with bit) is = absurd is
     hole_all tail rows (Outside part) is = absurd is
 
     pub hole_more : (tail : List LayoutRow) → AreRowsFrom all up left bits tail → AreRowsFrom all held left bits (Hole held (up - held) ∷ tail)
     hole_more tail rows = record {
-      each = λ row there. elim (in_cases (Hole held (up - held)) tail row there) [
+      each = λ row there. elim (in_front (Hole held (up - held)) tail row there) [
         | inl same ↦ subst (IsRowFrom held left bits) same hole_here
         | inr rest ↦ hole_each row (rows.each row rest)
       ];
@@ -245,7 +246,7 @@ module _ (all left : List Extent) (bits held : ℕ) (fits : FitsFrom held left b
     padding_each (Outside part) is = is
 
     padding_all : (tail : List LayoutRow) → AreRowsFrom all bits left bits tail → (row : LayoutRow) → IsRowFrom held left bits row → Contains (Padding held (bits - held) ∷ tail) row
-    padding_all tail rows (Member part bit width) is = in_tail (Padding held (bits - held)) tail (Member part bit width) (rows.all (Member part bit width) is)
+    padding_all tail rows (Member part bit width) is = in_rest (Padding held (bits - held)) tail (Member part bit width) (rows.all (Member part bit width) is)
     padding_all tail rows (Hole bit width) is = absurd (all_free (bit + width) is.right)
     padding_all tail rows (Padding bit width) is =
         let above = is.above in
@@ -256,13 +257,13 @@ module _ (all left : List Extent) (bits held : ℕ) (fits : FitsFrom held left b
         ] in
         let wide : bits - held ≡ width = omega arith in
         let same : Padding held (bits - held) ≡ Padding bit width = ap (λ (b : ℕ). Padding b (bits - held)) begins ∙ ap (λ (w : ℕ). Padding bit w) wide in
-        subst (Contains (Padding held (bits - held) ∷ tail)) same (in_head (Padding held (bits - held)) tail)
+        subst (Contains (Padding held (bits - held) ∷ tail)) same (at_front (Padding held (bits - held)) tail)
     padding_all tail rows (Overlap part with bit) is = absurd is
     padding_all tail rows (Outside part) is = absurd is
 
     pub padding_more : (tail : List LayoutRow) → AreRowsFrom all bits left bits tail → AreRowsFrom all held left bits (Padding held (bits - held) ∷ tail)
     padding_more tail rows = record {
-      each = λ row there. elim (in_cases (Padding held (bits - held)) tail row there) [
+      each = λ row there. elim (in_front (Padding held (bits - held)) tail row there) [
         | inl same ↦ subst (IsRowFrom held left bits) same padding_here
         | inr rest ↦ padding_each row (rows.each row rest)
       ];
@@ -283,11 +284,11 @@ module _ (all left : List Extent) (bits held : ℕ) (fits : FitsFrom held left b
 module _ (all : List Extent) (e : Extent) (es : List Extent) (bits held : ℕ) (fits : FitsFrom held (e ∷ es) bits) (reached : e.bit ≤ held) where
   pub member_fits : FitsFrom (max held (e.bit + e.width)) es bits
   member_fits = record {
-    low = let low = fits.low in let inside = fits.inside e (in_head e es) in omega arith;
+    low = let low = fits.low in let inside = fits.inside e (at_front e es) in omega arith;
     follow = pairs_tail Follows e es fits.follow;
-    inside = λ a there. fits.inside a (in_tail e es a there);
+    inside = λ a there. fits.inside a (in_rest e es a there);
     above = λ a there positive.
-        let above = fits.above a (in_tail e es a there) positive in
+        let above = fits.above a (in_rest e es a there) positive in
         elim (cases_lt 0 e.width) [
           | inl wide ↦ let clear = (pairs_head Follows e es fits.follow a there).clear wide positive in omega arith
           | inr empty ↦ omega arith
@@ -318,7 +319,7 @@ module _ (all : List Extent) (e : Extent) (es : List Extent) (bits held : ℕ) (
   ]
 
   member_each : (row : LayoutRow) → IsRowFrom (max held (e.bit + e.width)) es bits row → IsRowFrom held (e ∷ es) bits row
-  member_each (Member part bit width) is = in_tail e es (record { part = part; bit = bit; width = width }) is
+  member_each (Member part bit width) is = in_rest e es (record { part = part; bit = bit; width = width }) is
   member_each (Hole bit width) is = let above = is.above in record {
     above = omega arith;
     some = is.some;
@@ -360,12 +361,12 @@ module _ (all : List Extent) (e : Extent) (es : List Extent) (bits held : ℕ) (
       }
 
   member_all : (tail : List LayoutRow) → AreRowsFrom all (max held (e.bit + e.width)) es bits tail → (row : LayoutRow) → IsRowFrom held (e ∷ es) bits row → Contains (row_of e ∷ tail) row
-  member_all tail rows (Member part bit width) is = elim (in_cases e es (record { part = part; bit = bit; width = width }) is) [
-    | inl same ↦ subst (λ (m : Extent). Contains (row_of e ∷ tail) (row_of m)) same (in_head (row_of e) tail)
-    | inr rest ↦ in_tail (row_of e) tail (Member part bit width) (rows.all (Member part bit width) rest)
+  member_all tail rows (Member part bit width) is = elim (in_front e es (record { part = part; bit = bit; width = width }) is) [
+    | inl same ↦ subst (λ (m : Extent). Contains (row_of e ∷ tail) (row_of m)) same (at_front (row_of e) tail)
+    | inr rest ↦ in_rest (row_of e) tail (Member part bit width) (rows.all (Member part bit width) rest)
   ]
-  member_all tail rows (Hole bit width) is = in_tail (row_of e) tail (Hole bit width) (rows.all (Hole bit width) (hole_behind bit width is))
-  member_all tail rows (Padding bit width) is = in_tail (row_of e) tail (Padding bit width) (rows.all (Padding bit width) (padding_behind bit width is))
+  member_all tail rows (Hole bit width) is = in_rest (row_of e) tail (Hole bit width) (rows.all (Hole bit width) (hole_behind bit width is))
+  member_all tail rows (Padding bit width) is = in_rest (row_of e) tail (Padding bit width) (rows.all (Padding bit width) (padding_behind bit width is))
   member_all tail rows (Overlap part with bit) is = absurd is
   member_all tail rows (Outside part) is = absurd is
 
@@ -386,8 +387,8 @@ module _ (all : List Extent) (e : Extent) (es : List Extent) (bits held : ℕ) (
 
   pub member_more : (tail : List LayoutRow) → AreRowsFrom all (max held (e.bit + e.width)) es bits tail → AreRowsFrom all held (e ∷ es) bits (row_of e ∷ tail)
   member_more tail rows = record {
-    each = λ row there. elim (in_cases (row_of e) tail row there) [
-      | inl same ↦ subst (IsRowFrom held (e ∷ es) bits) same (in_head e es)
+    each = λ row there. elim (in_front (row_of e) tail row there) [
+      | inl same ↦ subst (IsRowFrom held (e ∷ es) bits) same (at_front e es)
       | inr rest ↦ member_each row (rows.each row rest)
     ];
     all = member_all tail rows;
@@ -480,13 +481,13 @@ higher_all : (left : List Extent) (bits held : ℕ) (first : Extent) (others : L
 higher_all left bits held first others is less fits a there =
     let follow : AllPairs Follows (first ∷ others) = subst (AllPairs Follows) is fits.follow in
     let inside : Contains (first ∷ others) a = subst (λ (l : List Extent). Contains l a) is there in
-    elim (in_cases first others a inside) [
+    elim (in_front first others a inside) [
       | inl same ↦ let eq : first.bit ≡ a.bit = ap (λ (m : Extent). m.bit) same in omega arith
       | inr rest ↦ let order : first.bit ≤ a.bit = (pairs_head Follows first others follow a rest).order.bits refl in omega arith
     ]
 
 first_there : (left : List Extent) (first : Extent) (others : List Extent) → left ≡ first ∷ others → Contains left first
-first_there left first others is = subst (λ (l : List Extent). Contains l first) (sym is) (in_head first others)
+first_there left first others is = subst (λ (l : List Extent). Contains l first) (sym is) (at_front first others)
 
 -- where the first member stands behind the bit, the next end is behind it too
 pub gap_room : (left : List Extent) (bits held : ℕ) (first : Extent) (others : List Extent) → left ≡ first ∷ others → held < first.bit → FitsFrom held left bits → held < gap_end (next_bit left) bits
@@ -529,7 +530,7 @@ swept_gap all whole bits rows next held left first others is less grown swept = 
 pub gap_reached : (left : List Extent) (bits held : ℕ) → FitsFrom held left bits → (member : Extent) (others : List Extent) → left ≡ member ∷ others → member.bit ≤ gap_end (next_bit left) bits
 gap_reached left bits held fits member others is = go (next_bit left) refl where
   there : Contains left member
-  there = subst (λ (l : List Extent). Contains l member) (sym is) (in_head member others)
+  there = subst (λ (l : List Extent). Contains l member) (sym is) (at_front member others)
 
   go : (n : Option ℕ) → next_bit left ≡ n → member.bit ≤ gap_end n bits
   go (Some up) same =
@@ -537,7 +538,7 @@ gap_reached left bits held fits member others is = go (next_bit left) refl where
       let inside : Contains (member ∷ others) next.there.0 = subst (λ (l : List Extent). Contains l next.there.0) is next.there.1 in
       let follow : AllPairs Follows (member ∷ others) = subst (AllPairs Follows) is fits.follow in
       let eq = next.there.2 in
-      elim (in_cases member others next.there.0 inside) [
+      elim (in_front member others next.there.0 inside) [
         | inl here ↦ let bit : member.bit ≡ next.there.0.bit = ap (λ (m : Extent). m.bit) here in omega arith
         | inr rest ↦ let order : member.bit ≤ next.there.0.bit = (pairs_head Follows member others follow next.there.0 rest).order.bits refl in omega arith
       ]

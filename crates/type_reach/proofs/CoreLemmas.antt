@@ -1,6 +1,7 @@
 -- Types and their cores.
 use Rattle.std.proofs.Common.{◌≡◌, ◌≤◌, ◌+◌, ◌*◌, ℕ, zero, suc, List, [], ◌∷◌, map, Some, None, refl, sym, ◌∙◌, ap, subst, arith, ◌⊎◌, inl, inr}
 use Rattle.std.specs.Prelude.{Contains, IfSome}
+use Rattle.abi_base.proofs.lemmas.Contained.{at_front, in_none}
 use Rattle.dwarf_tree.specs.Trees.{PlainTree}
 use Rattle.dwarf_entries.specs.Debug.{PlainDwarf}
 use Rattle.abi_base.specs.Limits.{depth_limit}
@@ -13,7 +14,6 @@ use Rattle.type_reach.specs.ByValue.{steps_from, StepsOn, IsTooDeep, IsClosed}
 use Rattle.type_reach.specs.Facts.{cut, array_count, size_for, count_for, rooms_for, span_for, beyond_for, core_for, aggregate_for, facts_from, facts_of}
 use Rattle.type_reach.specs.Flat.{core_of, labels_made, labels_of, flat_for, flat_made, flat_of}
 use Rattle.type_reach.specs.PeeledCores.{SharePeeledCore, StandsForNone, IsPeeledCore, IsFound}
-use Rattle.type_reach.proofs.GrowLemmas.{first_of_all, not_in_none}
 use Rattle.type_reach.proofs.ByValueLemmas.{StepsOn-none, StepsOn-more, by_value-is}
 use Rattle.type_reach.proofs.FactLemmas.{rank-falls, facts_of-is, facts_of-void, shallow-step, step_there, void_ends}
 use Rattle.type_reach.proofs.StepLemmas.{passed-steps, array-steps}
@@ -59,7 +59,7 @@ passed-flat d e shallow passed =
     ∙ ap (λ ss. flat_for role.Wrapper d e (map (flat_of d) ss)) (passed-steps d.tree e passed)
 
 pub passed-step : (t : PlainTree) (e : ℕ) → role_of t e ≡ role.Wrapper → Contains (steps_of t e) (type_of t e)
-passed-step t e passed = subst (λ ss. Contains ss (type_of t e)) (sym (passed-steps t e passed)) (first_of_all (type_of t e) [])
+passed-step t e passed = subst (λ ss. Contains ss (type_of t e)) (sym (passed-steps t e passed)) (at_front (type_of t e) [])
 
 -- ---- what is its own core
 
@@ -127,7 +127,7 @@ pub core-is : (d : PlainDwarf) (r : Type_) → (IsTooDeep d.tree r → ⊥) → 
 core-is d r shallow = IsPeeledCore-within d (depth_limit + 1) r shallow shallow
 
 pub step_found : (t : PlainTree) (found : List ℕ) (r s : Type_) → IsClosed t found → IsFound found r → Contains (steps_from t r) s → IsFound found s
-step_found t found None s closed there has = absurd (not_in_none s has)
+step_found t found None s closed there has = absurd (in_none s has)
 step_found t found (Some e) s closed there has = step_there t found e s closed there has
 
 core-found-within : (d : PlainDwarf) (found : List ℕ) → IsClosed d.tree found → (k : ℕ) (r : Type_) → (StepsOn d.tree k r → ⊥) → (IsTooDeep d.tree r → ⊥) → IsFound found r → IsFound found (core_of d r)

@@ -7,6 +7,8 @@ use Rattle.std.proofs.lemmas.List.{take_more, take_all, map-append}
 use Rattle.std.proofs.lemmas.List.Elements.{All-contains}
 use Rattle.std.proofs.lemmas.List.Quantifiers.{position-Some}
 use Rattle.std.proofs.lemmas.Option.{same_Some, slice_get_within, slice_get_read}
+use Rattle.abi_base.proofs.lemmas.Lists.{map-map}
+use Rattle.abi_base.proofs.lemmas.Contained.{in_front, in_none}
 use Rattle.dwarf_tree.specs.Trees.{PlainTree}
 use Rattle.abi_base.specs.Limits.{depth_limit}
 use Rattle.type_reach.specs.declared.facts.Facts.{Facts}
@@ -14,14 +16,9 @@ use Rattle.dwarf_entries.specs.Debug.{PlainDwarf}
 use Rattle.type_reach.specs.References.{Type_, role_of, holds_none, types_of, steps_of}
 use Rattle.type_reach.specs.ByValue.{steps_from, StepsOn, IsTooDeep, IsNoDeeper, IsClosed}
 use Rattle.type_reach.specs.Facts.{above, rank_in, nothing, void_facts, facts_from, facts_of, IsSpanNear, AreFacts}
-use Rattle.type_reach.proofs.GrowLemmas.{in_front, not_in_none}
 use Rattle.type_reach.proofs.ByValueLemmas.{StepsOn-none, StepsOn-more, StepsOn-cases, StepsOn-fewer, by_value-is}
 use Rattle.type_reach.proofs.RankLemmas.{above-le, above-reached}
 use Rattle.type_reach.proofs.WalkLemmas.{Contains-map, from_map}
-
-map-map : {X Y Z : Type 0} (g : Y → Z) (f : X → Y) (xs : List X) → map g (map f xs) ≡ map (λ x. g (f x)) xs
-map-map g f [] = refl
-map-map g f (x ∷ xs) = ap (λ ys. g (f x) ∷ ys) (map-map g f xs)
 
 -- the equation of facts
 pub facts_of-is : (d : PlainDwarf) (r : Type_) → (IsTooDeep d.tree r → ⊥) → facts_of d r ≡ facts_from d r (map (facts_of d) (steps_from d.tree r))
@@ -94,7 +91,7 @@ learned d e facts x shallow are is = is ∙ ap (facts_from d (Some e)) are ∙ s
 
 pub facts_of-void : (d : PlainDwarf) → facts_of d None ≡ void_facts
 unfolding facts_from
-facts_of-void d = facts_of-is d None (λ deep. not_in_none _ (StepsOn-cases d.tree depth_limit None deep).1)
+facts_of-void d = facts_of-is d None (λ deep. in_none _ (StepsOn-cases d.tree depth_limit None deep).1)
 
 -- ---- look-ups
 
@@ -145,7 +142,7 @@ rank-bound d n r le few =
     ]
 
 pub first-lt : (found : List ℕ) (e : ℕ) → Contains found e → position_or_len (nat_eq e) found < length found
-first-lt [] e h = absurd (not_in_none e h)
+first-lt [] e h = absurd (in_none e h)
 first-lt (x ∷ found) e h =
     elim (cases_Bool (nat_eq e x)) [
       | inl here ↦ rw here (omega arith)
@@ -174,7 +171,7 @@ known_there d found known number e r x are long at read is =
 steps_in_types : (t : PlainTree) (e : ℕ) (s : Type_) → Contains (steps_of t e) s → Contains (types_of t e) s
 unfolding steps_of
 steps_in_types t e s h =
-    elim (cases_Bool (holds_none (role_of t e))) [ inl is ↦ absurd (not_in_none s (rw is at h)) | inr other ↦ rw other at h ]
+    elim (cases_Bool (holds_none (role_of t e))) [ inl is ↦ absurd (in_none s (rw is at h)) | inr other ↦ rw other at h ]
 
 pub step_there : (t : PlainTree) (found : List ℕ) (e : ℕ) (s : Type_) → IsClosed t found → Contains found e → Contains (steps_of t e) s → IfSome s (λ x. Contains found x)
 step_there t found e None closed there has = tt
@@ -208,4 +205,4 @@ IsLearned-end d budget e k steps facts x le is past are few made =
 
 pub void_ends : (t : PlainTree) (n : ℕ) (r : Type_) → 0 < n → r ≡ None → StepsOn t n r → ⊥
 void_ends t zero r some is on = absurd (omega arith)
-void_ends t (suc n) r some is on = let c = StepsOn-cases t n None (subst (StepsOn t (suc n)) is on) in not_in_none c.0 c.1
+void_ends t (suc n) r some is on = let c = StepsOn-cases t n None (subst (StepsOn t (suc n)) is on) in in_none c.0 c.1

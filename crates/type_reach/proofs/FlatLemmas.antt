@@ -5,6 +5,7 @@ use Rattle.std.specs.Prelude.{Contains, zip, flat_map, ◌||◌}
 use Rattle.std.specs.List.{list_any}
 use Rattle.std.proofs.lemmas.List.{append-nil}
 use Rattle.std.proofs.lemmas.List.Elements.{Contains-append_cases}
+use Rattle.abi_base.proofs.lemmas.Contained.{in_front, at_front, in_rest, in_none}
 use Rattle.abi_types.specs.Types.{PlainLabel}
 use Rattle.abi_base.specs.Limits.{depth_limit}
 use Rattle.dwarf_tree.specs.Trees.{PlainTree}
@@ -19,7 +20,6 @@ use Rattle.type_reach.specs.ByValue.{steps_from, StepsOn, IsTooDeep, IsClosed}
 use Rattle.type_reach.specs.Facts.{members_with, member_beyond, own_span, span_for, span_out_of_range, beyond_for, facts_of}
 use Rattle.type_reach.specs.Flat.{Flat, own_label, passed_labels, labels_of, moved, declared_bit, given_by, given, flat_for, flat_of, member_gives}
 use Rattle.type_reach.specs.PeeledCores.{StandsForNone, IsFound, IsLower}
-use Rattle.type_reach.proofs.GrowLemmas.{in_front, first_of_all, behind_first, not_in_none}
 use Rattle.type_reach.proofs.ByValueLemmas.{StepsOn-none, StepsOn-more}
 use Rattle.type_reach.proofs.WalkLemmas.{from_map, Contains-map}
 use Rattle.type_reach.proofs.FactLemmas.{rank-falls, shallow-step}
@@ -62,21 +62,21 @@ unfolding members_of
 member-step t e m has = go (role_of t e) refl has where
   go : (k : Role) → role_of t e ≡ k → Contains (members_for k t e) m → Contains (steps_of t e) (type_of t m)
   go role.Aggregate is h =
-      elim (cases_Bool (is_declared_only t e)) [ inl only ↦ absurd (not_in_none m (rw only at h)) | inr defined ↦ subst (λ ss. Contains ss (type_of t m)) (sym (aggregate-steps t e is)) (Contains-map (type_of t) (parts_of t e) m (rw defined at h)) ]
-  go role.Wrapper is h = absurd (not_in_none m h)
-  go role.Function is h = absurd (not_in_none m h)
-  go role.Part is h = absurd (not_in_none m h)
-  go role.Pointer is h = absurd (not_in_none m h)
-  go role.Array is h = absurd (not_in_none m h)
-  go role.Enumeration is h = absurd (not_in_none m h)
-  go role.Base is h = absurd (not_in_none m h)
-  go role.Unknown is h = absurd (not_in_none m h)
+      elim (cases_Bool (is_declared_only t e)) [ inl only ↦ absurd (in_none m (rw only at h)) | inr defined ↦ subst (λ ss. Contains ss (type_of t m)) (sym (aggregate-steps t e is)) (Contains-map (type_of t) (parts_of t e) m (rw defined at h)) ]
+  go role.Wrapper is h = absurd (in_none m h)
+  go role.Function is h = absurd (in_none m h)
+  go role.Part is h = absurd (in_none m h)
+  go role.Pointer is h = absurd (in_none m h)
+  go role.Array is h = absurd (in_none m h)
+  go role.Enumeration is h = absurd (in_none m h)
+  go role.Base is h = absurd (in_none m h)
+  go role.Unknown is h = absurd (in_none m h)
 
 pub from_flat_map : {X Y : Type 0} (f : X → List Y) (xs : List X) (y : Y) → Contains (flat_map f xs) y → (x : X) × Contains xs x × Contains (f x) y
-from_flat_map f [] y h = absurd (not_in_none y h)
+from_flat_map f [] y h = absurd (in_none y h)
 from_flat_map f (x ∷ xs) y h = elim (Contains-append_cases (f x) (flat_map f xs) y h) [
-  | inl here ↦ (x, first_of_all x xs, here)
-  | inr later ↦ let r = from_flat_map f xs y later in (r.0, behind_first x xs r.0 r.1, r.2)
+  | inl here ↦ (x, at_front x xs, here)
+  | inr later ↦ let r = from_flat_map f xs y later in (r.0, in_rest x xs r.0 r.1, r.2)
 ]
 
 -- ---- the types of flat members are lower
@@ -93,19 +93,19 @@ module _ (d : PlainDwarf) (found : List ℕ) (closed : IsClosed d.tree found) wh
   given-lower e p inner m (Some name) shallow there has below h =
       elim (in_front _ [] m h) [
         | inl same ↦ subst (IsLower d found (Some e)) same (record { there = step_found d.tree found (Some e) (type_of d.tree p) closed there has; low = rank-falls d (Some e) (type_of d.tree p) shallow has })
-        | inr none ↦ absurd (not_in_none m none)
+        | inr none ↦ absurd (in_none m none)
       ]
   given-lower e p inner m None shallow there has below h =
       elim (cases_Bool (facts_of d (type_of d.tree p)).aggregate) [
         | inl yes' ↦ let from = from_map (moved (declared_bit d p)) inner m (rw yes' at h) in
             let low = below from.0 from.1 in
             subst (IsLower d found (Some e)) from.2 (lower-step (Some e) (type_of d.tree p) (moved (declared_bit d p) from.0) shallow has (record { there = low.there; low = low.low }))
-        | inr no' ↦ absurd (not_in_none m (rw no' at h))
+        | inr no' ↦ absurd (in_none m (rw no' at h))
       ]
 
   lower-within : (k : ℕ) (r : Type_) → (StepsOn d.tree k r → ⊥) → (IsTooDeep d.tree r → ⊥) → IsFound found r → (m : Flat) → Contains (flat_of d r) m → IsLower d found r m
   lower-within zero r none shallow there m h = absurd (none (StepsOn-none d.tree r))
-  lower-within (suc k) None none shallow there m h = absurd (not_in_none m (subst (λ ms. Contains ms m) (flat-void d) h))
+  lower-within (suc k) None none shallow there m h = absurd (in_none m (subst (λ ms. Contains ms m) (flat-void d) h))
   lower-within (suc k) (Some e) none shallow there m h =
       let below : (s : Type_) → Contains (steps_of d.tree e) s → (n : Flat) → Contains (flat_of d s) n → IsLower d found s n = λ s has. lower-within k s (λ on. none (StepsOn-more d.tree k (Some e) s has on)) (shallow-step d.tree (Some e) s shallow has) (step_found d.tree found (Some e) s closed there has) in
       elim (passed_or_last (role_of d.tree e)) [

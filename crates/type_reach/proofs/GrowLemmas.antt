@@ -6,6 +6,7 @@ use Rattle.std.proofs.lemmas.List.{append-nil, append_assoc, at_drop_more, drop_
 use Rattle.std.proofs.lemmas.List.Elements.{Contains-append_left, Contains-push, Contains-push_cases}
 use Rattle.std.proofs.lemmas.Map.Views.{Contains-from_any}
 use Rattle.std.proofs.lemmas.Option.{same_Some, none-some}
+use Rattle.abi_base.proofs.lemmas.Contained.{in_front, at_front, in_rest, in_none}
 use Rattle.dwarf_tree.specs.Trees.{PlainTree}
 use Rattle.type_reach.specs.References.{Type_, type_of, own_types, types_of, parts_of}
 use Rattle.type_reach.specs.Reached.{was_found, with_entry, with_type, with_types}
@@ -17,34 +18,20 @@ pub record Grew (found : List ℕ) (types : List Type_) (new : List ℕ) : Type 
   pub all : (f : ℕ) → Contains types (Some f) → Contains new f
   pub only : (f : ℕ) → Contains new f → Contains found f ⊎ Contains types (Some f)
 
--- where an item of a list with one in front stands
-pub in_front : {X : Type 0} (x : X) (xs : List X) (y : X) → Contains (x ∷ xs) y → (x ≡ y) ⊎ Contains xs y
-in_front x xs y (zero, lt, is) = inl is
-in_front x xs y (suc k, lt, is) = inr (k, omega arith, is)
-
-pub first_of_all : {X : Type 0} (x : X) (xs : List X) → Contains (x ∷ xs) x
-first_of_all x xs = (0, omega arith, refl)
-
-pub behind_first : {X : Type 0} (x : X) (xs : List X) (y : X) → Contains xs y → Contains (x ∷ xs) y
-behind_first x xs y h = (suc h.0, omega (arith, h.1), h.2)
-
-pub not_in_none : {X : Type 0} (y : X) → Contains [] y → ⊥
-not_in_none y h = omega (arith, h.1)
-
 Grew-one : (found : List ℕ) (e : ℕ) → Grew found (Some e ∷ []) (with_entry found e)
 Grew-one found e =
     elim (cases_Bool (was_found found e)) [
       | inl there ↦ rw there (record {
         more = [];
         is = sym (append-nil found);
-        all = λ f h. elim (in_front (Some e) [] (Some f) h) [ inl same ↦ subst (Contains found) (same_Some e f same) (Contains-from_any eqb-true e found there) | inr none ↦ absurd (not_in_none (Some f) none) ];
+        all = λ f h. elim (in_front (Some e) [] (Some f) h) [ inl same ↦ subst (Contains found) (same_Some e f same) (Contains-from_any eqb-true e found there) | inr none ↦ absurd (in_none (Some f) none) ];
         only = λ f h. inl h;
       })
       | inr new ↦ rw new (record {
         more = e ∷ [];
         is = refl;
-        all = λ f h. elim (in_front (Some e) [] (Some f) h) [ inl same ↦ subst (Contains (found ++ e ∷ [])) (same_Some e f same) (Contains-push found e) | inr none ↦ absurd (not_in_none (Some f) none) ];
-        only = λ f h. elim (Contains-push_cases found e f h) [ inl was ↦ inl was | inr same ↦ inr (subst (λ x. Contains (Some e ∷ []) (Some x)) same (first_of_all (Some e) [])) ];
+        all = λ f h. elim (in_front (Some e) [] (Some f) h) [ inl same ↦ subst (Contains (found ++ e ∷ [])) (same_Some e f same) (Contains-push found e) | inr none ↦ absurd (in_none (Some f) none) ];
+        only = λ f h. elim (Contains-push_cases found e f h) [ inl was ↦ inl was | inr same ↦ inr (subst (λ x. Contains (Some e ∷ []) (Some x)) same (at_front (Some e) [])) ];
       })
     ]
 
@@ -52,7 +39,7 @@ Grew-none : (found : List ℕ) → Grew found (None ∷ []) found
 Grew-none found = record {
   more = [];
   is = sym (append-nil found);
-  all = λ f h. elim (in_front None [] (Some f) h) [ inl same ↦ absurd (none-some f same) | inr none ↦ absurd (not_in_none (Some f) none) ];
+  all = λ f h. elim (in_front None [] (Some f) h) [ inl same ↦ absurd (none-some f same) | inr none ↦ absurd (in_none (Some f) none) ];
   only = λ f h. inl h;
 }
 
@@ -65,15 +52,15 @@ Grew-both a b c ty types first then_ = record {
   more = first.more ++ then_.more;
   is = then_.is ∙ ap (λ xs. xs ++ then_.more) first.is ∙ append_assoc a first.more then_.more;
   all = λ f h. elim (in_front ty types (Some f) h) [
-    | inl here ↦ subst (λ xs. Contains xs f) (sym then_.is) (Contains-append_left b then_.more f (first.all f (subst (Contains (ty ∷ [])) here (first_of_all ty []))))
+    | inl here ↦ subst (λ xs. Contains xs f) (sym then_.is) (Contains-append_left b then_.more f (first.all f (subst (Contains (ty ∷ [])) here (at_front ty []))))
     | inr later ↦ then_.all f later
   ];
   only = λ f h. elim (then_.only f h) [
     | inl was ↦ elim (first.only f was) [
       | inl before ↦ inl before
-      | inr one ↦ elim (in_front ty [] (Some f) one) [ inl here ↦ inr (subst (Contains (ty ∷ types)) here (first_of_all ty types)) | inr none ↦ absurd (not_in_none (Some f) none) ]
+      | inr one ↦ elim (in_front ty [] (Some f) one) [ inl here ↦ inr (subst (Contains (ty ∷ types)) here (at_front ty types)) | inr none ↦ absurd (in_none (Some f) none) ]
     ]
-    | inr later ↦ inr (behind_first ty types (Some f) later)
+    | inr later ↦ inr (in_rest ty types (Some f) later)
   ];
 }
 
@@ -82,7 +69,7 @@ unfolding with_types
 Grew-types found [] = record {
   more = [];
   is = sym (append-nil found);
-  all = λ f h. absurd (not_in_none (Some f) h);
+  all = λ f h. absurd (in_none (Some f) h);
   only = λ f h. inl h;
 }
 Grew-types found (ty ∷ types) = Grew-both found (with_type found ty) (with_types (with_type found ty) types) ty types (Grew-type found ty) (Grew-types (with_type found ty) types)

@@ -7,6 +7,8 @@ use Rattle.std.proofs.lemmas.Bool.{cases_Bool, cases_lt, or_parts, le-leb, leb-t
 use Rattle.std.proofs.lemmas.Int.{ints, clamps}
 use Rattle.std.proofs.lemmas.List.{append-nil}
 use Rattle.std.proofs.lemmas.List.Elements.{Contains-append_cases, Contains-append_left, Contains-append_right}
+use Rattle.abi_base.proofs.lemmas.Lists.{any-map}
+use Rattle.abi_base.proofs.lemmas.Contained.{in_front, at_front, in_rest, in_none}
 use Rattle.abi_base.specs.Limits.{depth_limit}
 use Rattle.abi_types.specs.Limits.{bit_limit}
 use Rattle.dwarf_entries.specs.Chains.{name_of}
@@ -20,7 +22,6 @@ use Rattle.type_reach.specs.Facts.{facts_from, facts_of, moved_span, joined, spr
 use Rattle.type_reach.specs.Flat.{Flat, moved, declared_bit, given_by, core_of, flat_of, member_gives}
 use Rattle.type_reach.specs.PeeledCores.{IsPeeledCore}
 use Rattle.type_reach.specs.Sizes.{begins_beyond, has_member_beyond}
-use Rattle.type_reach.proofs.GrowLemmas.{in_front, first_of_all, behind_first, not_in_none}
 use Rattle.type_reach.proofs.ByValueLemmas.{StepsOn-none, StepsOn-more}
 use Rattle.type_reach.proofs.WalkLemmas.{from_map, Contains-map}
 use Rattle.type_reach.proofs.FactLemmas.{facts_of-is, facts_of-void, shallow-step}
@@ -83,10 +84,10 @@ hull-moved by (Some s) xs hull = record {
 
 hull-one : (x : Flat) → IsHull (bit_span x.bit) (x ∷ [])
 hull-one x = record {
-  low = λ y h. elim (in_front x [] y h) [ inl same ↦ (let is : x.bit ≡ y.bit = ap (λ (z : Flat). z.bit) same in omega (arith, ints)) | inr none ↦ absurd (not_in_none y none) ];
-  high = λ y h. elim (in_front x [] y h) [ inl same ↦ (let is : x.bit ≡ y.bit = ap (λ (z : Flat). z.bit) same in omega (arith, ints)) | inr none ↦ absurd (not_in_none y none) ];
-  at_low = (x, first_of_all x [], refl);
-  at_high = (x, first_of_all x [], refl);
+  low = λ y h. elim (in_front x [] y h) [ inl same ↦ (let is : x.bit ≡ y.bit = ap (λ (z : Flat). z.bit) same in omega (arith, ints)) | inr none ↦ absurd (in_none y none) ];
+  high = λ y h. elim (in_front x [] y h) [ inl same ↦ (let is : x.bit ≡ y.bit = ap (λ (z : Flat). z.bit) same in omega (arith, ints)) | inr none ↦ absurd (in_none y none) ];
+  at_low = (x, at_front x [], refl);
+  at_high = (x, at_front x [], refl);
 }
 
 -- ---- hulls of members
@@ -105,8 +106,8 @@ unfolding spread
 hull-members d [] below = refl
 hull-members d (m ∷ ms) below =
     hull-joined (member_span d (m, facts_of d (type_of d.tree m))) (spread (map (member_span d) (map (λ n. (n, facts_of d (type_of d.tree n))) ms))) (member_gives d m) (flat_map (member_gives d) ms)
-    (hull-member d m (below m (first_of_all m ms)))
-    (hull-members d ms (λ n h. below n (behind_first m ms n h)))
+    (hull-member d m (below m (at_front m ms)))
+    (hull-members d ms (λ n h. below n (in_rest m ms n h)))
 
 own-span : (d : PlainDwarf) (e : ℕ) → own_span d e (map (facts_of d) (steps_of d.tree e)) ≡ spread (map (member_span d) (map (λ m. (m, facts_of d (type_of d.tree m))) (members_of d.tree e)))
 unfolding own_span
@@ -143,14 +144,14 @@ beyond-from (pos n) low high = elim (cases_Bool (nat_le bit_limit n)) [ inl abov
 beyond-from (negsuc n) low high = absurd (omega (arith, ints))
 
 none-beyond : (xs : List Flat) → list_any begins_beyond xs ≡ false → (x : Flat) → Contains xs x → is_out_of_range x.bit ≡ false
-none-beyond [] none x h = absurd (not_in_none x h)
+none-beyond [] none x h = absurd (in_none x h)
 none-beyond (y ∷ ys) none x h =
     let both = or_parts (is_out_of_range y.bit) (list_any begins_beyond ys) none in
     elim (in_front y ys x h) [ inl same ↦ subst (λ (z : Flat). is_out_of_range z.bit ≡ false) same both.0 | inr later ↦ none-beyond ys both.1 x later ]
 
 all-within : (xs : List Flat) → ((x : Flat) → Contains xs x → is_out_of_range x.bit ≡ false) → list_any begins_beyond xs ≡ false
 all-within [] each = refl
-all-within (y ∷ ys) each = let here = each y (first_of_all y ys) in let later = all-within ys (λ x h. each x (behind_first y ys x h)) in rw (here, later) refl
+all-within (y ∷ ys) each = let here = each y (at_front y ys) in let later = all-within ys (λ x h. each x (in_rest y ys x h)) in rw (here, later) refl
 
 same-tests : (a b : Bool) → (a ≡ false → b ≡ false) → (b ≡ false → a ≡ false) → a ≡ b
 same-tests true true to from = refl
@@ -173,10 +174,6 @@ hull-beyond (Some s) xs hull = same-tests (is_out_of_range s.low || is_out_of_ra
       let low : is_out_of_range s.low ≡ false = ap is_out_of_range (sym hull.at_low.2) ∙ none-beyond xs none hull.at_low.0 hull.at_low.1 in
       let high : is_out_of_range s.high ≡ false = ap is_out_of_range (sym hull.at_high.2) ∙ none-beyond xs none hull.at_high.0 hull.at_high.1 in
       rw (low, high) refl
-
-any-map : {X Y : Type 0} (p : Y → Bool) (f : X → Y) (xs : List X) → list_any p (map f xs) ≡ list_any (λ x. p (f x)) xs
-any-map p f [] = refl
-any-map p f (x ∷ xs) = ap (λ b. p (f x) || b) (any-map p f xs)
 
 last-beyond : (d : PlainDwarf) (e : ℕ) → (IsTooDeep d.tree (Some e) → ⊥) → IsLast (role_of d.tree e) → (facts_of d (Some e)).beyond ≡ (list_any (λ m. is_out_of_range (declared_bit d m)) (members_of d.tree e) || list_any begins_beyond (flat_of d (Some e)))
 unfolding facts_from member_beyond

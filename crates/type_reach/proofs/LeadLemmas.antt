@@ -5,12 +5,12 @@ use Rattle.std.proofs.lemmas.Bool.{cases_Bool}
 use Rattle.std.proofs.lemmas.List.{length-map, length-append, get_or-map, get_or-append-add, take_all}
 use Rattle.std.proofs.lemmas.List.Elements.{All-more, All-contains}
 use Rattle.std.proofs.lemmas.Option.{same_Some, slice_get_within, get_or_from_slice_get}
+use Rattle.abi_base.proofs.lemmas.Lists.{slice_get-mapped}
 use Rattle.dwarf_tree.specs.Trees.{PlainTree}
 use Rattle.dwarf_entries.specs.Addresses.{is_declared_only}
 use Rattle.type_reach.specs.declared.role.Role.{Role}
 use Rattle.type_reach.specs.declared.role.Role.TheVariants as role
 use Rattle.type_reach.specs.References.{Type_, role_of, has_type, type_of, own_types, types_of, parts_of, members_for, members_of}
-use Rattle.type_reach.proofs.LearnLemmas.{slice_get-mapped}
 
 -- ---- rows by number
 

@@ -1,12 +1,13 @@
 -- All facts, by number.
 use Rattle.std.proofs.Common.{◌≡◌, ◌<◌, ◌≤◌, ◌+◌, ℕ, zero, suc, List, [], ◌∷◌, ◌++◌, length, map, take, get_or, slice_get, replicate, Some, None, refl, sym, ◌∙◌, ap, subst, arith, inl, inr}
-use Rattle.std.specs.Prelude.{Contains, All, IsPermutation}
+use Rattle.std.specs.Prelude.{Contains, All, IsPermutation, Option, IfNone}
 use Rattle.std.specs.List.Sorted.{IsNonDecreasing}
 use Rattle.std.proofs.lemmas.Option.{same_Some, slice_get_within, get_or_from_slice_get, none-some}
 use Rattle.std.proofs.lemmas.List.{take_more, take_all, map-append, length-map, length-take, get_or-take, get_or_default}
 use Rattle.std.proofs.lemmas.List.Elements.{All-contains}
 use Rattle.std.proofs.lemmas.List.Sorted.{Contains-permutation, IsPermutation-sym}
 use Rattle.std.proofs.lemmas.Bool.{cases_lt}
+use Rattle.abi_base.proofs.lemmas.Lists.{slice_get-mapped}
 use Rattle.dwarf_tree.specs.Trees.{PlainTree}
 use Rattle.dwarf_entries.specs.Debug.{PlainDwarf}
 use Rattle.type_reach.specs.declared.facts.Facts.{Facts}
@@ -35,11 +36,6 @@ none_known d found n = record {
   no zero j x h = none-some (Some x) h
   no (suc m) zero x h = none-some x (same_Some None (Some x) h)
   no (suc m) (suc j) x h = no m j x h
-
-pub slice_get-mapped : {X Y : Type 0} (f : X → Y) (xs : List X) (i : ℕ) (x : X) → slice_get xs i ≡ Some x → slice_get (map f xs) i ≡ Some (f x)
-slice_get-mapped f [] i x is = absurd (none-some x is)
-slice_get-mapped f (y ∷ ys) zero x is = ap (λ z. Some (f z)) (same_Some y x is)
-slice_get-mapped f (y ∷ ys) (suc i) x is = slice_get-mapped f ys i x is
 
 pub AreAllFacts-end : (d : PlainDwarf) (found : List ℕ) (facts : List Facts) (k : ℕ) → length found ≤ k → facts ≡ map (λ (e : ℕ). facts_of d (Some e)) (take k found) → ((e : ℕ) → Contains found e → IsTooDeep d.tree (Some e) → ⊥) → AreAllFacts d found facts
 AreAllFacts-end d found facts k past is shallow =
@@ -72,3 +68,7 @@ first-deep t found order k e same rises shallow lt read deep = record {
 pub all-shallow : (t : PlainTree) (found order : List ℕ) (k : ℕ) → IsPermutation found order → All (λ (f : ℕ). IsTooDeep t (Some f) → ⊥) (take k order) → length order ≤ k → (e : ℕ) → Contains found e → IsTooDeep t (Some e) → ⊥
 all-shallow t found order k same shallow past e has =
     All-contains (λ (f : ℕ). IsTooDeep t (Some f) → ⊥) order e (subst (All (λ (f : ℕ). IsTooDeep t (Some f) → ⊥)) (take_all k order past) shallow) (Contains-permutation found order e same has)
+
+pub IfNone-weaker : {X P Q : Type 0} (o : Option X) → (P → Q) → IfNone o P → IfNone o Q
+IfNone-weaker None more holds = more holds
+IfNone-weaker (Some x) more holds = tt

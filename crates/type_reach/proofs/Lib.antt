@@ -11,6 +11,7 @@ mod MetLemmas
 mod NameLemmas
 mod NearLemmas
 mod OrderLemmas
+mod OriginLemmas
 mod RankLemmas
 mod RowLemmas
 mod ReachedLemmas

@@ -10,6 +10,8 @@ use Rattle.std.proofs.lemmas.List.Elements.{filter_agree, filter-append}
 use Rattle.std.proofs.lemmas.List.FromFn.{length-range_with_len, get_or-range_with_len}
 use Rattle.std.proofs.lemmas.List.Kept.{IsStrictlyIncreasing-filter}
 use Rattle.std.proofs.lemmas.Map.Keys.{IsDistinct-push}
+use Rattle.abi_base.proofs.lemmas.Ranges.{range_more}
+use Rattle.abi_base.proofs.lemmas.Bools.{or_false}
 use Rattle.type_reach.specs.Reached.{was_found}
 use Rattle.type_reach.specs.VisitedEntries.{AreMarked, is_marked, marked_places, by_offset}
 
@@ -26,10 +28,6 @@ none-twice = tt
 
 pub AreMarked-none : (n : ℕ) → AreMarked (replicate n false) []
 AreMarked-none n = record { marked = none-marked n; once = none-twice }
-
-or-false : (b : Bool) → (b || false) ≡ b
-or-false true = refl
-or-false false = refl
 
 found-more : (entries : List ℕ) (e f : ℕ) → was_found (entries ++ e ∷ []) f ≡ (was_found entries f || nat_eq f e)
 found-more [] e f = elim (cases_Bool (nat_eq f e)) [ inl same ↦ rw same refl | inr other ↦ rw other refl ]
@@ -55,7 +53,7 @@ AreMarked-more marks entries e inside new was = record {
     other : (f : ℕ) → f ≢ e → is_marked (set marks e true) f ≡ was_found (entries ++ e ∷ []) f
     other f differs =
         let two = ne_eqb f e differs in
-        get_or-set_other marks e f true false differs ∙ was.marked f ∙ sym (found-more entries e f ∙ rw two (or-false (was_found entries f)))
+        get_or-set_other marks e f true false differs ∙ was.marked f ∙ sym (found-more entries e f ∙ rw two (or_false (was_found entries f)))
 
 -- ---- the places of marks
 
@@ -72,13 +70,6 @@ pub places-rise : (marks : List Bool) → IsStrictlyIncreasing (marked_places ma
 unfolding marked_places
 places-rise marks = IsStrictlyIncreasing-filter (is_marked marks) (range_with_len 0 (length marks)) (range-rises 0 (length marks))
 
-range-more : (a n : ℕ) → range_with_len a (n + 1) ≡ range_with_len a n ++ (a + n) ∷ []
-range-more a zero = let same : a ≡ a + 0 = omega arith in ap (λ x. x ∷ []) same
-range-more a (suc n) =
-    let grown : suc n + 1 ≡ suc (n + 1) = omega arith in
-    let same : a + 1 + n ≡ a + suc n = omega arith in
-    ap (range_with_len a) grown ∙ ap (λ xs. a ∷ xs) (range-more (a + 1) n ∙ ap (λ x. range_with_len (a + 1) n ++ x ∷ []) same)
-
 -- the places of marks before one
 abbrev pub places_before : List Bool → ℕ → List ℕ
 places_before marks e = filter (is_marked marks) (range_with_len 0 e)
@@ -86,7 +77,7 @@ places_before marks e = filter (is_marked marks) (range_with_len 0 e)
 places-step : (marks : List Bool) (e : ℕ) → places_before marks (e + 1) ≡ places_before marks e ++ filter (is_marked marks) (e ∷ [])
 places-step marks e =
     let last : 0 + e ≡ e = omega arith in
-    ap (filter (is_marked marks)) (range-more 0 e ∙ ap (λ x. range_with_len 0 e ++ x ∷ []) last) ∙ filter-append (is_marked marks) (range_with_len 0 e) (e ∷ [])
+    ap (filter (is_marked marks)) (range_more 0 e ∙ ap (λ x. range_with_len 0 e ++ x ∷ []) last) ∙ filter-append (is_marked marks) (range_with_len 0 e) (e ∷ [])
 
 pub places-marked : (marks : List Bool) (e : ℕ) → is_marked marks e ≡ true → places_before marks (e + 1) ≡ places_before marks e ++ e ∷ []
 places-marked marks e is = places-step marks e ∙ ap (λ xs. places_before marks e ++ xs) (rw is refl)

@@ -8,15 +8,16 @@ use Rattle.dwarf_tree.specs.Trees.{PlainTree}
 use Rattle.type_reach.specs.References.{Type_, types_of}
 use Rattle.type_reach.specs.Reached.{TypeReferences, IsReached, with_type, with_types}
 use Rattle.type_reach.specs.ReachedList.{is_entry, refers, leads, is_reached}
-use Rattle.type_reach.proofs.GrowLemmas.{Grew-types, in_front, first_of_all, behind_first, not_in_none}
+use Rattle.type_reach.proofs.GrowLemmas.{Grew-types}
 use Rattle.type_reach.proofs.WalkLemmas.{lead_inside, IsWalking, IsWalking-start, IsWalking-more, all_found, found-le, contains_slice_get}
 use Rattle.std.proofs.lemmas.Map.Keys.{IsDistinct-push}
 use Rattle.std.specs.Cmp.{nat_eq_equiv}
+use Rattle.abi_base.proofs.lemmas.Contained.{in_front, at_front, in_rest, in_none}
 
 -- ---- tests and chains
 
 pub any_there : {X : Type 0} (p : X → Bool) (xs : List X) (x : X) → Contains xs x → p x ≡ true → list_any p xs ≡ true
-any_there p [] x h is = absurd (not_in_none x h)
+any_there p [] x h is = absurd (in_none x h)
 any_there p (y ∷ ys) x h is = elim (in_front y ys x h) [
   | inl same ↦ let here : p y ≡ true = ap p same ∙ is in rw here refl
   | inr later ↦ elim (cases_Bool (p y)) [ inl here ↦ rw here refl | inr other ↦ rw other (any_there p ys x later is) ]
@@ -24,13 +25,13 @@ any_there p (y ∷ ys) x h is = elim (in_front y ys x h) [
 
 pub any_found : {X : Type 0} (p : X → Bool) (xs : List X) → list_any p xs ≡ true → (x : X) × Contains xs x × (p x ≡ true)
 any_found p [] h = absurd (false≢true h)
-any_found p (y ∷ ys) h = elim (cases_Bool (p y)) [ inl here ↦ (y, first_of_all y ys, here) | inr other ↦ let r = any_found p ys (rw other at h) in (r.0, behind_first y ys r.0 r.1, r.2) ]
+any_found p (y ∷ ys) h = elim (cases_Bool (p y)) [ inl here ↦ (y, at_front y ys, here) | inr other ↦ let r = any_found p ys (rw other at h) in (r.0, in_rest y ys r.0 r.1, r.2) ]
 
 pub in_range : (a n i : ℕ) → a ≤ i → i < a + n → Contains (range_with_len a n) i
 in_range a zero i le lt = absurd (omega arith)
 in_range a (suc n) i le lt = elim (cases_lt a i) [
-  | inl more ↦ behind_first a (range_with_len (a + 1) n) i (in_range (a + 1) n i (omega arith) (omega arith))
-  | inr same ↦ let e : a ≡ i = omega arith in subst (Contains (a ∷ range_with_len (a + 1) n)) e (first_of_all a (range_with_len (a + 1) n))
+  | inl more ↦ in_rest a (range_with_len (a + 1) n) i (in_range (a + 1) n i (omega arith) (omega arith))
+  | inr same ↦ let e : a ≡ i = omega arith in subst (Contains (a ∷ range_with_len (a + 1) n)) e (at_front a (range_with_len (a + 1) n))
 ]
 
 refers-is : (t : PlainTree) (e f : ℕ) → refers t e f ≡ true → Contains (types_of t e) (Some f)

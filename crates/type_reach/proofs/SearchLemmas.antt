@@ -12,6 +12,7 @@ use Rattle.std.proofs.lemmas.List.{get_or_default}
 use Rattle.std.proofs.lemmas.List.Kept.{AllPairs-from_increasing}
 use Rattle.std.proofs.lemmas.List.Sums.{position_or_len_is}
 use Rattle.std.proofs.lemmas.Map.Keys.{IsDistinct-from_apart}
+use Rattle.abi_base.proofs.lemmas.Orders.{index_le}
 
 -- the first item that passes
 position-at : (p : ℕ → Bool) (xs : List ℕ) (i : ℕ) → i < length xs → ((k : ℕ) → k < i → p (get_or xs k 0) ≡ false) → p (get_or xs i 0) ≡ true → position p xs ≡ Some i
@@ -25,9 +26,6 @@ position-none p xs fails =
     let place = position_or_len_is p xs (length xs) 0 (omega arith) fails (λ less. absurd (omega arith)) in
     let ge = le-ltb (length xs) (length xs) (omega arith) in
     rw (place, ge) refl
-
-index-le : (m n e : ℕ) → m ≤ n → ordering_index (nat_cmp m e) ≤ ordering_index (nat_cmp n e)
-index-le m n e le = grind (arith, nat_tests)
 
 module _ (entries : List ℕ) (rises : IsStrictlyIncreasing entries) where
   below : (i j : ℕ) → i < j → j < length entries → get_or entries i 0 < get_or entries j 0
@@ -45,7 +43,7 @@ module _ (entries : List ℕ) (rises : IsStrictlyIncreasing entries) where
   -- ---- binary search
 
   pub searchable : (e : ℕ) → IsNonDecreasingBy (λ (x : ℕ). ordering_index (nat_cmp x e)) entries
-  searchable e i j d le inside = index-le (get_or entries i d) (get_or entries j d) e (elim (cases_lt i j) [
+  searchable e i j d le inside = index_le (get_or entries i d) (get_or entries j d) e (elim (cases_lt i j) [
     | inl lt ↦ omega (arith, AllPairs-from_increasing entries rises i j d lt inside)
     | inr ge ↦ let same : i ≡ j = omega arith in rw same (omega arith)
   ])

@@ -8,10 +8,12 @@ use Rattle.std.proofs.lemmas.List.Elements.{Contains-append_left, Contains-appen
 use Rattle.std.proofs.lemmas.Map.Steps.{length-le_from_distinct_below}
 use Rattle.std.proofs.lemmas.Map.Views.{Contains-from_any}
 use Rattle.std.proofs.lemmas.Option.{same_Some, slice_get_within, get_or_from_slice_get}
+use Rattle.abi_base.proofs.lemmas.Lists.{contains_at, at_below, slice_get-before}
+use Rattle.abi_base.proofs.lemmas.Contained.{in_front, at_front, in_rest, in_none}
 use Rattle.dwarf_tree.specs.Trees.{PlainTree}
 use Rattle.type_reach.specs.References.{Type_, types_of, own_types, type_of, parts_of, has_type, role_of}
 use Rattle.type_reach.specs.Reached.{TypeReferences, IsWalk}
-use Rattle.type_reach.proofs.GrowLemmas.{Grew, in_front, first_of_all, behind_first, not_in_none}
+use Rattle.type_reach.proofs.GrowLemmas.{Grew}
 use Rattle.type_reach.proofs.ReferLemmas.{Inside, type_inside}
 
 -- all to which entries lead is inside
@@ -26,14 +28,6 @@ pub record IsWalking (t : PlainTree) (roots found : List ℕ) (number : ℕ) : T
   pub inside : (f : ℕ) → Contains found f → f < length t.entries
   pub place : number ≤ length found
 
-slice_get-append_cases : {X : Type 0} (xs ys : List X) (i : ℕ) → i < length xs → slice_get (xs ++ ys) i ≡ slice_get xs i
-slice_get-append_cases [] ys i lt = absurd (omega arith)
-slice_get-append_cases (x ∷ xs) ys zero lt = refl
-slice_get-append_cases (x ∷ xs) ys (suc i) lt = slice_get-append_cases xs ys i (omega arith)
-
-pub slice_get_contains : {X : Type 0} (xs : List X) (i : ℕ) (x : X) → slice_get xs i ≡ Some x → Contains xs x
-slice_get_contains xs i x is = (i, slice_get_within xs i x is, get_or_from_slice_get xs i x x is)
-
 pub contains_slice_get : {X : Type 0} (xs : List X) (x : X) → Contains xs x → (i : ℕ) × (i < length xs) × (slice_get xs i ≡ Some x)
 contains_slice_get {X = X} xs x (i, lt, is) = (i, lt, here xs i lt ∙ ap (λ y. Some y) is) where
   here : (ys : List X) (k : ℕ) → k < length ys → slice_get ys k ≡ Some (get_or ys k x)
@@ -42,33 +36,33 @@ contains_slice_get {X = X} xs x (i, lt, is) = (i, lt, here xs i lt ∙ ap (λ y.
   here (y ∷ ys) (suc k) lt = here ys k (omega arith)
 
 some_root : (roots : List ℕ) (f : ℕ) → Contains (map (λ e. Some e) roots) (Some f) → Contains roots f
-some_root [] f h = absurd (not_in_none (Some f) h)
+some_root [] f h = absurd (in_none (Some f) h)
 some_root (r ∷ roots) f h = elim (in_front (Some r) (map (λ e. Some e) roots) (Some f) h) [
-  | inl same ↦ subst (Contains (r ∷ roots)) (same_Some r f same) (first_of_all r roots)
-  | inr later ↦ behind_first r roots f (some_root roots f later)
+  | inl same ↦ subst (Contains (r ∷ roots)) (same_Some r f same) (at_front r roots)
+  | inr later ↦ in_rest r roots f (some_root roots f later)
 ]
 
 pub Contains-map : {X Y : Type 0} (g : X → Y) (xs : List X) (x : X) → Contains xs x → Contains (map g xs) (g x)
-Contains-map g [] x h = absurd (not_in_none x h)
+Contains-map g [] x h = absurd (in_none x h)
 Contains-map g (y ∷ ys) x h = elim (in_front y ys x h) [
-  | inl same ↦ subst (λ z. Contains (g y ∷ map g ys) (g z)) same (first_of_all (g y) (map g ys))
-  | inr later ↦ behind_first (g y) (map g ys) (g x) (Contains-map g ys x later)
+  | inl same ↦ subst (λ z. Contains (g y ∷ map g ys) (g z)) same (at_front (g y) (map g ys))
+  | inr later ↦ in_rest (g y) (map g ys) (g x) (Contains-map g ys x later)
 ]
 
 -- what stands in a mapped list is what the function gives of an item
 pub from_map : {X Y : Type 0} (g : X → Y) (xs : List X) (y : Y) → Contains (map g xs) y → (x : X) × Contains xs x × (g x ≡ y)
-from_map g [] y h = absurd (not_in_none y h)
+from_map g [] y h = absurd (in_none y h)
 from_map g (x ∷ xs) y h = elim (in_front (g x) (map g xs) y h) [
-  | inl same ↦ (x, first_of_all x xs, same)
-  | inr later ↦ let r = from_map g xs y later in (r.0, behind_first x xs r.0 r.1, r.2)
+  | inl same ↦ (x, at_front x xs, same)
+  | inr later ↦ let r = from_map g xs y later in (r.0, in_rest x xs r.0 r.1, r.2)
 ]
 
 own_led : (t : PlainTree) (b : Bool) (e f : ℕ) → Contains (cond b (type_of t e ∷ []) []) (Some f) → f < length t.entries
 own_led t true e f h = elim (in_front (type_of t e) [] (Some f) h) [
   | inl same ↦ subst (Inside t) same (type_inside t e)
-  | inr none ↦ absurd (not_in_none (Some f) none)
+  | inr none ↦ absurd (in_none (Some f) none)
 ]
-own_led t false e f h = absurd (not_in_none (Some f) h)
+own_led t false e f h = absurd (in_none (Some f) h)
 
 pub lead_inside : (t : PlainTree) → LeadInside t
 unfolding types_of own_types
@@ -89,7 +83,7 @@ module _ (t : PlainTree) (roots : List ℕ) (inside : LeadInside t) where
   IsWalking-start found below grew =
       let root : (f : ℕ) → Contains found f → Contains roots f = λ f h. elim (grew.only f h) [ inl none ↦ absurd (omega (arith, none.1)) | inr is ↦ some_root roots f is ] in
       record {
-        led = λ i f at. (0, omega arith, root f (slice_get_contains found i f at));
+        led = λ i f at. (0, omega arith, root f (contains_at found i f at));
         roots_there = λ f h. grew.all f (Contains-map (λ e. Some e) roots f h);
         closed = λ i e f lt at has. absurd (omega arith);
         inside = λ f h. below f (root f h);
@@ -99,13 +93,13 @@ module _ (t : PlainTree) (roots : List ℕ) (inside : LeadInside t) where
   pub IsWalking-more : (found : List ℕ) (number e : ℕ) (new : List ℕ) → IsWalking t roots found number → slice_get found number ≡ Some e → Grew found (types_of t e) new → IsWalking t roots new (number + 1)
   IsWalking-more found number e new was at grew =
       let within = slice_get_within found number e at in
-      let here = slice_get_contains found number e at in
+      let here = contains_at found number e at in
       let kept : (f : ℕ) → Contains found f → Contains new f = λ f h. subst (λ xs. Contains xs f) (sym grew.is) (Contains-append_left found grew.more f h) in
-      let same : (i : ℕ) → i < length found → slice_get new i ≡ slice_get found i = λ i lt. ap (λ xs. slice_get xs i) grew.is ∙ slice_get-append_cases found grew.more i lt in
+      let same : (i : ℕ) → i < length found → slice_get new i ≡ slice_get found i = λ i lt. ap (λ xs. slice_get xs i) grew.is ∙ slice_get-before found grew.more i lt in
       record {
         led = λ i f at_i. elim (cases_lt i (length found)) [
           | inl old ↦ was.led i f (sym (same i old) ∙ at_i)
-          | inr past ↦ elim (grew.only f (slice_get_contains new i f at_i)) [
+          | inr past ↦ elim (grew.only f (contains_at new i f at_i)) [
             | inl before ↦ let p = contains_slice_get found f before in let r = was.led p.0 f p.2 in (r.0, omega (arith, r.1, p.1), r.2)
             | inr leads ↦ let r = was.led number e at in (suc r.0, omega (arith, r.1, within), (e, r.2, leads))
           ]
@@ -137,8 +131,3 @@ module _ (t : PlainTree) (roots : List ℕ) (inside : LeadInside t) where
 -- no more entries are found than there are
 pub found-le : (t : PlainTree) (roots found : List ℕ) (number : ℕ) → IsWalking t roots found number → IsDistinct nat_eq found → length found ≤ length t.entries
 found-le t roots found number was once = length-le_from_distinct_below found (length t.entries) once (λ q h. was.inside q (Contains-from_any eqb-true q found h))
-
-pub at_below : {X : Type 0} (xs : List X) (i : ℕ) → i < length xs → (x : X) × (slice_get xs i ≡ Some x)
-at_below [] i lt = absurd (omega arith)
-at_below (x ∷ xs) zero lt = (x, refl)
-at_below (x ∷ xs) (suc i) lt = at_below xs i (omega arith)

@@ -3,6 +3,7 @@ pub mod PeeledCores
 pub mod Facts
 pub mod Faults
 pub mod Flat
+pub mod Origins
 pub mod TypeReferences
 pub mod VisitedEntries
 pub mod Placement

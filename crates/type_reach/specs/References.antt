@@ -81,10 +81,17 @@ tagged_children t e tag = filter (is_tagged t tag) (children_of t e)
 unfoldable pub body_of : PlainTree → ℕ → ℕ
 body_of t e = if tag_at t e == dw_tag_subprogram then origin_of t e else e
 
+-- the parameters among the children of an entry
+abbrev pub params_under : PlainTree → ℕ → List ℕ
+params_under t b = tagged_children t b dw_tag_formal_parameter
+
+abbrev pub param_types : PlainTree → ℕ → List Type_
+param_types t b = map (type_of t) (params_under t b)
+
 -- Members and parameters, which have types. Those of a declaration lead on too, though they are not members of the type.
 abbrev pub parts_for : Role → PlainTree → ℕ → List ℕ
 parts_for role.Aggregate t e = tagged_children t e dw_tag_member
-parts_for role.Function t e = tagged_children t (body_of t e) dw_tag_formal_parameter
+parts_for role.Function t e = params_under t (body_of t e)
 parts_for _ t e = []
 
 unfoldable pub parts_of : PlainTree → ℕ → List ℕ

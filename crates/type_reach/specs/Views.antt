@@ -96,10 +96,17 @@ abbrev pub is_empty : List ℕ → Bool
 is_empty [] = true
 is_empty (x ∷ xs) = false
 
+-- the parameters below an entry end with variable arguments
+abbrev pub has_further : PlainTree → ℕ → Bool
+has_further t b = not (is_empty (tagged_children t b dw_tag_unspecified_parameters))
+
 -- a function that takes variable arguments
 abbrev pub variadic_for : Role → PlainTree → ℕ → Bool
-variadic_for role.Function t c = not (is_empty (tagged_children t (body_of t c) dw_tag_unspecified_parameters))
+variadic_for role.Function t c = has_further t (body_of t c)
 variadic_for _ t c = false
+
+abbrev pub is_variadic : PlainTree → ℕ → Bool
+is_variadic t c = variadic_for (role_of t c) t c
 
 abbrev pub group_for : Role → PlainDwarf → ℕ → Group
 group_for role.Base d c = group_of d c

@@ -27,6 +27,19 @@ struct FoundTypes<'t, 'a> {
     leads: &'t TypeReferences,
 }
 
+// The facts of a type, or None where chains from it have more steps than the budget.
+fn within(facts: Facts, budget: u32) -> Option<Facts>
+    ensures same { IfSome result (λ x. x ≡ facts) }
+    ensures few { IfSome result (λ x. facts.rank ≤ budget) }
+    ensures many { IfNone result (budget < facts.rank) }
+{
+    if facts.rank <= budget {
+        Some(facts)
+    } else {
+        None
+    }
+}
+
 // The facts of a type, or None where a chain of more steps by value than the budget begins at it.
 fn learn(
     alloc: Global,
@@ -52,19 +65,9 @@ fn learn(
         None => return Ok(Some(VOID)),
         Some(e) => e,
     };
-    let number = match types.found.number(e) {
-        Some(number) => number,
-        None => unreachable!(),
-    };
-    match known[number] {
-        Some(before) => {
-            return Ok(if before.rank <= budget {
-                Some(before)
-            } else {
-                None
-            });
-        }
-        None => {}
+    let number = types.found.number_of(e);
+    if let Some(before) = known[number] {
+        return Ok(within(before, budget));
     }
     let parts = parts_at(types.dwarf, types.found, types.leads, number, e);
     let leads_to = types_at(types.dwarf, types.found, types.leads, number, e);

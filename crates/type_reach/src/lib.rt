@@ -8,6 +8,7 @@ mod facts;
 pub mod laws;
 mod learning;
 mod member_totals;
+mod origins;
 mod placement;
 mod reached_entries;
 mod references;
@@ -31,7 +32,7 @@ pub use start::Start;
 pub use summaries::{Summary, summaries_of, summary_at, summary_by_number};
 pub use type_references::{
     TypeReferences, member_type, own_type, part_type, parts_at, type_references_of, types_at,
-    widened,
+    variadic_at, widened,
 };
 pub use values::{counted_to, is_there, natural_of, number_at, place_of, wrapped_of};
 pub use walking::reached;

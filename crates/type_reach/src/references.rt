@@ -1,11 +1,13 @@
 // The types to which entries lead, and their parts.
 ghost use Rattle.std.specs.Prelude.{◌≡◌, ◌<◌, length, All, IfOk, IfSome};
 ghost use Rattle.type_reach.specs.References as spec;
+ghost use Rattle.type_reach.specs.Views as views;
 
 use crate::role::{Role, is_signed, role_of};
 use abi_base::NoMemory;
 use abi_base::dwarf::{
     DW_AT_signature, DW_AT_type, DW_TAG_formal_parameter, DW_TAG_member, DW_TAG_subprogram,
+    DW_TAG_unspecified_parameters,
 };
 use dwarf_entries::Dwarf;
 use std::alloc::Global;
@@ -41,15 +43,42 @@ pub fn body_of(dwarf: &Dwarf, e: usize) -> usize
 
 /// The members of a structure or a union, even of a declaration, or the parameters of a function, in order.
 #[tactic(auto, unfolding(crate::specs::References::parts_of, crate::specs::References::tagged_children))]
-pub(crate) fn parts_of(alloc: Global, dwarf: &Dwarf, e: usize) -> Result<Vec<usize>, NoMemory>
-    requires { e < length dwarf.now.tree.entries }
+pub(crate) fn parts_of(
+    alloc: Global,
+    dwarf: &Dwarf,
+    e: usize,
+    role: Role,
+) -> Result<Vec<usize>, NoMemory>
+    requires inside { e < length dwarf.now.tree.entries }
+    requires role { role ≡ spec.role_of dwarf.now.tree e }
     ensures parts { IfOk result (λ list. list.items ≡ spec.parts_of dwarf.now.tree e) }
     ensures inside { IfOk result (λ list. All (λ c. c < length dwarf.now.tree.entries) list.items) }
 {
-    match role_of(dwarf, e) {
+    match role {
         Role::Aggregate => dwarf.tagged(alloc, e, DW_TAG_member),
         Role::Function => dwarf.tagged(alloc, body_of(dwarf, e), DW_TAG_formal_parameter),
         _ => Ok(Vec::new(alloc)),
+    }
+}
+
+/// Whether an entry is a function that takes variable arguments.
+#[tactic(auto, unfolding(crate::specs::References::tagged_children))]
+pub(crate) fn is_variadic(
+    alloc: Global,
+    dwarf: &Dwarf,
+    e: usize,
+    role: Role,
+) -> Result<bool, NoMemory>
+    requires inside { e < length dwarf.now.tree.entries }
+    requires role { role ≡ spec.role_of dwarf.now.tree e }
+    ensures { IfOk result (λ further. further ≡ views.is_variadic dwarf.now.tree e) }
+{
+    match role {
+        Role::Function => {
+            let further = dwarf.tagged(alloc, body_of(dwarf, e), DW_TAG_unspecified_parameters)?;
+            Ok(!further.is_empty())
+        }
+        _ => Ok(false),
     }
 }
 

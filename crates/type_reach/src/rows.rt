@@ -56,7 +56,7 @@ impl<T> Rows<T> {
             Ok(()) => Ok(()),
             Err(_) => {
                 self.items.truncate(before);
-                Err(NoMemory)
+                Err(NoMemory::Allocation)
             }
         }
     }

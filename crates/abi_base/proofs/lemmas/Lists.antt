@@ -1,12 +1,14 @@
 -- Laws of lists by their places: joined lists, images, lists in order, and the first items of a list.
-use Rattle.std.proofs.Common.{◌≡◌, ◌<◌, ℕ, zero, suc, ◌+◌, Bool, true, false, cond, List, [], ◌∷◌, ◌++◌, map, length, slice_get, get_or, Option, Some, None, refl, sym, ◌∙◌, ap, subst, inl, inr, ◌⊎◌, arith, append-nil, append_assoc}
-use Rattle.std.specs.Prelude.{find, All}
-use Rattle.std.specs.List.{list_any, filter_map, Contains}
+use Rattle.std.proofs.Common.{◌≡◌, ◌<◌, ℕ, zero, suc, ◌+◌, Bool, true, false, cond, List, [], ◌∷◌, ◌++◌, map, length, slice_get, get_or, Option, Some, None, refl, sym, ◌∙◌, ap, subst, inl, inr, ◌⊎◌, arith, append-nil, append_assoc, count_by, ◌-◌, take, drop}
+use Rattle.std.specs.Prelude.{find, All, ◌||◌, position}
+use Rattle.std.specs.List.{list_any, filter_map, Contains, flat_map, filter, list_all}
 use Rattle.std.specs.Option.{option_map}
-use Rattle.std.proofs.lemmas.Bool.{false≢true, or_cases}
+use Rattle.std.proofs.lemmas.Bool.{false≢true, or_cases, cases_Bool, and_from, and_parts, lt-ltb, le-ltb}
 use Rattle.std.proofs.lemmas.List.Elements.{All-nil, All-cons, All-head, All-tail}
 use Rattle.std.proofs.lemmas.Map.Keys.{any_passes_from_place}
 use Rattle.std.proofs.lemmas.Option.{slice_get_within, slice_get-get_or, slice_get-map, get_or_from_slice_get, none-some, same_Some}
+use Rattle.std.proofs.lemmas.List.Sums.{sum_by-cons, position_or_len_is}
+use Rattle.std.proofs.lemmas.List.{take_more, length-map, get_or-map, drop_more}
 use Rattle.abi_base.specs.Lists.{Ascends, with_first, firsts_after, HasSame, AreFirsts}
 use Rattle.abi_base.proofs.lemmas.Cases.{bool_cases}
 
@@ -201,3 +203,109 @@ module _ {X : Type 0} (same : X → X → Bool) (before : X → X → Type 0) (i
 
   pub AreFirsts-all : (xs : List X) → Ascends before xs → AreFirsts same before xs (firsts_after same [] xs)
   AreFirsts-all xs ascends = AreFirsts-after xs [] [] AreFirsts-none ascends
+
+pub flat_map-same : {X A : Type 0} (f g : X → List A) (xs : List X) → ((x : X) → f x ≡ g x) → flat_map f xs ≡ flat_map g xs
+flat_map-same f g [] same = refl
+flat_map-same f g (x ∷ xs) same = let later = flat_map-same f g xs same in rw (same x, later) refl
+
+pub same_functions : {A B C : Type 0} (f g : A → B → C) → ((a : A) (b : B) → f a b ≡ g a b) → f ≡ g
+same_functions f g same = λ i a b. same a b i
+
+pub append_none : (xs : List ℕ) → xs ++ [] ≡ xs
+append_none [] = refl
+append_none (x ∷ xs) = ap (λ (ys : List ℕ). x ∷ ys) (append_none xs)
+
+pub All-none : {X : Type 0} (P : X → Type 0) (xs : List X) → xs ≡ [] → All P xs
+All-none P xs none = subst (All P) (sym none) (All-nil P)
+
+pub map-map : {X Y Z : Type 0} (g : Y → Z) (f : X → Y) (xs : List X) → map g (map f xs) ≡ map (λ x. g (f x)) xs
+map-map g f [] = refl
+map-map g f (x ∷ xs) = ap (λ ys. g (f x) ∷ ys) (map-map g f xs)
+
+pub at_below : {X : Type 0} (xs : List X) (i : ℕ) → i < length xs → (x : X) × (slice_get xs i ≡ Some x)
+at_below [] i lt = absurd (omega arith)
+at_below (x ∷ xs) zero lt = (x, refl)
+at_below (x ∷ xs) (suc i) lt = at_below xs i (omega arith)
+
+pub slice_get-mapped : {X Y : Type 0} (f : X → Y) (xs : List X) (i : ℕ) (x : X) → slice_get xs i ≡ Some x → slice_get (map f xs) i ≡ Some (f x)
+slice_get-mapped f [] i x is = absurd (none-some x is)
+slice_get-mapped f (y ∷ ys) zero x is = ap (λ z. Some (f z)) (same_Some y x is)
+slice_get-mapped f (y ∷ ys) (suc i) x is = slice_get-mapped f ys i x is
+
+pub slice_get-before : {X : Type 0} (xs ys : List X) (i : ℕ) → i < length xs → slice_get (xs ++ ys) i ≡ slice_get xs i
+slice_get-before [] ys i lt = absurd (omega arith)
+slice_get-before (x ∷ xs) ys zero lt = refl
+slice_get-before (x ∷ xs) ys (suc i) lt = slice_get-before xs ys i (omega arith)
+
+pub any-map : {X Y : Type 0} (p : Y → Bool) (f : X → Y) (xs : List X) → list_any p (map f xs) ≡ list_any (λ x. p (f x)) xs
+any-map p f [] = refl
+any-map p f (x ∷ xs) = ap (λ b. p (f x) || b) (any-map p f xs)
+
+pub count_by-filter : {X : Type 0} (p : X → Bool) (xs : List X) → count_by p xs ≡ length (filter p xs)
+count_by-filter p [] = refl
+count_by-filter p (x ∷ xs) =
+    let c = sum_by-cons (λ y. cond (p y) 1 0) x xs in
+    let ih = count_by-filter p xs in
+    elim (cases_Bool (p x)) [
+      | inl passes ↦ rw passes (omega (arith, rw passes at c))
+      | inr not_passing ↦ rw not_passing (omega (arith, rw not_passing at c))
+    ]
+
+pub list_all-weaker : {X : Type 0} (p q : X → Bool) → ((x : X) → p x ≡ true → q x ≡ true) → (xs : List X) → list_all p xs ≡ true → list_all q xs ≡ true
+list_all-weaker p q weaker [] all = refl
+list_all-weaker p q weaker (x ∷ xs) all =
+    let both = and_parts (p x) (list_all p xs) all in
+    and_from (q x) (list_all q xs) (weaker x both.0) (list_all-weaker p q weaker xs both.1)
+
+pub fewer_before : {X : Type 0} (p : X → Bool) (xs : List X) (i : ℕ) (d : X) → i < length xs → p (get_or xs i d) ≡ true → length (filter p (take i xs)) < length (filter p xs)
+fewer_before p [] i d lt e = absurd (omega arith)
+fewer_before p (x ∷ xs) zero d lt e = rw e (omega arith)
+fewer_before p (x ∷ xs) (suc i) d lt e =
+    let ih = fewer_before p xs i d (omega arith) e in
+    elim (cases_Bool (p x)) [
+      | inl passes ↦ rw passes (omega arith)
+      | inr fails ↦ rw fails ih
+    ]
+
+pub map-nil : {X Y : Type 0} (f : X → Y) (xs : List X) → map f xs ≡ [] → xs ≡ []
+map-nil f [] e = refl
+map-nil f (x ∷ xs) e = cc
+
+pub left-nil : {X : Type 0} (xs ys : List X) → xs ++ ys ≡ [] → xs ≡ []
+left-nil [] ys e = refl
+left-nil (x ∷ xs) ys e = cc
+
+pub right-nil : {X : Type 0} (xs ys : List X) → xs ++ ys ≡ [] → ys ≡ []
+right-nil [] ys e = e
+right-nil (x ∷ xs) ys e = cc
+
+pub map-same_tests : (f g : ℕ → Bool) → ((k : ℕ) → f k ≡ g k) → (ks : List ℕ) → map f ks ≡ map g ks
+map-same_tests f g same [] = refl
+map-same_tests f g same (k ∷ ks) = rw (same k, map-same_tests f g same ks) refl
+
+pub position_is : {X : Type 0} (p : X → Bool) (xs : List X) (i : ℕ) (d : X) → i < length xs → ((k : ℕ) → k < i → p (get_or xs k d) ≡ false) → p (get_or xs i d) ≡ true → position p xs ≡ Some i
+position_is p xs i d inside before here =
+    let place = position_or_len_is p xs i d (omega arith) before (λ less. here) in
+    let lt = lt-ltb i (length xs) inside in
+    rw (place, lt) refl
+
+pub position_none : {X : Type 0} (p : X → Bool) (xs : List X) (d : X) → ((k : ℕ) → k < length xs → p (get_or xs k d) ≡ false) → position p xs ≡ None
+position_none p xs d fails =
+    let place = position_or_len_is p xs (length xs) d (omega arith) fails (λ less. absurd (omega arith)) in
+    let ge = le-ltb (length xs) (length xs) (omega arith) in
+    rw (place, ge) refl
+
+pub take-map_more : {X Y : Type 0} (f : X → Y) (xs : List X) (i : ℕ) (d : X) → i < length xs → take (i + 1) (map f xs) ≡ take i (map f xs) ++ f (get_or xs i d) ∷ []
+take-map_more f xs i d inside =
+    let within : i < length (map f xs) = omega (arith, length-map xs f) in
+    take_more (map f xs) i (f d) within
+    ∙ ap (λ y. take i (map f xs) ++ y ∷ []) (get_or-map f xs i d (f d) inside)
+
+pub drop-map_more : {X Y : Type 0} (f : X → Y) (xs : List X) (i : ℕ) (d : X) → i < length xs → drop i (map f xs) ≡ f (get_or xs i d) ∷ drop (i + 1) (map f xs)
+drop-map_more f xs i d inside =
+    let within : i < length (map f xs) = omega (arith, length-map xs f) in
+    drop_more (map f xs) i (f d) within
+    ∙ ap (λ y. y ∷ drop (i + 1) (map f xs)) (get_or-map f xs i d (f d) inside)
+
+pub list_any-map : {X Y : Type 0} (p : Y → Bool) (f : X → Y) (xs : List X) → list_any (λ x. p (f x)) xs ≡ list_any p (map f xs)
+list_any-map p f xs = sym (any-map p f xs)

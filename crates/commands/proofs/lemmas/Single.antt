@@ -76,7 +76,7 @@ module _ (r : Reading) (inputs : List Wanted) (says : List (List ℕ) → Verdic
   replies_alone (ReadFault which) text other reply = absurd (other which refl)
   replies_alone Help text other reply = absurd reply
   replies_alone Usage text other reply = absurd reply
-  replies_alone NoMemory text other reply = absurd reply
+  replies_alone (NoMemory cause) text other reply = absurd reply
   replies_alone WriteFault text other reply = absurd reply
 
   -- where no input is too long or has a fault, the answer is a verdict

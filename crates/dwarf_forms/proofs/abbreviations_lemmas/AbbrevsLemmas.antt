@@ -5,6 +5,7 @@ use Rattle.std.specs.List.{list_any}
 use Rattle.std.specs.Option.{option_map}
 use Rattle.std.proofs.lemmas.Bool.{cases_Bool, eqb-true, eqb-false}
 use Rattle.std.proofs.lemmas.Option.{same_Some}
+use Rattle.abi_base.proofs.lemmas.Cases.{option_cases, same_Ok, same_Err}
 use Rattle.abi_base.specs.declared.fault.Fault.{Fault}
 use Rattle.abi_base.specs.Dwarf.{dw_form_implicit_const}
 use Rattle.abi_base.specs.Leb.{uleb_at, sleb_at}
@@ -15,7 +16,6 @@ use Rattle.dwarf_forms.specs.declared.abbreviations.abbrev.Spec.{Spec}
 use Rattle.dwarf_forms.specs.declared.abbreviations.abbrev.Abbrev.{Abbrev}
 use Rattle.dwarf_forms.specs.abbreviations.Abbrevs.{implicit_at, plain_pair, spec_step, specs_run, specs_at, children_of, abbrev_step, abbrev_of}
 use Rattle.dwarf_forms.specs.abbreviations.Standing.{PairAt, NoPairAt, PairsAt, AbbrevAt}
-use Rattle.dwarf_forms.proofs.abbreviations_lemmas.Cases.{option_cases, same_Ok, same_Err}
 
 -- ---- a pair
 

@@ -8,20 +8,12 @@ use Rattle.std.specs.HashMap.{get}
 use Rattle.std.proofs.lemmas.Bool.{cases_Bool, cases_lt, eqb-true}
 use Rattle.std.proofs.lemmas.List.Folds.{find-append}
 use Rattle.std.proofs.lemmas.Option.{slice_get_past, same_Some}
+use Rattle.abi_base.proofs.lemmas.Lists.{slice_get-before, slice_get_last}
 use Rattle.dwarf_forms.specs.declared.abbreviations.abbrev.Abbrev.{Abbrev}
 use Rattle.dwarf_forms.specs.abbreviations.Abbrevs.{abbrev_of}
 use Rattle.dwarf_forms.specs.abbreviations.Places.{Elsewhere, if_of_code, at_own_place, at_kept_place, Placed}
 
 -- ---- an element of a longer list
-
-get_before : {X : Type 0} (xs ys : List X) (i : ℕ) → i < length xs → slice_get (xs ++ ys) i ≡ slice_get xs i
-get_before [] ys i lt = absurd (omega arith)
-get_before (x ∷ xs) ys zero lt = refl
-get_before (x ∷ xs) ys (suc i) lt = get_before xs ys i (omega arith)
-
-get_last : {X : Type 0} (xs : List X) (x : X) → slice_get (xs ++ x ∷ []) (length xs) ≡ Some x
-get_last [] x = refl
-get_last (y ∷ ys) x = get_last ys x
 
 -- ---- one or the other
 
@@ -50,11 +42,11 @@ module _ (abbrevs : List Abbrev) (old : Elsewhere) (made : Abbrev) (so_far : Pla
   -- ---- another code
 
   own_stays : (code : ℕ) → (made.code == code) ≡ false → at_own_place more code ≡ at_own_place abbrevs code
-  own_stays code apart = ⊎_elim (λ lt. ap (if_of_code code) (get_before abbrevs (made ∷ []) (code - 1) lt)) (λ le. past le) (cases_lt (code - 1) (length abbrevs))
+  own_stays code apart = ⊎_elim (λ lt. ap (if_of_code code) (slice_get-before abbrevs (made ∷ []) (code - 1) lt)) (λ le. past le) (cases_lt (code - 1) (length abbrevs))
     where
       at_end : length abbrevs ≡ code - 1 → at_own_place more code ≡ None
       at_end e =
-          ap (λ (i : ℕ). if_of_code code (slice_get more i)) (sym e) ∙ ap (if_of_code code) (get_last abbrevs made)
+          ap (λ (i : ℕ). if_of_code code (slice_get more i)) (sym e) ∙ ap (if_of_code code) (slice_get_last abbrevs made)
           ∙ ap (λ (b : Bool). cond b (Some made) None) apart
 
       none : length abbrevs ≤ code - 1 → at_own_place more code ≡ None
@@ -70,7 +62,7 @@ module _ (abbrevs : List Abbrev) (old : Elsewhere) (made : Abbrev) (so_far : Pla
     where
       stays : (o : Option ℕ) → get nat_eq old code ≡ o → option_and_then (slice_get more) o ≡ option_and_then (slice_get abbrevs) o
       stays None is = refl
-      stays (Some place) is = get_before abbrevs (made ∷ []) place (so_far.inside code place is)
+      stays (Some place) is = slice_get-before abbrevs (made ∷ []) place (so_far.inside code place is)
 
   other_found : (next : Elsewhere) (code : ℕ) → (made.code == code) ≡ false → get nat_eq next code ≡ get nat_eq old code → found next code ≡ abbrev_of more code
   other_found next code apart same =
@@ -109,7 +101,7 @@ module _ (abbrevs : List Abbrev) (old : Elsewhere) (made : Abbrev) (so_far : Pla
       here : found old made.code ≡ Some made
       here =
           ap (λ (i : ℕ). option_or (if_of_code made.code (slice_get more i)) (at_kept_place more old made.code)) e
-          ∙ ap (λ (o : Option Abbrev). option_or (if_of_code made.code o) (at_kept_place more old made.code)) (get_last abbrevs made)
+          ∙ ap (λ (o : Option Abbrev). option_or (if_of_code made.code o) (at_kept_place more old made.code)) (slice_get_last abbrevs made)
           ∙ ap (λ (o : Option Abbrev). option_or o (at_kept_place more old made.code)) own_code
 
   -- ---- its place is kept
@@ -122,11 +114,11 @@ module _ (abbrevs : List Abbrev) (old : Elsewhere) (made : Abbrev) (so_far : Pla
     where
       before : made.code - 1 < length abbrevs → or_this (slice_get more (made.code - 1)) ≡ Some made
       before lt =
-          ap or_this (get_before abbrevs (made ∷ []) (made.code - 1) lt) ∙ ap (λ (o : Option Abbrev). option_or o (Some made)) not_at_own
+          ap or_this (slice_get-before abbrevs (made ∷ []) (made.code - 1) lt) ∙ ap (λ (o : Option Abbrev). option_or o (Some made)) not_at_own
 
       at_end : length abbrevs ≡ made.code - 1 → or_this (slice_get more (made.code - 1)) ≡ Some made
       at_end e =
-          ap (λ (i : ℕ). or_this (slice_get more i)) (sym e) ∙ ap or_this (get_last abbrevs made)
+          ap (λ (i : ℕ). or_this (slice_get more i)) (sym e) ∙ ap or_this (slice_get_last abbrevs made)
           ∙ ap (λ (o : Option Abbrev). option_or o (Some made)) own_code
 
       past : length abbrevs ≤ made.code - 1 → or_this (slice_get more (made.code - 1)) ≡ Some made
@@ -149,7 +141,7 @@ module _ (abbrevs : List Abbrev) (old : Elsewhere) (made : Abbrev) (so_far : Pla
       here : found next made.code ≡ Some made
       here =
           ap (λ (o : Option ℕ). option_or (at_own_place more made.code) (option_and_then (slice_get more) o)) kept
-          ∙ ap (λ (o : Option Abbrev). option_or (at_own_place more made.code) o) (get_last abbrevs made) ∙ own_or_this
+          ∙ ap (λ (o : Option Abbrev). option_or (at_own_place more made.code) o) (slice_get_last abbrevs made) ∙ own_or_this
 
       inside : (code place : ℕ) → get nat_eq next code ≡ Some place → place < length more
       inside code place is =

@@ -9,6 +9,7 @@ use Rattle.std.proofs.lemmas.List.{append-nil, get_or_append_left}
 use Rattle.std.proofs.lemmas.List.Folds.{list_any_none}
 use Rattle.std.proofs.lemmas.List.Quantifiers.{all_pairs_push}
 use Rattle.std.proofs.Math.Seq.{get_or-append_seam}
+use Rattle.abi_base.proofs.lemmas.Cases.{option_cases}
 use Rattle.abi_base.specs.declared.fault.Fault.{Fault}
 use Rattle.abi_base.specs.declared.fault.FaultKind.TheVariants as kind
 use Rattle.abi_base.specs.Leb.{uleb_at}
@@ -19,7 +20,6 @@ use Rattle.dwarf_forms.specs.declared.abbreviations.abbrev.Abbrev.{Abbrev}
 use Rattle.dwarf_forms.specs.abbreviations.Abbrevs.{spec_step, specs_run, specs_at, children_of, abbrev_step, table_run}
 use Rattle.dwarf_forms.specs.abbreviations.Standing.{PairAt, NoPairAt, PairsAt, AbbrevAt, FollowAt, CodesApart, TableAt, HasPairs}
 use Rattle.dwarf_forms.proofs.abbreviations_lemmas.AbbrevsLemmas.{zero_there, spec_falls, abbrev_falls, abbrev_read, pairs_inside}
-use Rattle.dwarf_forms.proofs.abbreviations_lemmas.Cases.{option_cases}
 
 -- a chain is no longer than its measure
 chain_length : {S X E : Type 0} (step : S → Result (X × S) E) (measure : S → ℕ) (s : S) (xs : List X) (e : E) → Falls step measure → Chain step s xs e → length xs ≤ measure s

@@ -5,6 +5,7 @@ use Rattle.std.proofs.lemmas.List.{length-take, length-drop}
 use Rattle.std.proofs.lemmas.List.Quantifiers.{position-Some}
 use Rattle.std.proofs.lemmas.Option.{same_Some}
 use Rattle.std.proofs.lemmas.Bool.{cases_Bool, leb-true}
+use Rattle.abi_base.proofs.lemmas.Cases.{option_cases, same_Ok}
 use Rattle.abi_base.specs.declared.fault.Fault.{Fault}
 use Rattle.abi_base.specs.declared.fault.FaultKind.TheVariants as kind
 use Rattle.abi_base.specs.Numbers.{number_at, text_at, is_zero}
@@ -14,7 +15,6 @@ use Rattle.abi_base.proofs.lemmas.Leb.{uleb_inside, sleb_inside}
 use Rattle.dwarf_forms.specs.declared.values.Value.{Value}
 use Rattle.dwarf_forms.specs.declared.values.Value.TheVariants as value
 use Rattle.dwarf_forms.specs.Values.{Shape, fixed, block_behind_uleb, of_uleb, of_sleb, implicit_const, sixteen_bytes, block_behind, inline_text, is_present, indirect, supplementary, means, block, fault, spelled, named_shape, shape_of, indirect_at, value_of, value_at}
-use Rattle.dwarf_forms.proofs.Cases.{option_cases, same_Ok}
 
 -- the place after a value that begins at a place, in a unit that ends at a place
 pub record Moves (at end next : ℕ) : Type 0 where

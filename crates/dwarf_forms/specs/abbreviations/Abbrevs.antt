@@ -86,7 +86,7 @@ abbrev pub ReadsAbbrev : List ℕ → ℕ → List Abbrev → Result (Option (Ab
 ReadsAbbrev bytes at seen (Ok (Some a)) = abbrev_step bytes (at, seen) ≡ Ok (a.0, (a.1, seen ++ a.0 ∷ []))
 ReadsAbbrev bytes at seen (Ok None) = abbrev_step bytes (at, seen) ≡ Err None
 ReadsAbbrev bytes at seen (Err (refusal.Fault f)) = abbrev_step bytes (at, seen) ≡ Err (Some f)
-ReadsAbbrev bytes at seen (Err refusal.NoMemory) = Unit {0}
+ReadsAbbrev bytes at seen (Err (refusal.NoMemory cause)) = Unit {0}
 
 -- the abbreviation with a code
 abbrev pub abbrev_of : List Abbrev → ℕ → Option Abbrev

@@ -2,6 +2,7 @@
 use Rattle.std.proofs.Common.{◌≡◌, ℕ, suc, ◌+◌, ◌-◌, ◌<◌, ◌≤◌, List, [], length, Option, Some, None, Result, Ok, Err, ap, ◌∙◌, arith, inl, inr}
 use Rattle.std.specs.Prelude.{◌==◌, ◌&&◌}
 use Rattle.std.proofs.lemmas.Bool.{cases_Bool}
+use Rattle.abi_base.proofs.lemmas.Cases.{option_cases, result_cases, same_Ok}
 use Rattle.abi_base.specs.declared.fault.Fault.{Fault}
 use Rattle.abi_base.specs.Numbers.{number_at}
 use Rattle.abi_base.specs.Leb.{uleb_at}
@@ -15,7 +16,6 @@ use Rattle.dwarf_text.specs.declared.ranges.layout.Field.TheVariants as field
 use Rattle.dwarf_text.specs.declared.ranges.layout.Layout.{Layout}
 use Rattle.abi_base.specs.Dwarf.{dw_rle_end_of_list}
 use Rattle.dwarf_text.specs.ranges.RangeLists.{State, Entry, field_at, fields_step, layout_of, meant, kind_step, list_step, pair_means, pair_step, list_run, pair_run, first_or_end, first_start}
-use Rattle.dwarf_text.proofs.ranges_lemmas.Cases.{option_cases, result_cases, same_Ok}
 
 -- ---- any list whose steps move on
 

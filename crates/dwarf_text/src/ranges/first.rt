@@ -113,7 +113,7 @@ fn spend_entries(
     place: u64,
     effort: &mut Effort,
 ) -> Result<(), NoMemory>
-    ensures { effort.new ≤ effort.old }
+    ensures { effort.new.left ≤ effort.old.left }
 {
     let mut at = place as usize;
     'walk: loop {
@@ -143,7 +143,7 @@ pub fn spend_first(
     sections: &Sections,
     effort: &mut Effort,
 ) -> Result<(), NoMemory>
-    ensures { effort.new ≤ effort.old }
+    ensures { effort.new.left ≤ effort.old.left }
 {
     let lists = Source {
         bytes: sections.rnglists,

@@ -9,10 +9,10 @@ use Rattle.std.proofs.lemmas.Bool.Decides.{nat_tests}
 use Rattle.abi_base.specs.declared.fault.FaultKind.TheVariants as kind
 use Rattle.abi_base.specs.Outcome.{fault_if}
 use Rattle.abi_base.proofs.lemmas.Outcomes.{fault_if-none}
+use Rattle.elf.proofs.lemmas.Faults.{none_both}
 use Rattle.std.specs.Option.{option_map_or}
 use Rattle.elf.specs.file.Elf.{section_of_kind}
 use Rattle.abi_base.specs.Elf.{sht_dynamic, dyn_size}
-use Rattle.elf.proofs.symbols_lemmas.Numbered.{first_of_none}
 use Rattle.elf.specs.symbols.Tables.{is_table_bad}
 use Rattle.elf.specs.symbols.Dynamic.{is_used, is_soname, soname_entry, soname_of, dynamic_fault, dynamic_table, dynamic_strings, text_of_entry, soname_fault, IsFirstSoname}
 
@@ -75,5 +75,5 @@ unfolding dynamic_fault soname_of
 missing f free none =
     let bad = fault_if (option_map_or (is_table_bad dyn_size f) (section_of_kind f sht_dynamic) false) kind.DynamicTable 0 in
     let at_entry = option_and_then (soname_fault (dynamic_table f) (dynamic_strings f)) (soname_entry (dynamic_table f)) in
-    let rest = (first_of_none at_entry [] (first_of_none bad (at_entry ∷ []) free).1).0 in
+    let rest = (none_both at_entry [] (none_both bad (at_entry ∷ []) free).1).0 in
     no_entry (dynamic_table f) (dynamic_strings f) (soname_entry (dynamic_table f)) rest none

@@ -9,6 +9,7 @@ use Rattle.abi_base.specs.declared.fault.Fault.{Fault}
 use Rattle.abi_base.specs.declared.fault.FaultKind.TheVariants as kind
 use Rattle.abi_base.specs.Outcome.{first, fault_if}
 use Rattle.abi_base.proofs.lemmas.Outcomes.{none_at, fault_if-none}
+use Rattle.elf.proofs.lemmas.Faults.{none_both}
 use Rattle.elf.specs.file.Elf.{SectionView, section_of_kind}
 use Rattle.abi_base.specs.Elf.{sht_dynsym, sym_size}
 use Rattle.elf.specs.symbols.Tables.{is_table_bad}
@@ -39,10 +40,6 @@ length_read table strings number symbols read = sym (length_plain symbols) ∙ a
 
 -- ---- without a fault
 
-pub first_of_none : (o : Option Fault) (os : List (Option Fault)) → first (o ∷ os) ≡ None → (o ≡ None) × (first os ≡ None)
-first_of_none None os h = (refl, h)
-first_of_none (Some fault) os h = absurd cc
-
 record Faultless (f : List ℕ) : Type 0 where
   pub table : option_map_or (is_table_bad sym_size f) (section_of_kind f sht_dynsym) false ≡ false
   pub names : first (map (symbol_name_fault (symbol_table f) (symbol_strings f)) (symbol_numbers (symbol_table f))) ≡ None
@@ -52,8 +49,8 @@ unfolding symbol_fault
 faultless f none =
     let bad = option_map_or (is_table_bad sym_size f) (section_of_kind f sht_dynsym) false in
     let names = map (symbol_name_fault (symbol_table f) (symbol_strings f)) (symbol_numbers (symbol_table f)) in
-    let rest = (first_of_none (fault_if (is_none (section_of_kind f sht_dynsym)) kind.NoDynamicSymbols 0) (fault_if bad kind.SymbolTable 0 ∷ names) none).1 in
-    let each = first_of_none (fault_if bad kind.SymbolTable 0) names rest in
+    let rest = (none_both (fault_if (is_none (section_of_kind f sht_dynsym)) kind.NoDynamicSymbols 0) (fault_if bad kind.SymbolTable 0 ∷ names) none).1 in
+    let each = none_both (fault_if bad kind.SymbolTable 0) names rest in
     record { table = fault_if-none bad kind.SymbolTable 0 each.0; names = each.1 }
 
 whole_entries : (f : List ℕ) (o : Option SectionView) → option_map_or (is_table_bad sym_size f) o false ≡ false → length (option_map_or (λ s. s.bytes) o []) % sym_size ≡ 0

@@ -8,6 +8,7 @@ use Rattle.std.specs.HashMap.{get, IsEmpty}
 use Rattle.std.proofs.lemmas.List.Folds.{find-append, list_any-append}
 use Rattle.std.proofs.lemmas.Grind.{common_steps}
 use Rattle.std.proofs.lemmas.Bool.Decides.{Decides-eqb}
+use Rattle.abi_base.proofs.lemmas.Ranges.{below_more, range_more}
 use Rattle.abi_base.specs.declared.fault.FaultKind.TheVariants as kind
 use Rattle.abi_base.specs.declared.fault.Refusal.{Refusal}
 use Rattle.abi_base.specs.Outcome.{first, fault_if, Refuses}
@@ -16,20 +17,6 @@ use Rattle.elf.specs.versions.Definitions.{place_of, index_of, name_of, stood_be
 use Rattle.elf.specs.versions.Names.{Names, name_under, IsNames}
 
 -- ---- lists of numbers
-
-range_more : (a n : ℕ) → range_with_len a (n + 1) ≡ range_with_len a n ++ (a + n) ∷ []
-range_more a zero =
-    let e : a + 0 ≡ a = omega arith in
-    rw e refl
-range_more a (suc n) =
-    let e : a + suc n ≡ a + 1 + n = omega arith in
-    let k : suc n + 1 ≡ suc (n + 1) = omega arith in
-    rw (k, e) (ap (λ (l : List ℕ). a ∷ l) (range_more (a + 1) n))
-
-one_more : (n : ℕ) → range_with_len 0 (n + 1) ≡ range_with_len 0 n ++ n ∷ []
-one_more n =
-    let e : 0 + n ≡ n = omega arith in
-    rw e at (range_more 0 n)
 
 find_nothing : (p : ℕ → Bool) (xs : List ℕ) → list_any p xs ≡ false → find p xs ≡ None
 find_nothing p [] none = refl
@@ -140,7 +127,7 @@ read_more table strings count number at next_at names next index name so_far lt 
         ∙ ap (λ (b : Bool). b || (nat_eq index q || false)) (so_far.stood q)
         ∙ ap (λ (i : ℕ). list_any (λ j. index_of table j == q) (range_with_len 0 number) || (nat_eq i q || false)) same
         ∙ sym (list_any-append (λ j. index_of table j == q) (range_with_len 0 number) (number ∷ []))
-        ∙ ap (λ (l : List ℕ). list_any (λ j. index_of table j == q) l) (sym (one_more number))
+        ∙ ap (λ (l : List ℕ). list_any (λ j. index_of table j == q) l) (sym (below_more number))
 
     named_at : (q : ℕ) → name_under next q ≡ option_and_then (name_of table strings) (definition_with table (number + 1) q)
     named_at q =
@@ -148,4 +135,4 @@ read_more table strings count number at next_at names next index name so_far lt 
         ∙ named_after (nat_eq index q) name (get nat_eq names q) (name_of table strings) number (definition_with table number q) (so_far.named q) (apart q) named
         ∙ ap (λ (i : ℕ). option_and_then (name_of table strings) (option_or (definition_with table number q) (cond (nat_eq i q) (Some number) None))) same
         ∙ ap (λ (o : Option ℕ). option_and_then (name_of table strings) o)
-        (sym (find-append (λ j. index_of table j == q) (range_with_len 0 number) (number ∷ [])) ∙ ap (λ (l : List ℕ). find (λ j. index_of table j == q) l) (sym (one_more number)))
+        (sym (find-append (λ j. index_of table j == q) (range_with_len 0 number) (number ∷ [])) ∙ ap (λ (l : List ℕ). find (λ j. index_of table j == q) l) (sym (below_more number)))

@@ -4,6 +4,7 @@ use Rattle.std.specs.Prelude.{find, ◌==◌, ◌||◌, ◌&&◌, not, nat_lt, i
 use Rattle.std.specs.List.{range_with_len, list_any}
 use Rattle.std.proofs.lemmas.Bool.{cases_lt}
 use Rattle.std.proofs.lemmas.Bool.Decides.{nat_tests, Decides-eqb}
+use Rattle.abi_base.proofs.lemmas.Bools.{or_is_false}
 use Rattle.abi_base.specs.declared.fault.Fault.{Fault}
 use Rattle.abi_base.specs.declared.fault.FaultKind.TheVariants as kind
 use Rattle.abi_base.specs.Numbers.{number}
@@ -56,10 +57,6 @@ rest_none : (o : Option Fault) (os : List (Option Fault)) → first (o ∷ os) �
 rest_none None os h = h
 rest_none (Some fault) os h = absurd cc
 
-either_false : (a b : Bool) → (a || b) ≡ false → (a ≡ false) × (b ≡ false)
-either_false true b h = absurd cc
-either_false false b h = (refl, h)
-
 record Sound (table strings : List ℕ) (count k : ℕ) : Type 0 where
   pub whole : is_malformed table strings count k ≡ false
   pub new : stood_before table k ≡ false
@@ -71,13 +68,13 @@ sound f symbols k none lt =
     let each = rest_none (strings_fault f) faults (rest_none (table_fault f symbols) (definition_faults f) none) in
     let here : definition_fault (definition_table f) (definition_strings f) (definition_count f) k ≡ None =
     none_at (definition_fault (definition_table f) (definition_strings f) (definition_count f)) (definition_count f) k each lt in
-    let parts = either_false _ _ (fault_if-none _ kind.VersionDefinition k here) in
+    let parts = or_is_false _ _ (fault_if-none _ kind.VersionDefinition k here) in
     record { whole = parts.0; new = parts.1 }
 
 within : (table strings : List ℕ) (count k : ℕ) → is_malformed table strings count k ≡ false → place_of table k + verdef_size ≤ length table
 unfolding is_malformed
 within table strings count k whole =
-    let outside : nat_lt (length table) (place_of table k + verdef_size) ≡ false = (either_false _ _ whole).0 in
+    let outside : nat_lt (length table) (place_of table k + verdef_size) ≡ false = (or_is_false _ _ whole).0 in
     grind (arith, nat_tests)
 
 pub inside : (f : List ℕ) (symbols k : ℕ) → version_fault f symbols ≡ None → k < definition_count f → place_of (definition_table f) k + verdef_size ≤ length (definition_table f)
@@ -93,12 +90,12 @@ has_name table strings count k whole =
     let index = index_of table k == 0 || auxiliary in
     let entries = number 2 table (at + vd_cnt) == 0 || index in
     let version = not (number 2 table (at + vd_version) == ver_def_current) || entries in
-    let h1 = (either_false (nat_lt (length table) (at + verdef_size)) version whole).1 in
-    let h2 = (either_false (not (number 2 table (at + vd_version) == ver_def_current)) entries h1).1 in
-    let h3 = (either_false (number 2 table (at + vd_cnt) == 0) index h2).1 in
-    let h4 = (either_false (index_of table k == 0) auxiliary h3).1 in
-    let h5 = (either_false (nat_lt (length table) (auxiliary_of table k + verdaux_size)) name h4).1 in
-    (either_false (is_none (name_of table strings k)) last h5).0
+    let h1 = (or_is_false (nat_lt (length table) (at + verdef_size)) version whole).1 in
+    let h2 = (or_is_false (not (number 2 table (at + vd_version) == ver_def_current)) entries h1).1 in
+    let h3 = (or_is_false (number 2 table (at + vd_cnt) == 0) index h2).1 in
+    let h4 = (or_is_false (index_of table k == 0) auxiliary h3).1 in
+    let h5 = (or_is_false (nat_lt (length table) (auxiliary_of table k + verdaux_size)) name h4).1 in
+    (or_is_false (is_none (name_of table strings k)) last h5).0
 
 pub named : (f : List ℕ) (symbols k : ℕ) → version_fault f symbols ≡ None → k < definition_count f → name_of (definition_table f) (definition_strings f) k ≢ None
 named f symbols k none lt = λ is.
@@ -110,10 +107,10 @@ none_along : (p : ℕ → Bool) (a n i : ℕ) → list_any p (range_with_len a n
 none_along p a zero i h lt = absurd (omega arith)
 none_along p a (suc n) zero h lt =
     let e : a + 0 ≡ a = omega arith in
-    rw e (either_false (p a) (list_any p (range_with_len (a + 1) n)) h).0
+    rw e (or_is_false (p a) (list_any p (range_with_len (a + 1) n)) h).0
 none_along p a (suc n) (suc i) h lt =
     let e : a + suc i ≡ a + 1 + i = omega arith in
-    rw e (none_along p (a + 1) n i (either_false (p a) (list_any p (range_with_len (a + 1) n)) h).1 (omega arith))
+    rw e (none_along p (a + 1) n i (or_is_false (p a) (list_any p (range_with_len (a + 1) n)) h).1 (omega arith))
 
 pub apart : (f : List ℕ) (symbols j k : ℕ) → version_fault f symbols ≡ None → j < k → k < definition_count f → index_of (definition_table f) j ≢ index_of (definition_table f) k
 apart f symbols j k none lt below = λ same.
@@ -132,7 +129,7 @@ first_found p a (suc n) zero lt before here =
 first_found p a (suc n) (suc k) lt before here =
     let e : a + suc k ≡ a + 1 + k = omega arith in
     let later : p (a + 1 + k) ≡ true = rw e at here in
-    let split = either_false (p a) (list_any p (range_with_len (a + 1) k)) before in
+    let split = or_is_false (p a) (list_any p (range_with_len (a + 1) k)) before in
     let fails : p a ≡ false = split.0 in
     rw (fails, e) (first_found p (a + 1) n k (omega arith) split.1 later)
 

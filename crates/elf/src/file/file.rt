@@ -1,7 +1,7 @@
 // A file without a fault, and look-ups of its sections.
-ghost use Rattle.std.specs.Prelude.{◌≡◌, ◌≢◌, ◌≤◌, ◌<◌, IfOk, IfSome, IfNone, length};
+ghost use Rattle.std.specs.Prelude.{◌≡◌, ◌≤◌, ◌<◌, IfOk, IfSome, IfNone, length};
 ghost use Rattle.std.specs.Option.{option_copied, option_map};
-ghost use Rattle.abi_base.specs.Outcome.{Judges};
+ghost use Rattle.abi_base.specs.Outcome.{Judges, TakesNoMemory};
 ghost use Rattle.elf.specs.file.Elf.{table, elf_fault, section_named, strings_of, name_of_section};
 ghost use Rattle.elf.specs.file.Elf as spec;
 ghost use Rattle.elf.specs.file.File.{viewed};
@@ -42,7 +42,7 @@ impl<'a> Model for ElfFile<'a> {
 pub fn read_elf<'a>(bytes: &'a [u8]) -> Result<ElfFile<'a>, Refusal>
     requires { length bytes.now ≤ input_limit }
     ensures judged { Judges result (elf_fault bytes.now) }
-    ensures takes_no_memory { result ≢ Err Refusal.NoMemory }
+    ensures takes_no_memory { TakesNoMemory result }
     ensures held { IfOk result (λ file. file ≡ bytes.now) }
 {
     match header_fault(bytes) {

@@ -15,7 +15,9 @@ use crate::constants::{
 use crate::file::ElfFile;
 use crate::symbols::strings::strings_for;
 use crate::symbols::symbol::Symbol;
-use abi_base::{Effort, Fault, FaultKind, INPUT_LIMIT, Refusal, text_at, u16_in, u32_in, u64_in};
+use abi_base::{
+    Effort, Fault, FaultKind, INPUT_LIMIT, Limit, Refusal, text_at, u16_in, u32_in, u64_in,
+};
 use std::alloc::Global;
 
 // The symbol with this number, or the fault of its name.
@@ -62,7 +64,7 @@ fn symbols_in<'a>(
 {
     let count = (table.len() / SYM_SIZE) as u32;
     let mut symbols = Vec::with_capacity(alloc, count as usize)?;
-    let mut effort = Effort::for_table(table, strings);
+    let mut effort = Effort::for_table(Limit::Symbols, table, strings);
     for number in 0..count {
         match symbol_in(table, strings, number) {
             Ok(symbol) => {

@@ -12,7 +12,7 @@ use crate::constants::{
     VERDAUX_SIZE, VERDEF_SIZE, VERSYM_HIDDEN,
 };
 use crate::file::ElfFile;
-use abi_base::{Effort, Fault, FaultKind, INPUT_LIMIT, Refusal, text_at, u16_in, u32_in};
+use abi_base::{Effort, Fault, FaultKind, INPUT_LIMIT, Limit, Refusal, text_at, u16_in, u32_in};
 use std::alloc::Global;
 use std::collections::HashMap;
 
@@ -94,7 +94,7 @@ fn names_in<'a>(
     ensures read { IfOk result (λ names. IsNames names (λ index. option_and_then (name_of table.now strings.now) (definition_with table.now count index))) }
 {
     let mut names = HashMap::new(alloc);
-    let mut effort = Effort::for_table(table, strings);
+    let mut effort = Effort::for_table(Limit::VersionDefinitions, table, strings);
     let mut at = 0;
     for number in 0..count {
         match definition_in(table, strings, count, number, at) {

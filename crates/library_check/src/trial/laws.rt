@@ -2,7 +2,7 @@
 ghost use Rattle.std.specs.Prelude.{◌≡◌, ◌≤◌, ℕ, List};
 ghost use Rattle.report.specs.Listening.{Voice};
 ghost use Rattle.library_check.specs.declared.checking.Unchecked.{Unchecked};
-ghost use Rattle.library_check.specs.declared.checking.Unchecked.TheVariants.{NoMemory};
+ghost use Rattle.library_check.specs.Checks.{IsOutOfMemory};
 ghost use Rattle.trial_libraries.specs.Limits.{most_functions};
 ghost use Rattle.library_check.specs.trial.Trials.{IsTrialText, IsUntried};
 ghost use Rattle.report.specs.declared.styles.report_option.ReportStyle.TheVariants.{Text};
@@ -23,5 +23,5 @@ pub fn a_trial_has_one_text()
 
 /// A trial that has a text is stopped only if memory runs out.
 pub fn a_trial_with_a_text_has_no_fault()
-    ensures { (voices : List Voice) (n : ℕ) (lines : List ℕ) (unchecked : Unchecked) → IsTrialText voices n lines → IsUntried n unchecked → unchecked ≡ NoMemory }
+    ensures { (voices : List Voice) (n : ℕ) (lines : List ℕ) (unchecked : Unchecked) → IsTrialText voices n lines → IsUntried n unchecked → IsOutOfMemory unchecked }
 {}

@@ -28,7 +28,7 @@ fn make_one(alloc: Global, n: u32, side: Side) -> Result<Vec<u8>, NoMemory>
     match make(alloc, n, side) {
         Ok(file) => Ok(file),
         Err(GenRefusal::Size) => unreachable!(),
-        Err(GenRefusal::NoMemory) => Err(NoMemory),
+        Err(GenRefusal::NoMemory) => Err(NoMemory::Allocation),
     }
 }
 
@@ -76,7 +76,7 @@ fn try_bytes(
     };
     match try_read(alloc, n, &pair.old, &pair.new, listeners) {
         Ok(lines) => Ok(lines),
-        Err(NoMemory) => Err(Unchecked::NoMemory),
+        Err(cause) => Err(Unchecked::NoMemory(cause)),
     }
 }
 
@@ -97,11 +97,11 @@ pub fn try_both(
 {
     let old = match make_one(alloc, n, Side::Old) {
         Ok(file) => file,
-        Err(NoMemory) => return Err(Unchecked::NoMemory),
+        Err(cause) => return Err(Unchecked::NoMemory(cause)),
     };
     let new = match make_one(alloc, n, Side::New) {
         Ok(file) => file,
-        Err(NoMemory) => return Err(Unchecked::NoMemory),
+        Err(cause) => return Err(Unchecked::NoMemory(cause)),
     };
     try_bytes(alloc, n, old.as_slice(), new.as_slice(), listeners)
 }

@@ -101,7 +101,7 @@ module _ (info abbrevs text : List ℕ) (left : Run PlainUnit (Option Fault)) (s
   -- what a refusal of the next unit leaves
   pub refused_unit : (r : Refusal) (next : Run PlainUnit (Option Fault)) → NextIsBy plain_unit left (Err r) next → Refuses r (entries_fault info abbrevs)
   refused_unit (refusal.Fault f) next is = section_ends (Some f) is.0
-  refused_unit refusal.NoMemory next is = tt
+  refused_unit (refusal.NoMemory cause) next is = tt
 
   -- what a refusal of its entries leaves
   pub refused_entries : (r : Refusal) (o : Option Unit) (u : Unit) (next : Run PlainUnit (Option Fault)) → NextIsBy plain_unit left (Ok o) next → o ≡ Some u
@@ -110,4 +110,4 @@ module _ (info abbrevs text : List ℕ) (left : Run PlainUnit (Option Fault)) (s
   refused_entries (refusal.Fault f) o u next given same is =
       let front : left ≡ put_front (plain_unit u) next = let here = rw same at given in here in
       units_fault text (plain_unit u) f left next (units_of info abbrevs) front is so_far
-  refused_entries refusal.NoMemory o u next given same is = tt
+  refused_entries (refusal.NoMemory cause) o u next given same is = tt

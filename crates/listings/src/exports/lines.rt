@@ -3,7 +3,7 @@ ghost use Rattle.std.specs.Prelude.{◌≡◌, ◌++◌, flat_map, IfOk, OnOk, s
 ghost use Rattle.abi_types.specs.Plain.{plain_export, plain_exports};
 ghost use Rattle.listings.specs.exports.ExportLines.{call_text, entry_text, export_line, exports_text, place_behind, places_text, type_text};
 
-use abi_base::NoMemory;
+use abi_base::{Limit, NoMemory};
 use abi_types::{Call, Export, Graph, Index, Kind, Library, Place, View, push_label};
 use report::{kind_word, push_place};
 use std::alloc::{AllocError, Global};
@@ -117,7 +117,7 @@ fn push_lines<Ix: Index>(
     for export in exports {
         push_line(alloc, text, graph, export)?;
         if most < text.len() {
-            return Err(NoMemory);
+            return Err(NoMemory::Past(Limit::Listing));
         }
     }
     Ok(())

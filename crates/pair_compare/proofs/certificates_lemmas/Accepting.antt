@@ -3,6 +3,7 @@ use Rattle.std.proofs.Common.{◌≡◌, ◌<◌, ℕ, true, false, List, [], le
 use Rattle.std.specs.Prelude.{◌↔◌, is_some}
 use Rattle.std.specs.List.{Contains}
 use Rattle.std.proofs.lemmas.Option.{same_Some, slice_get_within, get_or_from_slice_get}
+use Rattle.abi_base.proofs.lemmas.Lists.{contains_at, at_contains}
 use Rattle.abi_types.specs.declared.kind.Way.{Way}
 use Rattle.abi_types.specs.declared.kind.Way.TheVariants.{Direct}
 use Rattle.abi_types.specs.Exports.{PlainExport}
@@ -20,21 +21,17 @@ use Rattle.cert_check.specs.Accepted.{Case, KeepsBinding, KeepsRules, KeepsRoot,
 use Rattle.cert_check.specs.ProvedConditions.{KeepsAll}
 use Rattle.pair_compare.specs.certificates.Lines.{IsReachedPair, bind_lines}
 use Rattle.pair_compare.specs.certificates.Certificates.{IsCertificateOf, AreLibraries, AreMarkedAlike}
-use Rattle.pair_compare.proofs.certificates_lemmas.ListLemmas.{contains_at, at_contains}
 use Rattle.pair_compare.proofs.certificates_lemmas.Leasts.{AlikeLaws, least_moved}
 use Rattle.abi_types.proofs.lemmas.Nodes.{node_of-at, node_of-is}
 use Rattle.pair_compare.proofs.certificates_lemmas.AlikeLemmas.{LineLaws, rep_least, lines_kept}
-use Rattle.pair_compare.proofs.certificates_lemmas.Leading.{RuleLaws, goes_alike}
+use Rattle.pair_compare.proofs.certificates_lemmas.Leading.{RuleLaws, goes_alike, some_node}
 use Rattle.pair_compare.proofs.certificates_lemmas.BindLemmas.{GivenLaw}
-use Rattle.pair_compare.proofs.certificates_lemmas.BindLines.{export_of_line, line_says, bound_place}
+use Rattle.pair_compare.proofs.certificates_lemmas.BindLines.{export_of_line, line_says}
+use Rattle.cert_check.proofs.lemmas.Exports.{bound_place}
 
 pub record RootLaws : Type 0 where
   pub exact : (s : Sides) (root : PlainRoot) → Contains (typed_roots s) root ↔ IsTypedPair s root
   pub nodes : (s : Sides) (root : PlainRoot) → IsTypedPair s root → HasTypes s root
-
-some_node : (o : Option ℕ) → is_some o ≡ true → (n : ℕ) × (o ≡ Some n)
-some_node None e = absurd cc
-some_node (Some n) e = (n, refl)
 
 module _ (alike : AlikeLaws) (look_ups : LineLaws) (given : GivenLaw) (rules : RuleLaws) (root_laws : RootLaws) (s : Sides) (c : PlainCert) (libraries : AreLibraries s) (marks : AreMarkedAlike (task_of s)) (compatible : IsCompatible s) (is : IsCertificateOf s c) where
   abbrev case : Case

@@ -2,28 +2,23 @@
 use Rattle.std.proofs.Common.{◌≡◌, ◌<◌, ℕ, List, length, Option, Some, None, refl, sym, ◌∙◌, subst, arith}
 use Rattle.std.specs.Prelude.{◌↔◌, true}
 use Rattle.std.specs.List.{Contains}
+use Rattle.abi_base.proofs.lemmas.Lists.{contains_at}
 use Rattle.abi_types.specs.Types.{PlainNode}
 use Rattle.abi_types.specs.Graphs.{IsGraph, node_at}
 use Rattle.type_classes.specs.Alike.{AreAlike}
 use Rattle.type_classes.specs.Classes.{IsLeastEntry}
 use Rattle.cert_text.specs.Certs.{PairLine}
-use Rattle.cert_check.specs.Accepted.{line_of, rep, is_line, class_in, KeepsAlike}
+use Rattle.cert_check.specs.Accepted.{line_of, is_line, class_in, KeepsAlike}
 use Rattle.pair_compare.specs.certificates.Lines.{AreAlikeLines}
-use Rattle.pair_compare.proofs.certificates_lemmas.ListLemmas.{contains_at}
 use Rattle.pair_compare.proofs.certificates_lemmas.Leasts.{AlikeLaws, one_least, own_least}
 use Rattle.abi_types.proofs.lemmas.Nodes.{node_of-at}
+use Rattle.cert_check.proofs.lemmas.Lines.{rep-some, rep-none}
 
 -- what look-ups find among lines
 pub record LineLaws : Type 0 where
   pub found : (lines : List (ℕ × ℕ)) (n m : ℕ) → line_of lines n ≡ Some m → Contains lines (n, m)
   pub missing : (lines : List (ℕ × ℕ)) (n m : ℕ) → line_of lines n ≡ None → Contains lines (n, m) → ⊥
   pub pairs : (lines : List PairLine) (line : PairLine) → (is_line lines line ≡ true) ↔ Contains lines line
-
-rep-some : (lines : List (ℕ × ℕ)) (e r : ℕ) → line_of lines e ≡ Some r → rep lines e ≡ r
-rep-some lines e r is = rw is refl
-
-rep-none : (lines : List (ℕ × ℕ)) (e : ℕ) → line_of lines e ≡ None → rep lines e ≡ e
-rep-none lines e is = rw is refl
 
 module _ (laws : AlikeLaws) (look_ups : LineLaws) (nodes : List PlainNode) (graph : IsGraph nodes) (lines : List (ℕ × ℕ)) (are : AreAlikeLines nodes lines) where
   abbrev class : ℕ → ℕ

@@ -1,28 +1,11 @@
 -- Exports as the code reads them, and their lines.
 use Rattle.std.proofs.Common.{◌≡◌, ◌+◌, ℕ, false, true, List, [], ◌++◌, length, Option, Some, None, refl, sym, ◌∙◌, ap, slice_get, slice_index_or}
-use Rattle.std.specs.Prelude.{option_and_then, option_to_list}
-use Rattle.std.specs.Option.{option_map}
-use Rattle.std.proofs.lemmas.Option.{slice_get-map}
-use Rattle.abi_types.specs.declared.export.Export.{Export}
+use Rattle.std.specs.Prelude.{option_to_list}
 use Rattle.abi_types.specs.Exports.{PlainExport}
-use Rattle.abi_types.specs.Plain.{plain_export, plain_exports}
-use Rattle.elf_bind.specs.Binding.{bind_to}
 use Rattle.cert_check.specs.Compatible.{Sides, bound}
 use Rattle.pair_compare.specs.certificates.Lines.{line_between, line_from, bind_line, bind_lines}
 use Rattle.pair_compare.specs.certificates.LineLists.{binds_below}
 use Rattle.cert_check.specs.Given.{StandInOrder}
-
-pub export_read : (exports : List Export) (plain : List PlainExport) (k : ℕ) (e : Export) → plain_exports exports ≡ plain → slice_get exports k ≡ Some e → slice_get plain k ≡ Some (plain_export e)
-export_read exports plain k e same at = ap (λ (es : List PlainExport). slice_get es k) (sym same) ∙ slice_get-map plain_export exports k ∙ ap (option_map plain_export) at
-
-pub none_read : (exports : List Export) (plain : List PlainExport) (k : ℕ) → plain_exports exports ≡ plain → slice_get exports k ≡ None → slice_get plain k ≡ None
-none_read exports plain k same at = ap (λ (es : List PlainExport). slice_get es k) (sym same) ∙ slice_get-map plain_export exports k ∙ ap (option_map plain_export) at
-
-pub bound_none : (exports : List PlainExport) (e : PlainExport) → bind_to exports e ≡ None → option_and_then (slice_get exports) (bind_to exports e) ≡ None
-bound_none exports e none = ap (option_and_then (slice_get exports)) none
-
-pub bound_at : (exports : List PlainExport) (e : PlainExport) (place : ℕ) → bind_to exports e ≡ Some place → option_and_then (slice_get exports) (bind_to exports e) ≡ slice_get exports place
-bound_at exports e place is = ap (option_and_then (slice_get exports)) is
 
 -- ---- the line of one export
 

@@ -1,22 +1,21 @@
 -- What the bind lines say.
 use Rattle.std.proofs.Common.{◌≡◌, ◌<◌, ◌^◌, ℕ, false, length, get_or, Option, Some, None, refl, sym, ◌∙◌, ap, inl, inr, arith, slice_get, slice_index_or}
 use Rattle.std.specs.List.{All, Contains}
-use Rattle.std.specs.Prelude.{option_and_then}
 use Rattle.std.specs.declared.cmp.Ordering.TheVariants.{Less}
 use Rattle.std.proofs.lemmas.Bool.{cases_Bool, cases_order}
 use Rattle.std.proofs.lemmas.Option.{none-some, same_Some, slice_get_within, slice_get-get_or}
+use Rattle.abi_base.proofs.lemmas.Orders.{nat_less}
+use Rattle.abi_base.proofs.lemmas.Lists.{contains_at}
 use Rattle.abi_types.specs.Exports.{PlainExport}
 use Rattle.abi_types.specs.Libraries.{AreNumbered}
 use Rattle.abi_types.specs.Limits.{symbol_limit}
-use Rattle.elf_bind.specs.Binding.{bind_to}
 use Rattle.cert_text.specs.Certs.{Ascend, IsBelow, first_cmp}
 use Rattle.cert_check.specs.Compatible.{Sides, IsCompared, bound}
 use Rattle.cert_check.specs.Accepted.{line_of}
 use Rattle.pair_compare.specs.certificates.Lines.{line_between, line_from, bind_line, bind_lines}
-use Rattle.pair_compare.proofs.certificates_lemmas.ListLemmas.{contains_at}
 use Rattle.pair_compare.proofs.certificates_lemmas.BindLemmas.{GivenLaw, line_bound}
 use Rattle.pair_compare.proofs.certificates_lemmas.AlikeLemmas.{LineLaws}
-use Rattle.pair_compare.proofs.certificates_lemmas.Orders.{nat_less}
+use Rattle.cert_check.proofs.lemmas.Exports.{bound_place}
 
 -- what stands on the line of an export
 pub record IsBindLine (s : Sides) (k : ℕ) (line : ℕ × ℕ) : Type 0 where
@@ -91,13 +90,6 @@ module _ (given : GivenLaw) (s : Sides) (numbered : AreNumbered s.old.exports) w
   pub binds_ascend : Ascend first_cmp (bind_lines s)
   binds_ascend i j d less inside =
       places_rise i j (get_or (bind_lines s) i d) (get_or (bind_lines s) j d) less (slice_get-get_or (bind_lines s) i d (omega (arith, less, inside))) (slice_get-get_or (bind_lines s) j d inside)
-
--- what an export binds to is one of the new library's
-pub bound_place : (s : Sides) (e f : PlainExport) → bound s e ≡ Some f → (place : ℕ) × (slice_get s.new.exports place ≡ Some f)
-bound_place s e f binds = go (bind_to s.new.exports e) refl where
-  go : (o : Option ℕ) → bind_to s.new.exports e ≡ o → (place : ℕ) × (slice_get s.new.exports place ≡ Some f)
-  go None is = absurd (none-some f (sym (ap (option_and_then (slice_get s.new.exports)) is) ∙ binds))
-  go (Some place) is = (place, sym (ap (option_and_then (slice_get s.new.exports)) is) ∙ binds)
 
 small : symbol_limit ≡ 2 ^ 32
 unfolding symbol_limit

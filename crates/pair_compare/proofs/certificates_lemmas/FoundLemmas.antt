@@ -4,9 +4,9 @@ use Rattle.std.specs.Prelude.{option_to_list, IfSome}
 use Rattle.std.specs.List.{All, Contains}
 use Rattle.std.specs.List.Sorted.{IsPermutation, IsSorted}
 use Rattle.std.specs.Ordering.{eq_by_cmp}
-use Rattle.std.proofs.lemmas.Bool.{cases_Bool, eqb-true, eq-eqb, false≢true}
+use Rattle.std.proofs.lemmas.Bool.{cases_Bool, eq-eqb, false≢true}
 use Rattle.std.proofs.lemmas.List.Sorted.{Contains-permutation, IsPermutation-sym, All-permutation}
-use Rattle.std.proofs.lemmas.List.Elements.{All-nil, All-push}
+use Rattle.std.proofs.lemmas.List.Elements.{All-push}
 use Rattle.std.proofs.lemmas.Option.{none-some, same_Some, slice_get-get_or}
 use Rattle.abi_types.specs.Types.{PlainNode}
 use Rattle.abi_types.specs.Graphs.{IsGraph, node_at}
@@ -16,14 +16,12 @@ use Rattle.pair_compare.specs.certificates.Lines.{IsAlikeEntry, AreAlikeLines}
 use Rattle.pair_compare.specs.certificates.LineLists.{alike_line, alike_below}
 use Rattle.pair_compare.proofs.certificates_lemmas.BindLemmas.{GivenLaw}
 use Rattle.pair_compare.proofs.certificates_lemmas.Orders.{sorted_ascends, first_cmp_total, first_same, line_eq}
+use Rattle.abi_base.proofs.lemmas.Orders.{not_same}
 
 -- what is below a limit stays so with one more
 pub below_pushed : {X : Type 0} (P : X → Type 0) (xs ys : List X) (o : Option X) → All P xs → IfSome o P → ys ≡ xs ++ option_to_list o → All P ys
 below_pushed P xs ys None all item pushed = subst (All P) (sym (pushed ∙ append-nil xs)) all
 below_pushed P xs ys (Some x) all item pushed = subst (All P) (sym pushed) (All-push P xs x all item)
-
-pub below_none : {X : Type 0} (P : X → Type 0) (xs : List X) → xs ≡ [] → All P xs
-below_none P xs none = subst (All P) (sym none) (All-nil P)
 
 pub below_moved : {X : Type 0} (P : X → Type 0) (first found sorted lines : List X) → All P first → found ≡ first → IsPermutation found sorted → lines ≡ sorted → All P lines
 below_moved P first found sorted lines all is moved end = subst (All P) (sym end) (All-permutation P found sorted moved (subst (All P) (sym is) all))
@@ -33,11 +31,8 @@ below_moved P first found sorted lines all is moved end = subst (All P) (sym end
 pub line_own : (c : PlainClasses) (i : ℕ) → rep_of c i ≡ i → alike_line c i ≡ None
 line_own c i same = let own : (rep_of c i == i) ≡ true = eq-eqb (rep_of c i) i same in rw own refl
 
-differs : (a b : ℕ) → (a ≡ b → ⊥) → (a == b) ≡ false
-differs a b other = elim (cases_Bool (a == b)) [ inl same ↦ absurd (other (eqb-true a b same)) | inr unlike ↦ unlike ]
-
 pub line_other : (c : PlainClasses) (i : ℕ) → (rep_of c i ≡ i → ⊥) → alike_line c i ≡ Some ((node_at c.nodes i).entry, (node_at c.nodes (rep_of c i)).entry)
-line_other c i other = let unlike = differs (rep_of c i) i other in rw unlike refl
+line_other c i other = let unlike = not_same (rep_of c i) i other in rw unlike refl
 
 -- as the code has it: the node and what stands for its class by their numbers
 pub line_none : (c : PlainClasses) (number node least n : ℕ) → node ≡ number → least ≡ rep_of c node → n ≡ least → n ≡ number → alike_line c number ≡ None

@@ -2,7 +2,7 @@
 use Rattle.std.proofs.Common.{◌≡◌, ℕ, Bool, true, List, slice_get, Option, Some, None, refl, sym, ◌∙◌, ap}
 use Rattle.std.specs.Prelude.{◌↔◌, is_some}
 use Rattle.abi_types.specs.declared.kind.Way.{Way}
-use Rattle.abi_types.specs.Types.{PlainPart, Member, Enumerator, Target, Element, Outcome, Param, PlainView, PlainNode}
+use Rattle.abi_types.specs.Types.{PlainView, PlainNode}
 use Rattle.abi_types.specs.Graphs.{IsGraph, part_at, view_at, to_of}
 use Rattle.abi_types.specs.ClassLooks.{part_seen, view_seen, Look}
 use Rattle.pair_rules.specs.TypeRules.{breaks}
@@ -13,6 +13,7 @@ use Rattle.pair_rules.specs.Stable.{IsInside}
 use Rattle.pair_rules.specs.Paths.{Path, PathLeadsTo, root_triple}
 use Rattle.pair_rules.specs.Closed.{IsClosed, HoldsRoots}
 use Rattle.type_classes.specs.Alike.{AreAlike}
+use Rattle.pair_rules.proofs.lemmas.Parts.{after-seen}
 
 -- what the rules say of steps and of alike nodes
 pub record RuleLaws : Type 0 where
@@ -27,21 +28,13 @@ pub record RuleLaws : Type 0 where
   pub old_partners : (nodes : List PlainNode) (i j : ℕ) (w : PlainView) (k : ℕ) → AreAlike nodes i j → partner_at (view_at nodes i) w k ≡ partner_at (view_at nodes j) w k
   pub new_partners : (nodes : List PlainNode) (i j : ℕ) (v : PlainView) (k : ℕ) → AreAlike nodes i j → partner_at v (view_at nodes i) k ≡ partner_at v (view_at nodes j) k
 
-some_of : (o : Option ℕ) → is_some o ≡ true → (n : ℕ) × (o ≡ Some n)
-some_of None e = absurd cc
-some_of (Some n) e = (n, refl)
+pub some_node : (o : Option ℕ) → is_some o ≡ true → (n : ℕ) × (o ≡ Some n)
+some_node None e = absurd cc
+some_node (Some n) e = (n, refl)
 
 -- what parts of alike nodes name is alike
 named_alike : (nodes : List PlainNode) (i j k a b : ℕ) → AreAlike nodes i j → to_of (part_at (view_at nodes i) k) ≡ Some a → to_of (part_at (view_at nodes j) k) ≡ Some b → AreAlike nodes a b
 named_alike nodes i j k a b (r, is, h) to_a to_b = (r, is, is.parts i j k a b h to_a to_b)
-
-after-seen : (f : ℕ → ℕ) (way : Way) (p : PlainPart) → after way (part_seen f p) ≡ after way p
-after-seen f way (Member name bit width to) = refl
-after-seen f way (Enumerator name value) = refl
-after-seen f way (Target to) = refl
-after-seen f way (Element to) = refl
-after-seen f way (Outcome to) = refl
-after-seen f way (Param to) = refl
 
 module _ (laws : RuleLaws) where
   -- and it is reached by the same way
@@ -68,8 +61,8 @@ module _ (laws : RuleLaws) where
       let here : partner_at (view_at t.old x.old) (view_at t.new x.new) i ≡ Some (i, j) =
       laws.old_partners t.old x.old z.old (view_at t.new x.new) i old ∙ laws.new_partners t.new x.new z.new (view_at t.old z.old) i new ∙ there in
       let p = (laws.partners (view_at t.old x.old) (view_at t.new x.new) i j).0 here in
-      let a = some_of (to_of (part_at (view_at t.old x.old) i)) p.old_named in
-      let b = some_of (to_of (part_at (view_at t.new x.new) j)) p.new_named in
+      let a = some_node (to_of (part_at (view_at t.old x.old) i)) p.old_named in
+      let b = some_node (to_of (part_at (view_at t.new x.new) j)) p.new_named in
       let to : Triple = record { old = a.0; new = b.0; way = after x.way (part_at (view_at t.old x.old) i) } in
       record {
         to = to;

@@ -7,6 +7,7 @@ use Rattle.std.specs.declared.cmp.Ordering.{Ordering}
 use Rattle.std.specs.declared.cmp.Ordering.TheVariants.{Less, Equal, Greater}
 use Rattle.std.proofs.lemmas.Cmp.{ranked, nat_cmp_total, on_total, then_total}
 use Rattle.std.proofs.lemmas.Map.Keys.{IsDistinct-from_apart, Less-from_sorted}
+use Rattle.abi_base.proofs.lemmas.Orders.{nat_equal, then_equal, nat_less}
 use Rattle.abi_types.specs.declared.kind.Way.{Way}
 use Rattle.abi_types.specs.declared.kind.Way.TheVariants.{Direct, Pointer}
 use Rattle.abi_base.proofs.lemmas.Sorts.{strictly_from_sort}
@@ -23,17 +24,6 @@ pub pair_cmp_total : IsTotalOrder pair_cmp
 pair_cmp_total = then_total (then_total (on_total (λ (x : PairLine). x.0) nat_cmp_total) (on_total (λ (x : PairLine). x.1) nat_cmp_total)) (on_total (λ (x : PairLine). is_pointer x.2) bool_cmp_total)
 
 -- ---- equal by an order
-
-pub then_equal : (a b : Ordering) → ordering_then a b ≡ Equal → (a ≡ Equal) × (b ≡ Equal)
-then_equal Less b e = absurd cc
-then_equal Equal b e = (refl, e)
-then_equal Greater b e = absurd cc
-
-pub nat_equal : (x y : ℕ) → nat_cmp x y ≡ Equal → x ≡ y
-nat_equal x y e = ranked x y Equal (sym e)
-
-pub nat_less : (x y : ℕ) → x < y → nat_cmp x y ≡ Less
-nat_less x y less = sym (nat_cmp_is x y Less less)
 
 bool_equal : (x y : Bool) → bool_cmp x y ≡ Equal → x ≡ y
 bool_equal false false e = refl

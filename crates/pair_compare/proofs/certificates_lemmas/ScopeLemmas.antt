@@ -3,7 +3,7 @@ use Rattle.std.proofs.Common.{◌≡◌, ◌<◌, ◌≤◌, ℕ, false, List, l
 use Rattle.std.specs.Prelude.{◌↔◌}
 use Rattle.std.specs.List.{Contains}
 use Rattle.std.proofs.lemmas.Bool.{cases_lt}
-use Rattle.std.proofs.lemmas.List.{get_or_past}
+use Rattle.abi_base.proofs.lemmas.Lists.{contains_at}
 use Rattle.abi_types.specs.declared.kind.Way.{Way}
 use Rattle.abi_types.specs.declared.kind.Way.TheVariants.{Direct, Pointer}
 use Rattle.abi_types.specs.Types.{PlainNode}
@@ -11,16 +11,12 @@ use Rattle.abi_types.specs.Graphs.{node_at}
 use Rattle.abi_types.specs.ClassLooks.{Look}
 use Rattle.pair_rules.specs.Steps.{PlainRoot, marks_at}
 use Rattle.type_classes.specs.Alike.{AreAlike}
-use Rattle.type_classes.specs.Classes.{PlainClasses, AreSound, AreCoarsest, rep_in, rep_of}
+use Rattle.type_classes.specs.Classes.{PlainClasses, AreSound, AreCoarsest, rep_of}
 use Rattle.pair_explorer.specs.Scopes.{IsScope, AreEvenMarks}
 use Rattle.cert_check.specs.Compatible.{Sides, typed_roots, task_of}
 use Rattle.cert_check.specs.TypedPairs.{IsTypedPair, HasTypes}
 use Rattle.pair_compare.specs.certificates.Searches.{scope_of, AreMarksOf}
-use Rattle.pair_compare.proofs.certificates_lemmas.ListLemmas.{contains_at}
-
-rep_past : (reps : List ℕ) (x : ℕ) → length reps ≤ x → rep_in reps x ≡ x
-unfolding rep_in
-rep_past reps x past = get_or_past reps x x past
+use Rattle.type_classes.proofs.lemmas.Reps.{rep_in-past}
 
 labels_same : (nodes : List PlainNode) (a b : ℕ) → AreAlike nodes a b → (node_at nodes a).labels ≡ (node_at nodes b).labels
 labels_same nodes a b (r, is, h) = ap (λ (l : Look). l.labels) (is.shapes a b h)
@@ -38,7 +34,7 @@ module _ (s : Sides) (c : PlainClasses) (is : c.nodes ≡ s.old.graph) (sound : 
       marks.even a b way (omega (arith, len, a_in)) (omega (arith, len, b_in)) (labels_same s.old.graph a b alike)
 
   rep_outside : (a : ℕ) → length c.nodes ≤ a → rep_of c a ≡ a
-  rep_outside a past = rep_past c.reps a (omega (arith, sound.each, past))
+  rep_outside a past = rep_in-past c.reps a (omega (arith, sound.each, past))
 
   pub even_marks : (way : Way) → length (marks_at (task_of s) way) ≡ length s.old.graph → AreEvenMarks c (marks_at (task_of s) way)
   even_marks way each = record {

@@ -9,6 +9,7 @@ use Rattle.std.proofs.lemmas.Bool.{cases_Bool}
 use Rattle.std.proofs.lemmas.List.{take_more, map-append}
 use Rattle.std.proofs.lemmas.List.Sorted.{Contains-permutation, IsPermutation-sym}
 use Rattle.std.proofs.lemmas.Option.{slice_get_within, slice_get-get_or, slice_get-map, get_or_from_slice_get}
+use Rattle.abi_base.proofs.lemmas.Lists.{contains_at, at_contains, map_source}
 use Rattle.abi_types.specs.declared.kind.Way.{Way}
 use Rattle.abi_types.specs.Types.{PlainNode}
 use Rattle.abi_types.specs.Graphs.{IsGraph, node_at}
@@ -27,7 +28,6 @@ use Rattle.cert_check.specs.Compatible.{Sides, task_of}
 use Rattle.pair_compare.specs.certificates.Lines.{IsReachedPair, ArePairLines}
 use Rattle.pair_compare.specs.certificates.LineLists.{pair_line}
 use Rattle.pair_compare.specs.certificates.Searches.{scope_of, AreClassesOf, IsUnbroken}
-use Rattle.pair_compare.proofs.certificates_lemmas.ListLemmas.{contains_at, at_contains, map_source}
 use Rattle.pair_compare.proofs.certificates_lemmas.Orders.{sorted_ascends, pair_cmp_total, pair_same, pair_eq}
 use Rattle.pair_compare.proofs.certificates_lemmas.FoundLemmas.{ClassLaws}
 

@@ -5,10 +5,12 @@ use Rattle.std.specs.List.{list_any}
 use Rattle.std.specs.Option.{option_map, option_map_or}
 use Rattle.std.specs.Str.{bytes_eq}
 use Rattle.std.proofs.Math.Dec.{eqb-suc-zero}
-use Rattle.std.proofs.lemmas.Bool.{cases_Bool, false≢true, or_cases}
+use Rattle.std.proofs.lemmas.Bool.{cases_Bool}
 use Rattle.std.proofs.lemmas.List.{length-map}
 use Rattle.std.proofs.lemmas.Map.Keys.{any_passes_from_place}
 use Rattle.std.proofs.lemmas.Option.{slice_get-map, get_or_from_slice_get}
+use Rattle.abi_base.proofs.lemmas.Lists.{any_found}
+use Rattle.abi_base.proofs.lemmas.Contained.{in_none, at_front}
 use Rattle.abi_types.specs.declared.export.Export.{Export}
 use Rattle.abi_types.specs.Exports.{PlainExport}
 use Rattle.abi_types.specs.Graphs.{node_of}
@@ -21,17 +23,8 @@ use Rattle.report.specs.declared.row.Row.{Row}
 use Rattle.cert_check.specs.Compatible.{Sides, bound}
 use Rattle.pair_compare.specs.reports.ExportRows.{soname_rows, gone_rows, changed_rows, rows_between, has_name, rows_for, rows_from, rows_at, rows_upto, export_rows}
 use Rattle.pair_compare.specs.reports.PathTexts.{label_at, type_of}
-use Rattle.pair_compare.proofs.reports_lemmas.MapLemmas.{in_front, none_in}
 use Rattle.pair_compare.proofs.reports_lemmas.NoneLemmas.{rows_upto-more, rows_upto-none}
-use Rattle.pair_compare.proofs.reports_lemmas.SameRows.{same_bytes, bytes_itself}
-
--- ---- as plain data
-
-pub export_read : (exports : List Export) (plain : List PlainExport) (k : ℕ) (e : Export) → plain_exports exports ≡ plain → slice_get exports k ≡ Some e → slice_get plain k ≡ Some (plain_export e)
-export_read exports plain k e same at = ap (λ (es : List PlainExport). slice_get es k) (sym same) ∙ slice_get-map plain_export exports k ∙ ap (option_map plain_export) at
-
-pub none_read : (exports : List Export) (plain : List PlainExport) (k : ℕ) → plain_exports exports ≡ plain → slice_get exports k ≡ None → slice_get plain k ≡ None
-none_read exports plain k same at = ap (λ (es : List PlainExport). slice_get es k) (sym same) ∙ slice_get-map plain_export exports k ∙ ap (option_map plain_export) at
+use Rattle.abi_base.proofs.lemmas.Orders.{bytes_eq-is_same, bytes_eq-refl}
 
 -- ---- labels and types
 
@@ -118,30 +111,21 @@ exports_all s start rows exports k are same low high =
 
 -- ---- names
 
--- one that passes, where any does
-any_found : {X : Type 0} (p : X → Bool) (xs : List X) → list_any p xs ≡ true → (n : ℕ) × (x : X) × (slice_get xs n ≡ Some x) × (p x ≡ true)
-any_found p [] h = absurd (false≢true h)
-any_found p (x ∷ xs) h =
-    elim (or_cases (p x) (list_any p xs) h) [
-      | inl here ↦ (0, x, refl, here)
-      | inr later ↦ let f = any_found p xs later in (suc f.0, f.1, f.2, f.3)
-    ]
-
 -- where the name of no export is found, no export has it
 no_name : (exports : List PlainExport) (name : List ℕ) → AreNamed exports name [] → list_any (is_named name) exports ≡ false
 no_name exports name named =
     elim (cases_Bool (list_any (is_named name) exports)) [
       | inl some ↦
           let f = any_found (is_named name) exports some in
-          let here : IsNamed exports name f.0 = record { exported = f.1; at = f.2; named = same_bytes f.1.name name f.3 } in
-          absurd (none_in f.0 ((named.exact f.0).1 here))
+          let here : IsNamed exports name f.0 = record { exported = f.1; at = f.2; named = bytes_eq-is_same f.1.name name f.3 } in
+          absurd (in_none f.0 ((named.exact f.0).1 here))
       | inr none ↦ none
     ]
 
 a_name : (exports : List PlainExport) (name : List ℕ) (place : ℕ) (places : List ℕ) → AreNamed exports name (place ∷ places) → list_any (is_named name) exports ≡ true
 a_name exports name place places named =
-    let here = (named.exact place).0 (in_front place places) in
-    any_passes_from_place (is_named name) exports place here.exported here.at (ap (λ (n : List ℕ). bytes_eq n name) here.named ∙ bytes_itself name)
+    let here = (named.exact place).0 (at_front place places) in
+    any_passes_from_place (is_named name) exports place here.exported here.at (ap (λ (n : List ℕ). bytes_eq n name) here.named ∙ bytes_eq-refl name)
 
 pub names_there : (exports : List PlainExport) (name : List ℕ) (places : List ℕ) (empty : Bool) → AreNamed exports name places → empty ≡ (length places == 0) → not empty ≡ list_any (is_named name) exports
 names_there exports name [] empty named is = ap not is ∙ sym (no_name exports name named)

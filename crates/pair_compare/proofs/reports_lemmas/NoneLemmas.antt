@@ -3,6 +3,7 @@ use Rattle.std.proofs.Common.{◌≡◌, ◌<◌, ℕ, zero, suc, ◌+◌, Bool,
 use Rattle.std.specs.Prelude.{◌↔◌, slice_index_or}
 use Rattle.std.proofs.lemmas.Bool.{cases_Bool, cases_lt, false≢true}
 use Rattle.std.proofs.lemmas.Option.{same_Some, none-some, slice_get_within}
+use Rattle.abi_base.proofs.lemmas.Lists.{left-nil, right-nil}
 use Rattle.abi_types.specs.declared.rule.Rule.TheVariants.{ExportKind, ExportSize, ExportType}
 use Rattle.abi_types.specs.Exports.{PlainExport}
 use Rattle.report.specs.declared.row.Row.{Row}
@@ -11,9 +12,12 @@ use Rattle.pair_rules.specs.Closed.{AreCompatible}
 use Rattle.elf_bind.specs.Exports.{same_name}
 use Rattle.cert_check.specs.Compatible.{Sides, IsCompared, IsBound, IsCompatible, KeepsExport, bound, task_of}
 use Rattle.pair_compare.specs.reports.ExportRows.{soname_rows, export_row, row_if, gone_rows, changed_rows, rows_between, has_name, rows_for, rows_from, rows_at, rows_upto, export_rows}
-use Rattle.pair_compare.proofs.reports_lemmas.MapLemmas.{left-nil, right-nil, both-nil}
-use Rattle.pair_compare.proofs.reports_lemmas.RangeLemmas.{flat_map-range_more}
-use Rattle.pair_compare.proofs.reports_lemmas.SameRows.{same_bytes, bytes_itself}
+use Rattle.abi_types.proofs.lemmas.Ranges.{flat_map-range_more}
+use Rattle.abi_base.proofs.lemmas.Orders.{bytes_eq-is_same, bytes_eq-refl}
+
+both-nil : {X : Type 0} (xs ys : List X) → xs ≡ [] → ys ≡ [] → xs ++ ys ≡ []
+both-nil [] ys a b = b
+both-nil (x ∷ xs) ys a b = cc
 
 -- ---- sonames
 
@@ -21,11 +25,11 @@ sonames_equal : (old new : Option (List ℕ)) → same_name old new ≡ true →
 sonames_equal None None same = refl
 sonames_equal None (Some n) same = absurd cc
 sonames_equal (Some o) None same = absurd cc
-sonames_equal (Some o) (Some n) same = ap (λ x. Some x) (same_bytes o n same)
+sonames_equal (Some o) (Some n) same = ap (λ x. Some x) (bytes_eq-is_same o n same)
 
 equal_sonames : (old new : Option (List ℕ)) → old ≡ new → same_name old new ≡ true
 equal_sonames None new same = subst (λ (o : Option (List ℕ)). same_name None o ≡ true) same refl
-equal_sonames (Some o) new same = subst (λ (n : Option (List ℕ)). same_name (Some o) n ≡ true) same (bytes_itself o)
+equal_sonames (Some o) new same = subst (λ (n : Option (List ℕ)). same_name (Some o) n ≡ true) same (bytes_eq-refl o)
 
 no_soname_row : (old new : Option (List ℕ)) → (soname_rows old new ≡ []) ↔ (old ≡ new)
 unfolding soname_rows

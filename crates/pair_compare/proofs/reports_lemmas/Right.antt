@@ -3,9 +3,9 @@ use Rattle.std.proofs.Common.{◌≡◌, ◌<◌, ◌≤◌, ℕ, true, false, L
 use Rattle.std.specs.List.{Contains}
 use Rattle.std.proofs.lemmas.Bool.{cases_order}
 use Rattle.std.proofs.lemmas.Option.{same_Some}
+use Rattle.abi_base.proofs.lemmas.Contained.{in_map, in_map_cases}
 use Rattle.abi_base.specs.Lists.{AreFirsts, HasSame}
-use Rattle.abi_base.proofs.lemmas.Lists.{AreFirsts-all}
-use Rattle.abi_types.specs.declared.kind.Way.{Way}
+use Rattle.abi_base.proofs.lemmas.Lists.{AreFirsts-all, contains_at, at_contains, map_source}
 use Rattle.abi_types.specs.declared.kind.Way.TheVariants.{Direct}
 use Rattle.abi_types.specs.Types.{PlainNode}
 use Rattle.abi_types.specs.Rules.{rule_place}
@@ -24,21 +24,15 @@ use Rattle.pair_explorer.specs.ByClass.{IsToldBy, IsToldBefore}
 use Rattle.pair_compare.specs.reports.Findings.{Finding, detail_at}
 use Rattle.pair_compare.specs.reports.Reports.{AreRight, IsTrueBreak, IsFound, IsFoundBefore, IsAlikeTo, LeadsTo, IsOwn}
 use Rattle.pair_compare.specs.reports.TypeFindings.{IsCoarse, found_of, finding_of, same_told, told_breaks, findings_of}
-use Rattle.pair_compare.proofs.reports_lemmas.ListLemmas.{contains_at, at_contains, map_source}
 use Rattle.pair_compare.proofs.reports_lemmas.AlikeDetails.{same_detail}
 use Rattle.pair_compare.proofs.reports_lemmas.BelowLaws.{PathLaws, ExplorationLaws, TextLaws}
-use Rattle.pair_compare.proofs.reports_lemmas.MapLemmas.{Contains-mapped, Contains-map_source}
 use Rattle.pair_compare.proofs.reports_lemmas.VisitLemmas.{visit_of}
 use Rattle.pair_compare.proofs.reports_lemmas.SameRows.{IsSameRow, IsSameRow-trans, same_row-parts, same_row-from, same_row-itself, same_row-turned}
+use Rattle.pair_rules.proofs.lemmas.Triples.{triple_eq}
 
 pub finding_of-at : (vs : List Visit) (p : ℕ × Broken) (v : Visit) → slice_get vs p.0 ≡ Some v → finding_of vs p ≡ record { path = path_at vs p.0; old = v.old; new = v.new; broken = p.1 }
 unfolding finding_of
 finding_of-at vs p v at = ap (found_of (path_at vs p.0) p.1) at
-
-triple_eq : (x y : Triple) → x.old ≡ y.old → x.new ≡ y.new → x.way ≡ y.way → x ≡ y
-triple_eq x y old new way =
-    let mk : ℕ → ℕ → Way → Triple = λ a b w. record { old = a; new = b; way = w } in
-    ap (λ a. mk a x.new x.way) old ∙ ap (λ b. mk y.old b x.way) new ∙ ap (mk y.old y.new) way
 
 module _ (paths : PathLaws) (below : ExplorationLaws) (texts : TextLaws) (s : Scope) (vs : List Visit) (broken : List (ℕ × Broken)) (coarse : IsCoarse s) (explored : IsExploration s vs broken) where
   kept : List (ℕ × Broken)
@@ -132,7 +126,7 @@ module _ (paths : PathLaws) (below : ExplorationLaws) (texts : TextLaws) (s : Sc
 
   kept_from : (f : Finding) → Contains (map (finding_of vs) kept) f → IsKept f
   kept_from f c =
-      let m = Contains-map_source (finding_of vs) kept f c in
+      let m = in_map_cases (finding_of vs) kept f c in
       let k = at_contains kept m.0 m.1 in
       record { place = k.0; item = m.0; kept_at = k.1; is = m.2; source = is_kept k.0 m.0 k.1 }
 
@@ -166,7 +160,7 @@ module _ (paths : PathLaws) (below : ExplorationLaws) (texts : TextLaws) (s : Sc
       let near = alike_to x h.number h.visit (leads_inside reachable.0 x reachable.1) h.visited h.is in
       record {
         finding = g;
-        among = Contains-mapped (finding_of vs) kept h.first.item (contains_at kept h.first.place h.first.item h.first.at);
+        among = in_map (finding_of vs) kept h.first.item (contains_at kept h.first.place h.first.item h.first.at);
         alike = record { old = subst (AreAlike s.task.old x.old) same.old near.old; new = subst (AreAlike s.task.new x.new) same.new near.new };
         rule = sym same.rule;
         detail = sym same.detail ∙ sym (detail_to x h.visit.old h.visit.new b near);

@@ -4,7 +4,7 @@ use Rattle.std.specs.Prelude.{◌↔◌}
 use Rattle.std.specs.List.{Contains}
 use Rattle.std.proofs.lemmas.Option.{none-some}
 use Rattle.abi_base.specs.Lists.{firsts_after}
-use Rattle.abi_base.proofs.lemmas.Lists.{AreFirsts-all}
+use Rattle.abi_base.proofs.lemmas.Lists.{AreFirsts-all, contains_at, map-nil, map_source}
 use Rattle.abi_types.specs.Graphs.{IsGraph}
 use Rattle.abi_types.specs.declared.rule.Rule.{Rule}
 use Rattle.abi_types.specs.Rules.{rule_place}
@@ -20,9 +20,7 @@ use Rattle.cert_check.specs.Compatible.{Sides, task_of}
 use Rattle.pair_compare.specs.reports.Findings.{Finding}
 use Rattle.pair_compare.specs.reports.Reports.{AreRight, AreOneRow, AreRightRows, row_of}
 use Rattle.pair_compare.specs.reports.TypeFindings.{IsExplored, finding_of, findings_of, same_told, told_breaks, type_rows}
-use Rattle.pair_compare.proofs.reports_lemmas.ListLemmas.{contains_at, map_source}
 use Rattle.pair_compare.proofs.reports_lemmas.BelowLaws.{PathLaws, ExplorationLaws, TextLaws}
-use Rattle.pair_compare.proofs.reports_lemmas.MapLemmas.{map-nil}
 use Rattle.pair_compare.proofs.reports_lemmas.Right.{are_right, once}
 use Rattle.pair_compare.proofs.reports_lemmas.SameRows.{IsSameRow, same_row-itself, same_row-turned}
 

@@ -7,18 +7,7 @@ use Rattle.abi_types.specs.declared.rule.Rule.{Rule}
 use Rattle.pair_rules.specs.Steps.{Task}
 use Rattle.pair_compare.specs.reports.Findings.{Finding, detail_at}
 use Rattle.pair_compare.specs.reports.TypeFindings.{same_row}
-
-pub same_bytes : (a b : List ℕ) → bytes_eq a b ≡ true → a ≡ b
-same_bytes [] [] e = refl
-same_bytes [] (y ∷ b) e = absurd cc
-same_bytes (x ∷ a) [] e = absurd cc
-same_bytes (x ∷ a) (y ∷ b) e =
-    let parts = and_parts (x == y) (bytes_eq a b) e in
-    ap (λ z. z ∷ a) (eqb-true x y parts.0) ∙ ap (λ c. y ∷ c) (same_bytes a b parts.1)
-
-pub bytes_itself : (a : List ℕ) → bytes_eq a a ≡ true
-bytes_itself [] = refl
-bytes_itself (x ∷ a) = and_from (x == x) (bytes_eq a a) (eq-eqb x x refl) (bytes_itself a)
+use Rattle.abi_base.proofs.lemmas.Orders.{bytes_eq-is_same, bytes_eq-refl}
 
 pub record IsSameRow (t : Task) (f g : Finding) : Type 0 where
   pub rule : f.broken.rule ≡ g.broken.rule
@@ -42,7 +31,7 @@ same_row-parts places t f g e =
       rule = places f.broken.rule g.broken.rule (eqb-true _ _ c.0);
       old = eqb-true f.old g.old c.1;
       new = eqb-true f.new g.new b.1;
-      detail = same_bytes _ _ a.1;
+      detail = bytes_eq-is_same _ _ a.1;
     }
 
 module _ (t : Task) where
@@ -50,7 +39,7 @@ module _ (t : Task) where
   unfolding same_row
   same_row-from f g s =
       and_from _ _ (and_from _ _ (and_from _ _ (eq-eqb _ _ (ap rule_place s.rule)) (eq-eqb f.old g.old s.old)) (eq-eqb f.new g.new s.new))
-      (ap (bytes_eq (detail_at t f.old f.new f.broken)) (sym s.detail) ∙ bytes_itself (detail_at t f.old f.new f.broken))
+      (ap (bytes_eq (detail_at t f.old f.new f.broken)) (sym s.detail) ∙ bytes_eq-refl (detail_at t f.old f.new f.broken))
 
   pub same_row-itself : (f : Finding) → same_row t f f ≡ true
   same_row-itself f = same_row-from f f (record { rule = refl; old = refl; new = refl; detail = refl })

@@ -6,8 +6,9 @@ use Rattle.std.proofs.lemmas.Bool.{cases_Bool}
 use Rattle.std.proofs.lemmas.List.{take_more, take_all, map-append}
 use Rattle.std.proofs.lemmas.List.Elements.{Contains-get_or}
 use Rattle.std.proofs.lemmas.Option.{slice_get-get_or}
+use Rattle.abi_base.proofs.lemmas.Bools.{not_is_true, not_is_false}
 use Rattle.abi_base.specs.Lists.{with_first, firsts_after, firsts}
-use Rattle.abi_base.proofs.lemmas.Lists.{AreFirsts-all}
+use Rattle.abi_base.proofs.lemmas.Lists.{AreFirsts-all, contains_at, list_any-map, map-map}
 use Rattle.abi_types.specs.declared.rule.Rule.TheVariants.{LibrarySoname}
 use Rattle.abi_types.specs.Graphs.{node_at, view_at}
 use Rattle.abi_types.specs.Rules.{rule_place}
@@ -16,10 +17,9 @@ use Rattle.report.specs.Details.{type_detail}
 use Rattle.report.specs.Values.{part_of, type_is, type_was}
 use Rattle.report.specs.declared.row.Row.{Row}
 use Rattle.pair_rules.specs.declared.rules.Broken.{Broken}
-use Rattle.pair_rules.specs.Paths.{Path, Then}
 use Rattle.pair_rules.specs.Steps.{Task}
 use Rattle.pair_explorer.specs.declared.visits.Visit.{Visit}
-use Rattle.pair_explorer.specs.Routes.{followed, path_of, path_at}
+use Rattle.pair_explorer.specs.Routes.{path_of, path_at}
 use Rattle.cert_check.specs.Compatible.{Sides, task_of}
 use Rattle.pair_compare.specs.reports.Findings.{export_of, detail_at}
 use Rattle.pair_compare.specs.reports.Keys.{PlainKey, plain_key, key_of, same_key}
@@ -27,10 +27,10 @@ use Rattle.pair_compare.specs.reports.PathTexts.{label_at, steps_text}
 use Rattle.pair_compare.specs.reports.Readable.{IsReadable, AreReadable}
 use Rattle.pair_compare.specs.reports.Reports.{row_of}
 use Rattle.pair_compare.specs.reports.TypeFindings.{finding_of, found_of, same_row, same_told, told_breaks, type_rows}
-use Rattle.pair_compare.proofs.reports_lemmas.ListLemmas.{contains_at}
-use Rattle.pair_compare.proofs.reports_lemmas.MapLemmas.{map-map}
 use Rattle.pair_compare.proofs.reports_lemmas.RowLemmas.{PlacesAreOwn}
 use Rattle.pair_compare.proofs.reports_lemmas.SameRows.{same_row-itself, same_row-turned}
+use Rattle.pair_compare.proofs.lemmas.Paths.{export_of-followed}
+use Rattle.pair_rules.proofs.lemmas.Lists.{firsts_after-more}
 
 abbrev pub Key : Type 0
 Key = ℕ × ℕ × ℕ × Vec ℕ Global
@@ -38,26 +38,6 @@ Key = ℕ × ℕ × ℕ × Vec ℕ Global
 -- the test of a key
 abbrev pub at_key : Key → Key → Bool
 at_key k q = same_key (plain_key k) (plain_key q)
-
-from_not : (b : Bool) → not b ≡ true → b ≡ false
-from_not true e = absurd cc
-from_not false e = refl
-
-from_not_not : (b : Bool) → not b ≡ false → b ≡ true
-from_not_not true e = refl
-from_not_not false e = absurd cc
-
-firsts_after-more : {X : Type 0} (same : X → X → Bool) (kept xs : List X) (x : X) → firsts_after same kept (xs ++ x ∷ []) ≡ with_first same (firsts_after same kept xs) x
-unfolding firsts_after
-firsts_after-more same kept [] x = refl
-firsts_after-more same kept (y ∷ xs) x = firsts_after-more same (with_first same kept y) xs x
-
-list_any-map : {X Y : Type 0} (p : Y → Bool) (f : X → Y) (xs : List X) → list_any (λ x. p (f x)) xs ≡ list_any p (map f xs)
-list_any-map p f [] = refl
-list_any-map p f (x ∷ xs) = elim (cases_Bool (p (f x))) [
-  | inl here ↦ rw here refl
-  | inr other ↦ rw other (list_any-map p f xs)
-]
 
 -- what an index out of a list of breaks gives past its end
 abbrev pub no_break : ℕ × Broken
@@ -118,7 +98,7 @@ module _ (t : Task) (vs : List Visit) where
     pub IsTelling-more : (more : List Key) (added : Bool) → added ≡ not (list_any (at_key key) keys) → added ≡ true → more ≡ cond (list_any (at_key key) keys) keys (keys ++ key ∷ []) → IsTelling breaks (i + 1) more (kept ++ get_or breaks i no_break ∷ [])
     unfolding p
     IsTelling-more more added is_added yes' inserted =
-        let new : list_any (at_key key) keys ≡ false = from_not (list_any (at_key key) keys) (sym is_added ∙ yes') in
+        let new : list_any (at_key key) keys ≡ false = not_is_true (list_any (at_key key) keys) (sym is_added ∙ yes') in
         let pushed : more ≡ keys ++ key ∷ [] = inserted ∙ ap (λ b. cond b keys (keys ++ key ∷ [])) new in
         let other = sym (any_key p key keys kept was.keyed key_is) ∙ new in
         record {
@@ -129,7 +109,7 @@ module _ (t : Task) (vs : List Visit) where
     pub IsTelling-still : (more : List Key) (added : Bool) → added ≡ not (list_any (at_key key) keys) → added ≡ false → more ≡ cond (list_any (at_key key) keys) keys (keys ++ key ∷ []) → IsTelling breaks (i + 1) more kept
     unfolding p
     IsTelling-still more added is_added no' inserted =
-        let there : list_any (at_key key) keys ≡ true = from_not_not (list_any (at_key key) keys) (sym is_added ∙ no') in
+        let there : list_any (at_key key) keys ≡ true = not_is_false (list_any (at_key key) keys) (sym is_added ∙ no') in
         let still : more ≡ keys = inserted ∙ ap (λ b. cond b keys (keys ++ key ∷ [])) there in
         let same = sym (any_key p key keys kept was.keyed key_is) ∙ there in
         record { are = sym (grown ∙ ap (λ b. cond b kept (kept ++ p ∷ [])) same); keyed = ap (map plain_key) still ∙ was.keyed }
@@ -144,10 +124,6 @@ kept_readable places s vs broken kept k are is lt =
     let at = sym (ap (λ (xs : List (ℕ × Broken)). slice_get xs k) is) ∙ slice_get-get_or kept k no_break lt in
     let source = own.from k (get_or kept k no_break) at in
     are.each (get_or kept k no_break) (contains_at broken source.0 (get_or kept k no_break) source.1)
-
-export_of-followed : (path : Path) (parts : List ℕ) → export_of (followed path parts) ≡ export_of path
-export_of-followed path [] = refl
-export_of-followed path (part ∷ parts) = export_of-followed (Then path part) parts
 
 -- the row of a break between two types, with the texts that lead to them and their entries
 abbrev pub between_types : Broken → List ℕ → List ℕ → PlainView → PlainView → ℕ → ℕ → Row
@@ -197,4 +173,4 @@ rows_more s vs start rows more kept i row so_far lt is pushed =
 pub rows_all : (s : Sides) (vs : List Visit) (start rows : List Row) (kept broken : List (ℕ × Broken)) (i : ℕ) → rows ≡ rows_with s vs start (take i kept) → kept ≡ told_breaks (task_of s) vs broken → length kept ≤ i → rows ≡ start ++ type_rows s vs broken
 unfolding type_rows
 rows_all s vs start rows kept broken i are is past =
-    are ∙ ap (rows_with s vs start) (take_all i kept past) ∙ ap (λ rs. start ++ rs) (map-map (row_of s) (finding_of vs) kept) ∙ ap (λ ps. start ++ map (row_of s) (map (finding_of vs) ps)) is
+    are ∙ ap (rows_with s vs start) (take_all i kept past) ∙ ap (λ rs. start ++ rs) (sym (map-map (row_of s) (finding_of vs) kept)) ∙ ap (λ ps. start ++ map (row_of s) (map (finding_of vs) ps)) is

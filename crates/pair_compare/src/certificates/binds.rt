@@ -30,7 +30,7 @@ fn export_count<Ix: Index>(library: &Library<Ix>) -> usize
 }
 
 // The export of a library at a position.
-#[tactic(auto, using(crate::proofs::certificates_lemmas::BindLemmas::export_read))]
+#[tactic(auto, using(cert_check::proofs::lemmas::Exports::export_read))]
 fn export_at<'x, 'o, Ix: Index>(library: &'x Library<'o, Ix>, k: usize) -> &'x Export<'o>
     requires { k < length library.now.exports }
     ensures { slice_get library.now.exports k ≡ Some (plain_export result.now) }
@@ -40,7 +40,7 @@ fn export_at<'x, 'o, Ix: Index>(library: &'x Library<'o, Ix>, k: usize) -> &'x E
 }
 
 // The export of a library at a position, where there is one.
-#[tactic(auto, using(crate::proofs::certificates_lemmas::BindLemmas::none_read))]
+#[tactic(auto, using(cert_check::proofs::lemmas::Exports::none_read))]
 fn find_at<'x, 'n, Ix: Index>(library: &'x Library<'n, Ix>, place: usize) -> Option<&'x Export<'n>>
     ensures { MatchOption result (slice_get library.now.exports place ≡ None) (λ export. slice_get library.now.exports place ≡ Some (plain_export export.now)) }
 {
@@ -48,7 +48,7 @@ fn find_at<'x, 'n, Ix: Index>(library: &'x Library<'n, Ix>, place: usize) -> Opt
 }
 
 // The new export that an old one binds to.
-#[tactic(auto, using(crate::proofs::certificates_lemmas::BindLemmas::bound_none, crate::proofs::certificates_lemmas::BindLemmas::bound_at))]
+#[tactic(auto, using(cert_check::proofs::lemmas::Exports::bound_none, cert_check::proofs::lemmas::Exports::bound_at))]
 fn bound_to<'x, 'n>(export: &Export, new: &'x Library<'n, NewIx>) -> Option<&'x Export<'n>>
     ensures { MatchOption result (option_and_then (slice_get new.now.exports) (bind_to new.now.exports (plain_export export.now)) ≡ None)
         (λ partner. option_and_then (slice_get new.now.exports) (bind_to new.now.exports (plain_export export.now)) ≡ Some (plain_export partner.now)) }

@@ -11,18 +11,19 @@ ghost use Rattle.pair_compare.specs.reports.ExportRows as export_rows_spec;
 
 use crate::bound_pair::BoundPair;
 use crate::reports::lookups::{export_at, is_compared, partner};
-use abi_base::{List, NoMemory};
+use crate::reports::row_list::RowList;
+use abi_base::NoMemory;
 use abi_types::{Export, Library, NewIx, Rule};
 use elf_bind::same_name;
 use pair_rules::export_breaks;
-use report::{Row, export_row, soname_row};
+use report::{export_row, soname_row};
 use std::alloc::Global;
 
 // Adds the row on sonames, if they differ.
 #[tactic(auto, unfolding(crate::specs::reports::ExportRows::soname_rows))]
 fn push_soname_rows(
     alloc: Global,
-    rows: &mut List<Row>,
+    rows: &mut RowList,
     old: Option<&[u8]>,
     new: Option<&[u8]>,
 ) -> Result<(), NoMemory>
@@ -41,7 +42,7 @@ fn push_soname_rows(
 #[tactic(auto, unfolding(crate::specs::reports::ExportRows::gone_rows))]
 fn push_gone(
     alloc: Global,
-    rows: &mut List<Row>,
+    rows: &mut RowList,
     export: &Export,
     is_named: bool,
 ) -> Result<(), NoMemory>
@@ -60,7 +61,7 @@ fn push_gone(
 // Adds the row of a rule, if it is broken.
 fn push_if(
     alloc: Global,
-    rows: &mut List<Row>,
+    rows: &mut RowList,
     is_broken: bool,
     rule: Rule,
     old: &Export,
@@ -79,7 +80,7 @@ fn push_if(
 #[tactic(auto, unfolding(crate::specs::reports::ExportRows::changed_rows))]
 fn push_changed(
     alloc: Global,
-    rows: &mut List<Row>,
+    rows: &mut RowList,
     old: &Export,
     new: &Export,
 ) -> Result<(), NoMemory>
@@ -101,7 +102,7 @@ fn is_named(library: &Library<NewIx>, name: &[u8]) -> bool
 // Adds the rows of an old export, given the position of the new one to which it binds.
 fn push_bound(
     alloc: Global,
-    rows: &mut List<Row>,
+    rows: &mut RowList,
     ground: &BoundPair,
     export: &Export,
     place: Option<usize>,
@@ -118,12 +119,7 @@ fn push_bound(
 // ---- all old exports
 
 // Adds the rows of the old export at a position.
-fn push_at(
-    alloc: Global,
-    rows: &mut List<Row>,
-    ground: &BoundPair,
-    k: usize,
-) -> Result<(), NoMemory>
+fn push_at(alloc: Global, rows: &mut RowList, ground: &BoundPair, k: usize) -> Result<(), NoMemory>
     requires inside { k < length ground.now.old.now.exports }
     requires bound { IsBinding ground.now }
     ensures { OnOk result (rows.new ≡ rows.old ++ rows_at (sides_of ground.now) k) }
@@ -141,7 +137,7 @@ fn push_at(
 /// searches.
 pub fn push_export_rows(
     alloc: Global,
-    rows: &mut List<Row>,
+    rows: &mut RowList,
     ground: &BoundPair,
 ) -> Result<(), NoMemory>
     requires { IsBinding ground.now }

@@ -6,6 +6,7 @@ mod lookups;
 mod paths;
 mod right_report;
 mod room;
+mod row_list;
 mod type_findings;
 
 pub use paths::{label_at, steps_text};

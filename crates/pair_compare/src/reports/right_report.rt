@@ -8,6 +8,7 @@ ghost use Rattle.pair_compare.specs.reports.TypeFindings.{IsExplored};
 use crate::bound_pair::BoundPair;
 use crate::reports::exports::push_export_rows;
 use crate::reports::laws::{no_row_is_compatible, rows_can_be_read, told_rows_are_right};
+use crate::reports::row_list::RowList;
 use crate::reports::type_findings::push_type_rows;
 use abi_base::{List, NoMemory};
 use pair_explorer::Explored;
@@ -29,8 +30,8 @@ pub fn report_rows(
     rows_can_be_read();
     told_rows_are_right();
     no_row_is_compatible();
-    let mut rows = List::new(alloc);
+    let mut rows = RowList::new(alloc, pair);
     push_export_rows(alloc, &mut rows, pair)?;
     push_type_rows(alloc, &mut rows, pair, explored)?;
-    Ok(rows)
+    Ok(rows.into_rows())
 }

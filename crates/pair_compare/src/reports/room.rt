@@ -1,7 +1,7 @@
-// A limit on the text of a report. A path is as long as the chain of types along which it goes, so the rows of a small file can
-// have very many steps in all.
+// A limit on the text of a report. A path is as long as the chain of types along which it goes, and each row holds the names of its
+// export and of its parts, so the rows of a small file can have very many bytes in all.
 use crate::bound_pair::BoundPair;
-use abi_base::NoMemory;
+use abi_base::{Limit, NoMemory, taken};
 use report::Row;
 
 // The limit in bytes: so many for each byte of both files, plus a constant. The report of two builds from one source has less than
@@ -19,6 +19,22 @@ pub(crate) struct Room {
     left: usize,
 }
 
+// How many bytes the texts of a row have.
+fn letters_of(row: &Row) -> usize {
+    let named = row
+        .export
+        .as_slice()
+        .len()
+        .saturating_add(row.path.as_slice().len());
+    let detailed = row
+        .detail
+        .as_slice()
+        .len()
+        .saturating_add(row.part.as_slice().len());
+    let values = row.was.text().len().saturating_add(row.is.text().len());
+    named.saturating_add(detailed).saturating_add(values)
+}
+
 impl Room {
     /// The room for the rows of two libraries, by the sizes of their files.
     pub(crate) fn beside(pair: &BoundPair) -> Room {
@@ -30,19 +46,14 @@ impl Room {
         }
     }
 
+    /// Takes the room for a row whose texts have so many bytes. Returns `NoMemory` where too little is left.
+    pub(crate) fn take_letters(&mut self, letters: usize) -> Result<(), NoMemory> {
+        self.left = taken(Limit::Report, self.left, letters.saturating_add(ROW))?;
+        Ok(())
+    }
+
     /// Takes the room for a row. Returns `NoMemory` where too little is left.
     pub(crate) fn take(&mut self, row: &Row) -> Result<(), NoMemory> {
-        let texts = row
-            .path
-            .as_slice()
-            .len()
-            .saturating_add(row.export.as_slice().len())
-            .saturating_add(row.detail.as_slice().len());
-        let bytes = texts.saturating_add(ROW);
-        if bytes > self.left {
-            return Err(NoMemory);
-        }
-        self.left -= bytes;
-        Ok(())
+        self.take_letters(letters_of(row))
     }
 }

@@ -14,6 +14,7 @@ ghost use Rattle.pair_explorer.specs.Visits.{AreEarlier};
 use crate::bound_pair::BoundPair;
 use crate::reports::paths::{label_at, steps_text};
 use crate::reports::room::Room;
+use crate::reports::row_list::RowList;
 use abi_base::{List, NoMemory};
 use abi_types::laws::rules_have_places_of_their_own;
 use abi_types::{Index, NewIx, OldIx, View};
@@ -68,9 +69,11 @@ fn told(
 {
     let mut keys: IndexSet<(u8, usize, usize, Vec<u8>)> = IndexSet::new(alloc);
     let mut told = List::new(alloc);
+    let mut room = Room::beside(ground);
     let breaks = explored.breaks.as_slice();
     for found in breaks {
         let key = key_at(alloc, ground, &explored.visits, found.0, &found.1)?;
+        room.take_letters(key.3.len())?;
         let (_, is_new) = keys.insert_full(key)?;
         if is_new {
             told.push(*found)?;
@@ -111,7 +114,7 @@ fn row_at(
 /// row is spelled only once the row is known to be needed.
 pub fn push_type_rows(
     alloc: Global,
-    rows: &mut List<Row>,
+    rows: &mut RowList,
     ground: &BoundPair,
     explored: &Explored,
 ) -> Result<(), NoMemory>
@@ -121,10 +124,8 @@ pub fn push_type_rows(
     rules_have_places_of_their_own();
     let told = told(alloc, ground, explored)?;
     let breaks = told.as_slice();
-    let mut room = Room::beside(ground);
     for found in breaks {
         let row = row_at(alloc, ground, &explored.visits, found.0, &found.1)?;
-        room.take(&row)?;
         rows.push(row)?;
     }
     Ok(())

@@ -3,7 +3,7 @@ use Rattle.std.specs.Prelude.{codes}
 use Rattle.abi_base.specs.Causes.{is_listed}
 use Rattle.abi_base.specs.contracts.memory.MemInputsInputs.TheImpl.{ghosts as M}
 use Rattle.abi_base.specs.Limits.{sink_room}
-use Rattle.test_memory.proofs.Answering.{exact, no_option_new, no_option_old}
+use Rattle.test_memory.proofs.Answering.{exact, is_other, no_option_new, no_option_old}
 use Rattle.test_memory.proofs.check_in_memory.Goals as goal
 
 pub returns : goal.returns
@@ -16,5 +16,5 @@ returns c =
     let is = c.check_takes_two_files.ensures (codes "old") (codes "new") no_option_old no_option_new in
     let both = exact M.told M.faults M.given M.started _ c.new-4.result.items _ c.new-inputs.result c.run-ended.new.inputs c.args.old.items c.args.new.items c.run-ended.result.outcome _ _ _
     run.complete (run.steady_inputs unfailing) (run.steady_sink sink_room unfailing_sink c.in_ok-sink.ensures.room) c.new-4.ensures.items is c.no_rules_are_readable.ensures.readable
-    old_told new_told c.new-inputs.ensures.faults c.in_ok-sink.ensures.faults c.in_default.not-NoMemory in
+    old_told new_told c.new-inputs.ensures.faults c.in_ok-sink.ensures.faults (is_other _ c.in_default.not-NoMemory) in
     record { yes = λ fits. (both fits).0; no = λ fits. (both fits).1 }

@@ -1,5 +1,5 @@
 use Rattle.std.proofs.Common.{List, refl}
-use Rattle.abi_top.specs.Answer.{call_of}
+use Rattle.abi_top.specs.Calls.{call_of}
 use Rattle.report.specs.Listening.{Voice}
 use Rattle.abi_json.proofs.NoLemmas.{told}
 use Rattle.abi_json.proofs.told.told_of.Goals as goal

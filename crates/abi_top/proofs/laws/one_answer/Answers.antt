@@ -3,15 +3,15 @@ use Rattle.abi_top.proofs.laws.one_answer.Goals as goal
 
 pub returns : goal.returns
 returns c = one_answer (record {
-  certificate = c.a_check_has_one_text.ensures.certificate;
-  report = c.a_check_has_one_text.ensures.report;
+  check_text = record { certificate = c.a_check_has_one_text.ensures.certificate; report = c.a_check_has_one_text.ensures.report };
   verification = c.a_verification_has_one_answer.ensures;
-  migration = c.a_migration_has_one_answer.ensures.text;
-  refused_migration = c.a_migration_has_one_answer.ensures.refusal;
-  migration_apart = c.a_migration_has_one_answer.ensures.apart;
+  migration = record {
+    migration = c.a_migration_has_one_answer.ensures.text;
+    refused_migration = c.a_migration_has_one_answer.ensures.refusal;
+    migration_apart = c.a_migration_has_one_answer.ensures.apart;
+  };
   composition = c.a_composition_has_one_answer.ensures.answer;
-  layout_text = c.a_layout_has_one_answer.ensures.text;
-  layout_apart = c.a_layout_has_one_answer.ensures.tag;
+  layout_text = record { layout_text = c.a_layout_has_one_answer.ensures.text; layout_apart = c.a_layout_has_one_answer.ensures.tag };
   application = c.an_application_has_one_answer.ensures.report;
   tried = c.a_trial_has_one_text.ensures;
   counted = c.a_trial_is_of_a_count.ensures;

@@ -1,12 +1,12 @@
 use Rattle.std.proofs.Common.{◌≤◌, List, ℕ, length, map, subst, sym}
 use Rattle.std.specs.Io.KnownBytes.{Appends}
 use Rattle.abi_base.specs.Causes.{AppendsFront}
-use Rattle.abi_top.specs.Answer.{Call, Answers}
+use Rattle.abi_top.specs.Answer.{Answers}
+use Rattle.abi_top.specs.Calls.{Call}
 use Rattle.cli_args.specs.Words.{texts}
 use Rattle.commands.specs.Reading.{reading_of}
-use Rattle.abi_top.proofs.Agreeing.{yes_agreed, no_agreed}
 use Rattle.abi_top.proofs.ParsedArguments.{complete_says, fault_says}
-use Rattle.abi_top.proofs.Clauses.{yes_says, no_says, refused_says, done_says, itself_says}
+use Rattle.abi_top.proofs.Rows.{done_says, itself_says, no_agreed, no_says, refused_says, yes_agreed, yes_says}
 use Rattle.abi_top.proofs.top.run.Goals as goal
 
 pub returns-in-Ok-write_all-clause-yes : goal.returns-in-Ok-write_all-clause-yes

@@ -1,12 +1,14 @@
 use Rattle.std.proofs.Common.{◌≡◌, ℕ, List, length, rules, subst}
 use Rattle.std.specs.Prelude.{IsPermutation}
 use Rattle.std.specs.List.{range_with_len}
-use Rattle.std.specs.Ordering.{is_lt}
+use Rattle.std.specs.Ordering.{is_lt, nat_cmp}
+use Rattle.std.proofs.lemmas.Cmp.{nat_list_cmp_total}
 use Rattle.std.proofs.lemmas.Fn.{always_returns_same}
 use Rattle.std.proofs.lemmas.List.{length-map}
 use Rattle.abi_types.specs.Plain.{plain_export, plain_exports}
-use Rattle.abi_types.specs.Names.{place_cmp}
-use Rattle.abi_types.proofs.NameLemmas.{place_weak}
+use Rattle.std.specs.Cmp.Lexicographic.{slice_cmp}
+use Rattle.abi_types.specs.Names.{name_at, place_cmp}
+use Rattle.abi_types.proofs.KeyLemmas.{key_weak}
 use Rattle.abi_types.proofs.names.name_order_of.Goals as goal
 
 pub returns : goal.returns
@@ -16,5 +18,5 @@ returns c =
     let P : List ℕ → Type 0 = λ places. IsPermutation places c.sort_unstable_by.new.self.items in
     record {
       all = subst P all c.sort_unstable_by.ensures.permutation;
-      rises = c.sort_unstable_by.ensures.sorted (λ (x y : ℕ). is_lt (place_cmp exports x y)) (place_weak exports) (always_returns_same _ _ _ (λ a r f q. search rules));
+      rises = c.sort_unstable_by.ensures.sorted (λ (x y : ℕ). is_lt (place_cmp exports x y)) (key_weak (slice_cmp nat_cmp) nat_list_cmp_total (name_at exports)) (always_returns_same _ _ _ (λ a r f q. search rules));
     }

@@ -6,13 +6,13 @@ use Rattle.cert_compose.proofs.composing.compose.Goals as goal
 
 pub judge-requires-clause-exact : goal.judge-requires-clause-exact
 judge-requires-clause-exact c =
-    exact_read c.in_ok-middles.middles.items c.deref.result.now c.alike_new_of.result.now c.args.one.now.alike_new c.alike_old_of.result.now c.args.other.now.alike_old c.graph.result.now c.args.chain.now.middle_new.now.graph
-    c.deref.ensures.value (c.graph.ensures ∙ ap (λ (l : PlainLibrary). l.graph) c.requires.same) c.alike_new_of.ensures.value c.alike_old_of.ensures.value c.in_ok-middles.ensures.exact
+    exact_read c.in_ok-middles.middles.items c.deref-2.result.now c.alike_new_of.result.now c.args.one.now.alike_new c.alike_old_of.result.now c.args.other.now.alike_old c.graph.result.now c.args.chain.now.middle_new.now.graph
+    c.deref-2.ensures.value (c.graph.ensures ∙ ap (λ (l : PlainLibrary). l.graph) c.requires.same) c.alike_new_of.ensures.value c.alike_old_of.ensures.value c.in_ok-middles.ensures.exact
 
 pub composed-requires-clause-exact : goal.composed-requires-clause-exact
 composed-requires-clause-exact c =
-    exact_read c.in_ok-middles.middles.items c.deref-2.result.now c.alike_new_of.result.now c.args.one.now.alike_new c.alike_old_of.result.now c.args.other.now.alike_old c.graph.result.now c.args.chain.now.middle_new.now.graph
-    c.deref-2.ensures.value (c.graph.ensures ∙ ap (λ (l : PlainLibrary). l.graph) c.requires.same) c.alike_new_of.ensures.value c.alike_old_of.ensures.value c.in_ok-middles.ensures.exact
+    exact_read c.in_ok-middles.middles.items c.deref-3.result.now c.alike_new_of.result.now c.args.one.now.alike_new c.alike_old_of.result.now c.args.other.now.alike_old c.graph.result.now c.args.chain.now.middle_new.now.graph
+    c.deref-3.ensures.value (c.graph.ensures ∙ ap (λ (l : PlainLibrary). l.graph) c.requires.same) c.alike_new_of.ensures.value c.alike_old_of.ensures.value c.in_ok-middles.ensures.exact
 
 pub returns-clause-accepted : goal.returns-clause-accepted
 returns-clause-accepted c =

@@ -1,4 +1,4 @@
-use Rattle.cli_args.proofs.Commands.{check_asks}
+use Rattle.cli_args.proofs.Asking.{check_asks}
 use Rattle.cli_args.proofs.laws.check_takes_two_files.Goals as goal
 
 pub returns : goal.returns

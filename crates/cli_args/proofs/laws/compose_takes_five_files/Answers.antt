@@ -1,4 +1,4 @@
-use Rattle.cli_args.proofs.Commands.{compose_asks}
+use Rattle.cli_args.proofs.Asking.{compose_asks}
 use Rattle.cli_args.proofs.laws.compose_takes_five_files.Goals as goal
 
 pub returns : goal.returns

@@ -1,4 +1,4 @@
-use Rattle.cli_args.proofs.Commands.{entries_asks}
+use Rattle.cli_args.proofs.Asking.{entries_asks}
 use Rattle.cli_args.proofs.laws.entries_takes_one_file.Goals as goal
 
 pub returns : goal.returns

@@ -1,4 +1,4 @@
-use Rattle.cli_args.proofs.Commands.{trial_asks}
+use Rattle.cli_args.proofs.Asking.{trial_asks}
 use Rattle.cli_args.proofs.laws.trial_takes_a_number.Goals as goal
 
 pub returns : goal.returns

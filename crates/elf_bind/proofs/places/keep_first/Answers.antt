@@ -1,5 +1,6 @@
-use Rattle.elf_bind.proofs.Filling.{first_kept, absent}
+use Rattle.elf_bind.proofs.Filling.{first_kept}
 use Rattle.elf_bind.proofs.places.keep_first.Goals as goal
+use Rattle.abi_base.proofs.lemmas.Options.{absent}
 
 pub returns-in_ok-insert : goal.returns-in_ok-insert
 returns-in_ok-insert c =

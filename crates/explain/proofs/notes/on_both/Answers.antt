@@ -1,4 +1,4 @@
-use Rattle.std.proofs.Common.{rules, ap, inl, inr, map, string_bytes}
+use Rattle.std.proofs.Common.{rules, inl, inr}
 use Rattle.explain.proofs.notes.on_both.Goals as goal
 
 pub returns-in_default-name_of-clause-tells : goal.returns-in_default-name_of-clause-tells

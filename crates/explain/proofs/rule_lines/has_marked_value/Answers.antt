@@ -1,4 +1,4 @@
-use Rattle.std.proofs.Common.{◌≡◌, ◌∙◌, ◌+◌, true, false, get_or, ap, arith, rules}
+use Rattle.std.proofs.Common.{◌≡◌, ◌∙◌, true, false, get_or, ap, arith, rules}
 use Rattle.std.specs.Prelude.{◌==◌}
 use Rattle.explain.specs.RuleLines.{has_mark_behind}
 use Rattle.explain.proofs.RuleLineLemmas.{value_here, value_over, value_past}

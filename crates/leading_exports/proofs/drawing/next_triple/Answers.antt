@@ -4,8 +4,9 @@ use Rattle.pair_rules.specs.Stable.{IsInside}
 use Rattle.pair_rules.specs.Steps.{Triple}
 use Rattle.pair_explorer.specs.GraphPairs.{scope_of}
 use Rattle.pair_explorer.specs.Visits.{seen}
-use Rattle.leading_exports.proofs.Stepped.{next-inside, node-fits, rep_step-is, rep_step-none}
+use Rattle.leading_exports.proofs.Stepped.{next-inside, rep_step-is, rep_step-none}
 use Rattle.leading_exports.proofs.drawing.next_triple.Goals as goal
+use Rattle.pair_explorer.proofs.lemmas.Steps.{node-fits}
 
 pub returns-in_err-next : goal.returns-in_err-next
 returns-in_err-next c = c.from_residual.ensures ∙ rep_step-none (scope_of c.args.ground.now) c.args.i (seen c.args.visit.now) c.view-old.result.now c.view-new.result.now c.requires.unmarked c.view-old.ensures c.view-new.ensures c.in_err-next.ensures

@@ -8,5 +8,5 @@ returns g c = record {
   tagged = c.requires;
   rows = c.in_ok-rows.rows.items;
   laid = c.in_ok-rows.ensures.rows;
-  is = ap (λ v. v.items) c.into_bytes.ensures.value ∙ c.in_ok-text.ensures.text ∙ same_text _ _ _ _ c.view.ensures c.as_slice.ensures.value;
+  is = ap (λ v. v.items) c.into_bytes.ensures.value ∙ c.in_ok-text.ensures.text ∙ same_text _ _ _ _ c.view-2.ensures c.as_slice.ensures.value;
 }

@@ -4,8 +4,9 @@ use Rattle.pair_rules.specs.Stable.{IsInside}
 use Rattle.pair_rules.specs.Steps.{Triple}
 use Rattle.pair_explorer.specs.GraphPairs.{scope_of}
 use Rattle.pair_explorer.specs.Visits.{seen}
-use Rattle.pair_explorer.proofs.Leading.{node-fits, next-inside, next_visit-none, next_visit-is}
+use Rattle.pair_explorer.proofs.Leading.{next-inside, next_visit-none, next_visit-is}
 use Rattle.pair_explorer.proofs.graph_pair.next_visit.Goals as goal
+use Rattle.pair_explorer.proofs.lemmas.Steps.{node-fits}
 
 pub returns-in_err-next : goal.returns-in_err-next
 returns-in_err-next c = c.from_residual.ensures ∙ next_visit-none (scope_of c.args.ground.now) c.args.number c.args.i (seen c.args.visit.now) c.view-old.result.now c.view-new.result.now c.requires.unmarked c.view-old.ensures c.view-new.ensures c.in_err-next.ensures

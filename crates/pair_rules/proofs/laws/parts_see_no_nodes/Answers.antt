@@ -1,6 +1,7 @@
 -- Each is a lemma on views with other numbers for nodes.
-use Rattle.pair_rules.proofs.Unseen.{part_at-seen, number_of-seen, match_of-seen, bit_at-seen, width_at-seen, value_at-seen, params_of-seen}
+use Rattle.pair_rules.proofs.Unseen.{number_of-seen, match_of-seen, bit_at-seen, width_at-seen, value_at-seen, params_of-seen}
 use Rattle.pair_rules.proofs.laws.parts_see_no_nodes.Goals as goal
+use Rattle.pair_rules.proofs.lemmas.Parts.{part_at-seen}
 
 pub returns-clause-parts : goal.returns-clause-parts
 returns-clause-parts c = part_at-seen

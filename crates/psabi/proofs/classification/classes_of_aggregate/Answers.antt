@@ -5,8 +5,9 @@ use Rattle.abi_types.specs.Graphs.{view_at}
 use Rattle.abi_types.specs.Leaves.{leaves_of}
 use Rattle.psabi.specs.Past.{ends_past}
 use Rattle.psabi.specs.Touching.{is_aligned}
-use Rattle.psabi.proofs.ClassLemmas.{merged-from_merging, aligned-from_merging, aggregate-no_leaf, classes-large, classes-past, classes-unaligned, classes-merged}
+use Rattle.psabi.proofs.ClassLemmas.{merged-from_merging, aligned-from_merging, classes-large, classes-past, classes-unaligned, classes-merged}
 use Rattle.psabi.proofs.classification.classes_of_aggregate.Goals as goal
+use Rattle.abi_types.proofs.lemmas.Kinds.{aggregate-no_leaf}
 
 pub returns-then-view-gt-OBJECT_LIMIT-clause-classes : goal.returns-then-view-gt-OBJECT_LIMIT-clause-classes
 returns-then-view-gt-OBJECT_LIMIT-clause-classes g c =

@@ -1,6 +1,7 @@
 -- A stem keeps the place that it has.
-use Rattle.side_notes.proofs.SuccessorLemmas.{absent, first_kept, kept_before}
+use Rattle.side_notes.proofs.SuccessorLemmas.{first_kept, kept_before}
 use Rattle.side_notes.proofs.successors.put.Goals as goal
+use Rattle.abi_base.proofs.lemmas.Options.{absent}
 
 pub returns-then-contains_key : goal.returns-then-contains_key
 returns-then-contains_key c = kept_before c.args.kin.now c.args.stem.now c.args.place c.contains_key.result c.contains_key.ensures c.if-contains_key.true

@@ -7,6 +7,6 @@ use Rattle.suppressions.proofs.marking.drops_labels.Goals as goal
 
 pub returns : goal.returns
 returns c =
-    marked_by c.args.rules.now (option_copied c.args.soname) (map plain_label c.args.labels.now) c.args.way c.as_slice.result.now c.as_slice-2.result.now c.in_ok-by_name.by_name c.in_ok-by_kind.by_kind c.one_of.result
-    (c.as_slice.ensures.value ∙ c.in_ok-named.ensures ∙ ap (chosen true) c.sections.ensures) (c.as_slice-2.ensures.value ∙ c.in_ok-others.ensures ∙ ap (chosen false) c.sections-2.ensures)
+    marked_by c.args.rules.now (option_copied c.args.soname) (map plain_label c.args.labels.now) c.args.way c.in_ok-named.named c.in_ok-others.others c.in_ok-by_name.by_name c.in_ok-by_kind.by_kind c.one_of.result
+    (c.in_ok-named.ensures ∙ ap (chosen true) c.sections.ensures) (c.in_ok-others.ensures ∙ ap (chosen false) c.sections-2.ensures)
     c.in_ok-by_name.ensures c.in_ok-by_kind.ensures c.one_of.ensures

@@ -1,24 +1,24 @@
 use Rattle.std.proofs.Common.{◌≡◌, ap, sym, subst, Some}
+use Rattle.abi_base.proofs.lemmas.Lists.{contains_at}
 use Rattle.type_reach.specs.declared.summaries.Summary.{Summary}
 use Rattle.type_reach.specs.Flat.{core_of}
 use Rattle.type_reach.specs.PeeledCores.{IsFound}
-use Rattle.type_graph.proofs.ListLemmas.{slice_get_contains}
 use Rattle.type_graph.proofs.counts.after_parts.Goals as goal
 
 pub role_of-requires : goal.role_of-requires
-role_of-requires c = c.requires.closed.inside c.args.e (slice_get_contains c.args.types.now.found.now c.args.number c.args.e c.requires.at)
+role_of-requires c = c.requires.closed.inside c.args.e (contains_at c.args.types.now.found.now c.args.number c.args.e c.requires.at)
 
 pub after_members-requires-clause-there : goal.after_members-requires-clause-there
-after_members-requires-clause-there c = slice_get_contains c.args.types.now.found.now c.args.number c.args.e c.requires.at
+after_members-requires-clause-there c = contains_at c.args.types.now.found.now c.args.number c.args.e c.requires.at
 
 pub after_params-requires-clause-there : goal.after_params-requires-clause-there
-after_params-requires-clause-there c = slice_get_contains c.args.types.now.found.now c.args.number c.args.e c.requires.at
+after_params-requires-clause-there c = contains_at c.args.types.now.found.now c.args.number c.args.e c.requires.at
 
 pub after_params-requires-in-Wrapper-clause-there : goal.after_params-requires-in-Wrapper-clause-there
 after_params-requires-in-Wrapper-clause-there c =
     let d = c.args.types.now.dwarf.now in
     let found = c.args.types.now.found.now in
     let e = c.args.e in
-    let there = slice_get_contains found c.args.number e c.requires.at in
+    let there = contains_at found c.args.number e c.requires.at in
     let is : c.summary_by_number-own.result.core ≡ core_of d (Some e) = ap (λ (x : Summary). x.core) c.summary_by_number-own.ensures in
     subst (IsFound found) (sym is) ((c.laws_of_types.ensures d).found found (Some e) c.requires.closed (c.requires.summaries.shallow e there) there)

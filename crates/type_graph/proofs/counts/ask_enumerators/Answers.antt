@@ -1,12 +1,12 @@
 use Rattle.std.proofs.Common.{◌≡◌, get_or, ap, arith}
 use Rattle.std.proofs.lemmas.List.Sums.{sum_by_more}
 use Rattle.std.proofs.lemmas.Option.{slice_get_within, get_or_from_slice_get}
+use Rattle.abi_base.proofs.lemmas.Lists.{contains_at}
 use Rattle.type_graph.specs.Counts.{enumerators_held, enumerator_letters_held}
-use Rattle.type_graph.proofs.ListLemmas.{slice_get_contains}
 use Rattle.type_graph.proofs.counts.ask_enumerators.Goals as goal
 
 pub after_enumerators-requires : goal.after_enumerators-requires
-after_enumerators-requires c = c.requires.inside c.at-e.result (slice_get_contains c.args.found.now c.found.number c.at-e.result c.at-e.ensures)
+after_enumerators-requires c = c.requires.inside c.at-e.result (contains_at c.args.found.now c.found.number c.at-e.result c.at-e.ensures)
 
 pub found-preserved : goal.found-preserved
 found-preserved c =

@@ -1,13 +1,13 @@
 use Rattle.std.proofs.Common.{sym, ◌∙◌, map, arith}
 use Rattle.std.proofs.lemmas.Option.{slice_get_within, get_or_from_slice_get}
+use Rattle.abi_base.proofs.lemmas.Lists.{contains_at}
 use Rattle.abi_base.specs.Outcome.{first}
 use Rattle.type_reach.specs.Faults.{shape_fault}
 use Rattle.type_graph.proofs.JudgeLemmas.{first-on, first-here, first-end}
-use Rattle.type_graph.proofs.ListLemmas.{slice_get_contains}
 use Rattle.type_graph.proofs.judging.ask_shapes.Goals as goal
 
 pub shape_fault_of-requires-clause-inside : goal.shape_fault_of-requires-clause-inside
-shape_fault_of-requires-clause-inside c = c.requires.closed.inside c.at-e.result (slice_get_contains c.args.found.now c.found.number c.at-e.result c.at-e.ensures)
+shape_fault_of-requires-clause-inside c = c.requires.closed.inside c.at-e.result (contains_at c.args.found.now c.found.number c.at-e.result c.at-e.ensures)
 
 pub returns-in-Some : goal.returns-in-Some
 returns-in-Some c =

@@ -1,13 +1,13 @@
 use Rattle.std.proofs.Common.{ap, arith, ◌∙◌}
 use Rattle.std.specs.Prelude.{sum_by}
 use Rattle.std.proofs.lemmas.List.Sums.{sum_by_push}
+use Rattle.abi_base.proofs.lemmas.Lists.{contains_at}
 use Rattle.type_graph.specs.Counts.{type_letters}
-use Rattle.type_graph.proofs.ListLemmas.{slice_get_contains}
 use Rattle.type_graph.proofs.NodeLemmas.{node-more, nodes-end}
 use Rattle.type_graph.proofs.nodes.first_nodes.Goals as goal
 
 pub node-requires-in-found-clause-there : goal.node-requires-in-found-clause-there
-node-requires-in-found-clause-there g c = slice_get_contains c.args.types.now.found.now c.found.number c.at-e.result c.at-e.ensures
+node-requires-in-found-clause-there g c = contains_at c.args.types.now.found.now c.found.number c.at-e.result c.at-e.ensures
 
 pub found-preserved : goal.found-preserved
 found-preserved g c =

@@ -6,9 +6,6 @@ role_of-role-requires g c = c.requires.closed.inside c.args.c c.requires.there
 pub kind_of-kind-requires-clause-inside : goal.kind_of-kind-requires-clause-inside
 kind_of-kind-requires-clause-inside g c = c.requires.closed.inside c.args.c c.requires.there
 
-pub variadic-requires : goal.variadic-requires
-variadic-requires g c = c.requires.closed.inside c.args.c c.requires.there
-
 pub is_declaration-requires : goal.is_declaration-requires
 is_declaration-requires g c = c.requires.closed.inside c.args.c c.requires.there
 

@@ -24,5 +24,5 @@ returns c =
     let route = c.in_ok-route.route in
     let same = c.parents_spell_paths.ensures.one vs n (path_of route.export route.parts) (path_at vs n) c.in_ok-route.ensures (c.parents_spell_paths.ensures.along vs n c.requires.readable.visit c.requires.earlier c.requires.readable.at) in
     subst (λ (xs : List Note). OnOk c.push_all.result (c.push_all.new.notes ≡ c.args.notes.now ++ xs))
-    (noted (sides_of c.args.ground.now.pair) vs n route.export route.parts c.as_str.result.now c.as_str-2.result.now c.args.found.now same (c.as_str.ensures.value ∙ c.in_ok-export.ensures) (c.as_str-2.ensures.value ∙ c.in_ok-path.ensures))
+    (noted (sides_of c.args.ground.now.pair) vs n route.export route.parts c.as_str-3.result.now c.as_str-4.result.now c.args.found.now same (c.as_str-3.ensures.value ∙ c.in_ok-export.ensures) (c.as_str-4.ensures.value ∙ c.in_ok-path.ensures))
     c.push_all.ensures

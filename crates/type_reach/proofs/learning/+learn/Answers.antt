@@ -2,6 +2,7 @@
 use Rattle.std.proofs.Common.{◌≡◌, ◌<◌, ◌+◌, ◌-◌, ◌∙◌, Some, None, length, get_or, sym, ap, subst, arith, suc}
 use Rattle.std.specs.Prelude.{Contains, All, IfSome, IfNone}
 use Rattle.std.proofs.lemmas.List.{get_or_default}
+use Rattle.std.proofs.lemmas.Option.{IfSome_then}
 use Rattle.std.proofs.lemmas.List.Elements.{All-more, All-push}
 use Rattle.abi_base.specs.Limits.{depth_limit}
 use Rattle.type_reach.specs.declared.facts.Facts.{Facts}
@@ -9,7 +10,8 @@ use Rattle.type_reach.specs.References.{Type_}
 use Rattle.type_reach.specs.ByValue.{StepsOn}
 use Rattle.type_reach.specs.Facts.{facts_from, facts_of, IsSpanNear}
 use Rattle.type_reach.proofs.ByValueLemmas.{StepsOn-none, StepsOn-more, StepsOn-fewer}
-use Rattle.type_reach.proofs.FactLemmas.{facts_of-void, rank_of, rank-most, rank-leads, rank-bound, number_is, number_there, known_there, step_there, step_at, facts-more, IsLearned-end, AreFacts-more, void_ends}
+use Rattle.type_reach.proofs.FactLemmas.{facts_of-void, rank_of, rank-most, rank-leads, rank-bound, known_there, step_there, step_at, facts-more, IsLearned-end, AreFacts-more, void_ends}
+use Rattle.type_reach.proofs.LearnLemmas.{IfNone-weaker}
 use Rattle.type_reach.proofs.learning.+learn.Goals as goal
 
 pub returns-in-None-clause-facts : goal.returns-in-None-clause-facts
@@ -18,51 +20,47 @@ returns-in-None-clause-facts t c = sym (ap (facts_of c.args.types.now.dwarf.now)
 pub returns-in-None-clause-few : goal.returns-in-None-clause-few
 returns-in-None-clause-few t c = λ on. void_ends c.args.types.now.dwarf.now.tree (c.args.budget + 1) c.args.ty (omega arith) c.in-None.is on
 
-pub unreachable-requires : goal.unreachable-requires
-unreachable-requires t c =
-    let found = c.args.types.now.found.now in
-    let there = subst (λ o. IfSome o (λ x. Contains found x)) c.in-Some.is c.requires.there in
-    number_there found c.in-Some.e there (sym c.in-None-number.is ∙ c.number.ensures.number)
+pub number_of-number-requires : goal.number_of-number-requires
+number_of-number-requires t c = subst (λ o. IfSome o (λ x. Contains c.args.types.now.found.now x)) c.in-Some.is c.requires.there
 
-pub returns-then-before-budget-clause-facts : goal.returns-then-before-budget-clause-facts
-returns-then-before-budget-clause-facts t c =
+pub returns-in-Some-index-clause-facts : goal.returns-in-Some-index-clause-facts
+returns-in-Some-index-clause-facts t c =
     let d = c.args.types.now.dwarf.now in
-    let at = number_is c.args.types.now.found.now c.in-Some.e c.in-Some-number.number (sym c.in-Some-number.is ∙ c.number.ensures.number) in
-    let known = known_there d c.args.types.now.found.now c.args.known.now.items c.in-Some-number.number c.in-Some.e c.index.result.now c.in-Some-index.before c.requires.known c.requires.len at c.index.ensures c.in-Some-index.is in
-    known.is ∙ ap (facts_of d) (sym c.in-Some.is)
+    let known = known_there d c.args.types.now.found.now c.args.known.now.items c.number_of-number.result c.in-Some.e c.index.result.now c.in-Some-index.before c.requires.known c.requires.len c.number_of-number.ensures c.index.ensures c.in-Some-index.is in
+    IfSome_then c.within.result c.within.ensures.same (λ x is. is ∙ known.is ∙ ap (facts_of d) (sym c.in-Some.is))
 
-pub returns-then-before-budget-clause-near : goal.returns-then-before-budget-clause-near
-returns-then-before-budget-clause-near t c =
+pub returns-in-Some-index-clause-near : goal.returns-in-Some-index-clause-near
+returns-in-Some-index-clause-near t c =
     let d = c.args.types.now.dwarf.now in
-    let at = number_is c.args.types.now.found.now c.in-Some.e c.in-Some-number.number (sym c.in-Some-number.is ∙ c.number.ensures.number) in
-    let known = known_there d c.args.types.now.found.now c.args.known.now.items c.in-Some-number.number c.in-Some.e c.index.result.now c.in-Some-index.before c.requires.known c.requires.len at c.index.ensures c.in-Some-index.is in
-    known.near
+    let known = known_there d c.args.types.now.found.now c.args.known.now.items c.number_of-number.result c.in-Some.e c.index.result.now c.in-Some-index.before c.requires.known c.requires.len c.number_of-number.ensures c.index.ensures c.in-Some-index.is in
+    IfSome_then c.within.result c.within.ensures.same (λ x is. subst IsSpanNear (sym is) known.near)
 
-pub returns-then-before-budget-clause-few : goal.returns-then-before-budget-clause-few
-returns-then-before-budget-clause-few t c = λ on.
+pub returns-in-Some-index-clause-few : goal.returns-in-Some-index-clause-few
+returns-in-Some-index-clause-few t c =
     let d = c.args.types.now.dwarf.now in
-    let at = number_is c.args.types.now.found.now c.in-Some.e c.in-Some-number.number (sym c.in-Some-number.is ∙ c.number.ensures.number) in
-    let known = known_there d c.args.types.now.found.now c.args.known.now.items c.in-Some-number.number c.in-Some.e c.index.result.now c.in-Some-index.before c.requires.known c.requires.len at c.index.ensures c.in-Some-index.is in
+    let known = known_there d c.args.types.now.found.now c.args.known.now.items c.number_of-number.result c.in-Some.e c.index.result.now c.in-Some-index.before c.requires.known c.requires.len c.number_of-number.ensures c.index.ensures c.in-Some-index.is in
+    let is : c.in-Some-index.before.rank ≡ rank_of d (Some c.in-Some.e) = ap (λ (x : Facts). x.rank) known.is in
+    IfSome_then c.within.result c.within.ensures.few (λ x le on.
     let most = rank-most d (c.args.budget + 1) (Some c.in-Some.e) known.shallow (subst (StepsOn d.tree (c.args.budget + 1)) c.in-Some.is on) in
-    let is : c.in-Some-index.before.rank ≡ rank_of d (Some c.in-Some.e) = ap (λ (x : Facts). x.rank) known.is in
-    omega (arith, most, is, c.if-before-budget.true)
+    omega (arith, most, is, le))
 
-pub returns-else-before-budget-clause-many : goal.returns-else-before-budget-clause-many
-returns-else-before-budget-clause-many t c =
+pub returns-in-Some-index-clause-many : goal.returns-in-Some-index-clause-many
+returns-in-Some-index-clause-many t c =
     let d = c.args.types.now.dwarf.now in
-    let at = number_is c.args.types.now.found.now c.in-Some.e c.in-Some-number.number (sym c.in-Some-number.is ∙ c.number.ensures.number) in
-    let known = known_there d c.args.types.now.found.now c.args.known.now.items c.in-Some-number.number c.in-Some.e c.index.result.now c.in-Some-index.before c.requires.known c.requires.len at c.index.ensures c.in-Some-index.is in
+    let known = known_there d c.args.types.now.found.now c.args.known.now.items c.number_of-number.result c.in-Some.e c.index.result.now c.in-Some-index.before c.requires.known c.requires.len c.number_of-number.ensures c.index.ensures c.in-Some-index.is in
     let is : c.in-Some-index.before.rank ≡ rank_of d (Some c.in-Some.e) = ap (λ (x : Facts). x.rank) known.is in
-    subst (StepsOn d.tree (c.args.budget + 1)) (sym c.in-Some.is) (StepsOn-fewer d.tree (c.args.budget + 1) (rank_of d (Some c.in-Some.e)) (Some c.in-Some.e) (omega (arith, is, c.if-before-budget.false)) (rank-leads d (Some c.in-Some.e) known.shallow))
+    IfNone-weaker c.within.result
+    (λ past. subst (StepsOn d.tree (c.args.budget + 1)) (sym c.in-Some.is) (StepsOn-fewer d.tree (c.args.budget + 1) (rank_of d (Some c.in-Some.e)) (Some c.in-Some.e) (omega (arith, is, past)) (rank-leads d (Some c.in-Some.e) known.shallow)))
+    c.within.ensures.many
 
 pub role_of-requires : goal.role_of-requires
 role_of-requires t c = c.requires.closed.inside c.in-Some.e (subst (λ o. IfSome o (λ x. Contains c.args.types.now.found.now x)) c.in-Some.is c.requires.there)
 
 pub parts_at-parts-requires-clause-at : goal.parts_at-parts-requires-clause-at
-parts_at-parts-requires-clause-at t c = number_is c.args.types.now.found.now c.in-Some.e c.in-Some-number.number (sym c.in-Some-number.is ∙ c.number.ensures.number)
+parts_at-parts-requires-clause-at t c = c.number_of-number.ensures
 
 pub types_at-leads_to-requires-clause-at : goal.types_at-leads_to-requires-clause-at
-types_at-leads_to-requires-clause-at t c = number_is c.args.types.now.found.now c.in-Some.e c.in-Some-number.number (sym c.in-Some-number.is ∙ c.number.ensures.number)
+types_at-leads_to-requires-clause-at t c = c.number_of-number.ensures
 
 pub returns-then-budget-eq0-clause-many : goal.returns-then-budget-eq0-clause-many
 returns-then-budget-eq0-clause-many t c =
@@ -128,9 +126,9 @@ combine-requires-clause-inside t c = c.requires.closed.inside c.in-Some.e (subst
 pub returns-clause-known : goal.returns-clause-known
 returns-clause-known t c =
     let d = c.args.types.now.dwarf.now in
-    let at = number_is c.args.types.now.found.now c.in-Some.e c.in-Some-number.number (sym c.in-Some-number.is ∙ c.number.ensures.number) in
+    let at = c.number_of-number.ensures in
     let made = IsLearned-end d c.args.budget c.in-Some.e c.steps.k c.steps_among-steps.result.now c.steps.of_steps.items c.in_ok-made.made c.requires.budget c.steps_among-steps.ensures c.steps-test.false c.steps.invariant.facts c.steps.invariant.few (c.in_ok-made.ensures.is ∙ ap (facts_from d (Some c.in-Some.e)) c.as_slice.ensures.value) in
-    AreFacts-more d c.args.types.now.found.now c.steps.known.items c.in-Some-number.number c.in-Some.e c.in_ok-made.made c.steps.invariant.known at made.is made.shallow c.in_ok-made.ensures.near
+    AreFacts-more d c.args.types.now.found.now c.steps.known.items c.number_of-number.result c.in-Some.e c.in_ok-made.made c.steps.invariant.known at made.is made.shallow c.in_ok-made.ensures.near
 
 pub returns-clause-facts : goal.returns-clause-facts
 returns-clause-facts t c =

@@ -1,8 +1,8 @@
 use Rattle.std.proofs.Common.{◌≡◌, ◌∙◌, Some, slice_get, length, map, ap}
 use Rattle.std.proofs.lemmas.List.{take_all, length-map}
+use Rattle.abi_base.proofs.lemmas.Lists.{slice_get-mapped}
 use Rattle.type_reach.specs.Facts.{facts_of}
 use Rattle.type_reach.specs.Summaries.{summary_of}
-use Rattle.type_reach.proofs.LearnLemmas.{slice_get-mapped}
 use Rattle.type_reach.proofs.summaries.summaries_of.Goals as goal
 
 pub returns : goal.returns

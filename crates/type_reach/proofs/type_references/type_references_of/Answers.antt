@@ -1,18 +1,45 @@
 -- One entry more.
-use Rattle.std.proofs.Common.{◌≤◌, ◌<◌, ◌∙◌, ℕ, length, map, ap, subst, arith}
-use Rattle.std.specs.Prelude.{All}
-use Rattle.std.proofs.lemmas.List.{take_all}
+use Rattle.std.proofs.Common.{◌≡◌, ◌≤◌, ◌<◌, ◌∙◌, ◌++◌, ◌∷◌, [], ℕ, Some, length, map, take, slice_get, sym, ap, subst, arith}
+use Rattle.std.specs.Prelude.{All, IfSome}
+use Rattle.std.proofs.lemmas.List.{take_all, length-map, length-take}
+use Rattle.std.proofs.lemmas.Option.{slice_get_within}
+use Rattle.abi_base.proofs.lemmas.Lists.{contains_at}
 use Rattle.type_reach.specs.References.{parts_of, types_of}
+use Rattle.type_reach.specs.Views.{is_variadic}
+use Rattle.type_reach.specs.Origins.{AreOrigins}
 use Rattle.type_reach.proofs.LearnLemmas.{map-step}
 use Rattle.type_reach.proofs.LeadLemmas.{inside-more, inside-end}
-use Rattle.type_reach.proofs.WalkLemmas.{slice_get_contains}
+use Rattle.type_reach.proofs.OriginLemmas.{same-parts, same-inside, AreOrigins-more, IsRow}
 use Rattle.type_reach.proofs.type_references.type_references_of.Goals as goal
 
-pub fill_parts-requires : goal.fill_parts-requires
-fill_parts-requires c = c.requires.inside c.at-e.result (slice_get_contains c.args.found.now c.found.number c.at-e.result c.at-e.ensures)
+pub role_of-role-requires : goal.role_of-role-requires
+role_of-role-requires c = c.requires.inside c.at-e.result (contains_at c.args.found.now c.found.number c.at-e.result c.at-e.ensures)
+
+pub other_body-origin-requires-clause-inside : goal.other_body-origin-requires-clause-inside
+other_body-origin-requires-clause-inside c = c.requires.inside c.at-e.result (contains_at c.args.found.now c.found.number c.at-e.result c.at-e.ensures)
+
+pub parts_row-requires-clause-inside : goal.parts_row-requires-clause-inside
+parts_row-requires-clause-inside c = c.requires.inside c.at-e.result (contains_at c.args.found.now c.found.number c.at-e.result c.at-e.ensures)
+
+pub parts_row-requires-clause-same : goal.parts_row-requires-clause-same
+parts_row-requires-clause-same c =
+    let t = c.args.dwarf.now.tree in
+    let e = c.at-e.result in
+    subst (λ o. IfSome o (λ k. slice_get c.found.parts k ≡ Some (parts_of t e))) (sym c.first_with-same.ensures)
+    (same-parts t c.found.origins c.found.parts c.found.variadic.items c.other_body-origin.result e c.other_body-origin.ensures.role c.other_body-origin.ensures.body c.found.invariant.origins)
+
+pub parts_row-requires-clause-same_inside : goal.parts_row-requires-clause-same_inside
+parts_row-requires-clause-same_inside c =
+    let t = c.args.dwarf.now.tree in
+    let e = c.at-e.result in
+    subst (λ o. IfSome o (λ k. All (λ (x : ℕ). x < length t.entries) (parts_of t e))) (sym c.first_with-same.ensures)
+    (same-inside t c.found.origins c.found.parts c.found.variadic.items c.other_body-origin.result e c.other_body-origin.ensures.role c.other_body-origin.ensures.body c.found.invariant.origins)
 
 pub fill_types-requires-clause-inside : goal.fill_types-requires-clause-inside
-fill_types-requires-clause-inside c = c.requires.inside c.at-e.result (slice_get_contains c.args.found.now c.found.number c.at-e.result c.at-e.ensures)
+fill_types-requires-clause-inside c = c.requires.inside c.at-e.result (contains_at c.args.found.now c.found.number c.at-e.result c.at-e.ensures)
+
+pub variadic_row-requires-clause-inside : goal.variadic_row-requires-clause-inside
+variadic_row-requires-clause-inside c = c.requires.inside c.at-e.result (contains_at c.args.found.now c.found.number c.at-e.result c.at-e.ensures)
 
 pub found-preserved : goal.found-preserved
 found-preserved c =
@@ -21,10 +48,27 @@ found-preserved c =
     let k = c.found.number in
     let e = c.at-e.result in
     let was = c.found.invariant in
+    let row = c.as_slice-in-found-2.result.now in
+    let further = c.in_ok-further.further in
+    let inside = slice_get_within found k e c.at-e.ensures in
+    let at : k ≡ length c.found.parts = omega (arith, inside, ap length was.parts, length-map (take k found) (parts_of t), length-take k found) in
+    let at_flag : k ≡ length c.found.variadic.items = omega (arith, inside, ap length was.variadic, length-map (take k found) (is_variadic t), length-take k found) in
+    let is : IsRow t e c.other_body-origin.result row further = record {
+      function = c.other_body-origin.ensures.role;
+      body = c.other_body-origin.ensures.body;
+      parts = c.as_slice-in-found-2.ensures.value ∙ c.in_ok-row.ensures.parts;
+      inside = subst (All (λ (x : ℕ). x < length t.entries)) (sym c.as_slice-in-found-2.ensures.value) c.in_ok-row.ensures.inside;
+      further = c.in_ok-further.ensures;
+    } in
     record {
-      parts = map-step (parts_of t) found c.push.new.self c.found.parts k e c.as_slice-in-found.result.now was.parts c.at-e.ensures (c.as_slice-in-found.ensures.value ∙ c.in_ok-fill_parts.ensures.parts) c.in_ok-push.ensures;
-      types = map-step (types_of t) found c.push-in-found.new.self c.found.types k e c.as_slice-in-found-2.result.now was.types c.at-e.ensures (c.as_slice-in-found-2.ensures.value ∙ c.in_ok-fill_types.ensures) c.in_ok-push-2.ensures;
-      inside = inside-more t found k e was.inside c.at-e.ensures (subst (All (λ (x : ℕ). x < length t.entries)) c.in_ok-fill_parts.ensures.parts c.in_ok-fill_parts.ensures.inside);
+      parts = map-step (parts_of t) found c.push.new.self c.found.parts k e row was.parts c.at-e.ensures is.parts c.in_ok-push.ensures;
+      types = map-step (types_of t) found c.push-in-found.new.self c.found.types k e c.as_slice-in-found-3.result.now was.types c.at-e.ensures (c.as_slice-in-found-3.ensures.value ∙ c.in_ok-fill_types.ensures) c.in_ok-push-2.ensures;
+      variadic = map-step (is_variadic t) found c.push-in-found-2.new.self.items c.found.variadic.items k e further was.variadic c.at-e.ensures is.further c.in_ok-push-3.ensures.items;
+      inside = inside-more t found k e was.inside c.at-e.ensures (subst (All (λ (x : ℕ). x < length t.entries)) c.in_ok-row.ensures.parts c.in_ok-row.ensures.inside);
+      origins =
+          subst (λ rows. AreOrigins t rows c.push-in-found-2.new.self.items c.keep.new.self) (sym c.in_ok-push.ensures)
+          (subst (λ flags. AreOrigins t (c.found.parts ++ row ∷ []) flags c.keep.new.self) (sym c.in_ok-push-3.ensures.items)
+          (AreOrigins-more t c.found.origins c.keep.new.self c.found.parts c.found.variadic.items c.other_body-origin.result e k row further c.in_ok-keep.ensures at at_flag is was.origins));
     }
 
 pub returns : goal.returns
@@ -37,5 +81,6 @@ returns c =
     record {
       parts = c.shrink_to_fit.ensures ∙ was.parts ∙ ap (map (parts_of t)) (take_all k found past);
       types = c.shrink_to_fit-2.ensures ∙ was.types ∙ ap (map (types_of t)) (take_all k found past);
+      variadic = was.variadic ∙ ap (map (is_variadic t)) (take_all k found past);
       inside = inside-end t found k was.inside past;
     }

@@ -1,6 +1,8 @@
 use Rattle.std.proofs.Common.{◌≡◌, map, take}
 use Rattle.std.specs.Prelude.{All}
 use Rattle.type_reach.specs.References.{parts_of, types_of}
+use Rattle.type_reach.specs.Origins.{AreOrigins}
+use Rattle.type_reach.specs.Views.{is_variadic}
 use Rattle.type_reach.proofs.LeadLemmas.{ArePartsInside}
 use Rattle.type_reach.proofs.type_references.type_references_of.Given as goal
 
@@ -8,5 +10,7 @@ abbrev pub invariant-found : goal.invariant-found
 invariant-found l = record {
   parts : l.parts ≡ map (parts_of l.dwarf.tree) (take l.number l.found);
   types : l.types ≡ map (types_of l.dwarf.tree) (take l.number l.found);
+  variadic : l.variadic.items ≡ map (is_variadic l.dwarf.tree) (take l.number l.found);
   inside : All (ArePartsInside l.dwarf.tree) (take l.number l.found);
+  origins : AreOrigins l.dwarf.tree l.parts l.variadic.items l.origins;
 }

@@ -1,11 +1,12 @@
 -- A line more, where the node does not stand for its class.
 use Rattle.std.proofs.Common.{sym, ◌∙◌, ◌^◌}
+use Rattle.abi_base.proofs.lemmas.Lists.{All-none}
 use Rattle.cert_text.specs.Certs.{IsBelow}
-use Rattle.pair_compare.proofs.certificates_lemmas.FoundLemmas.{alike-zero, alike-more, below_none, below_pushed}
+use Rattle.pair_compare.proofs.certificates_lemmas.FoundLemmas.{alike-zero, alike-more, below_pushed}
 use Rattle.pair_compare.proofs.certificates.alike.lines_of.Goals as goal
 
 pub loop-number-init : goal.loop-number-init
-loop-number-init g c = (c.new-lines.ensures ∙ sym (alike-zero c.args.classes.now), below_none (IsBelow (2 ^ 64)) c.new-lines.result c.new-lines.ensures)
+loop-number-init g c = (c.new-lines.ensures ∙ sym (alike-zero c.args.classes.now), All-none (IsBelow (2 ^ 64)) c.new-lines.result c.new-lines.ensures)
 
 pub loop-number-preserved : goal.loop-number-preserved
 loop-number-preserved g c = (

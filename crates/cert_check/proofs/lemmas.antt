@@ -1,0 +1,5 @@
+-- What crates above may use of proofs: laws of the definitions of `specs/`.
+pub mod Exports
+pub mod Lines
+pub mod Roots
+pub mod Unmarked

@@ -1,0 +1,3 @@
+-- What crates above may use of proofs: laws of the definitions of `specs/`.
+pub mod Marks
+pub mod Paths

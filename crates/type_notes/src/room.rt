@@ -1,0 +1,211 @@
+// A limit on notes. Types can share their names and parts, types can meet in all pairs, and a path is as long as the chain along which
+// it goes, so the notes on a small file can ask for far more work and text than it has bytes. The names and parts from which texts
+// are made are counted before the texts.
+ghost use Rattle.std.specs.Prelude.{◌≡◌, ◌<◌, length, All, IfErr, IfSome};
+ghost use Rattle.abi_base.specs.declared.fault.NoMemory.TheVariants.{Past};
+ghost use Rattle.abi_base.specs.declared.limit.Limit.TheVariants.{Notes};
+
+use crate::chain::{ENTRIES, core_at};
+use crate::definition_texts::parts_of;
+use crate::difference::Difference;
+use crate::elsewhere::Kin;
+use crate::noted_pair::NotedPair;
+use abi_base::dwarf::{
+    DW_TAG_enumerator, DW_TAG_formal_parameter, DW_TAG_member, DW_TAG_subrange_type,
+};
+use abi_base::{Limit, NoMemory, taken};
+use abi_types::{Graph, Index, Label};
+use dwarf_entries::Dwarf;
+use pair_explorer::Visit;
+use std::alloc::Global;
+use type_reach::{body_of, type_of};
+
+// The limit in bytes of names and texts: so many for each byte of both files, plus a constant. The notes on two builds of one source
+// take less than one byte for each byte of the files.
+const BYTES_A_BYTE: usize = 16;
+
+const BYTES_AT_LEAST: usize = 1_048_576;
+
+// What a part, a name or a step of a chain takes besides its letters.
+const PART: usize = 32;
+
+// What a note takes besides its texts.
+const NOTE: usize = 128;
+
+/// How many bytes of names and texts the notes may still take.
+#[derive(Drop)]
+pub(crate) struct NoteRoom {
+    left: usize,
+}
+
+impl NoteRoom {
+    /// The room for the notes on two libraries, by the sizes of their files.
+    pub(crate) fn beside(ground: &NotedPair) -> NoteRoom {
+        let old = ground.pair.old.file().len();
+        let new = ground.pair.new.file().len();
+        NoteRoom {
+            left: old
+                .saturating_add(new)
+                .saturating_mul(BYTES_A_BYTE)
+                .saturating_add(BYTES_AT_LEAST),
+        }
+    }
+
+    // Takes so many bytes. It fails where fewer are left, and names the limit.
+    fn take(&mut self, bytes: usize) -> Result<(), NoMemory>
+        ensures { IfErr result (λ e. e ≡ Past Notes) }
+    {
+        self.left = taken(Limit::Notes, self.left, bytes)?;
+        Ok(())
+    }
+
+    // Takes a name and what stands beside it.
+    fn take_name(&mut self, name: Option<&[u8]>) -> Result<(), NoMemory> {
+        let letters = name.unwrap_or(&[]).len();
+        self.take(letters.saturating_add(PART))
+    }
+
+    // Takes the names of the children with a tag.
+    fn take_tagged(
+        &mut self,
+        alloc: Global,
+        dwarf: &Dwarf,
+        e: usize,
+        tag: u64,
+    ) -> Result<(), NoMemory>
+        requires { e < length dwarf.now.tree.entries }
+    {
+        let children = dwarf.tagged(alloc, e, tag)?;
+        for k in 0..children.len() {
+            self.take_name(dwarf.name_of(children[k]))?;
+        }
+        Ok(())
+    }
+
+    // Takes the parameters, members, enumerators and dimensions of an entry.
+    fn take_entry(&mut self, alloc: Global, dwarf: &Dwarf, e: usize) -> Result<(), NoMemory>
+        requires { e < length dwarf.now.tree.entries }
+    {
+        self.take_tagged(alloc, dwarf, body_of(dwarf, e), DW_TAG_formal_parameter)?;
+        self.take_tagged(alloc, dwarf, e, DW_TAG_member)?;
+        self.take_tagged(alloc, dwarf, e, DW_TAG_enumerator)?;
+        self.take_tagged(alloc, dwarf, e, DW_TAG_subrange_type)
+    }
+
+    // Takes the names of a type.
+    fn take_labels(&mut self, labels: &[Label]) -> Result<(), NoMemory> {
+        for label in labels {
+            self.take(label.name.len().saturating_add(PART))?;
+        }
+        Ok(())
+    }
+
+    // Takes a type: its names, and the parts of the entry behind it.
+    fn take_type<Ix: Index>(
+        &mut self,
+        alloc: Global,
+        dwarf: &Dwarf,
+        graph: &Graph<Ix>,
+        ix: Ix,
+    ) -> Result<(), NoMemory>
+        requires { Ix.number_of ix < length graph.now }
+    {
+        self.take_labels(graph.labels(ix))?;
+        match core_at(dwarf, graph.entry_of(ix)) {
+            Some(e) => self.take_entry(alloc, dwarf, e),
+            None => Ok(()),
+        }
+    }
+
+    /// Takes the two types of a visit, and a look from each new member at each old one.
+    pub(crate) fn take_visit(
+        &mut self,
+        alloc: Global,
+        ground: &NotedPair,
+        visit: &Visit,
+    ) -> Result<(), NoMemory>
+        requires old { visit.now.old < length ground.now.pair.old.now.graph }
+        requires new { visit.now.new < length ground.now.pair.new.now.graph }
+    {
+        let old = ground.pair.old.graph();
+        let new = ground.pair.new.graph();
+        self.take_type(alloc, ground.old_dwarf, old, visit.old)?;
+        self.take_type(alloc, ground.new_dwarf, new, visit.new)?;
+        let old_parts = old.view(visit.old).parts_len();
+        let new_parts = new.view(visit.new).parts_len();
+        self.take(old_parts.saturating_mul(new_parts))
+    }
+
+    // Takes the chain of types of a member, with the dimensions of its arrays.
+    fn take_chain(&mut self, alloc: Global, dwarf: &Dwarf, m: usize) -> Result<(), NoMemory>
+        requires { m < length dwarf.now.tree.entries }
+    {
+        let mut at = Some(m);
+        'chain: for _passed in 0..ENTRIES {
+            match at {
+                None => return Ok(()),
+                Some(e) => {
+                    self.take_name(dwarf.name_of(e))?;
+                    self.take_tagged(alloc, dwarf, e, DW_TAG_subrange_type)?;
+                    at = type_of(dwarf, e);
+                }
+            }
+        }
+        Ok(())
+    }
+
+    // Takes the members or enumerators of a definition.
+    fn take_definition(&mut self, alloc: Global, dwarf: &Dwarf, e: usize) -> Result<(), NoMemory>
+        requires { e < length dwarf.now.tree.entries }
+    {
+        self.take(PART)?;
+        let parts = parts_of(alloc, dwarf, e)?;
+        for k in 0..parts.len() {
+            self.take_chain(alloc, dwarf, parts[k])?;
+        }
+        Ok(())
+    }
+
+    // Takes definitions.
+    fn take_definitions(
+        &mut self,
+        alloc: Global,
+        dwarf: &Dwarf,
+        entries: &[usize],
+    ) -> Result<(), NoMemory>
+        requires { All (λ e. e < length dwarf.now.tree.entries) entries.now }
+    {
+        for k in 0..entries.len() {
+            self.take_definition(alloc, dwarf, entries[k])?;
+        }
+        Ok(())
+    }
+
+    /// Takes all definitions of a tag and a name in two libraries.
+    pub(crate) fn take_kin(&mut self, alloc: Global, kin: &Kin) -> Result<(), NoMemory>
+        requires old { All (λ e. e < length kin.now.old_dwarf.now.tree.entries) kin.now.old.now }
+        requires new { All (λ e. e < length kin.now.new_dwarf.now.tree.entries) kin.now.new.now }
+    {
+        self.take_definitions(alloc, kin.old_dwarf, kin.old)?;
+        self.take_definitions(alloc, kin.new_dwarf, kin.new)
+    }
+
+    /// Takes the notes on differences under an export and a path.
+    pub(crate) fn take_notes(
+        &mut self,
+        export: &str,
+        path: &str,
+        found: &[Difference],
+    ) -> Result<(), NoMemory> {
+        let place = export.len().saturating_add(path.len());
+        for difference in found {
+            let texts = difference
+                .was
+                .as_slice()
+                .len()
+                .saturating_add(difference.is.as_slice().len());
+            self.take(place.saturating_add(texts).saturating_add(NOTE))?;
+        }
+        Ok(())
+    }
+}
