@@ -100,6 +100,17 @@ printf 'no\nX2 g@@V1: gone\n' >want
 said "a library that lacks what a program needs" 1 needs whole.so part.so
 ! grep -q lacks errors || fail "a note names what the library does not lack"
 
+# The note names ten exports at most.
+{ cat part.c && seq 12 | sed 's/.*/int g&(void) { return 0; }/'; } >many.c
+echo 'V1 { global: f; g*; local: *; };' >many.map
+gcc -shared -fPIC -Wl,-soname,libpart.so.1,--version-script=many.map -o many.so many.c
+gcc -shared -fPIC -Wl,-soname,libpart.so.1,--version-script=many.map -o one.so part.c
+{ sed 's/{.*/;/' many.c && echo "int main(void) { return f()$(seq 12 | sed 's/.*/ + g&()/' | tr -d '\n'); }"; } |
+    gcc -pie -fPIC -o needs_many -x c - -x none many.so
+printf 'yes app\nuse f@@V1\n' >want
+said "a program and a library that lacks twelve exports" 0 needs_many one.so many.so
+grep -q 'which lacks g[0-9]*\(, g[0-9]*\)\{9\} and 2 more$' errors || fail "the note names not ten of twelve exports"
+
 # A program that is not position independent is no input.
 echo 'int main(void) { return 0; }' | gcc -no-pie -o fixed -x c -
 echo "unreadable app 6 NotShared 16" >want

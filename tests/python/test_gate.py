@@ -97,6 +97,16 @@ def test_parts_of_a_library_may_lack_types(tmp_path: Path) -> None:
     told(gate("--require-types", "34", level_one, level_one), "1 of 3 exports")
 
 
+@pytest.mark.parametrize("options", (("-flto", "-gdwarf-5"), ("-flto", "-gdwarf-4")))
+def test_functions_without_parameters_have_types_after_link_time_optimization(build: Build, options: tuple[str, ...]) -> None:
+    """The entry with the code is in a unit of its own, and its prototype in another one."""
+    source = "int count;\nvoid start(void) { count = 1; }\nvoid stop(void) { count = 0; }\n"
+    full = build("full.so", source, "-O2", *options)
+    assert gate(full, full).out == "yes: 3 exports compared, 3 with types\n"
+    level_one = build("one.so", source.replace("int count;", "static int count;"), "-O2", *options, "-g1")
+    told(gate(level_one, level_one), "no types were compared")
+
+
 FOLDED = "int first(int a) { return a * 3 + 7; }\nint second(int a) { return a * 3 + 8; }\nint third(int a) { return a; }\n"
 
 

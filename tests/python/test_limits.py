@@ -28,7 +28,7 @@ int f(struct p *p, struct p q) { return next(p->x) + q.y; }
 
 @pytest.mark.parametrize("row", ROWS, ids=lambda row: str(row.name))
 def test_the_page_has_the_limits_of_the_sources(row: Row) -> None:
-    assert f"| {row.counted} | {row.limit} |" in _PAGE.read_text()
+    assert f"| {row.counted} | {row.words} | {row.limit} |" in _PAGE.read_text()
 
 
 def test_the_manual_page_has_the_limits_of_the_sources() -> None:
