@@ -1,24 +1,36 @@
 """Which code of a library has debug information with types.
 
 Compilers write no types at level 1 (`gcc -g1`, `clang -gline-tables-only`): `abi` then reads each function as `void f(void)`, or
-finds none. A unit counts as level 1 if its entries have neither types nor prototypes and import no other unit.
+finds none. A unit counts as level 1 if its entries have neither types nor prototypes and import no other unit. A unit whose entries
+complete those of other units, as link-time optimization writes it, has types if any unit has some.
 """
 
 from __future__ import annotations
 
 import bisect
+import enum
 from dataclasses import dataclass
 from functools import cached_property
 from typing import Iterable, Optional
 
 from abi_tools.debug_contents import DebugContents
-from abi_tools.dwarf_tables import ATTRIBUTES, TAGS, Table
+from abi_tools.dwarf_tables import ATTRIBUTES, FORMS, TAGS, Table
 from abi_tools.dwarf_units import Tables, Unit, codes_used, units
 from abi_tools.elf_files import DAMAGED, ElfFile
 from abi_tools.unit_code import Range, code_of
 
 _SHOWS_TYPES = (ATTRIBUTES["DW_AT_type"], ATTRIBUTES["DW_AT_prototyped"])
 _IMPORTS = TAGS["DW_TAG_imported_unit"]
+_ORIGIN = ATTRIBUTES["DW_AT_abstract_origin"]
+_IN_ANOTHER_UNIT = FORMS["DW_FORM_ref_addr"]
+
+
+class _Types(enum.Enum):
+    """Where the types of a unit's entries are."""
+
+    HERE = enum.auto()
+    IN_OTHER_UNITS = enum.auto()
+    NOWHERE = enum.auto()
 
 
 @dataclass(frozen=True)
@@ -48,7 +60,9 @@ class Levels:
         self._tables = Tables(self._sections.get(".debug_abbrev", b""), f"{file.path}: .debug_abbrev")
         where = f"{file.path}: .debug_info"
         info = self._sections.get(".debug_info", b"")
-        self._units = [(unit, _has_types(info, unit, self._tables.at(unit.table), where)) for unit in units(info, where)]
+        found = [(unit, _types_of(info, unit, self._tables.at(unit.table), where)) for unit in units(info, where)]
+        are_anywhere = any(types is _Types.HERE for _, types in found)
+        self._units = [(unit, types is _Types.HERE or types is _Types.IN_OTHER_UNITS and are_anywhere) for unit, types in found]
 
     @cached_property
     def has_types(self) -> bool:
@@ -83,10 +97,16 @@ class Levels:
         return "has no debug information of them" if self.has_types else "has no debug information"
 
 
-def _has_types(section: bytes, unit: Unit, table: Table, where: str) -> bool:
-    """Whether an entry of a unit has types. Reads no entries after the first such one."""
+def _types_of(section: bytes, unit: Unit, table: Table, where: str) -> _Types:
+    """Where the types of a unit's entries are. Reads no entries after the first one that has types."""
+    found = _Types.NOWHERE
     used = (table[code] for code in codes_used(section, unit, table, where) if code in table)
-    return any(one.tag == _IMPORTS or any(two.attribute in _SHOWS_TYPES for two in one.attributes) for one in used)
+    for one in used:
+        if one.tag == _IMPORTS or any(two.attribute in _SHOWS_TYPES for two in one.attributes):
+            return _Types.HERE
+        if any(two.attribute == _ORIGIN and two.form == _IN_ANOTHER_UNIT for two in one.attributes):
+            found = _Types.IN_OTHER_UNITS
+    return found
 
 
 def _joined(ranges: Iterable[Range]) -> tuple[Range, ...]:
