@@ -8,7 +8,6 @@ use Rattle.std.proofs.lemmas.List.Sums.{sum_by-cons, count_by_more_yes, count_by
 use Rattle.std.proofs.lemmas.Bool.{false≢true, and_parts}
 use Rattle.std.proofs.lemmas.Bool.Decides.{nat_tests, same_from_decides}
 use Rattle.std.proofs.lemmas.Slice.Eq.{bytes_eq-Decides}
-use Rattle.abi_base.proofs.lemmas.Cases.{bool_cases}
 use Rattle.abi_types.specs.declared.sort.Sort.{Sort}
 use Rattle.abi_types.specs.declared.sort.Sort.TheVariants as sort
 use Rattle.abi_types.specs.Types.{PlainPart, Member, Enumerator, Target, Element, Outcome, Param}
@@ -96,6 +95,22 @@ pub place_of-inside : {X : Type 0} (p : X → Bool) (k : ℕ) (xs : List X) (i :
 unfolding place_of
 place_of-inside p k [] i e = absurd cc
 place_of-inside p k (x ∷ xs) i e = grind (arith, nat_tests, place_of-inside p k xs (i - 1), place_of-inside p (k - 1) xs (i - 1))
+
+-- the item there passes
+pub place_of-passes : {X : Type 0} (p : X → Bool) (k : ℕ) (xs : List X) (i : ℕ) (d : X) → place_of p k xs ≡ Some i → p (get_or xs i d) ≡ true
+unfolding place_of
+place_of-passes p k [] i d e = absurd cc
+place_of-passes p k (x ∷ xs) zero d e = grind (arith, nat_tests)
+place_of-passes p k (x ∷ xs) (suc i) d e = grind (arith, nat_tests, place_of-passes p k xs i d, place_of-passes p (k - 1) xs i d)
+
+-- and as many pass before it as are asked for
+pub place_of-counts : {X : Type 0} (p : X → Bool) (k : ℕ) (xs : List X) (i : ℕ) → place_of p k xs ≡ Some i → count_by p (take i xs) ≡ k
+unfolding place_of
+place_of-counts p k [] i e = absurd cc
+place_of-counts p k (x ∷ xs) zero e = grind (arith, nat_tests)
+place_of-counts p k (x ∷ xs) (suc i) e =
+    let c = sum_by-cons (λ y. cond (p y) 1 0) x (take i xs) in
+    grind (arith, nat_tests, place_of-counts p k xs i, place_of-counts p (k - 1) xs i)
 
 one_on : (b : Bool) (n : ℕ) (o : Option ℕ) → option_map suc (cond b (Some n) o) ≡ cond b (Some (suc n)) (option_map suc o)
 one_on true n o = refl

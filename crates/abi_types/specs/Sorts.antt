@@ -1,8 +1,10 @@
 -- The sorts and names of parts.
 use Rattle.std.specs.Prelude.{ℕ, Bool, List, []}
+use Rattle.std.specs.declared.cmp.Ordering.{Ordering}
 use Rattle.abi_types.specs.declared.sort.Sort.{Sort}
 use Rattle.abi_types.specs.declared.sort.Sort.TheVariants as sort
 use Rattle.abi_types.specs.contracts.sort.SortPartialEq.TheImpl.{ghosts}
+use Rattle.abi_types.specs.contracts.sort.SortOrd.TheImpl as ord
 use Rattle.abi_types.specs.Types.{PlainPart, Member, Enumerator, Target, Element, Outcome, Param}
 
 abbrev pub sort_of : PlainPart → Sort
@@ -22,3 +24,7 @@ name_of other = []
 -- the comparison of sorts that the code derives
 abbrev pub same_sort : Sort → Sort → Bool
 same_sort = ghosts.eq
+
+-- the order of sorts that the code derives
+abbrev pub sort_cmp : Sort → Sort → Ordering
+sort_cmp = ord.ghosts.cmp

@@ -53,7 +53,7 @@ impl<'a, Ix: Index> Model for Parts<'a, Ix> {
 
 // Up to this many parts are searched one by one. An index of them would cost more than it saves, since few of a library's types
 // are ever compared. Longer lists have an index.
-const SHORT: usize = 64;
+const SHORT: usize = 16;
 
 // The index of a longer list.
 fn kept_lookup<'a, Ix: Index>(

@@ -1,7 +1,6 @@
 // The rules that a new library may break.
 ghost use Rattle.std.specs.Prelude.{◌≡◌};
-ghost use Rattle.abi_types.specs.Kinds.{rule_word};
-ghost use Rattle.abi_types.specs.Rules.{rule_place};
+ghost use Rattle.abi_types.specs.Rules.{all_rules, rule_name, rule_place, rule_word};
 
 /// A rule that a new library may break. `X1` to `X6` compare exports, `L1` to `L14` an old type with a new one.
 /// Each variant's line says what the rule requires.
@@ -49,7 +48,39 @@ pub enum Rule {
     PassingPlace,
 }
 
+// All rules, each at its place.
+static ALL_RULES: [Rule; 20] = [
+    Rule::LibrarySoname,
+    Rule::ExportPresence,
+    Rule::ExportVersion,
+    Rule::ExportKind,
+    Rule::ExportSize,
+    Rule::ExportType,
+    Rule::KindOfType,
+    Rule::TypeSize,
+    Rule::ScalarGroup,
+    Rule::TypeAlignment,
+    Rule::DeclarationTag,
+    Rule::MemberPresence,
+    Rule::MemberOffset,
+    Rule::BitFieldWidth,
+    Rule::EnumeratorPresence,
+    Rule::EnumeratorValue,
+    Rule::ElementCount,
+    Rule::ParameterCount,
+    Rule::VariadicArguments,
+    Rule::PassingPlace,
+];
+
 impl Rule {
+    /// All rules, each at its place.
+    #[tactic(auto, unfolding(crate::specs::Rules::all_rules))]
+    pub fn all() -> &'static [Rule]
+        ensures { result.now ≡ all_rules }
+    {
+        &ALL_RULES
+    }
+
     /// The place in the order of rules, counted from 0: rules of exports first, each group by its numbers.
     pub fn place(self) -> u8
         ensures { result ≡ rule_place self }
@@ -57,31 +88,46 @@ impl Rule {
         self as u8
     }
 
+    // The word for the rule, and the name of its break.
+    fn texts(self) -> (&'static str, &'static str)
+        ensures word { result.0.now ≡ rule_word self }
+        ensures name { result.1.now ≡ rule_name self }
+    {
+        match self {
+            Rule::LibrarySoname => ("X1", "soname changed"),
+            Rule::ExportPresence => ("X2", "export gone"),
+            Rule::ExportVersion => ("X3", "version gone"),
+            Rule::ExportKind => ("X4", "symbol kind changed"),
+            Rule::ExportSize => ("X5", "object size changed"),
+            Rule::ExportType => ("X6", "type information gone"),
+            Rule::KindOfType => ("L1", "kind of type changed"),
+            Rule::TypeSize => ("L2", "size changed"),
+            Rule::ScalarGroup => ("L3", "sort of scalar changed"),
+            Rule::TypeAlignment => ("L4", "alignment changed"),
+            Rule::DeclarationTag => ("L5", "tag changed"),
+            Rule::MemberPresence => ("L6", "member gone"),
+            Rule::MemberOffset => ("L7", "member moved"),
+            Rule::BitFieldWidth => ("L8", "bit field width changed"),
+            Rule::EnumeratorPresence => ("L9", "enumerator gone"),
+            Rule::EnumeratorValue => ("L10", "enumerator value changed"),
+            Rule::ElementCount => ("L11", "element count changed"),
+            Rule::ParameterCount => ("L12", "parameter count changed"),
+            Rule::VariadicArguments => ("L13", "variadic arguments changed"),
+            Rule::PassingPlace => ("L14", "passing place changed"),
+        }
+    }
+
     /// The word for the rule in printed text.
     pub fn word(self) -> &'static str
         ensures { result.now ≡ rule_word self }
     {
-        match self {
-            Rule::LibrarySoname => "X1",
-            Rule::ExportPresence => "X2",
-            Rule::ExportVersion => "X3",
-            Rule::ExportKind => "X4",
-            Rule::ExportSize => "X5",
-            Rule::ExportType => "X6",
-            Rule::KindOfType => "L1",
-            Rule::TypeSize => "L2",
-            Rule::ScalarGroup => "L3",
-            Rule::TypeAlignment => "L4",
-            Rule::DeclarationTag => "L5",
-            Rule::MemberPresence => "L6",
-            Rule::MemberOffset => "L7",
-            Rule::BitFieldWidth => "L8",
-            Rule::EnumeratorPresence => "L9",
-            Rule::EnumeratorValue => "L10",
-            Rule::ElementCount => "L11",
-            Rule::ParameterCount => "L12",
-            Rule::VariadicArguments => "L13",
-            Rule::PassingPlace => "L14",
-        }
+        self.texts().0
+    }
+
+    /// The plain name of the rule's break.
+    pub fn name(self) -> &'static str
+        ensures { result.now ≡ rule_name self }
+    {
+        self.texts().1
     }
 }

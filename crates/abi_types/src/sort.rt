@@ -1,7 +1,7 @@
 // The sorts of parts.
 
 /// The sort of a part.
-#[derive(Clone, Copy, PartialEq, Eq, Hash)]
+#[derive(Clone, Copy, PartialEq, Eq, PartialOrd, Ord)]
 pub enum Sort {
     Member,
     Enumerator,

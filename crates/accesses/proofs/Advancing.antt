@@ -1,38 +1,31 @@
 -- From types that break no rule a move leads to matching parts.
-use Rattle.std.proofs.Common.{◌≡◌, ◌<◌, ◌≤◌, ℕ, Bool, true, false, not, List, [], ◌∷◌, length, take, get_or, Option, Some, None, refl, sym, ◌∙◌, ap, subst, eqb, arith}
-use Rattle.std.specs.Prelude.{is_none, ◌&&◌}
+use Rattle.std.proofs.Common.{◌≡◌, ◌<◌, ◌≤◌, ℕ, suc, Bool, true, false, not, List, [], ◌∷◌, length, take, Option, Some, None, refl, sym, ◌∙◌, ap, subst, eqb, arith, inl, inr}
+use Rattle.std.specs.Prelude.{is_none, ◌&&◌, ◌||◌}
 use Rattle.std.specs.List.{filter, Contains}
 use Rattle.std.specs.Option.{option_map}
-use Rattle.std.proofs.lemmas.Bool.{and_parts, not-true, not-false, eqb-true, false_from_ne_true, false≢true}
+use Rattle.std.proofs.lemmas.Bool.{or_cases, not-false, eqb-true, false_from_ne_true, false≢true}
 use Rattle.std.proofs.lemmas.List.Sums.{length-filter}
 use Rattle.std.proofs.lemmas.Option.{none-some}
+use denote.Enum.Bare.{sameb, same_true}
 use Rattle.abi_base.proofs.lemmas.Lists.{fewer_before}
+use Rattle.abi_types.specs.contracts.rule.Rule.{the_type}
 use Rattle.abi_types.specs.declared.kind.Kind.{Kind}
 use Rattle.abi_types.specs.declared.rule.Rule.{Rule}
-use Rattle.abi_types.specs.declared.rule.Rule.TheVariants.{TypeSize, ScalarGroup, TypeAlignment, MemberPresence, MemberOffset, BitFieldWidth, EnumeratorPresence, EnumeratorValue, ElementCount, ParameterCount, VariadicArguments, PassingPlace}
+use Rattle.abi_types.specs.declared.rule.Rule.TheVariants.{MemberPresence, MemberOffset, BitFieldWidth, ParameterCount}
 use Rattle.abi_types.specs.Types.{PlainPart, Member, Enumerator, Target, Element, Outcome, Param, PlainView}
 use Rattle.abi_types.specs.Forms.{is_function, is_member, is_param, HasForm, parts_fit}
 use Rattle.abi_types.specs.Graphs.{part_at, no_part, to_of}
 use Rattle.abi_types.specs.Parts.{like}
 use Rattle.pair_rules.specs.declared.rules.Broken.{Broken}
-use Rattle.pair_rules.specs.Same.{same_kind}
 use Rattle.pair_rules.specs.Matching.{match_of, IsMatch}
-use Rattle.pair_rules.specs.TypeRules.{is_declaration, are_compared, breaks_whole, breaks_part, speaks_of_parts, rules_asked, broken_at, breaks, bit_at, width_at, params_of, differs, IsBroken}
+use Rattle.pair_rules.specs.TypeRules.{are_compared, breaks_whole, breaks_part, speaks_of_parts, definition_rules, rules_asked, broken_at, breaks, bit_at, width_at, params_of, differs, IsBroken}
+use Rattle.pair_rules.proofs.lemmas.Asked.{rules_asked-defined}
 use Rattle.accesses.specs.Moves.{Move, named, IsNamed}
 use Rattle.accesses.proofs.Known.{Laws}
 use Rattle.accesses.proofs.Naming.{named-match, is_single}
 use Rattle.accesses.proofs.Forming.{single-first, single-too, param-function}
 
 -- ---- what is not broken
-
--- the rules that compare two definitions
-abbrev pub definition_rules : List Rule
-definition_rules = TypeSize ∷ ScalarGroup ∷ TypeAlignment ∷ MemberPresence ∷ MemberOffset ∷ BitFieldWidth ∷ EnumeratorPresence ∷ EnumeratorValue ∷ ElementCount ∷ ParameterCount ∷ VariadicArguments ∷ PassingPlace ∷ []
-
-pub rules_asked-defined : (v w : PlainView) → are_compared v w ≡ true → rules_asked v w ≡ definition_rules
-rules_asked-defined v w e =
-    let both = and_parts (same_kind v.kind w.kind) (not (is_declaration v w)) e in
-    rw (both.0, not-true (is_declaration v w) both.1) refl
 
 pub nothing-in : (b : Broken) → Contains [] b → ⊥
 nothing-in b (k, inside, at) = omega arith
@@ -41,23 +34,36 @@ nothing-in b (k, inside, at) = omega arith
 pub unlisted : (v w : PlainView) → breaks v w ≡ [] → (b : Broken) → Contains (breaks v w) b → ⊥
 unlisted v w none b there = nothing-in b (subst (λ (xs : List Broken). Contains xs b) none there)
 
-pub unbroken_part : Laws → (v w : PlainView) → are_compared v w ≡ true → breaks v w ≡ [] → (k : ℕ) (rule : Rule) → k < length definition_rules → get_or definition_rules k rule ≡ rule
-    → speaks_of_parts rule ≡ true → (i : ℕ) → i < length v.parts → breaks_part rule v w i ≡ false
-unbroken_part laws v w compared none k rule lt at speaks i inside =
+-- a rule stands in a list
+abbrev pub among : Rule → List Rule → Bool
+among rule [] = false
+among rule (r ∷ rules) = sameb the_type r rule || among rule rules
+
+Contains-from_among : (rule : Rule) (rules : List Rule) → among rule rules ≡ true → Contains rules rule
+Contains-from_among rule [] is = absurd cc
+Contains-from_among rule (r ∷ rules) is =
+    elim (or_cases (sameb the_type r rule) (among rule rules) is) [
+      | inl here ↦ (0, omega arith, same_true the_type tt r rule here)
+      | inr later ↦ let there = Contains-from_among rule rules later in (suc there.0, omega (arith, there.1), there.2)
+    ]
+
+asked-defined : (v w : PlainView) → are_compared v w ≡ true → (rule : Rule) → among rule definition_rules ≡ true → Contains (rules_asked v w) rule
+asked-defined v w compared rule is_among =
+    subst (λ (rules : List Rule). Contains rules rule) (sym (rules_asked-defined v w compared)) (Contains-from_among rule definition_rules is_among)
+
+pub unbroken_part : Laws → (v w : PlainView) → are_compared v w ≡ true → breaks v w ≡ [] → (rule : Rule) → among rule definition_rules ≡ true → speaks_of_parts rule ≡ true → (i : ℕ) → i < length v.parts → breaks_part rule v w i ≡ false
+unbroken_part laws v w compared none rule is_among speaks i inside =
     false_from_ne_true (breaks_part rule v w i)
     (λ broken.
-    let asked : Contains (rules_asked v w) rule = subst (λ (xs : List Rule). Contains xs rule) (sym (rules_asked-defined v w compared)) (k, lt, at) in
     let is : IsBroken v w (broken_at rule i) = rw speaks (inside, broken) in
-    unlisted v w none (broken_at rule i) ((laws.listed v w (broken_at rule i)).1 (asked, is)))
+    unlisted v w none (broken_at rule i) ((laws.listed v w (broken_at rule i)).1 (asked-defined v w compared rule is_among, is)))
 
-pub unbroken_whole : Laws → (v w : PlainView) → are_compared v w ≡ true → breaks v w ≡ [] → (k : ℕ) (rule : Rule) → k < length definition_rules → get_or definition_rules k rule ≡ rule
-    → speaks_of_parts rule ≡ false → breaks_whole rule v w ≡ false
-unbroken_whole laws v w compared none k rule lt at speaks =
+pub unbroken_whole : Laws → (v w : PlainView) → are_compared v w ≡ true → breaks v w ≡ [] → (rule : Rule) → among rule definition_rules ≡ true → speaks_of_parts rule ≡ false → breaks_whole rule v w ≡ false
+unbroken_whole laws v w compared none rule is_among speaks =
     false_from_ne_true (breaks_whole rule v w)
     (λ broken.
-    let asked : Contains (rules_asked v w) rule = subst (λ (xs : List Rule). Contains xs rule) (sym (rules_asked-defined v w compared)) (k, lt, at) in
     let is : IsBroken v w (broken_at rule 0) = rw speaks (refl, broken) in
-    unlisted v w none (broken_at rule 0) ((laws.listed v w (broken_at rule 0)).1 (asked, is)))
+    unlisted v w none (broken_at rule 0) ((laws.listed v w (broken_at rule 0)).1 (asked-defined v w compared rule is_among, is)))
 
 -- ---- what a test that is not passed says
 
@@ -83,7 +89,7 @@ unfolding breaks_whole
 param-unmatched laws v w form compared none i to inside is missing =
     let param : is_param (part_at v i) ≡ true = rw is refl in
     let function = param-function v.kind v.parts i form.parts inside param in
-    let unbroken : (is_function v.kind && not (eqb (params_of v) (params_of w))) ≡ false = unbroken_whole laws v w compared none 9 ParameterCount (omega arith) refl refl in
+    let unbroken : (is_function v.kind && not (eqb (params_of v) (params_of w))) ≡ false = unbroken_whole laws v w compared none ParameterCount refl refl in
     let same = same-number (params_of v) (params_of w) (first_false (is_function v.kind) (not (eqb (params_of v) (params_of w))) unbroken function) in
     let like-param : like (part_at v i) ≡ is_param = rw is (λ k q. likes q k) in
     let P : (PlainPart → Bool) → Type 0 = λ f. length (filter f w.parts) ≤ length (filter f (take i v.parts)) in
@@ -98,7 +104,7 @@ param-unmatched laws v w form compared none i to inside is missing =
 member-unmatched : Laws → (v w : PlainView) → are_compared v w ≡ true → breaks v w ≡ [] → (i : ℕ) → i < length v.parts → is_member (part_at v i) ≡ true → match_of v w i ≡ None → ⊥
 unfolding breaks_part
 member-unmatched laws v w compared none i inside member missing =
-    let unbroken : (is_member (part_at v i) && is_none (match_of v w i)) ≡ false = unbroken_part laws v w compared none 3 MemberPresence (omega arith) refl refl i inside in
+    let unbroken : (is_member (part_at v i) && is_none (match_of v w i)) ≡ false = unbroken_part laws v w compared none MemberPresence refl refl i inside in
     let some = first_false (is_member (part_at v i)) (is_none (match_of v w i)) unbroken member in
     false≢true (sym some ∙ ap is_none missing)
 
@@ -125,14 +131,14 @@ pub record Advance (v w : PlainView) (move : Move) (i : ℕ) : Type 0 where
 same-bit : Laws → (v w : PlainView) → are_compared v w ≡ true → breaks v w ≡ [] → (i j : ℕ) → i < length v.parts → match_of v w i ≡ Some j → is_member (part_at v i) ≡ true → bit_at v i ≡ bit_at w j
 unfolding breaks_part
 same-bit laws v w compared none i j inside is member =
-    let unbroken : (is_member (part_at v i) && differs (bit_at v i) (option_map (bit_at w) (match_of v w i))) ≡ false = unbroken_part laws v w compared none 4 MemberOffset (omega arith) refl refl i inside in
+    let unbroken : (is_member (part_at v i) && differs (bit_at v i) (option_map (bit_at w) (match_of v w i))) ≡ false = unbroken_part laws v w compared none MemberOffset refl refl i inside in
     let same = first_false (is_member (part_at v i)) (differs (bit_at v i) (option_map (bit_at w) (match_of v w i))) unbroken member in
     same-number (bit_at v i) (bit_at w j) (sym (ap (λ o. differs (bit_at v i) (option_map (bit_at w) o)) is) ∙ same)
 
 same-width : Laws → (v w : PlainView) → are_compared v w ≡ true → breaks v w ≡ [] → (i j : ℕ) → i < length v.parts → match_of v w i ≡ Some j → is_member (part_at v i) ≡ true → width_at v i ≡ width_at w j
 unfolding breaks_part
 same-width laws v w compared none i j inside is member =
-    let unbroken : (is_member (part_at v i) && differs (width_at v i) (option_map (width_at w) (match_of v w i))) ≡ false = unbroken_part laws v w compared none 5 BitFieldWidth (omega arith) refl refl i inside in
+    let unbroken : (is_member (part_at v i) && differs (width_at v i) (option_map (width_at w) (match_of v w i))) ≡ false = unbroken_part laws v w compared none BitFieldWidth refl refl i inside in
     let same = first_false (is_member (part_at v i)) (differs (width_at v i) (option_map (width_at w) (match_of v w i))) unbroken member in
     same-number (width_at v i) (width_at w j) (sym (ap (λ o. differs (width_at v i) (option_map (width_at w) o)) is) ∙ same)
 

@@ -10,4 +10,6 @@ mod Missed
 mod Moving
 mod Naming
 mod Opening
+mod Parameters
+mod RuleByRule
 mod WorkedAccess

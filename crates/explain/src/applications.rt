@@ -27,15 +27,25 @@ pub fn links_sentence(
     Ok(said(alloc, path, words.as_str())?)
 }
 
-// The words about the exports that a library lacks. Names that are not UTF-8 are left out.
+// A sentence names this many exports at most: an application may need thousands, and long names can share their bytes in the file.
+const MOST_NAMES: usize = 10;
+
+// The words about the exports that a library lacks: the first names, and how many more there are. Names that are not UTF-8 are left
+// out.
 fn lacking_words(alloc: Global, library: &str, names: &[&[u8]]) -> Result<String, AllocError> {
     let mut words = format!(in alloc; "it does not run with {library} either, which lacks")?;
-    push_names(&mut words, " ", names)?;
+    let shown = names.len().min(MOST_NAMES);
+    push_names(&mut words, " ", &names[..shown])?;
+    let more = names.len() - shown;
+    if more > 0 {
+        let rest = format!(in alloc; " and {more} more")?;
+        words.push_str(rest.as_str())?;
+    }
     Ok(words)
 }
 
-/// The sentence on an application at a path that needs exports with these names, which a library lacks. It is one line, whatever
-/// characters the paths and the names have.
+/// The sentence on an application at a path that needs exports with these names, which a library lacks: the first ten names, and how
+/// many more there are. It is one line, whatever characters the paths and the names have.
 pub fn lacking_sentence(
     alloc: Global,
     path: &str,

@@ -2,17 +2,22 @@
 use Rattle.std.proofs.Common.{◌≡◌, ℕ, Bool, true, cond, List, [], ◌∷◌, ◌++◌, refl, sym, ◌∙◌, ap, inl, inr}
 use Rattle.std.specs.Prelude.{◌&&◌, ◌==◌, if◌then◌else◌}
 use Rattle.std.specs.Borrow.{Bor}
-use Rattle.std.specs.HashSet.{contains_by}
+use Rattle.std.specs.BTreeSet.{contains_by}
+use Rattle.std.specs.Cmp.{both_tied, unsigned_ties}
+use Rattle.std.specs.Cmp.Lexicographic.{slice_cmp}
 use Rattle.std.specs.List.{list_any}
+use Rattle.std.specs.Ordering.{is_eq, nat_cmp}
 use Rattle.std.specs.Str.{bytes_eq}
 use Rattle.std.proofs.lemmas.Bool.{and_parts, cases_Bool, eqb-true}
 use Rattle.std.proofs.lemmas.List.Folds.{list_any-append}
+use Rattle.std.proofs.lemmas.Map.Text.{is_eq-slice_cmp}
 use Rattle.std.proofs.lemmas.Slice.Eq.{bytes_eq-Decides}
 use Rattle.abi_types.specs.declared.kind.LabelKind.{LabelKind}
 use Rattle.abi_types.specs.declared.kind.LabelKind.TheVariants.{Structure, Union, Enumeration, Typedef, Builtin}
 use Rattle.abi_types.specs.Types.{PlainLabel}
 use Rattle.idle_sections.specs.Names.{Seen, kind_number, AreSeen}
 use Rattle.abi_types.proofs.lemmas.Records.{one_label}
+use Rattle.suppressions.specs.Known.{name_cmp}
 
 -- ---- names as keys
 
@@ -33,17 +38,21 @@ kind_is Builtin = refl
 one_kind : (j k : LabelKind) → kind_number j ≡ kind_number k → j ≡ k
 one_kind j k e = sym (kind_is j) ∙ ap kind_of e ∙ kind_is k
 
+-- a kind with a name compares equal exactly to the same kind with the same name
+equal_names : (n : ℕ) (name : List ℕ) (m : ℕ) (other : List ℕ) → (n == m && bytes_eq name other) ≡ is_eq (name_cmp n name m other)
+equal_names n name m other = both_tied (n == m) (bytes_eq name other) (nat_cmp n m) (slice_cmp nat_cmp name other) (unsigned_ties n m) (sym (is_eq-slice_cmp name other))
+
 -- the key has this number and this name
 abbrev is_key : ℕ → List ℕ → ℕ × Bor (List ℕ) → Bool
-is_key n name q = n == q.0 && bytes_eq name q.1.now
+is_key n name q = is_eq (name_cmp n name q.0 q.1.now)
 
 -- the set has the key
 abbrev has : Seen → ℕ × Bor (List ℕ) → Bool
-has seen q = contains_by (λ k. q.0 == k.0 && bytes_eq q.1.now k.1.now) seen
+has seen q = contains_by (λ k. name_cmp q.0 q.1.now k.0 k.1.now) seen
 
 one_of_key : (l m : PlainLabel) (n : ℕ) → n ≡ kind_number l.kind → is_key n l.name (key m) ≡ true → l ≡ m
 one_of_key l m n number same =
-    let both = and_parts (n == kind_number m.kind) (bytes_eq l.name m.name) same in
+    let both = and_parts (n == kind_number m.kind) (bytes_eq l.name m.name) (equal_names n l.name (kind_number m.kind) m.name ∙ same) in
     one_label l m (one_kind l.kind m.kind (sym number ∙ eqb-true n (kind_number m.kind) both.0)) ((bytes_eq-Decides l.name m.name).0 both.1)
 
 -- ---- tests

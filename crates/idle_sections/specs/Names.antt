@@ -1,14 +1,12 @@
--- A set of the names of types.
-use Rattle.std.specs.Prelude.{◌≡◌, ◌==◌, ◌&&◌, ℕ, Bool, true, List}
+-- A set of the names of types, as a search tree: no choice of names makes a look-up long.
+use Rattle.std.specs.Prelude.{◌≡◌, ℕ, Bool, true, List}
 use Rattle.std.specs.Borrow.{Bor}
+use Rattle.std.specs.BTreeSet.{BTreeSet, contains_by}
 use Rattle.std.specs.List.{list_any}
-use Rattle.std.specs.Str.{bytes_eq}
-use Rattle.std.specs.HashSet.{HashSet, contains_by}
-use Rattle.std.specs.declared.hash.FoldHasher.{FoldHasher}
-use Rattle.std.specs.declared.hash.BuildHasherDefault.{BuildHasherDefault}
 use Rattle.abi_types.specs.declared.kind.LabelKind.{LabelKind}
 use Rattle.abi_types.specs.declared.kind.LabelKind.TheVariants.{Structure, Union, Enumeration, Typedef, Builtin}
 use Rattle.abi_types.specs.Types.{PlainLabel}
+use Rattle.suppressions.specs.Known.{name_cmp}
 
 abbrev pub kind_number : LabelKind → ℕ
 kind_number Structure = 0
@@ -19,10 +17,10 @@ kind_number Builtin = 4
 
 -- a set of the kinds and the names of labels
 abbrev pub Seen : Type 0
-Seen = HashSet (ℕ × Bor (List ℕ)) (BuildHasherDefault FoldHasher)
+Seen = BTreeSet (ℕ × Bor (List ℕ))
 
 abbrev pub is_seen : Seen → PlainLabel → Bool
-is_seen seen l = contains_by (λ k. kind_number l.kind == k.0 && bytes_eq l.name k.1.now) seen
+is_seen seen l = contains_by (λ k. name_cmp (kind_number l.kind) l.name k.0 k.1.now) seen
 
 -- for each name in the set, a test that passes the name passes one of these names
 abbrev pub AreSeen : Seen → List PlainLabel → Type 0

@@ -8,7 +8,7 @@ ghost use Rattle.idle_sections.specs.Names.{is_seen, AreAlike, AreSeen};
 use abi_base::NoMemory;
 use abi_types::{Graph, Index, Label, LabelKind, OldIx};
 use std::alloc::Global;
-use std::collections::HashSet;
+use std::collections::BTreeSet;
 
 fn kind_number(kind: LabelKind) -> u8
     ensures { result ≡ spec.kind_number kind }
@@ -23,7 +23,7 @@ fn kind_number(kind: LabelKind) -> u8
 }
 
 // Whether a name is in the set.
-fn was_seen(seen: &HashSet<(u8, &[u8])>, label: &Label) -> bool
+fn was_seen<'x>(seen: &BTreeSet<(u8, &'x [u8])>, label: &Label<'x>) -> bool
     ensures { result ≡ is_seen seen.now (plain_label label.now) }
 {
     seen.contains(&(kind_number(label.kind), label.name))
@@ -31,7 +31,7 @@ fn was_seen(seen: &HashSet<(u8, &[u8])>, label: &Label) -> bool
 
 // Adds a name, unless it is in the set.
 fn push_once<'x>(
-    seen: &mut HashSet<(u8, &'x [u8])>,
+    seen: &mut BTreeSet<(u8, &'x [u8])>,
     names: &mut Vec<Label<'x>>,
     label: &Label<'x>,
 ) -> Result<(), NoMemory>
@@ -49,7 +49,7 @@ fn push_once<'x>(
 
 // Adds the names that are not in the set.
 fn push_names<'x>(
-    seen: &mut HashSet<(u8, &'x [u8])>,
+    seen: &mut BTreeSet<(u8, &'x [u8])>,
     names: &mut Vec<Label<'x>>,
     labels: &[Label<'x>],
 ) -> Result<(), NoMemory>
@@ -67,7 +67,7 @@ fn push_names<'x>(
 pub fn names_of<'x>(alloc: Global, graph: &Graph<'x, OldIx>) -> Result<Vec<Label<'x>>, NoMemory>
     ensures { IfOk result (λ names. AreAlike (map plain_label names.items) (all_labels graph.now)) }
 {
-    let mut seen = HashSet::new(alloc);
+    let mut seen = BTreeSet::new(alloc);
     let mut names = Vec::new(alloc);
     for i in 0..graph.len() {
         push_names(&mut seen, &mut names, graph.labels(OldIx::of(i)))?;

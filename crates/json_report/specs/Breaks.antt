@@ -2,13 +2,12 @@
 use Rattle.std.specs.Prelude.{ℕ, zero, suc, ◌==◌, Bool, if◌then◌else◌, List, [], ◌∷◌, ◌++◌, take, flat_map, Some, codes, decimal}
 use Rattle.std.specs.List.{concat}
 use Rattle.std.specs.Str.{bytes_eq}
-use Rattle.abi_types.specs.Kinds.{rule_word}
+use Rattle.abi_types.specs.Rules.{rule_name, rule_word}
 use Rattle.report.specs.declared.row.Row.{Row}
 use Rattle.report.specs.declared.style.Style.TheVariants.{Own}
 use Rattle.report.specs.declared.value.Value.{Value}
 use Rattle.report.specs.declared.value.Value.TheVariants.{Nothing, Bytes, Bits, Count, Number, Word}
 use Rattle.report.specs.Listening.{Voice}
-use Rattle.json_report.specs.Names.{rule_name}
 use Rattle.json_report.specs.Strings.{escaped, string_text}
 
 -- the offset of an entry, or null for 0, which means that there is none

@@ -1,3 +1,2 @@
 pub mod Breaks
-pub mod Names
 pub mod Strings

@@ -4,7 +4,6 @@ ghost use Rattle.json_report.specs.Breaks.{detail_text, entries_text, entry_memb
 ghost use Rattle.json_report.specs.Breaks as spec;
 ghost use Rattle.report.specs.declared.row.Row.{Row as AnyRow};
 
-use crate::names::rule_name;
 use crate::strings::{push, push_escaped, push_string};
 use crate::values::push_values;
 use abi_base::NoMemory;
@@ -89,7 +88,7 @@ fn push_rule(text: &mut Vec<u8>, row: &Row) -> Result<(), NoMemory>
     push(text, b"{\"rule\":\"")?;
     push(text, row.rule.word().as_bytes())?;
     push(text, b"\",\"name\":\"")?;
-    push(text, rule_name(row.rule).as_bytes())?;
+    push(text, row.rule.name().as_bytes())?;
     push(text, b"\"")
 }
 

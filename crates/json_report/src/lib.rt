@@ -6,11 +6,9 @@ mod breaks;
 mod document;
 mod kept;
 mod listener;
-mod names;
 mod strings;
 mod values;
 
 pub use document::with_member;
 pub use kept::TextSink;
 pub use listener::JsonListener;
-pub use names::rule_name;

@@ -25,7 +25,7 @@ pub enum Layout {
 // each letter: four for each one, in a line of a member, of an overlap and of what lies outside.
 const LETTERS_A_BYTE: usize = 2;
 
-const LETTERS_AT_LEAST: usize = 1_048_576;
+const LETTERS_AT_LEAST: usize = 262_144;
 
 /// The most letters of names that a layout of a file with so many bytes may print.
 pub(crate) fn most_letters(bytes: usize) -> usize {

@@ -3,8 +3,8 @@
 use abi_base::{Limit, NoMemory, taken};
 use abi_types::{Graph, Index, Label, Part, View};
 
-// How many parts types may have for each byte of the file. A member takes some ten bytes and stands in three or four types.
-const PARTS_A_BYTE: usize = 2;
+// Types may have one part for so many bytes of the file. Comparing a part takes some sixty bytes of memory.
+const BYTES_A_PART: usize = 2;
 
 // How many more they may have, however small the file is.
 const PARTS_AT_LEAST: usize = 65_536;
@@ -34,9 +34,7 @@ impl Room {
     // The room of the types of a file with so many bytes.
     fn beside(bytes: usize) -> Room {
         Room {
-            parts: bytes
-                .saturating_mul(PARTS_A_BYTE)
-                .saturating_add(PARTS_AT_LEAST),
+            parts: (bytes / BYTES_A_PART).saturating_add(PARTS_AT_LEAST),
             letters: bytes
                 .saturating_mul(LETTERS_A_BYTE)
                 .saturating_add(LETTERS_AT_LEAST),

@@ -1,5 +1,5 @@
 -- What one triple of each class tells of all others.
-use Rattle.std.proofs.Common.{◌≡◌, ltb, ℕ, Bool, true, false, length, Option, Some, None, refl, sym, ◌∙◌, ap}
+use Rattle.std.proofs.Common.{◌≡◌, ℕ, Bool, true, false, Option, Some, None, refl, sym, ◌∙◌, ap}
 use Rattle.std.specs.Option.{option_map}
 use Rattle.std.proofs.lemmas.Bool.{and_parts, and_from}
 use Rattle.std.proofs.lemmas.Option.{same_Some, none-some}
@@ -11,7 +11,8 @@ use Rattle.pair_rules.specs.Steps.{Task, Triple, is_marked, breaks_of, step, nex
 use Rattle.pair_rules.specs.Closed.{IsClosed}
 use Rattle.pair_rules.proofs.Leading.{step-parts, step-inside}
 use Rattle.pair_rules.specs.Stable.{AreClasses, IsInside, is_inside, classed, StandsFor, related, LeadsLike}
-use Rattle.pair_rules.proofs.Unseen.{next_of-seen, breaks-seen}
+use Rattle.pair_rules.proofs.Unseen.{next_of-seen}
+use Rattle.pair_rules.proofs.BreaksUnseen.{breaks-seen}
 use Rattle.pair_rules.proofs.lemmas.Triples.{IsInside-from, is_inside-from}
 use Rattle.pair_rules.proofs.lemmas.Steps.{step-from_next}
 

@@ -1,57 +1,18 @@
 -- Types break no rule exactly where they keep each rule as a whole and at each part.
-use Rattle.std.proofs.Common.{◌≡◌, ◌<◌, ℕ, Bool, true, false, cond, not, List, [], ◌∷◌, ◌++◌, map, length, refl, sym, arith, inl, inr}
-use Rattle.std.specs.List.{filter, flat_map, list_all, range_with_len, AllPass}
+use Rattle.std.proofs.Common.{◌≡◌, ◌<◌, ℕ, Bool, true, false, cond, not, List, [], ◌∷◌, ◌++◌, map, length, get_or, refl, sym, inl, inr}
+use Rattle.std.specs.List.{filter, flat_map, list_all, range_with_len}
 use Rattle.std.proofs.lemmas.Bool.{cases_Bool, and_parts, and_from, not-true, not_from_false, false≢true}
-use Rattle.std.proofs.lemmas.List.Sums.{AllPass-from_list_all}
+use Rattle.std.proofs.lemmas.List.Sums.{AllPass-from_list_all, list_all-from_AllPass}
 use Rattle.abi_base.proofs.lemmas.Lists.{list_all-weaker}
 use Rattle.abi_types.specs.declared.rule.Rule.{Rule}
-use Rattle.abi_types.specs.declared.rule.Rule.TheVariants.{KindOfType, TypeSize, ScalarGroup, TypeAlignment, DeclarationTag, MemberPresence, MemberOffset, BitFieldWidth, EnumeratorPresence, EnumeratorValue, ElementCount, ParameterCount, VariadicArguments, PassingPlace}
+use Rattle.abi_types.specs.declared.rule.Rule.TheVariants.{KindOfType, DeclarationTag}
 use Rattle.abi_types.specs.Types.{PlainView}
 use Rattle.pair_rules.specs.Same.{same_kind}
-use Rattle.pair_rules.specs.TypeRules.{is_declaration, are_compared, breaks_whole, breaks_part, speaks_of_parts, rules_asked, broken_at, broken, breaks}
-use Rattle.pair_rules.specs.Keeping.{part_rules, keeps_whole, keeps_part, keeps_parts}
+use Rattle.pair_rules.specs.TypeRules.{is_declaration, are_compared, breaks_whole, breaks_part, speaks_of_parts, definition_rules, rules_asked, broken_at, broken, breaks}
+use Rattle.pair_rules.specs.Keeping.{keeps_whole, keeps_part, keeps_parts}
 use Rattle.pair_rules.proofs.Ranges.{list_all-below, list_all-below_at}
-use Rattle.pair_rules.proofs.lemmas.Asked.{rules_asked-kinds, rules_asked-declared}
-
--- ---- each rule speaks either of the types as a whole or of their parts
-
-pub whole-of_parts : (v w : PlainView) (r : Rule) → speaks_of_parts r ≡ true → breaks_whole r v w ≡ false
-unfolding breaks_whole
-whole-of_parts v w MemberPresence e = refl
-whole-of_parts v w MemberOffset e = refl
-whole-of_parts v w BitFieldWidth e = refl
-whole-of_parts v w EnumeratorPresence e = refl
-whole-of_parts v w EnumeratorValue e = refl
-whole-of_parts v w PassingPlace e = refl
-whole-of_parts v w r e = absurd cc
-
-pub part-of_whole : (v w : PlainView) (i : ℕ) (r : Rule) → speaks_of_parts r ≡ false → breaks_part r v w i ≡ false
-unfolding breaks_part
-part-of_whole v w i MemberPresence e = absurd cc
-part-of_whole v w i MemberOffset e = absurd cc
-part-of_whole v w i BitFieldWidth e = absurd cc
-part-of_whole v w i EnumeratorPresence e = absurd cc
-part-of_whole v w i EnumeratorValue e = absurd cc
-part-of_whole v w i PassingPlace e = absurd cc
-part-of_whole v w i r e = refl
-
-among_part_rules : (t : Rule → Bool) (r : Rule) → list_all t part_rules ≡ true → speaks_of_parts r ≡ true → t r ≡ true
-among_part_rules t MemberPresence all e = AllPass-from_list_all t part_rules all 0 MemberPresence (omega arith)
-among_part_rules t MemberOffset all e = AllPass-from_list_all t part_rules all 1 MemberOffset (omega arith)
-among_part_rules t BitFieldWidth all e = AllPass-from_list_all t part_rules all 2 BitFieldWidth (omega arith)
-among_part_rules t EnumeratorPresence all e = AllPass-from_list_all t part_rules all 3 EnumeratorPresence (omega arith)
-among_part_rules t EnumeratorValue all e = AllPass-from_list_all t part_rules all 4 EnumeratorValue (omega arith)
-among_part_rules t PassingPlace all e = AllPass-from_list_all t part_rules all 5 PassingPlace (omega arith)
-among_part_rules t r all e = absurd cc
-
--- the rules that compare two definitions
-abbrev definition_rules : List Rule
-definition_rules = TypeSize ∷ ScalarGroup ∷ TypeAlignment ∷ MemberPresence ∷ MemberOffset ∷ BitFieldWidth ∷ EnumeratorPresence ∷ EnumeratorValue ∷ ElementCount ∷ ParameterCount ∷ VariadicArguments ∷ PassingPlace ∷ []
-
-part_rules-among : (t : Rule → Bool) → list_all t definition_rules ≡ true → list_all t part_rules ≡ true
-part_rules-among t all =
-    let at : AllPass t definition_rules = AllPass-from_list_all t definition_rules all in
-    and_from _ _ (at 3 MemberPresence (omega arith)) (and_from _ _ (at 4 MemberOffset (omega arith)) (and_from _ _ (at 5 BitFieldWidth (omega arith)) (and_from _ _ (at 6 EnumeratorPresence (omega arith)) (and_from _ _ (at 7 EnumeratorValue (omega arith)) (and_from _ _ (at 11 PassingPlace (omega arith)) (refl))))))
+use Rattle.pair_rules.proofs.EachRule.{whole-of_parts, part-of_whole}
+use Rattle.pair_rules.proofs.lemmas.Asked.{rules_asked-kinds, rules_asked-declared, rules_asked-defined}
 
 -- ---- a rule that is broken nowhere
 
@@ -127,16 +88,22 @@ part_from_kept v w i inside r e =
       | inr of_whole ↦ not_from_false (breaks_part r v w i) (part-of_whole v w i r of_whole)
     ]
 
-kept_from_both : (v w : PlainView) → keeps_parts v w ≡ true → (r : Rule) → not (breaks_whole r v w) ≡ true → kept v w r ≡ true
-unfolding kept keeps_parts keeps_part
-kept_from_both v w parts r e =
+kept_from_both : (v w : PlainView) (r : Rule) → not (breaks_whole r v w) ≡ true → ((i : ℕ) → i < length v.parts → not (breaks_part r v w i) ≡ true) → kept v w r ≡ true
+unfolding kept
+kept_from_both v w r whole parts =
     elim (cases_Bool (speaks_of_parts r)) [
-      | inl of_parts ↦ rw of_parts (list_all-below (λ i. not (breaks_part r v w i)) (length v.parts) (λ i inside. among_part_rules (λ rule. not (breaks_part rule v w i)) r (list_all-below_at (keeps_part v w) (length v.parts) i inside parts) of_parts))
-      | inr of_whole ↦ rw of_whole e
+      | inl of_parts ↦ rw of_parts (list_all-below (λ i. not (breaks_part r v w i)) (length v.parts) parts)
+      | inr of_whole ↦ rw of_whole whole
     ]
 
-rules_asked-defined : (v w : PlainView) → same_kind v.kind w.kind ≡ true → is_declaration v w ≡ false → rules_asked v w ≡ definition_rules
-rules_asked-defined v w e d = rw (e, d) refl
+-- the rules on definitions, each as a whole and at each part
+defined_kept : (v w : PlainView) → list_all (λ rule. not (breaks_whole rule v w)) definition_rules ≡ true → keeps_parts v w ≡ true → list_all (kept v w) definition_rules ≡ true
+unfolding keeps_parts keeps_part
+defined_kept v w whole parts =
+    list_all-from_AllPass (kept v w) definition_rules (λ k d inside.
+    kept_from_both v w (get_or definition_rules k d)
+    (AllPass-from_list_all (λ rule. not (breaks_whole rule v w)) definition_rules whole k d inside)
+    (λ i below. AllPass-from_list_all (λ rule. not (breaks_part rule v w i)) definition_rules (list_all-below_at (keeps_part v w) (length v.parts) i below parts) k d inside))
 
 -- types whose parts are not compared: all rules compare them as a whole
 pub none_uncompared : (v w : PlainView) → are_compared v w ≡ false → keeps_whole v w ≡ true → breaks v w ≡ []
@@ -158,7 +125,8 @@ none_uncompared v w e whole =
 pub none_compared : (v w : PlainView) → are_compared v w ≡ true → keeps_whole v w ≡ true → keeps_parts v w ≡ true → breaks v w ≡ []
 unfolding breaks keeps_whole
 none_compared v w e whole parts =
-    none_broken v w (rules_asked v w) (list_all-weaker (λ rule. not (breaks_whole rule v w)) (kept v w) (kept_from_both v w parts) (rules_asked v w) whole)
+    let asked = rules_asked-defined v w e in
+    rw asked (none_broken v w definition_rules (defined_kept v w (rw asked at whole) parts))
 
 pub whole_from_none : (v w : PlainView) → breaks v w ≡ [] → keeps_whole v w ≡ true
 unfolding breaks keeps_whole
@@ -168,7 +136,6 @@ whole_from_none v w none =
 pub parts_from_none : (v w : PlainView) → are_compared v w ≡ true → breaks v w ≡ [] → keeps_parts v w ≡ true
 unfolding breaks keeps_parts keeps_part
 parts_from_none v w e none =
-    let both = and_parts (same_kind v.kind w.kind) (not (is_declaration v w)) e in
-    let asked = rules_asked-defined v w both.0 (not-true (is_declaration v w) both.1) in
-    let all = part_rules-among (kept v w) (rw asked at (all_kept v w (rules_asked v w) none)) in
-    list_all-below (keeps_part v w) (length v.parts) (λ i inside. list_all-weaker (kept v w) (λ rule. not (breaks_part rule v w i)) (part_from_kept v w i inside) part_rules all)
+    let asked = rules_asked-defined v w e in
+    let all : list_all (kept v w) definition_rules ≡ true = rw asked at (all_kept v w (rules_asked v w) none) in
+    list_all-below (keeps_part v w) (length v.parts) (λ i inside. list_all-weaker (kept v w) (λ rule. not (breaks_part rule v w i)) (part_from_kept v w i inside) definition_rules all)

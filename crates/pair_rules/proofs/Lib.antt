@@ -1,6 +1,8 @@
 mod BreakOrder
+mod BreaksUnseen
 mod Classes
 mod Compared
+mod EachRule
 mod Given
 mod Keeps
 mod Leading

@@ -1,23 +1,19 @@
--- Matches, partners, breaks and steps see of the nodes that parts name only which they are.
-use Rattle.std.proofs.Common.{◌≡◌, ◌-◌, ℕ, zero, suc, Bool, true, false, not, cond, ◌&&◌, ◌||◌, List, [], ◌∷◌, map, take, length, get_or, filter, count_by, Option, Some, None, refl, sym, ◌∙◌, ap}
+-- Matches, partners and steps, and what rules compare, see of the nodes that parts name only which they are.
+use Rattle.std.proofs.Common.{◌≡◌, ◌-◌, ℕ, zero, suc, Bool, true, false, cond, List, [], ◌∷◌, map, take, length, count_by, Option, Some, None, refl, sym, ◌∙◌, ap}
 use Rattle.std.specs.Option.{option_map}
-use Rattle.std.specs.Prelude.{◌==◌, is_none, is_some, slice_get, flat_map}
-use Rattle.std.specs.List.{range_with_len}
+use Rattle.std.specs.Prelude.{is_some, slice_get}
 use Rattle.std.proofs.lemmas.List.{length-map}
-use Rattle.std.proofs.lemmas.List.Elements.{filter_agree}
 use Rattle.std.proofs.lemmas.List.Sums.{sum_by-cons}
 use Rattle.abi_base.proofs.lemmas.Options.{option_map-same}
 use Rattle.abi_base.proofs.lemmas.Bools.{and_same}
 use Rattle.abi_types.specs.declared.kind.Way.{Way}
-use Rattle.abi_types.specs.declared.rule.Rule.{Rule}
-use Rattle.abi_types.specs.declared.rule.Rule.TheVariants.{MemberPresence, MemberOffset, BitFieldWidth, EnumeratorPresence, EnumeratorValue, ParameterCount, PassingPlace}
 use Rattle.abi_types.specs.Types.{PlainPart, Member, Enumerator, Target, Element, Outcome, Param, PlainView}
-use Rattle.abi_types.specs.Forms.{is_member, is_enumerator, is_param, is_function}
+use Rattle.abi_types.specs.Forms.{is_member, is_enumerator, is_param}
 use Rattle.abi_types.specs.Graphs.{part_at, to_of}
 use Rattle.abi_types.specs.Parts.{like, place_of, like_before}
 use Rattle.pair_rules.specs.Same.{same_place}
 use Rattle.pair_rules.specs.Matching.{number_of, match_of}
-use Rattle.pair_rules.specs.TypeRules.{are_compared, is_outcome, bit_of, width_of, value_of, in_bytes, bit_at, width_at, value_at, differs, matched, params_of, places_differ, param_moved, breaks_whole, breaks_part, speaks_of_parts, rules_asked, broken_at, broken, breaks}
+use Rattle.pair_rules.specs.TypeRules.{are_compared, is_outcome, bit_of, width_of, value_of, in_bytes, bit_at, width_at, value_at, differs, matched, params_of, places_differ, param_moved}
 use Rattle.pair_rules.specs.Partners.{pair_of, partner_at}
 use Rattle.pair_rules.specs.Ways.{after}
 use Rattle.pair_rules.specs.Steps.{triple_of, led_by, next_of}
@@ -36,19 +32,19 @@ like-seen f g (Outcome _) (Outcome _) = refl
 like-seen f g (Param _) (Param _) = refl
 like-seen f g _ _ = refl
 
-is_member-seen : (f : ℕ → ℕ) (p : PlainPart) → is_member (part_seen f p) ≡ is_member p
+pub is_member-seen : (f : ℕ → ℕ) (p : PlainPart) → is_member (part_seen f p) ≡ is_member p
 is_member-seen f (Member _ _ _ _) = refl
 is_member-seen f _ = refl
 
-is_enumerator-seen : (f : ℕ → ℕ) (p : PlainPart) → is_enumerator (part_seen f p) ≡ is_enumerator p
+pub is_enumerator-seen : (f : ℕ → ℕ) (p : PlainPart) → is_enumerator (part_seen f p) ≡ is_enumerator p
 is_enumerator-seen f (Enumerator _ _) = refl
 is_enumerator-seen f _ = refl
 
-is_outcome-seen : (f : ℕ → ℕ) (p : PlainPart) → is_outcome (part_seen f p) ≡ is_outcome p
+pub is_outcome-seen : (f : ℕ → ℕ) (p : PlainPart) → is_outcome (part_seen f p) ≡ is_outcome p
 is_outcome-seen f (Outcome _) = refl
 is_outcome-seen f _ = refl
 
-is_param-seen : (f : ℕ → ℕ) (p : PlainPart) → is_param (part_seen f p) ≡ is_param p
+pub is_param-seen : (f : ℕ → ℕ) (p : PlainPart) → is_param (part_seen f p) ≡ is_param p
 is_param-seen f (Param _) = refl
 is_param-seen f _ = refl
 
@@ -88,7 +84,7 @@ unfolding view_seen
 length-seen f v = length-map v.parts (part_seen f)
 
 -- what a function says of a part, where it does not see which node the part names
-said-seen : {X : Type 0} (said : PlainPart → X) → ((f : ℕ → ℕ) (p : PlainPart) → said (part_seen f p) ≡ said p) → (f : ℕ → ℕ) (v : PlainView) (i : ℕ) → said (part_at (view_seen f v) i) ≡ said (part_at v i)
+pub said-seen : {X : Type 0} (said : PlainPart → X) → ((f : ℕ → ℕ) (p : PlainPart) → said (part_seen f p) ≡ said p) → (f : ℕ → ℕ) (v : PlainView) (i : ℕ) → said (part_at (view_seen f v) i) ≡ said (part_at v i)
 said-seen said unseen f v i = ap said (part_at-seen f v i) ∙ unseen f (part_at v i)
 
 like_before-seen : (f : ℕ → ℕ) (ps : List PlainPart) (p : PlainPart) (i : ℕ) → like_before (map (part_seen f) ps) (part_seen f p) i ≡ like_before ps p i
@@ -168,18 +164,11 @@ next_of-seen f g v w way i =
     ap (λ o. led_by (view_seen f v) (view_seen g w) way o) (partner_at-seen f g v w i)
     ∙ led_by-seen f g v w way (partner_at v w i)
 
--- ---- rules
+-- ---- what rules compare
 
 pub params_of-seen : (f : ℕ → ℕ) (v : PlainView) → params_of (view_seen f v) ≡ params_of v
 unfolding view_seen
 params_of-seen f v = count_by-map (part_seen f) is_param is_param (is_param-seen f) v.parts
-
-breaks_whole-seen : (f g : ℕ → ℕ) (r : Rule) (v w : PlainView) → breaks_whole r (view_seen f v) (view_seen g w) ≡ breaks_whole r v w
-unfolding breaks_whole view_seen
-breaks_whole-seen f g ParameterCount v w =
-    ap (λ n. is_function v.kind && not (n == params_of (view_seen g w))) (params_of-seen f v)
-    ∙ ap (λ n. is_function v.kind && not (params_of v == n)) (params_of-seen g w)
-breaks_whole-seen f g r v w = refl
 
 pub bit_at-seen : (f : ℕ → ℕ) (v : PlainView) (i : ℕ) → bit_at (view_seen f v) i ≡ bit_at v i
 bit_at-seen = said-seen bit_of bit_of-seen
@@ -196,13 +185,13 @@ value_at-seen f v i =
     ap (λ n. in_bytes n (value_of (part_at (view_seen f v) i))) (size-seen f v)
     ∙ ap (λ n. in_bytes v.size n) (said-seen value_of value_of-seen f v i)
 
-matched-seen : (said : PlainView → ℕ → ℕ) → ((f : ℕ → ℕ) (v : PlainView) (i : ℕ) → said (view_seen f v) i ≡ said v i) → (f g : ℕ → ℕ) (v w : PlainView) (i : ℕ) → differs (said (view_seen f v) i) (matched said (view_seen f v) (view_seen g w) i) ≡ differs (said v i) (matched said v w i)
+pub matched-seen : (said : PlainView → ℕ → ℕ) → ((f : ℕ → ℕ) (v : PlainView) (i : ℕ) → said (view_seen f v) i ≡ said v i) → (f g : ℕ → ℕ) (v w : PlainView) (i : ℕ) → differs (said (view_seen f v) i) (matched said (view_seen f v) (view_seen g w) i) ≡ differs (said v i) (matched said v w i)
 matched-seen said unseen f g v w i =
     ap (λ n. differs n (matched said (view_seen f v) (view_seen g w) i)) (unseen f v i)
     ∙ ap (λ m. differs (said v i) (option_map (said (view_seen g w)) m)) (match_of-seen f g v w i)
     ∙ ap (λ o. differs (said v i) o) (option_map-same (said (view_seen g w)) (said w) (unseen g w) (match_of v w i))
 
-outcomes-seen : (f g : ℕ → ℕ) (v w : PlainView) → same_place (view_seen f v).call.outcome (view_seen g w).call.outcome ≡ same_place v.call.outcome w.call.outcome
+pub outcomes-seen : (f g : ℕ → ℕ) (v w : PlainView) → same_place (view_seen f v).call.outcome (view_seen g w).call.outcome ≡ same_place v.call.outcome w.call.outcome
 unfolding view_seen
 outcomes-seen f g v w = refl
 
@@ -210,44 +199,8 @@ params-seen : (f g : ℕ → ℕ) (v w : PlainView) (k : ℕ) → places_differ 
 unfolding view_seen
 params-seen f g v w k = refl
 
-param_moved-seen : (f g : ℕ → ℕ) (v w : PlainView) (i : ℕ) → param_moved (view_seen f v) (view_seen g w) i ≡ param_moved v w i
+pub param_moved-seen : (f g : ℕ → ℕ) (v w : PlainView) (i : ℕ) → param_moved (view_seen f v) (view_seen g w) i ≡ param_moved v w i
 param_moved-seen f g v w i =
     and_same _ _ _ _ (ap (λ m. is_some m) (match_of-seen f g v w i))
     (ap (λ k. places_differ (slice_get (view_seen f v).call.params k) (slice_get (view_seen g w).call.params k)) (number_of-seen f v i)
     ∙ params-seen f g v w (number_of v i))
-
-breaks_part-seen : (f g : ℕ → ℕ) (r : Rule) (v w : PlainView) (i : ℕ) → breaks_part r (view_seen f v) (view_seen g w) i ≡ breaks_part r v w i
-unfolding breaks_part
-breaks_part-seen f g MemberPresence v w i = and_same _ _ _ _ (said-seen is_member is_member-seen f v i) (ap (λ m. is_none m) (match_of-seen f g v w i))
-breaks_part-seen f g MemberOffset v w i = and_same _ _ _ _ (said-seen is_member is_member-seen f v i) (matched-seen bit_at bit_at-seen f g v w i)
-breaks_part-seen f g BitFieldWidth v w i = and_same _ _ _ _ (said-seen is_member is_member-seen f v i) (matched-seen width_at width_at-seen f g v w i)
-breaks_part-seen f g EnumeratorPresence v w i = and_same _ _ _ _ (said-seen is_enumerator is_enumerator-seen f v i) (ap (λ m. is_none m) (match_of-seen f g v w i))
-breaks_part-seen f g EnumeratorValue v w i = and_same _ _ _ _ (said-seen is_enumerator is_enumerator-seen f v i) (matched-seen value_at value_at-seen f g v w i)
-breaks_part-seen f g PassingPlace v w i =
-    ap (λ a. a || (is_param (part_at (view_seen f v) i) && param_moved (view_seen f v) (view_seen g w) i))
-    (and_same _ _ _ _ (said-seen is_outcome is_outcome-seen f v i) (ap not (outcomes-seen f g v w)))
-    ∙ ap (λ b. (is_outcome (part_at v i) && not (same_place v.call.outcome w.call.outcome)) || b)
-    (and_same _ _ _ _ (said-seen is_param is_param-seen f v i) (param_moved-seen f g v w i))
-breaks_part-seen f g r v w i = refl
-
-broken-seen : (f g : ℕ → ℕ) (v w : PlainView) (r : Rule) → broken (view_seen f v) (view_seen g w) r ≡ broken v w r
-unfolding broken
-broken-seen f g v w r =
-    ap (λ n. cond (speaks_of_parts r) (map (broken_at r) (filter (breaks_part r (view_seen f v) (view_seen g w)) (range_with_len 0 n))) (cond (breaks_whole r (view_seen f v) (view_seen g w)) (broken_at r 0 ∷ []) [])) (length-seen f v)
-    ∙ ap (λ ks. cond (speaks_of_parts r) (map (broken_at r) ks) (cond (breaks_whole r (view_seen f v) (view_seen g w)) (broken_at r 0 ∷ []) []))
-    (filter_agree (breaks_part r (view_seen f v) (view_seen g w)) (breaks_part r v w) (breaks_part-seen f g r v w) (range_with_len 0 (length v.parts)))
-    ∙ ap (λ b. cond (speaks_of_parts r) (map (broken_at r) (filter (breaks_part r v w) (range_with_len 0 (length v.parts)))) (cond b (broken_at r 0 ∷ []) [])) (breaks_whole-seen f g r v w)
-
-all_broken-seen : (f g : ℕ → ℕ) (v w : PlainView) (rs : List Rule) → flat_map (broken (view_seen f v) (view_seen g w)) rs ≡ flat_map (broken v w) rs
-all_broken-seen f g v w [] = refl
-all_broken-seen f g v w (r ∷ rs) = rw (broken-seen f g v w r, all_broken-seen f g v w rs) refl
-
-rules_asked-seen : (f g : ℕ → ℕ) (v w : PlainView) → rules_asked (view_seen f v) (view_seen g w) ≡ rules_asked v w
-unfolding view_seen
-rules_asked-seen f g v w = refl
-
-pub breaks-seen : (f g : ℕ → ℕ) (v w : PlainView) → breaks (view_seen f v) (view_seen g w) ≡ breaks v w
-unfolding breaks
-breaks-seen f g v w =
-    ap (flat_map (broken (view_seen f v) (view_seen g w))) (rules_asked-seen f g v w)
-    ∙ all_broken-seen f g v w (rules_asked v w)

@@ -1,14 +1,8 @@
 -- Whether two types keep the rules, part by part.
-use Rattle.std.specs.Prelude.{ℕ, Bool, not, List, [], ◌∷◌, length}
+use Rattle.std.specs.Prelude.{ℕ, Bool, not, length}
 use Rattle.std.specs.List.{list_all, range_with_len}
-use Rattle.abi_types.specs.declared.rule.Rule.{Rule}
-use Rattle.abi_types.specs.declared.rule.Rule.TheVariants.{MemberPresence, MemberOffset, BitFieldWidth, EnumeratorPresence, EnumeratorValue, PassingPlace}
 use Rattle.abi_types.specs.Types.{PlainView}
-use Rattle.pair_rules.specs.TypeRules.{rules_asked, breaks_whole, breaks_part}
-
--- the rules on parts
-abbrev pub part_rules : List Rule
-part_rules = MemberPresence ∷ MemberOffset ∷ BitFieldWidth ∷ EnumeratorPresence ∷ EnumeratorValue ∷ PassingPlace ∷ []
+use Rattle.pair_rules.specs.TypeRules.{rules_asked, definition_rules, breaks_whole, breaks_part}
 
 -- whether two types break no rule on whole types
 unfoldable pub keeps_whole : PlainView → PlainView → Bool
@@ -16,7 +10,7 @@ keeps_whole v w = list_all (λ rule. not (breaks_whole rule v w)) (rules_asked v
 
 -- whether they break no rule on parts, at part i of the old type
 unfoldable pub keeps_part : PlainView → PlainView → ℕ → Bool
-keeps_part v w i = list_all (λ rule. not (breaks_part rule v w i)) part_rules
+keeps_part v w i = list_all (λ rule. not (breaks_part rule v w i)) definition_rules
 
 -- the same, at each part
 unfoldable pub keeps_parts : PlainView → PlainView → Bool

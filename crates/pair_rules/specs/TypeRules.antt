@@ -145,13 +145,15 @@ speaks_of_parts EnumeratorValue = true
 speaks_of_parts PassingPlace = true
 speaks_of_parts other = false
 
+-- the rules on two definitions of the same kind
+abbrev pub definition_rules : List Rule
+definition_rules =
+    TypeSize ∷ ScalarGroup ∷ TypeAlignment ∷ MemberPresence ∷ MemberOffset ∷ BitFieldWidth ∷ EnumeratorPresence ∷ EnumeratorValue ∷ ElementCount ∷ ParameterCount ∷ VariadicArguments ∷ PassingPlace ∷ []
+
 -- The rules to check, in order: on two kinds only L1; on a declaration and a type of its kind only the tags; on two definitions of
 -- the same kind all others.
 abbrev pub rules_asked : PlainView → PlainView → List Rule
-rules_asked v w =
-    if not (same_kind v.kind w.kind) then KindOfType ∷ []
-    else (if is_declaration v w then DeclarationTag ∷ []
-    else TypeSize ∷ ScalarGroup ∷ TypeAlignment ∷ MemberPresence ∷ MemberOffset ∷ BitFieldWidth ∷ EnumeratorPresence ∷ EnumeratorValue ∷ ElementCount ∷ ParameterCount ∷ VariadicArguments ∷ PassingPlace ∷ [])
+rules_asked v w = if not (same_kind v.kind w.kind) then KindOfType ∷ [] else (if is_declaration v w then DeclarationTag ∷ [] else definition_rules)
 
 -- a rule broken at a part, or at 0 for a rule on whole types
 abbrev pub broken_at : Rule → ℕ → Broken

@@ -46,16 +46,6 @@ static DEFINITION_RULES: [Rule; 12] = [
     Rule::PassingPlace,
 ];
 
-// Those of them that apply to parts.
-static PART_RULES: [Rule; 6] = [
-    Rule::MemberPresence,
-    Rule::MemberOffset,
-    Rule::BitFieldWidth,
-    Rule::EnumeratorPresence,
-    Rule::EnumeratorValue,
-    Rule::PassingPlace,
-];
-
 // The rules to check on two types, in order.
 fn rules_asked(old: &View<OldIx>, new: &View<NewIx>) -> &'static [Rule]
     ensures { result.now ≡ type_rules.rules_asked old.now new.now }
@@ -328,7 +318,7 @@ fn keeps_part(old: &View<OldIx>, new: &View<NewIx>, i: usize) -> bool
     ensures { result ≡ keeping.keeps_part old.now new.now i }
 {
     let found = match_of(old, new, i);
-    PART_RULES
+    DEFINITION_RULES
         .iter()
         .all(|rule| !breaks_part(*rule, old, new, i, found))
 }

@@ -1,10 +1,9 @@
 -- Texts of types with other numbers for the nodes that parts name.
-use Rattle.std.proofs.Common.{◌≡◌, ℕ, List, [], ◌∷◌, ◌++◌, Option, Some, None, refl, sym, ap, ◌∙◌, codes, decimal, unwrap_or}
+use Rattle.std.proofs.Common.{◌≡◌, ℕ, List, [], ◌∷◌, ◌++◌, Option, Some, None, refl, sym, ap, ◌∙◌, codes, decimal, unwrap_or, arith}
 use Rattle.std.specs.List.{concat}
 use Rattle.std.specs.Option.{option_map}
 use Rattle.abi_base.proofs.lemmas.Options.{option_map-same}
 use Rattle.abi_types.specs.declared.rule.Rule.{Rule}
-use Rattle.abi_types.specs.declared.rule.Rule.TheVariants.{LibrarySoname, ExportPresence, ExportVersion, ExportKind, ExportSize, ExportType, KindOfType, TypeSize, ScalarGroup, TypeAlignment, DeclarationTag, MemberPresence, MemberOffset, BitFieldWidth, EnumeratorPresence, EnumeratorValue, ElementCount, ParameterCount, VariadicArguments, PassingPlace}
 use Rattle.abi_types.specs.Types.{PlainPart, Member, Enumerator, Target, Element, Outcome, Param, PlainView}
 use Rattle.abi_types.specs.Graphs.{part_at}
 use Rattle.abi_types.specs.ClassLooks.{part_seen, view_seen}
@@ -13,8 +12,9 @@ use Rattle.abi_types.specs.Sorts.{name_of}
 use Rattle.pair_rules.specs.Matching.{number_of, match_of}
 use Rattle.pair_rules.specs.TypeRules.{bit_at, width_at, value_at, matched, params_of}
 use Rattle.report.specs.Words.{changed}
-use Rattle.report.specs.Details.{part_change, places_change, type_detail}
+use Rattle.report.specs.Details.{part_change, places_change}
 use Rattle.report.specs.Steps.{numbered, part_name, step_by, step_text}
+use Rattle.report.specs.TypeRows.{type_detail}
 
 name_of-seen : (f : ℕ → ℕ) (p : PlainPart) → name_of (part_seen f p) ≡ name_of p
 name_of-seen f (Member name bit width to) = refl
@@ -98,23 +98,6 @@ module _ (see : SeeNoNodes) where
 
   pub type_detail-seen : (f g : ℕ → ℕ) (rule : Rule) (v w : PlainView) (i : ℕ) → type_detail rule (view_seen f v) (view_seen g w) i ≡ type_detail rule v w i
   unfolding type_detail view_seen
-  type_detail-seen f g LibrarySoname v w i = refl
-  type_detail-seen f g ExportPresence v w i = refl
-  type_detail-seen f g ExportVersion v w i = refl
-  type_detail-seen f g ExportKind v w i = refl
-  type_detail-seen f g ExportSize v w i = refl
-  type_detail-seen f g ExportType v w i = refl
-  type_detail-seen f g KindOfType v w i = refl
-  type_detail-seen f g TypeSize v w i = refl
-  type_detail-seen f g ScalarGroup v w i = refl
-  type_detail-seen f g TypeAlignment v w i = refl
-  type_detail-seen f g DeclarationTag v w i = refl
-  type_detail-seen f g MemberPresence v w i = gone-seen (codes "member ") f v i
-  type_detail-seen f g MemberOffset v w i = change-seen (codes "member ") (codes " at bit ") bit_at see.bits f g v w i
-  type_detail-seen f g BitFieldWidth v w i = change-seen (codes "member ") (codes " width ") width_at see.widths f g v w i
-  type_detail-seen f g EnumeratorPresence v w i = gone-seen (codes "enumerator ") f v i
-  type_detail-seen f g EnumeratorValue v w i = change-seen (codes "enumerator ") (codes " ") value_at see.values f g v w i
-  type_detail-seen f g ElementCount v w i = refl
-  type_detail-seen f g ParameterCount v w i = params-seen f g v w
-  type_detail-seen f g VariadicArguments v w i = refl
-  type_detail-seen f g PassingPlace v w i = places-seen f g v w i
+  type_detail-seen f g rule v w i =
+      grind
+      (arith, gone-seen (codes "member ") f v i, gone-seen (codes "enumerator ") f v i, change-seen (codes "member ") (codes " at bit ") bit_at see.bits f g v w i, change-seen (codes "member ") (codes " width ") width_at see.widths f g v w i, change-seen (codes "enumerator ") (codes " ") value_at see.values f g v w i, params-seen f g v w, places-seen f g v w i)

@@ -1,22 +1,19 @@
--- The detail of a row: the old and the new state.
+-- The details of rows on exports, and the parts of those on types: the old and the new state.
 use Rattle.std.specs.Prelude.{◌≡◌, ◌<◌, ℕ, ◌+◌, true, length, List, [], ◌∷◌, ◌++◌, Option, Some, None, unwrap_or, slice_index_or, codes, decimal}
 use Rattle.std.specs.List.{concat}
-use Rattle.abi_types.specs.declared.kind.Group.{Group}
 use Rattle.abi_types.specs.declared.place.Place.{Place}
 use Rattle.abi_types.specs.declared.place.Place.TheVariants as place
 use Rattle.abi_types.specs.declared.rule.Rule.{Rule}
-use Rattle.abi_types.specs.declared.rule.Rule.TheVariants.{ExportPresence, ExportVersion, ExportKind, ExportSize, ExportType, KindOfType, TypeSize, ScalarGroup, TypeAlignment, DeclarationTag, MemberPresence, MemberOffset, BitFieldWidth, EnumeratorPresence, EnumeratorValue, ElementCount, ParameterCount, VariadicArguments, PassingPlace}
+use Rattle.abi_types.specs.declared.rule.Rule.TheVariants.{ExportPresence, ExportVersion, ExportKind, ExportSize, ExportType}
 use Rattle.abi_types.specs.Exports.{PlainExport}
 use Rattle.abi_types.specs.Kinds.{kind_word}
 use Rattle.abi_types.specs.Shown.{shown}
 use Rattle.abi_types.specs.Types.{PlainPart, Param, PlainView}
-use Rattle.abi_types.specs.Graphs.{part_at}
 use Rattle.pair_rules.specs.declared.rules.Broken.{Broken}
-use Rattle.pair_rules.specs.Matching.{number_of}
-use Rattle.pair_rules.specs.TypeRules.{bit_at, width_at, value_at, matched, params_of, speaks_of_parts}
+use Rattle.pair_rules.specs.TypeRules.{matched, speaks_of_parts}
 use Rattle.report.specs.Places.{place_text}
 use Rattle.report.specs.Steps.{part_name}
-use Rattle.report.specs.Words.{kind_of_type, group_word, yes_or_no, changed}
+use Rattle.report.specs.Words.{changed}
 
 -- a name, or `none` if it is missing
 abbrev pub shown_or_none : List ℕ → List ℕ
@@ -62,20 +59,3 @@ places_change other number v w = changed (codes "result in") (place_text v.call.
 -- the rule speaks of a part that the old type has, or of no part at all
 abbrev pub IsInside : PlainView → Broken → Type 0
 IsInside v b = speaks_of_parts b.rule ≡ true → b.part < length v.parts
-
-unfoldable pub type_detail : Rule → PlainView → PlainView → ℕ → List ℕ
-type_detail KindOfType v w i = changed (codes "kind") (kind_of_type v.kind) (kind_of_type w.kind)
-type_detail TypeSize v w i = changed (codes "size") (decimal v.size) (decimal w.size)
-type_detail ScalarGroup v w i = changed (codes "scalar") (group_word v.group) (group_word w.group)
-type_detail TypeAlignment v w i = changed (codes "alignment") (decimal v.align) (decimal w.align)
-type_detail DeclarationTag v w i = changed (codes "tag") (shown_or_none v.tag) (shown_or_none w.tag)
-type_detail MemberPresence v w i = concat (codes "member " ∷ part_name v i ∷ codes " gone" ∷ [])
-type_detail MemberOffset v w i = part_change (codes "member ") (codes " at bit ") bit_at v w i
-type_detail BitFieldWidth v w i = part_change (codes "member ") (codes " width ") width_at v w i
-type_detail EnumeratorPresence v w i = concat (codes "enumerator " ∷ part_name v i ∷ codes " gone" ∷ [])
-type_detail EnumeratorValue v w i = part_change (codes "enumerator ") (codes " ") value_at v w i
-type_detail ElementCount v w i = changed (codes "count") (decimal v.count) (decimal w.count)
-type_detail ParameterCount v w i = changed (codes "parameters") (decimal (params_of v)) (decimal (params_of w))
-type_detail VariadicArguments v w i = changed (codes "variadic") (yes_or_no v.variadic) (yes_or_no w.variadic)
-type_detail PassingPlace v w i = places_change (part_at v i) (number_of v i) v w
-type_detail other v w i = []

@@ -3,6 +3,7 @@ pub mod Listening
 pub mod Places
 pub mod Render
 pub mod Steps
+pub mod TypeRows
 pub mod Values
 pub mod Words
 pub mod styles

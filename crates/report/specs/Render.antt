@@ -2,9 +2,8 @@
 use Rattle.std.specs.Prelude.{◌≡◌, ℕ, ◌-◌, ◌==◌, Bool, if◌then◌else◌, List, [], ◌∷◌, ◌++◌, length, take, map, flat_map, count_by, replicate, codes, decimal}
 use Rattle.std.specs.List.{concat}
 use Rattle.abi_types.specs.declared.rule.Rule.{Rule}
-use Rattle.abi_types.specs.declared.rule.Rule.TheVariants.{LibrarySoname, ExportPresence, ExportVersion, ExportKind, ExportSize, ExportType, KindOfType, TypeSize, ScalarGroup, TypeAlignment, DeclarationTag, MemberPresence, MemberOffset, BitFieldWidth, EnumeratorPresence, EnumeratorValue, ElementCount, ParameterCount, VariadicArguments, PassingPlace}
 use Rattle.abi_types.specs.contracts.rule.RulePartialEq.TheImpl.{ghosts}
-use Rattle.abi_types.specs.Kinds.{rule_word}
+use Rattle.abi_types.specs.Rules.{all_rules, rule_word}
 use Rattle.report.specs.declared.row.Row.{Row}
 use Rattle.report.specs.declared.style.Style.{Style}
 use Rattle.report.specs.declared.style.Style.TheVariants.{Text, Table, Counts, First, Own}
@@ -50,9 +49,6 @@ table_line row = concat (columns row ∷ path_or_dash row.path ∷ line_end row 
 
 abbrev pub same_rule : Rule → Rule → Bool
 same_rule = ghosts.eq
-
-unfoldable pub all_rules : List Rule
-all_rules = LibrarySoname ∷ ExportPresence ∷ ExportVersion ∷ ExportKind ∷ ExportSize ∷ ExportType ∷ KindOfType ∷ TypeSize ∷ ScalarGroup ∷ TypeAlignment ∷ DeclarationTag ∷ MemberPresence ∷ MemberOffset ∷ BitFieldWidth ∷ EnumeratorPresence ∷ EnumeratorValue ∷ ElementCount ∷ ParameterCount ∷ VariadicArguments ∷ PassingPlace ∷ []
 
 -- the number of rows of a rule
 abbrev pub rows_of_rule : List Row → Rule → ℕ

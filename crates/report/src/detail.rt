@@ -1,4 +1,4 @@
-// The detail of a row.
+// The details of rows on exports, and the parts of those on types.
 ghost use Rattle.std.specs.Prelude.{◌≡◌, ◌<◌, ◌∷◌, [], ◌+◌, length, IfOk, codes, decimal, string_bytes, unwrap_or};
 ghost use Rattle.std.specs.List.{concat};
 ghost use Rattle.std.specs.Option.{option_copied};
@@ -7,7 +7,7 @@ ghost use Rattle.abi_types.specs.Plain.{plain_export};
 ghost use Rattle.pair_rules.specs.Matching as matching;
 ghost use Rattle.pair_rules.specs.TypeRules.{matched};
 ghost use Rattle.pair_rules.specs.TypeRules as type_rules;
-ghost use Rattle.report.specs.Details.{IsInside, part_change, places_change, shown_or_none, shown_soname};
+ghost use Rattle.report.specs.Details.{part_change, places_change, shown_or_none, shown_soname};
 ghost use Rattle.report.specs.Details as spec;
 ghost use Rattle.report.specs.Places as places;
 ghost use Rattle.report.specs.Steps as steps;
@@ -15,21 +15,25 @@ ghost use Rattle.report.specs.Words as words;
 
 use crate::place::push_place;
 use crate::step::push_part_name;
-use crate::words::{group_word, kind_word, yes_or_no};
 use abi_types::{Export, Index, NewIx, OldIx, Part, Place, Rule, View, push_shown};
-use pair_rules::{Broken, bit_at, match_of, number_of, params_of, value_at, width_at};
+use pair_rules::{bit_at, match_of, number_of, value_at, width_at};
 use std::alloc::{AllocError, Global};
 use std::fmt::Write;
 
 // What changed, its old value, and its new value.
-fn changed(alloc: Global, what: &str, old: &str, new: &str) -> Result<String, AllocError>
+pub(crate) fn changed(alloc: Global, what: &str, old: &str, new: &str) -> Result<String, AllocError>
     ensures { IfOk result (λ text. string_bytes text ≡ words.changed what.now old.now new.now) }
 {
     format!(in alloc; "{what} {old}, now {new}")
 }
 
 // The same for two numbers.
-fn changed_number(alloc: Global, what: &str, old: u64, new: u64) -> Result<String, AllocError>
+pub(crate) fn changed_number(
+    alloc: Global,
+    what: &str,
+    old: u64,
+    new: u64,
+) -> Result<String, AllocError>
     ensures { IfOk result (λ text. string_bytes text ≡ words.changed what.now (decimal old) (decimal new)) }
 {
     format!(in alloc; "{what} {old}, now {new}")
@@ -96,7 +100,7 @@ fn tag_text(alloc: Global, tag: &[u8]) -> Result<String, AllocError>
 }
 
 // The detail for two different tags.
-fn changed_tag(alloc: Global, old: &[u8], new: &[u8]) -> Result<String, AllocError>
+pub(crate) fn changed_tag(alloc: Global, old: &[u8], new: &[u8]) -> Result<String, AllocError>
     ensures { IfOk result (λ text. string_bytes text ≡ words.changed (codes "tag") (shown_or_none old.now) (shown_or_none new.now)) }
 {
     let old = tag_text(alloc, old)?;
@@ -119,7 +123,12 @@ pub(crate) fn part_name<Ix: Index>(
 }
 
 // The detail for a part that is gone.
-fn part_gone(alloc: Global, sort: &str, old: &View<OldIx>, i: usize) -> Result<String, AllocError>
+pub(crate) fn part_gone(
+    alloc: Global,
+    sort: &str,
+    old: &View<OldIx>,
+    i: usize,
+) -> Result<String, AllocError>
     requires { i < length old.now.parts }
     ensures { IfOk result (λ text. string_bytes text ≡ concat (sort.now ∷ codes " " ∷ steps.part_name old.now i ∷ codes " gone" ∷ [])) }
 {
@@ -173,7 +182,7 @@ fn number_changed(
 }
 
 // The detail for a member at a different bit.
-fn bit_changed(
+pub(crate) fn bit_changed(
     alloc: Global,
     old: &View<OldIx>,
     new: &View<NewIx>,
@@ -194,7 +203,7 @@ fn bit_changed(
 }
 
 // The detail for a member with a different width.
-fn width_changed(
+pub(crate) fn width_changed(
     alloc: Global,
     old: &View<OldIx>,
     new: &View<NewIx>,
@@ -215,7 +224,7 @@ fn width_changed(
 }
 
 // The detail for an enumerator with a different value.
-fn value_changed(
+pub(crate) fn value_changed(
     alloc: Global,
     old: &View<OldIx>,
     new: &View<NewIx>,
@@ -289,7 +298,7 @@ fn param_changed(
 }
 
 // The detail for a result or a parameter in a different place.
-fn place_changed(
+pub(crate) fn place_changed(
     alloc: Global,
     old: &View<OldIx>,
     new: &View<NewIx>,
@@ -309,51 +318,5 @@ fn place_changed(
             )
         }
         _ => outcome_changed(alloc, old, new),
-    }
-}
-
-/// The detail of the row about a rule that two types break, at the old part of which it speaks.
-#[tactic(auto, unfolding(crate::specs::Details::type_detail))]
-pub fn type_detail(
-    alloc: Global,
-    broken: &Broken,
-    old: &View<OldIx>,
-    new: &View<NewIx>,
-) -> Result<String, AllocError>
-    requires { IsInside old.now broken.now }
-    ensures { IfOk result (λ text. string_bytes text ≡ spec.type_detail broken.now.rule old.now new.now broken.now.part) }
-{
-    let i = broken.part;
-    match broken.rule {
-        Rule::KindOfType => changed(alloc, "kind", kind_word(old.kind), kind_word(new.kind)),
-        Rule::TypeSize => changed_number(alloc, "size", old.size, new.size),
-        Rule::ScalarGroup => changed(
-            alloc,
-            "scalar",
-            group_word(old.group),
-            group_word(new.group),
-        ),
-        Rule::TypeAlignment => changed_number(alloc, "alignment", old.align, new.align),
-        Rule::DeclarationTag => changed_tag(alloc, old.tag, new.tag),
-        Rule::MemberPresence => part_gone(alloc, "member", old, i),
-        Rule::MemberOffset => bit_changed(alloc, old, new, i),
-        Rule::BitFieldWidth => width_changed(alloc, old, new, i),
-        Rule::EnumeratorPresence => part_gone(alloc, "enumerator", old, i),
-        Rule::EnumeratorValue => value_changed(alloc, old, new, i),
-        Rule::ElementCount => changed_number(alloc, "count", old.count, new.count),
-        Rule::ParameterCount => changed_number(
-            alloc,
-            "parameters",
-            params_of(old) as u64,
-            params_of(new) as u64,
-        ),
-        Rule::VariadicArguments => changed(
-            alloc,
-            "variadic",
-            yes_or_no(old.variadic),
-            yes_or_no(new.variadic),
-        ),
-        Rule::PassingPlace => place_changed(alloc, old, new, i),
-        _ => Ok(String::new(alloc)),
     }
 }

@@ -3,8 +3,8 @@ ghost use Rattle.std.specs.Prelude.{◌≡◌, ℕ};
 ghost use Rattle.abi_types.specs.declared.rule.Rule.{Rule};
 ghost use Rattle.abi_types.specs.ClassLooks.{view_seen};
 ghost use Rattle.abi_types.specs.Types.{PlainView};
-ghost use Rattle.report.specs.Details.{type_detail};
 ghost use Rattle.report.specs.Steps.{step_text};
+ghost use Rattle.report.specs.TypeRows.{type_detail};
 
 use pair_rules::laws::parts_see_no_nodes;
 

@@ -12,16 +12,17 @@ mod row;
 mod step;
 mod style;
 pub mod styles;
+mod type_rows;
 mod value;
 mod values;
 mod words;
 
-pub use detail::type_detail;
 pub use listener::{Listener, add_listener, tell_all};
 pub use listeners::{CountsListener, FirstListener, TableListener, TextListener};
 pub use place::push_place;
 pub use row::{Row, Trail, export_row, soname_row, type_row};
 pub use step::push_step;
 pub use style::{More, Style};
+pub use type_rows::type_detail;
 pub use value::Value;
 pub use words::kind_word;

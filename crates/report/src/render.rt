@@ -1,7 +1,7 @@
 // The text of rows in each style.
 ghost use Rattle.std.specs.Prelude.{◌≡◌, ◌++◌, ◌-◌, length, take, replicate, OnOk, IfOk, flat_map, codes, decimal};
-ghost use Rattle.abi_types.specs.Kinds.{rule_word};
-ghost use Rattle.report.specs.Render.{all_rules, at_left, at_right, columns, count_line, line_end, number_line, path_behind, path_or_dash, row_line, same_rule, table_line};
+ghost use Rattle.abi_types.specs.Rules.{all_rules};
+ghost use Rattle.report.specs.Render.{at_left, at_right, columns, count_line, line_end, number_line, path_behind, path_or_dash, row_line, same_rule, table_line};
 ghost use Rattle.report.specs.Render as spec;
 
 use crate::row::Row;
@@ -135,38 +135,6 @@ pub fn table_text(alloc: Global, rows: &[Row]) -> Result<Vec<u8>, NoMemory>
 
 // ---- counts
 
-// The rules, in the order in which they are counted.
-static ALL_RULES: [Rule; 20] = [
-    Rule::LibrarySoname,
-    Rule::ExportPresence,
-    Rule::ExportVersion,
-    Rule::ExportKind,
-    Rule::ExportSize,
-    Rule::ExportType,
-    Rule::KindOfType,
-    Rule::TypeSize,
-    Rule::ScalarGroup,
-    Rule::TypeAlignment,
-    Rule::DeclarationTag,
-    Rule::MemberPresence,
-    Rule::MemberOffset,
-    Rule::BitFieldWidth,
-    Rule::EnumeratorPresence,
-    Rule::EnumeratorValue,
-    Rule::ElementCount,
-    Rule::ParameterCount,
-    Rule::VariadicArguments,
-    Rule::PassingPlace,
-];
-
-// All rules, in order.
-#[tactic(auto, unfolding(crate::specs::Render::all_rules))]
-fn rules() -> &'static [Rule]
-    ensures { result.now ≡ all_rules }
-{
-    &ALL_RULES
-}
-
 // The number of rows of a rule.
 fn rows_of_rule(rows: &[Row], rule: Rule) -> usize
     ensures { result ≡ spec.rows_of_rule rows.now rule }
@@ -204,7 +172,7 @@ fn push_count(alloc: Global, text: &mut Vec<u8>, rows: &[Row], rule: Rule) -> Re
 fn push_counts(alloc: Global, text: &mut Vec<u8>, rows: &[Row]) -> Result<(), NoMemory>
     ensures { OnOk result (text.new.items ≡ text.old.items ++ flat_map (count_line rows.now) all_rules) }
 {
-    let rules = rules();
+    let rules = Rule::all();
     for rule in rules {
         push_count(alloc, text, rows, *rule)?;
     }

@@ -5,12 +5,14 @@ ghost use Rattle.abi_types.specs.Plain.{plain_export};
 ghost use Rattle.abi_types.specs.Shown.{label};
 ghost use Rattle.report.specs.Details.{IsInside};
 ghost use Rattle.report.specs.Details as details;
+ghost use Rattle.report.specs.TypeRows as type_rows;
 ghost use Rattle.report.specs.Values as values;
 ghost use Rattle.report.specs.declared.row.Row.{Row as AnyRow};
 
-use crate::detail::{export_detail, soname_detail, type_detail};
+use crate::detail::{export_detail, soname_detail};
+use crate::type_rows::{part_of, type_detail, type_is, type_was};
 use crate::value::Value;
-use crate::values::{export_is, export_was, part_of, soname_value, type_is, type_was};
+use crate::values::{export_is, export_was, soname_value};
 use abi_base::{List, NoMemory};
 use abi_types::{Export, NewIx, OldIx, Rule, View, push_label};
 use pair_rules::Broken;
@@ -152,10 +154,10 @@ pub fn type_row(
       rule = broken.now.rule;
       export = string_bytes trail.export;
       path = string_bytes trail.path;
-      detail = details.type_detail broken.now.rule old.entry.1.now new.entry.1.now broken.now.part;
-      part = values.part_of broken.now.rule old.entry.1.now broken.now.part;
-      was = values.type_was broken.now.rule old.entry.1.now broken.now.part;
-      is = values.type_is broken.now.rule old.entry.1.now new.entry.1.now broken.now.part;
+      detail = type_rows.type_detail broken.now.rule old.entry.1.now new.entry.1.now broken.now.part;
+      part = type_rows.part_of broken.now.rule old.entry.1.now broken.now.part;
+      was = type_rows.type_was broken.now.rule old.entry.1.now broken.now.part;
+      is = type_rows.type_is broken.now.rule old.entry.1.now new.entry.1.now broken.now.part;
       old_entry = old.entry.0;
       new_entry = new.entry.0;
     }) }

@@ -1,12 +1,17 @@
 -- Visits with breaks, and the notes at their rows, one after another.
 use Rattle.std.proofs.Common.{◌≡◌, ◌<◌, ◌+◌, ℕ, Bool, true, false, not, cond, List, [], ◌∷◌, ◌++◌, length, map, take, get_or, slice_get, Some, None, refl, sym, ◌∙◌, ap, subst, inl, inr, arith}
-use Rattle.std.specs.Prelude.{Contains, flat_map}
+use Rattle.std.specs.Prelude.{Contains, flat_map, ◌==◌, ◌&&◌, ◌||◌}
+use Rattle.std.specs.BTreeSet.{BTreeSet, contains_by}
+use Rattle.std.specs.Cmp.{both_tied, unsigned_ties}
 use Rattle.std.specs.List.{list_any}
+use Rattle.std.specs.Ordering.{is_eq, nat_cmp, ordering_then}
+use Rattle.std.specs.declared.cmp.Ordering.{Ordering}
+use Rattle.std.proofs.lemmas.Cmp.{nat_eq_equiv}
 use Rattle.std.proofs.lemmas.Grind.{flat_map-append}
 use Rattle.std.proofs.lemmas.List.{append-nil, map_push, take_more}
 use Rattle.std.proofs.lemmas.List.Elements.{Contains-push_cases}
-use Rattle.abi_base.proofs.lemmas.Lists.{list_any-map}
-use Rattle.abi_base.proofs.lemmas.Bools.{not_is_true, not_is_false}
+use Rattle.std.proofs.lemmas.List.Folds.{list_any-append}
+use Rattle.abi_base.proofs.lemmas.Bools.{not_is_true, not_is_false, or_false}
 use Rattle.abi_base.specs.Lists.{firsts, firsts_after, with_first}
 use Rattle.abi_types.specs.Graphs.{IsGraph}
 use Rattle.abi_types.specs.Types.{PlainNode}
@@ -31,6 +36,7 @@ use Rattle.type_notes.specs.declared.note.Note.{Note}
 use Rattle.side_notes.specs.Affected.{AddsRow, AreRowNotes, AreSpelled, LeadToRow, as_row, note_beside, notes_by, pair_at, row_notes, row_text, same_pair, same_types}
 use Rattle.pair_compare.proofs.lemmas.Paths.{export_of-followed}
 use Rattle.pair_rules.proofs.lemmas.Lists.{firsts_after-more}
+use Rattle.pair_rules.proofs.lemmas.Truths.{cond_or}
 
 -- ---- the visits with breaks, each two types once
 
@@ -41,30 +47,49 @@ no_break = (0, record { rule = LibrarySoname; part = 0 })
 abbrev number_of : ℕ × Broken → ℕ
 number_of p = p.0
 
+-- the order of pairs of types, as a search tree has it
+abbrev pub pair_cmp : ℕ × ℕ → ℕ × ℕ → Ordering
+pair_cmp p q = ordering_then (nat_cmp p.0 q.0) (nat_cmp p.1 q.1)
+
+abbrev pub has_pair : BTreeSet (ℕ × ℕ) → ℕ × ℕ → Bool
+has_pair pairs q = contains_by (pair_cmp q) pairs
+
+-- two pairs compare equal exactly if they are the same
+equal_pairs : (p q : ℕ × ℕ) → is_eq (pair_cmp p q) ≡ same_pair p q
+equal_pairs p q = sym (both_tied (p.0 == q.0) (p.1 == q.1) (nat_cmp p.0 q.0) (nat_cmp p.1 q.1) (unsigned_ties p.0 q.0) (unsigned_ties p.1 q.1))
+
+same_pair-turned : (p q : ℕ × ℕ) → same_pair p q ≡ same_pair q p
+same_pair-turned p q = λ i. nat_eq_equiv.symm p.0 q.0 i && nat_eq_equiv.symm p.1 q.1 i
+
 module _ (visits : List Visit) where
+  -- one of these visits has the two types
+  abbrev pub some_has : List ℕ → ℕ × ℕ → Bool
+  some_has kept q = list_any (λ (n : ℕ). same_pair q (pair_at visits n)) kept
+
   -- what is kept of the first breaks, and the types of that
-  pub record IsTelling (breaks : List (ℕ × Broken)) (i : ℕ) (pairs : List (ℕ × ℕ)) (kept : List ℕ) : Type 0 where
+  pub record IsTelling (breaks : List (ℕ × Broken)) (i : ℕ) (pairs : BTreeSet (ℕ × ℕ)) (kept : List ℕ) : Type 0 where
     pub are : kept ≡ firsts (same_types visits) (map number_of (take i breaks))
-    pub typed : pairs ≡ map (pair_at visits) kept
+    pub typed : (q : ℕ × ℕ) → has_pair pairs q ≡ some_has kept q
 
   take_none : (breaks : List (ℕ × Broken)) → map number_of (take 0 breaks) ≡ []
   take_none [] = refl
   take_none (p ∷ breaks) = refl
 
-  pub IsTelling-none : (breaks : List (ℕ × Broken)) (pairs : List (ℕ × ℕ)) (kept : List ℕ) → pairs ≡ [] → kept ≡ [] → IsTelling breaks 0 pairs kept
+  pub IsTelling-none : (breaks : List (ℕ × Broken)) (pairs : BTreeSet (ℕ × ℕ)) (kept : List ℕ) → pairs.keys ≡ [] → kept ≡ [] → IsTelling breaks 0 pairs kept
   unfolding firsts_after
-  IsTelling-none breaks pairs kept no_pairs none = rw (no_pairs, none) (record { are = sym (ap (firsts (same_types visits)) (take_none breaks)); typed = refl })
+  IsTelling-none breaks pairs kept no_pairs none = record {
+    are = none ∙ sym (ap (firsts (same_types visits)) (take_none breaks));
+    typed = λ q. ap (list_any (λ (k : ℕ × ℕ). is_eq (pair_cmp q k))) no_pairs ∙ sym (ap (λ (ns : List ℕ). some_has ns q) none);
+  }
 
-  module _ (breaks : List (ℕ × Broken)) (i : ℕ) (pairs : List (ℕ × ℕ)) (kept : List ℕ) (pair : ℕ × ℕ) (was : IsTelling breaks i pairs kept) (inside : i < length breaks) (is : pair ≡ pair_at visits (get_or breaks i no_break).0) where
+  module _ (breaks : List (ℕ × Broken)) (i : ℕ) (pairs : BTreeSet (ℕ × ℕ)) (kept : List ℕ) (pair : ℕ × ℕ) (was : IsTelling breaks i pairs kept) (inside : i < length breaks) (is : pair ≡ pair_at visits (get_or breaks i no_break).0) where
     n : ℕ
     n = (get_or breaks i no_break).0
 
     -- the types are among those of what is kept exactly where something kept has them
-    any_pair : list_any (same_pair pair) pairs ≡ list_any (same_types visits n) kept
+    any_pair : has_pair pairs pair ≡ list_any (same_types visits n) kept
     unfolding n
-    any_pair =
-        ap (list_any (same_pair pair)) was.typed ∙ ap (λ (p : ℕ × ℕ). list_any (same_pair p) (map (pair_at visits) kept)) is
-        ∙ sym (list_any-map (same_pair (pair_at visits n)) (pair_at visits) kept)
+    any_pair = was.typed pair ∙ ap (some_has kept) is
 
     grown : firsts (same_types visits) (map number_of (take (i + 1) breaks)) ≡ with_first (same_types visits) kept n
     unfolding n
@@ -73,25 +98,33 @@ module _ (visits : List Visit) where
         ∙ ap (firsts (same_types visits)) (map_push number_of (take i breaks) (get_or breaks i no_break))
         ∙ firsts_after-more (same_types visits) [] (map number_of (take i breaks)) n ∙ ap (λ (xs : List ℕ). with_first (same_types visits) xs n) (sym was.are)
 
-    pub IsTelling-more : (more : List (ℕ × ℕ)) (added : Bool) → added ≡ not (list_any (same_pair pair) pairs) → added ≡ true → more ≡ cond (list_any (same_pair pair) pairs) pairs (pairs ++ pair ∷ [])
+    one_more : (q : ℕ × ℕ) → some_has (kept ++ n ∷ []) q ≡ (some_has kept q || same_pair pair q)
+    unfolding n
+    one_more q =
+        list_any-append (λ (m : ℕ). same_pair q (pair_at visits m)) kept (n ∷ []) ∙ ap (λ (b : Bool). some_has kept q || b) (or_false (same_pair q (pair_at visits n)) ∙ sym (ap (same_pair q) is) ∙ same_pair-turned q pair)
+
+    pub IsTelling-more : (more : BTreeSet (ℕ × ℕ)) (added : Bool) → added ≡ not (has_pair pairs pair) → added ≡ true → ((q : ℕ × ℕ) → has_pair more q ≡ cond (is_eq (pair_cmp pair q)) true (has_pair pairs q))
         → IsTelling breaks (i + 1) more (kept ++ (get_or breaks i no_break).0 ∷ [])
     unfolding n
-    IsTelling-more more added is_added holds inserted =
-        let new : list_any (same_pair pair) pairs ≡ false = not_is_true (list_any (same_pair pair) pairs) (sym is_added ∙ holds) in
-        let pushed : more ≡ pairs ++ pair ∷ [] = inserted ∙ ap (λ b. cond b pairs (pairs ++ pair ∷ [])) new in
+    IsTelling-more more added is_added holds adds =
+        let new : has_pair pairs pair ≡ false = not_is_true (has_pair pairs pair) (sym is_added ∙ holds) in
         let other = sym any_pair ∙ new in
         record {
           are = sym (grown ∙ ap (λ b. cond b kept (kept ++ n ∷ [])) other);
-          typed = pushed ∙ ap (λ (ps : List (ℕ × ℕ)). ps ++ pair ∷ []) was.typed ∙ ap (λ (p : ℕ × ℕ). map (pair_at visits) kept ++ p ∷ []) is ∙ sym (map_push (pair_at visits) kept n);
+          typed = λ q.
+              adds q ∙ ap (λ (b : Bool). cond b true (has_pair pairs q)) (equal_pairs pair q) ∙ cond_or (same_pair pair q) (has_pair pairs q)
+              ∙ ap (λ (b : Bool). b || same_pair pair q) (was.typed q) ∙ sym (one_more q);
         }
 
-    pub IsTelling-still : (more : List (ℕ × ℕ)) (added : Bool) → added ≡ not (list_any (same_pair pair) pairs) → added ≡ false → more ≡ cond (list_any (same_pair pair) pairs) pairs (pairs ++ pair ∷ []) → IsTelling breaks (i + 1) more kept
+    pub IsTelling-still : (more : BTreeSet (ℕ × ℕ)) (added : Bool) → added ≡ not (has_pair pairs pair) → added ≡ false → more.keys ≡ pairs.keys → IsTelling breaks (i + 1) more kept
     unfolding n
-    IsTelling-still more added is_added fails inserted =
-        let there : list_any (same_pair pair) pairs ≡ true = not_is_false (list_any (same_pair pair) pairs) (sym is_added ∙ fails) in
-        let still : more ≡ pairs = inserted ∙ ap (λ b. cond b pairs (pairs ++ pair ∷ [])) there in
+    IsTelling-still more added is_added fails still =
+        let there : has_pair pairs pair ≡ true = not_is_false (has_pair pairs pair) (sym is_added ∙ fails) in
         let same = sym any_pair ∙ there in
-        record { are = sym (grown ∙ ap (λ b. cond b kept (kept ++ n ∷ [])) same); typed = still ∙ was.typed }
+        record {
+          are = sym (grown ∙ ap (λ b. cond b kept (kept ++ n ∷ [])) same);
+          typed = λ q. ap (list_any (λ (k : ℕ × ℕ). is_eq (pair_cmp q k))) still ∙ was.typed q;
+        }
 
 -- ---- the notes at one row
 

@@ -1,7 +1,10 @@
 -- Notes that say the same as none before them, one note after another.
 use Rattle.std.proofs.Common.{◌≡◌, ◌<◌, ◌≤◌, ◌+◌, ◌∙◌, ℕ, zero, suc, Bool, true, false, cond, not, ◌&&◌, ◌||◌, if◌then◌else◌, List, [], ◌∷◌, ◌++◌, length, take, map, Option, Some, None, refl, sym, ap, subst, arith, inl, inr}
 use Rattle.std.specs.Prelude.{filter, slice_get, Vec}
+use Rattle.std.specs.Cmp.{both_tied}
+use Rattle.std.specs.Cmp.Lexicographic.{slice_cmp}
 use Rattle.std.specs.List.{flat_map, list_any, range_with_len}
+use Rattle.std.specs.Ordering.{is_eq, nat_cmp}
 use Rattle.std.specs.Str.{bytes_eq}
 use Rattle.std.specs.declared.alloc.Global.{Global}
 use Rattle.std.proofs.lemmas.Bool.{cases_Bool, cases_lt}
@@ -9,13 +12,14 @@ use Rattle.std.proofs.lemmas.List.{append-nil, append_assoc, length_push, take_a
 use Rattle.std.proofs.lemmas.List.Elements.{filter-append}
 use Rattle.std.proofs.lemmas.List.Folds.{list_any-append}
 use Rattle.std.proofs.lemmas.Grind.{flat_map-append}
+use Rattle.std.proofs.lemmas.Map.Text.{is_eq-slice_cmp}
 use Rattle.std.proofs.lemmas.Option.{slice_get_within}
 use Rattle.std.proofs.lemmas.Slice.Eq.{bytes_eq-Decides}
 use Rattle.abi_base.proofs.lemmas.Lists.{slice_get_last, slice_get-before}
 use Rattle.abi_base.proofs.lemmas.Ranges.{below_more}
 use Rattle.abi_base.proofs.lemmas.Bools.{not_is_true, not_is_false, and_is_true, or_false, and_left_true}
 use Rattle.type_notes.specs.declared.note.Note.{Note}
-use Rattle.side_notes.specs.SaidOnce.{AreSaid, NameSet, has_names, has_said, is_said, kept_at, kept_if_new, names_none, names_types, said_once, say_same}
+use Rattle.side_notes.specs.SaidOnce.{AreSaid, NameSet, has_names, has_said, is_said, kept_at, kept_if_new, names_cmp, names_none, names_types, said_once, say_same}
 use Rattle.pair_rules.proofs.lemmas.Truths.{cond_or}
 
 -- ---- one note more
@@ -74,11 +78,16 @@ new_named set xs x was is new named was_is is_is added so_far =
     ∙ ap not (so_far was is ∙ ap (λ (w : List ℕ). list_any (has_names w is.items) xs) was_is ∙ ap (λ (i : List ℕ). list_any (has_names x.was i) xs) is_is
     ∙ sym (said_by_names xs x ∙ ap (λ (b : Bool). b && list_any (has_names x.was x.is) xs) named))
 
+-- two names compare equal exactly to equal ones
+equal_names : (was is w i : List ℕ) → is_eq (names_cmp was is w i) ≡ (bytes_eq was w && bytes_eq is i)
+equal_names was is w i = sym (both_tied (bytes_eq was w) (bytes_eq is i) (slice_cmp nat_cmp was w) (slice_cmp nat_cmp is i) (sym (is_eq-slice_cmp was w)) (sym (is_eq-slice_cmp is i)))
+
 pub said_named : (old new : NameSet) (xs : List Note) (x : Note) (was is : List ℕ) → names_types x ≡ true → was ≡ x.was → is ≡ x.is
-    → ((w i : Vec ℕ Global) → has_said new w.items i.items ≡ cond (bytes_eq was w.items && bytes_eq is i.items) true (has_said old w.items i.items))
+    → ((w i : Vec ℕ Global) → has_said new w.items i.items ≡ cond (is_eq (names_cmp was is w.items i.items)) true (has_said old w.items i.items))
     → AreSaid xs old → AreSaid (xs ++ x ∷ []) new
 said_named old new xs x was is named was_is is_is updates so_far w i =
-    updates w i ∙ ap (cond (bytes_eq was w.items && bytes_eq is i.items) true) (so_far w i)
+    updates w i ∙ ap (λ (b : Bool). cond b true (has_said old w.items i.items)) (equal_names was is w.items i.items)
+    ∙ ap (cond (bytes_eq was w.items && bytes_eq is i.items) true) (so_far w i)
     ∙ cond_or (bytes_eq was w.items && bytes_eq is i.items) (list_any (has_names w.items i.items) xs)
     ∙ ap (λ (l : List ℕ). list_any (has_names w.items i.items) xs || (bytes_eq l w.items && bytes_eq is i.items)) was_is
     ∙ ap (λ (l : List ℕ). list_any (has_names w.items i.items) xs || (bytes_eq x.was w.items && bytes_eq l i.items)) is_is
@@ -87,7 +96,7 @@ said_named old new xs x was is named was_is is_is updates so_far w i =
 -- ---- what is kept
 
 pub said_start : (set : NameSet) → set.keys ≡ [] → AreSaid [] set
-said_start set none was is = ap (list_any (λ (k : Vec ℕ Global × Vec ℕ Global). bytes_eq was.items k.0.items && bytes_eq is.items k.1.items)) none
+said_start set none was is = ap (list_any (λ (k : Vec ℕ Global × Vec ℕ Global). is_eq (names_cmp was.items is.items k.0.items k.1.items))) none
 
 pub kept_start : said_once [] ≡ []
 unfolding said_once

@@ -2,14 +2,17 @@
 use Rattle.std.proofs.Common.{◌≡◌, ℕ, zero, suc, ◌+◌, ◌<◌, ◌≤◌, Bool, true, false, cond, List, [], ◌∷◌, ◌++◌, length, take, get_or, Option, Some, None, refl, sym, ◌∙◌, ap, subst, arith, length-append, length-take-le, ⊎_elim}
 use Rattle.std.specs.Prelude.{Contains, position, not, nat_lt, is_some, slice_get, ◌==◌, if◌then◌else◌}
 use Rattle.std.specs.Borrow.{Bor}
+use Rattle.std.specs.Cmp.Lexicographic.{slice_cmp}
 use Rattle.std.specs.List.{position_or_len}
 use Rattle.std.specs.Option.{option_or}
+use Rattle.std.specs.Ordering.{is_eq, nat_cmp}
 use Rattle.std.specs.Str.{bytes_eq}
 use Rattle.std.proofs.lemmas.Bool.Decides.{nat_tests}
 use Rattle.std.proofs.lemmas.Bool.{cases_lt}
 use Rattle.std.proofs.lemmas.List.{take_more, get_or-map, length-map}
 use Rattle.std.proofs.lemmas.List.Sums.{position_or_len_is, prefix_len-le-length}
 use Rattle.std.proofs.lemmas.List.Folds.{position_or_len_push}
+use Rattle.std.proofs.lemmas.Map.Text.{is_eq-slice_cmp}
 use Rattle.std.proofs.lemmas.Option.{get_or_from_slice_get, slice_get-get_or, slice_get_within, none-some, same_Some}
 use Rattle.std.proofs.lemmas.Slice.Eq.{bytes_eq-Decides}
 use Rattle.abi_base.proofs.lemmas.Lists.{position_is, position_none}
@@ -36,9 +39,9 @@ or_none (Some x) = refl
 
 -- a stem that has no place takes it
 pub first_kept : (before after : Places) (s : List ℕ) (place : ℕ) → place_under before s ≡ None
-    → ((q : Bor (List ℕ)) → place_under after q.now ≡ cond (bytes_eq s q.now) (Some place) (place_under before q.now)) → KeepsFirst before (bytes_eq s) place after
+    → ((q : Bor (List ℕ)) → place_under after q.now ≡ cond (is_eq (slice_cmp nat_cmp s q.now)) (Some place) (place_under before q.now)) → KeepsFirst before (bytes_eq s) place after
 first_kept before after s place none adds q =
-    adds (key q) ∙ bool_cases (bytes_eq s q) (λ same.
+    adds (key q) ∙ ap (λ (b : Bool). cond b (Some place) (place_under before q)) (is_eq-slice_cmp s q) ∙ bool_cases (bytes_eq s q) (λ same.
     let is : s ≡ q = (bytes_eq-Decides s q).0 same in
     let here : place_under before q ≡ None = subst (λ (n : List ℕ). place_under before n ≡ None) is none in
     rw (same, here) refl) (λ apart. rw apart (or_none (place_under before q)))

@@ -1,11 +1,12 @@
 -- Notes that name the same types, and the first one of each.
 use Rattle.std.specs.Prelude.{◌≡◌, ℕ, Bool, not, ◌&&◌, if◌then◌else◌, List, [], ◌∷◌, length, take, Option, Some, None, slice_get, Vec}
-use Rattle.std.specs.HashSet.{HashSet, contains_by}
+use Rattle.std.specs.BTreeSet.{BTreeSet, contains_by}
+use Rattle.std.specs.Cmp.Lexicographic.{slice_cmp}
 use Rattle.std.specs.List.{flat_map, list_any, range_with_len}
+use Rattle.std.specs.Ordering.{nat_cmp, ordering_then}
 use Rattle.std.specs.Str.{bytes_eq}
 use Rattle.std.specs.declared.alloc.Global.{Global}
-use Rattle.std.specs.declared.hash.BuildHasherDefault.{BuildHasherDefault}
-use Rattle.std.specs.declared.hash.FoldHasher.{FoldHasher}
+use Rattle.std.specs.declared.cmp.Ordering.{Ordering}
 use Rattle.type_notes.specs.contracts.note.NoteKindPartialEq.TheImpl.{ghosts}
 use Rattle.type_notes.specs.declared.note.Note.{Note}
 use Rattle.type_notes.specs.declared.note.NoteKind.TheVariants.{TagOrName}
@@ -45,12 +46,17 @@ said_once notes = flat_map (kept_at notes) (range_with_len 0 (length notes))
 
 -- ---- the names so far
 
+-- the order of two names: by the first ones, and where these are equal by the second ones
+abbrev pub names_cmp : List ℕ → List ℕ → List ℕ → List ℕ → Ordering
+names_cmp was is w i = ordering_then (slice_cmp nat_cmp was w) (slice_cmp nat_cmp is i)
+
+-- a search tree: no choice of names makes a look-up long
 abbrev pub NameSet : Type 0
-NameSet = HashSet (Vec ℕ Global × Vec ℕ Global) (BuildHasherDefault FoldHasher)
+NameSet = BTreeSet (Vec ℕ Global × Vec ℕ Global)
 
 -- a set has these names
 abbrev pub has_said : NameSet → List ℕ → List ℕ → Bool
-has_said set was is = contains_by (λ k. bytes_eq was k.0.items && bytes_eq is k.1.items) set
+has_said set was is = contains_by (λ k. names_cmp was is k.0.items k.1.items) set
 
 -- the set has the names of these notes
 abbrev pub AreSaid : List Note → NameSet → Type 0

@@ -1,12 +1,14 @@
 // The exports of a new library that the old one does not have.
-ghost use Rattle.std.specs.Prelude.{◌≡◌, ◌++◌, OnOk, flat_map};
+ghost use Rattle.std.specs.Prelude.{◌≡◌, ◌++◌, IfErr, OnOk, flat_map};
+ghost use Rattle.abi_base.specs.declared.fault.NoMemory.TheVariants.{Past};
+ghost use Rattle.abi_base.specs.declared.limit.Limit.TheVariants.{Notes};
 ghost use Rattle.abi_types.specs.declared.export.Export.{Export as AnyExport};
 ghost use Rattle.abi_types.specs.Plain.{plain_export};
 ghost use Rattle.side_notes.specs.Added.{added_notes, notes_if_added};
 ghost use Rattle.side_notes.specs.Added as spec;
 
 use crate::making::{label_of, note_on};
-use abi_base::{List, NoMemory};
+use abi_base::{Limit, List, NoMemory, taken};
 use abi_types::{Export, Library, NewIx, OldIx};
 use std::alloc::Global;
 use type_notes::{Note, NoteKind};
@@ -17,6 +19,31 @@ pub fn has_export(old: &Library<OldIx>, export: &Export) -> bool
 {
     !old.exports_of_version(export.name, export.version)
         .is_empty()
+}
+
+// The bytes of labels for each byte of the new file, and how many more there may be: the names of exports can share their bytes.
+const BYTES_A_BYTE: usize = 16;
+
+const BYTES_AT_LEAST: usize = 1_048_576;
+
+// What a note takes besides its label, in bytes.
+const NOTE: usize = 128;
+
+// Counts the labels of the exports that are added. It fails where they pass the limit.
+fn count_labels(old: &Library<OldIx>, new: &Library<NewIx>) -> Result<(), NoMemory>
+    ensures { IfErr result (λ e. e ≡ Past Notes) }
+{
+    let mut left = new
+        .file()
+        .len()
+        .saturating_mul(BYTES_A_BYTE)
+        .saturating_add(BYTES_AT_LEAST);
+    for export in new.exports() {
+        if !has_export(old, export) {
+            left = taken(Limit::Notes, left, export.name.len().saturating_add(NOTE))?;
+        }
+    }
+    Ok(())
 }
 
 // Appends the note on a new export, where the old library does not have it.
@@ -56,7 +83,8 @@ fn push_each(
     Ok(())
 }
 
-/// Appends a note on each export of the new library whose name and version no export of the old one has.
+/// Appends a note on each export of the new library whose name and version no export of the old one has. It appends none where their
+/// labels pass the limit on notes.
 pub fn push_added(
     alloc: Global,
     notes: &mut List<Note>,
@@ -65,5 +93,6 @@ pub fn push_added(
 ) -> Result<(), NoMemory>
     ensures { OnOk result (notes.new ≡ notes.old ++ added_notes old.now.exports new.now.exports) }
 {
+    count_labels(old, new)?;
     push_each(alloc, notes, old, new.exports())
 }

@@ -18,7 +18,6 @@ ghost use Rattle.side_notes.specs.NoteTexts.{behind};
 use crate::making::bytes_of;
 use abi_base::{Effort, Limit, List, NoMemory, taken};
 use abi_types::{Index, Library, NewIx, OldIx};
-use indexmap::IndexSet;
 use leading_exports::{Arrow, Walk, arrows_of, exports_to, numbers_of};
 use pair_compare::laws::typed_pairs_can_be_explored;
 use pair_compare::reports::laws::paths_end_where_they_lead;
@@ -28,6 +27,7 @@ use pair_explorer::laws::{parents_spell_paths, paths_by_representatives};
 use pair_explorer::{Explored, GraphPair, Route, Visits, explore, route_to};
 use pair_rules::Steps;
 use std::alloc::Global;
+use std::collections::BTreeSet;
 use std::marker::Brand;
 use std::sync::ledger::{Blank, Ledger};
 use type_classes::{alike, alike_beside};
@@ -49,11 +49,11 @@ fn pair_at(visits: &Visits, number: usize) -> (usize, usize)
 fn first_visits(alloc: Global, explored: &Explored) -> Result<List<usize>, NoMemory>
     ensures { IfOk result (λ numbers. numbers ≡ spec.first_visits explored.now.visits explored.now.breaks) }
 {
-    let mut pairs: IndexSet<(usize, usize)> = IndexSet::new(alloc);
+    let mut pairs = BTreeSet::new(alloc);
     let mut numbers = List::new(alloc);
     let breaks = explored.breaks.as_slice();
     for found in breaks {
-        let (_, is_new) = pairs.insert_full(pair_at(&explored.visits, found.0))?;
+        let is_new = pairs.insert(pair_at(&explored.visits, found.0))?;
         if is_new {
             numbers.push(found.0)?;
         }
@@ -140,6 +140,9 @@ const BYTES_A_BYTE: usize = 16;
 
 const BYTES_AT_LEAST: usize = 1_048_576;
 
+// How many bytes more count for the steps.
+const STEP_BYTES_AT_LEAST: usize = 65_536;
+
 // What a note takes besides its texts, in bytes.
 const NOTE: usize = 128;
 
@@ -155,7 +158,10 @@ impl NoteRoom {
     fn beside(library: &Library<OldIx>) -> NoteRoom {
         let bytes = library.file().len();
         NoteRoom {
-            steps: Effort::for_bytes(Limit::AffectedExports, bytes.saturating_add(BYTES_AT_LEAST)),
+            steps: Effort::for_bytes(
+                Limit::AffectedExports,
+                bytes.saturating_add(STEP_BYTES_AT_LEAST),
+            ),
             bytes: bytes
                 .saturating_mul(BYTES_A_BYTE)
                 .saturating_add(BYTES_AT_LEAST),

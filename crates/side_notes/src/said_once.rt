@@ -6,11 +6,11 @@ ghost use Rattle.side_notes.specs.SaidOnce as spec;
 
 use abi_base::{List, NoMemory};
 use std::alloc::Global;
-use std::collections::HashSet;
+use std::collections::BTreeSet;
 use type_notes::{Note, NoteKind};
 
 // The names that notes so far have: those that were there, and those that are there now.
-type Said = HashSet<(Vec<u8>, Vec<u8>)>;
+type Said = BTreeSet<(Vec<u8>, Vec<u8>)>;
 
 // Puts the names of a note to those of notes before it. The answer is whether none of these says the same.
 fn put_names(alloc: Global, said: &mut Said, note: &Note) -> Result<bool, NoMemory>
@@ -40,7 +40,7 @@ fn is_new(alloc: Global, said: &mut Said, note: &Note) -> Result<bool, NoMemory>
 pub(crate) fn said_once(alloc: Global, notes: List<Note>) -> Result<List<Note>, NoMemory>
     ensures { IfOk result (λ kept. kept ≡ spec.said_once notes) }
 {
-    let mut said = HashSet::new(alloc);
+    let mut said = BTreeSet::new(alloc);
     let mut kept = List::new(alloc);
     for note in notes.into_vec() {
         if is_new(alloc, &mut said, &note)? {

@@ -11,11 +11,11 @@ use crate::stems::stem;
 use abi_base::{List, NoMemory};
 use abi_types::{Export, Library, NewIx, OldIx};
 use std::alloc::Global;
-use std::collections::HashMap;
+use std::collections::BTreeMap;
 use type_notes::{Note, NoteKind};
 
 /// For each stem of the exports that only the new library has, the place of the first of them.
-pub type Kin<'n> = HashMap<&'n [u8], usize>;
+pub type Kin<'n> = BTreeMap<&'n [u8], usize>;
 
 /// Two libraries, and what `kin_of` tells of them.
 #[derive(Clone, Copy)]
@@ -29,7 +29,7 @@ pub struct Related<'x, 'o, 'n> {
 fn put<'n>(kin: &mut Kin<'n>, stem: &'n [u8], place: usize) -> Result<(), NoMemory>
     ensures { OnOk result (KeepsFirst kin.old (bytes_eq stem.now) place kin.new) }
 {
-    if kin.contains_key(&stem) {
+    if kin.contains_key(stem) {
         return Ok(());
     }
     kin.insert(stem, place)?;
@@ -59,7 +59,7 @@ pub fn kin_of<'n>(
 ) -> Result<Kin<'n>, NoMemory>
     ensures { IfOk result (λ kin. AreKin old.now.exports new.now.exports kin) }
 {
-    let mut kin = HashMap::new(alloc);
+    let mut kin = BTreeMap::new(alloc);
     let exports = new.exports();
     'list: for place in 0..exports.len() {
         put_if_added(&mut kin, old, &exports[place], place)?;
@@ -82,7 +82,7 @@ fn first_kin(related: &Related, name: &[u8]) -> Option<usize>
     requires { AreKin related.now.old.now.exports related.now.new.now.exports related.now.kin.now }
     ensures { result ≡ position (is_kin related.now.old.now.exports name.now) related.now.new.now.exports }
 {
-    match related.kin.get(&name) {
+    match related.kin.get(name) {
         None => None,
         Some(place) => Some(*place),
     }

@@ -1,10 +1,10 @@
--- A map that caches how the names of types are marked.
-use Rattle.std.specs.Prelude.{◌≡◌, ◌==◌, ◌&&◌, ℕ, List, Option, Some}
+-- A search tree that keeps how the names of types are marked: no choice of names makes a look-up long.
+use Rattle.std.specs.Prelude.{◌≡◌, ℕ, List, Option, Some}
 use Rattle.std.specs.Borrow.{Bor}
-use Rattle.std.specs.Str.{bytes_eq}
-use Rattle.std.specs.HashMap.{HashMap, get_by}
-use Rattle.std.specs.declared.hash.FoldHasher.{FoldHasher}
-use Rattle.std.specs.declared.hash.BuildHasherDefault.{BuildHasherDefault}
+use Rattle.std.specs.BTreeMap.{BTreeMap, get_by}
+use Rattle.std.specs.Cmp.Lexicographic.{slice_cmp}
+use Rattle.std.specs.Ordering.{nat_cmp, ordering_then}
+use Rattle.std.specs.declared.cmp.Ordering.{Ordering}
 use Rattle.abi_types.specs.declared.kind.LabelKind.{LabelKind}
 use Rattle.abi_types.specs.declared.kind.LabelKind.TheVariants.{Structure, Union, Enumeration, Typedef, Builtin}
 use Rattle.abi_types.specs.declared.kind.Way.TheVariants.{Direct, Pointer}
@@ -20,12 +20,16 @@ kind_number Enumeration = 2
 kind_number Typedef = 3
 kind_number Builtin = 4
 
+-- the order of a kind with a name: by the numbers of the kinds, and for one kind by the bytes of the names
+abbrev pub name_cmp : ℕ → List ℕ → ℕ → List ℕ → Ordering
+name_cmp kind name k n = ordering_then (nat_cmp kind k) (slice_cmp nat_cmp name n)
+
 -- a map from the kind and the name of a label to how sections mark it
 abbrev pub Known : Type 0
-Known = HashMap (ℕ × Bor (List ℕ)) MarkedByWay (BuildHasherDefault FoldHasher)
+Known = BTreeMap (ℕ × Bor (List ℕ)) MarkedByWay
 
 abbrev pub known_of : Known → PlainLabel → Option MarkedByWay
-known_of known l = get_by (λ k. kind_number l.kind == k.0 && bytes_eq l.name k.1.now) known
+known_of known l = get_by (λ k. name_cmp (kind_number l.kind) l.name k.0 k.1.now) known
 
 -- how sections mark a name: by value, and through a pointer
 abbrev pub name_ways : List PlainSection → Option (List ℕ) → PlainLabel → MarkedByWay

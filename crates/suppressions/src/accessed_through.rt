@@ -10,7 +10,7 @@ use crate::ready_section::ReadyRules;
 use crate::subject::Subject;
 use abi_base::NoMemory;
 use abi_types::{Label, LabelKind, Way};
-use std::collections::HashMap;
+use std::collections::BTreeMap;
 
 /// Whether a type is marked, by how a program reaches it.
 #[derive(Clone, Copy, Debug)]
@@ -44,7 +44,10 @@ fn judge_name(sections: &mut ReadyRules, soname: Option<&[u8]>, label: &Label) -
 }
 
 // The answer for a name that was judged before.
-fn known_name(known: &HashMap<(u8, &[u8]), MarkedByWay>, label: &Label) -> Option<MarkedByWay>
+fn known_name<'x>(
+    known: &BTreeMap<(u8, &'x [u8]), MarkedByWay>,
+    label: &Label<'x>,
+) -> Option<MarkedByWay>
     ensures { result ≡ known_of known.now (plain_label label.now) }
 {
     known.get(&(kind_number(label.kind), label.name)).copied()
@@ -67,7 +70,7 @@ fn judged_label<'x>(sections: &ReadyRules, label: &Label<'x>) -> Label<'x>
 // The answer for a name, which is judged only the first time.
 fn name_once<'x>(
     sections: &mut ReadyRules,
-    known: &mut HashMap<(u8, &'x [u8]), MarkedByWay>,
+    known: &mut BTreeMap<(u8, &'x [u8]), MarkedByWay>,
     soname: Option<&[u8]>,
     label: &Label<'x>,
 ) -> Result<MarkedByWay, NoMemory>
@@ -88,7 +91,7 @@ fn name_once<'x>(
 /// Whether sections mark a type that has these names. `known` keeps the answers, so that each name is judged once.
 pub fn names_once<'x>(
     sections: &mut ReadyRules,
-    known: &mut HashMap<(u8, &'x [u8]), MarkedByWay>,
+    known: &mut BTreeMap<(u8, &'x [u8]), MarkedByWay>,
     soname: Option<&[u8]>,
     labels: &[Label<'x>],
 ) -> Result<MarkedByWay, NoMemory>

@@ -18,7 +18,7 @@ use crate::subject::{Subject, section_of_symbol};
 use abi_base::{List, NoMemory};
 use abi_types::{Export, Graph, Index, Label, Library, Marks, OldIx, Way};
 use std::alloc::Global;
-use std::collections::HashMap;
+use std::collections::BTreeMap;
 use suppression_text::{Rules, Section, SectionKind};
 
 // Whether one of two flags is set.
@@ -185,7 +185,7 @@ fn node_flags(
     ensures direct { IfOk result (λ flags. flags.direct ≡ map (λ (n : PlainNode). marks_names sections.old (option_copied soname.entry) Way.Direct n.labels) graph.now) }
     ensures pointer { IfOk result (λ flags. flags.pointer ≡ map (λ (n : PlainNode). marks_names sections.old (option_copied soname.entry) Way.Pointer n.labels) graph.now) }
 {
-    let mut known = HashMap::new(alloc);
+    let mut known = BTreeMap::new(alloc);
     let mut direct = List::new(alloc);
     let mut pointer = List::new(alloc);
     for i in 0..graph.len() {

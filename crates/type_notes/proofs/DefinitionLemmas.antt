@@ -1,16 +1,19 @@
 -- The definitions of each name, as loops over entries find them, and texts that grow entry by entry.
 use Rattle.std.proofs.Common.{◌≡◌, ◌↔◌, ◌<◌, ◌≤◌, ◌+◌, ◌-◌, ◌∙◌, ℕ, zero, suc, Bool, true, false, cond, List, [], ◌∷◌, ◌++◌, length, take, map, get_or, Option, Some, None, ap, sym, subst, arith, refl, inl, inr}
 use Rattle.std.specs.Prelude.{◌||◌, filter, position, is_some, codes, if◌then◌else◌, Contains}
-use Rattle.std.specs.HashMap.{get_by}
+use Rattle.std.specs.BTreeMap.{get_by}
 use Rattle.std.specs.Borrow.{Bor}
+use Rattle.std.specs.Cmp.Lexicographic.{slice_cmp}
 use Rattle.std.specs.List.{flat_map, range_with_len, All}
 use Rattle.std.specs.Option.{IfSome}
+use Rattle.std.specs.Ordering.{is_eq, nat_cmp}
 use Rattle.std.specs.Str.{bytes_eq}
 use Rattle.std.proofs.lemmas.Bool.{cases_Bool}
 use Rattle.std.proofs.lemmas.List.Folds.{list_any_more}
 use Rattle.std.proofs.lemmas.Grind.{flat_map-append}
 use Rattle.std.proofs.lemmas.List.{append-nil, append_assoc, take_more}
 use Rattle.std.proofs.lemmas.List.Elements.{All-append, All-filter, All-head, All-nil, Contains-get_or, filter-append}
+use Rattle.std.proofs.lemmas.Map.Text.{is_eq-slice_cmp}
 use Rattle.std.proofs.lemmas.Slice.Eq.{bytes_eq-Decides}
 use Rattle.abi_base.proofs.lemmas.Ranges.{below_more}
 use Rattle.abi_base.proofs.lemmas.Places.{places, places_more}
@@ -31,10 +34,10 @@ key q = record { ref_ptr = (0, 0); now = q }
 -- ---- the map of names
 
 -- what stands under each name once the list under one name is taken out
-pub taken_others : (old new : Named) (name : List ℕ) → ((q : Bor (List ℕ)) → get_by (λ k. bytes_eq q.now k.now) new ≡ cond (bytes_eq name q.now) None (get_by (λ k. bytes_eq q.now k.now) old))
+pub taken_others : (old new : Named) (name : List ℕ) → ((q : Bor (List ℕ)) → get_by (λ k. slice_cmp nat_cmp q.now k.now) new ≡ cond (is_eq (slice_cmp nat_cmp name q.now)) None (get_by (λ k. slice_cmp nat_cmp q.now k.now) old))
     → (q : List ℕ) → places_under new q ≡ (if bytes_eq name q then [] else places_under old q)
 taken_others old new name updates q =
-    ap list_or_none (updates (key q)) ∙ elim (cases_Bool (bytes_eq name q)) [
+    ap list_or_none (updates (key q)) ∙ ap (λ (b : Bool). list_or_none (cond b None (get_by (λ k. slice_cmp nat_cmp q k.now) old))) (is_eq-slice_cmp name q) ∙ elim (cases_Bool (bytes_eq name q)) [
       | inl same ↦ rw same refl
       | inr apart ↦ rw apart refl
     ]
@@ -42,10 +45,10 @@ taken_others old new name updates q =
 -- what stands under each name once the list is put back with one place more
 pub kept : (old mid new : Named) (name list grown : List ℕ) (place : ℕ) → list ≡ places_under old name → grown ≡ list ++ place ∷ []
     → ((q : List ℕ) → places_under mid q ≡ (if bytes_eq name q then [] else places_under old q))
-    → ((q : Bor (List ℕ)) → get_by (λ k. bytes_eq q.now k.now) new ≡ cond (bytes_eq name q.now) (Some grown) (get_by (λ k. bytes_eq q.now k.now) mid))
+    → ((q : Bor (List ℕ)) → get_by (λ k. slice_cmp nat_cmp q.now k.now) new ≡ cond (is_eq (slice_cmp nat_cmp name q.now)) (Some grown) (get_by (λ k. slice_cmp nat_cmp q.now k.now) mid))
     → (q : List ℕ) → places_under new q ≡ places_under old q ++ (if bytes_eq name q then place ∷ [] else [])
 kept old mid new name list grown place is pushed others updates q =
-    ap list_or_none (updates (key q)) ∙ elim (cases_Bool (bytes_eq name q)) [
+    ap list_or_none (updates (key q)) ∙ ap (λ (b : Bool). list_or_none (cond b (Some grown) (get_by (λ k. slice_cmp nat_cmp q k.now) mid))) (is_eq-slice_cmp name q) ∙ elim (cases_Bool (bytes_eq name q)) [
       | inl same ↦ rw same (pushed ∙ ap (λ (l : List ℕ). l ++ place ∷ []) (is ∙ ap (places_under old) ((bytes_eq-Decides name q).0 same)))
       | inr apart ↦ rw apart (others q ∙ ap (λ (b : Bool). if b then [] else places_under old q) apart ∙ sym (append-nil (places_under old q)))
     ]
@@ -115,10 +118,10 @@ position_same p q same xs = ap (λ r. position r xs) (tests_same p q same)
 
 -- one text more in a set
 pub among_more : (old new : TextSet) (texts : List (List ℕ)) (k : ℕ) (d text : List ℕ) → k < length texts → text ≡ get_or texts k d
-    → ((q : Bor (List ℕ)) → has_text new q.now ≡ cond (bytes_eq text q.now) true (has_text old q.now))
+    → ((q : Bor (List ℕ)) → has_text new q.now ≡ cond (is_eq (slice_cmp nat_cmp text q.now)) true (has_text old q.now))
     → ((q : List ℕ) → has_text old q ≡ is_among (take k texts) q) → (q : List ℕ) → has_text new q ≡ is_among (take (k + 1) texts) q
 among_more old new texts k d text lt is updates so_far q =
-    updates (key q) ∙ ap (λ (b : Bool). cond (bytes_eq text q) true b) (so_far q) ∙ cond_or (bytes_eq text q) (is_among (take k texts) q)
+    updates (key q) ∙ ap (λ (b : Bool). cond b true (has_text old q)) (is_eq-slice_cmp text q) ∙ ap (λ (b : Bool). cond (bytes_eq text q) true b) (so_far q) ∙ cond_or (bytes_eq text q) (is_among (take k texts) q)
     ∙ ap (λ (t : List ℕ). is_among (take k texts) q || bytes_eq t q) is ∙ sym (list_any_more (λ (t : List ℕ). bytes_eq t q) texts k d lt)
 
 -- ---- the first difference

@@ -2,13 +2,13 @@
 -- 2.13.1 "Non-Defining Declarations and Completions").
 use Rattle.std.specs.Prelude.{◌≡◌, ◌<◌, ℕ, ◌==◌, Bool, false, not, ◌&&◌, ◌||◌, if◌then◌else◌, List, [], ◌∷◌, length, map, All, flat_map, filter, position, max, Option, Some, None, slice_get, unwrap_or}
 use Rattle.std.specs.Borrow.{Bor}
-use Rattle.std.specs.HashMap.{HashMap, get_by}
-use Rattle.std.specs.HashSet.{HashSet, contains_by}
+use Rattle.std.specs.BTreeMap.{BTreeMap, get_by}
+use Rattle.std.specs.BTreeSet.{BTreeSet, contains_by}
+use Rattle.std.specs.Cmp.Lexicographic.{slice_cmp}
 use Rattle.std.specs.List.{list_any, range_with_len}
 use Rattle.std.specs.Option.{option_or}
+use Rattle.std.specs.Ordering.{nat_cmp}
 use Rattle.std.specs.Str.{bytes_eq}
-use Rattle.std.specs.declared.hash.FoldHasher.{FoldHasher}
-use Rattle.std.specs.declared.hash.BuildHasherDefault.{BuildHasherDefault}
 use Rattle.abi_base.specs.Dwarf.{dw_tag_compile_unit, dw_tag_partial_unit, dw_tag_type_unit, dw_tag_structure_type, dw_tag_union_type, dw_tag_enumeration_type}
 use Rattle.dwarf_tree.specs.Trees.{PlainTree}
 use Rattle.dwarf_entries.specs.Addresses.{is_declared_only, tag_at}
@@ -152,17 +152,17 @@ abbrev pub definitions_behind : PlainDwarf → PlainDwarf → Type_ → Type_ �
 definitions_behind d e (Some a) (Some b) = definitions_by d e a b
 definitions_behind d e a b = None
 
--- ---- maps from names to definitions
+-- ---- maps from names to definitions, as search trees: no choice of names makes a look-up long
 
 abbrev pub Named : Type 0
-Named = HashMap (Bor (List ℕ)) (List ℕ) (BuildHasherDefault FoldHasher)
+Named = BTreeMap (Bor (List ℕ)) (List ℕ)
 
 abbrev pub list_or_none : Option (List ℕ) → List ℕ
 list_or_none None = []
 list_or_none (Some list) = list
 
 abbrev pub places_under : Named → List ℕ → List ℕ
-places_under places name = list_or_none (get_by (λ k. bytes_eq name k.now) places)
+places_under places name = list_or_none (get_by (λ k. slice_cmp nat_cmp name k.now) places)
 
 -- the maps hold the definitions of each name
 pub record AreDefinitions (d : PlainDwarf) (m : Definitions) : Type 0 where
@@ -180,10 +180,10 @@ pub record AreKin (k : Kin) : Type 0 where
   pub old : All (λ e. e < length k.old_dwarf.now.tree.entries) k.old.now
   pub new : All (λ e. e < length k.new_dwarf.now.tree.entries) k.new.now
 
--- ---- sets of texts
+-- ---- sets of texts, as search trees
 
 abbrev pub TextSet : Type 0
-TextSet = HashSet (Bor (List ℕ)) (BuildHasherDefault FoldHasher)
+TextSet = BTreeSet (Bor (List ℕ))
 
 abbrev pub has_text : TextSet → List ℕ → Bool
-has_text set text = contains_by (λ k. bytes_eq text k.now) set
+has_text set text = contains_by (λ k. slice_cmp nat_cmp text k.now) set

@@ -13,17 +13,17 @@ use abi_base::{List, NoMemory};
 use dwarf_entries::Dwarf;
 use dwarf_tree::laws::children_stand_one_deeper;
 use std::alloc::Global;
-use std::collections::HashMap;
+use std::collections::BTreeMap;
 
 /// The positions of the entries that define a library's types, by name.
 #[derive(Drop)]
 pub struct Definitions<'a> {
     /// The definitions of structures.
-    pub structures: HashMap<&'a [u8], List<usize>>,
+    pub structures: BTreeMap<&'a [u8], List<usize>>,
     /// The definitions of unions.
-    pub unions: HashMap<&'a [u8], List<usize>>,
+    pub unions: BTreeMap<&'a [u8], List<usize>>,
     /// The definitions of enumerations.
-    pub enumerations: HashMap<&'a [u8], List<usize>>,
+    pub enumerations: BTreeMap<&'a [u8], List<usize>>,
 }
 
 /// The definitions of two libraries.
@@ -38,13 +38,13 @@ pub struct DefinitionPair<'x, 'o, 'n> {
 // Removes the positions under a name from the map, and returns them.
 fn taken<'a>(
     alloc: Global,
-    places: &mut HashMap<&'a [u8], List<usize>>,
+    places: &mut BTreeMap<&'a [u8], List<usize>>,
     name: &'a [u8],
 ) -> List<usize>
     ensures list { result ≡ places_under places.old name.now }
     ensures others { (q : List ℕ) → places_under places.new q ≡ (if bytes_eq name.now q then [] else places_under places.old q) }
 {
-    match places.remove(&name) {
+    match places.remove(name) {
         Some(list) => list,
         None => List::new(alloc),
     }
@@ -53,7 +53,7 @@ fn taken<'a>(
 // Appends a position to those under a name.
 fn keep<'a>(
     alloc: Global,
-    places: &mut HashMap<&'a [u8], List<usize>>,
+    places: &mut BTreeMap<&'a [u8], List<usize>>,
     name: &'a [u8],
     place: usize,
 ) -> Result<(), NoMemory>
@@ -69,7 +69,7 @@ fn keep<'a>(
 #[tactic(auto, unfolding(crate::specs::DefinedElsewhere::defines))]
 fn keep_definition<'a>(
     alloc: Global,
-    places: &mut HashMap<&'a [u8], List<usize>>,
+    places: &mut BTreeMap<&'a [u8], List<usize>>,
     dwarf: &Dwarf<'a>,
     e: usize,
 ) -> Result<(), NoMemory>
@@ -88,7 +88,7 @@ fn keep_definition<'a>(
 // Adds those entries that are definitions, under their names.
 fn keep_definitions<'a>(
     alloc: Global,
-    places: &mut HashMap<&'a [u8], List<usize>>,
+    places: &mut BTreeMap<&'a [u8], List<usize>>,
     dwarf: &Dwarf<'a>,
     entries: &[usize],
 ) -> Result<(), NoMemory>
@@ -131,10 +131,10 @@ fn definitions_with<'a>(
     alloc: Global,
     dwarf: &Dwarf<'a>,
     tag: u64,
-) -> Result<HashMap<&'a [u8], List<usize>>, NoMemory>
+) -> Result<BTreeMap<&'a [u8], List<usize>>, NoMemory>
     ensures { IfOk result (λ places. (q : List ℕ) → places_under places q ≡ spec.definitions_of dwarf.now tag q) }
 {
-    let mut places = HashMap::new(alloc);
+    let mut places = BTreeMap::new(alloc);
     for root in 0..dwarf.len() {
         let tops = at_top_of(alloc, dwarf, root, tag)?;
         keep_definitions(alloc, &mut places, dwarf, tops.as_slice())?;
@@ -160,10 +160,10 @@ pub(crate) fn definitions_of<'a>(
 }
 
 // The positions under a name.
-fn listed<'x>(places: &'x HashMap<&[u8], List<usize>>, name: &'x [u8]) -> &'x [usize]
+fn listed<'x>(places: &'x BTreeMap<&[u8], List<usize>>, name: &'x [u8]) -> &'x [usize]
     ensures { result.now ≡ places_under places.now name.now }
 {
-    match places.get(&name) {
+    match places.get(name) {
         Some(list) => list.as_slice(),
         None => &[],
     }

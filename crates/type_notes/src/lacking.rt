@@ -5,13 +5,13 @@ ghost use Rattle.type_notes.specs.DefinedElsewhere as spec;
 
 use abi_base::{List, NoMemory};
 use std::alloc::Global;
-use std::collections::HashSet;
+use std::collections::BTreeSet;
 
 // The set of the texts.
-fn set_of<'t>(alloc: Global, texts: &'t [List<u8>]) -> Result<HashSet<&'t [u8]>, NoMemory>
+fn set_of<'t>(alloc: Global, texts: &'t [List<u8>]) -> Result<BTreeSet<&'t [u8]>, NoMemory>
     ensures { IfOk result (λ set. (q : List ℕ) → has_text set q ≡ is_among texts.now q) }
 {
-    let mut set = HashSet::new(alloc);
+    let mut set = BTreeSet::new(alloc);
     for k in 0..texts.len() {
         set.insert(texts[k].as_slice())?;
     }
@@ -19,14 +19,14 @@ fn set_of<'t>(alloc: Global, texts: &'t [List<u8>]) -> Result<HashSet<&'t [u8]>,
 }
 
 // Whether a text is not in a set.
-fn is_absent(set: &HashSet<&[u8]>, text: &[u8]) -> bool
+fn is_absent(set: &BTreeSet<&[u8]>, text: &[u8]) -> bool
     ensures { result ≡ not (has_text set.now text.now) }
 {
-    !set.contains(&text)
+    !set.contains(text)
 }
 
 // The position of the first text that is not in a set.
-fn first_absent(texts: &[List<u8>], set: &HashSet<&[u8]>) -> Option<usize>
+fn first_absent(texts: &[List<u8>], set: &BTreeSet<&[u8]>) -> Option<usize>
     ensures { result ≡ position (λ (text : List ℕ). not (has_text set.now text)) texts.now }
 {
     texts

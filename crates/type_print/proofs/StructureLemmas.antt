@@ -67,14 +67,3 @@ row_inside nodes v bits (row.Outside part) is = let one = part_inside nodes v is
 
 pub rows_inside : (nodes : List PlainNode) (v : PlainView) (bits : ℕ) (rows : List LayoutRow) → AreRows (members_of nodes v) bits rows → AreInside v rows
 rows_inside nodes v bits rows are k d below = row_inside nodes v bits (get_or rows k d) (are.each (get_or rows k d) (Contains-get_or rows k d below))
-
--- one more member under its position
-pub numbered_more : (members now : List Extent) (e : Extent) → AreNumbered members → e.part ≡ length members → now ≡ members ++ e ∷ [] → AreNumbered now
-numbered_more members now e was is put k inside =
-    let part_of = λ (m : Extent). m.part in
-    let len : length now ≡ length members + 1 = ap length put ∙ length-append members (e ∷ []) in
-    ap (λ (ms : List Extent). (member_at ms k).part) put ∙
-    elim (cases_lt k (length members)) [
-      | inl below ↦ ap part_of (get_or_append_left members (e ∷ []) no_member k below) ∙ was k below
-      | inr past ↦ let here : length members ≡ k = omega arith in ap part_of (get_or_push members e no_member k here) ∙ is ∙ here
-    ]

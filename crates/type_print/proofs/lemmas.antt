@@ -1,2 +1,3 @@
 -- What crates above may use of proofs: laws of the definitions of `specs/`.
 pub mod Extents
+pub mod Numbered

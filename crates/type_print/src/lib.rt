@@ -11,10 +11,9 @@ mod row;
 mod rows;
 mod structure;
 
+pub use extent::Extent;
 pub use find::find_tag;
 pub use lines::layout_lines;
 pub use row::LayoutRow;
+pub use rows::rows_of;
 pub use structure::layout;
-
-#[cfg(test)]
-mod tests;

@@ -1,10 +1,12 @@
 -- After an abbreviation is appended, it is found by its code, and so are the earlier ones.
 use Rattle.std.proofs.Common.{◌≡◌, ℕ, zero, suc, ◌+◌, ◌-◌, ◌<◌, ◌≤◌, Bool, true, false, cond, List, [], ◌∷◌, ◌++◌, length, Option, Some, None, refl, sym, ap, ◌∙◌, subst, arith, length-append, ⊎_elim, eq-eqb, inl, inr}
-use Rattle.std.specs.Prelude.{◌==◌, ◌||◌, slice_get, nat_eq, option_and_then, is_some, find}
+use Rattle.std.specs.Prelude.{◌==◌, ◌||◌, slice_get, option_and_then, is_some, find}
 use Rattle.std.specs.Borrow.{Bor}
 use Rattle.std.specs.List.{list_any}
 use Rattle.std.specs.Option.{option_or, option_copied}
-use Rattle.std.specs.HashMap.{get}
+use Rattle.std.specs.BTreeMap.{get}
+use Rattle.std.specs.Cmp.{unsigned_tied}
+use Rattle.std.specs.Ordering.{eq_by_cmp, nat_cmp}
 use Rattle.std.proofs.lemmas.Bool.{cases_Bool, cases_lt, eqb-true}
 use Rattle.std.proofs.lemmas.List.Folds.{find-append}
 use Rattle.std.proofs.lemmas.Option.{slice_get_past, same_Some}
@@ -57,14 +59,14 @@ module _ (abbrevs : List Abbrev) (old : Elsewhere) (made : Abbrev) (so_far : Pla
       past : length abbrevs ≤ code - 1 → at_own_place more code ≡ at_own_place abbrevs code
       past le = none le ∙ sym (ap (if_of_code code) (slice_get_past abbrevs (code - 1) le))
 
-  kept_stays : (next : Elsewhere) (code : ℕ) → get nat_eq next code ≡ get nat_eq old code → at_kept_place more next code ≡ at_kept_place abbrevs old code
-  kept_stays next code same = ap (option_and_then (slice_get more)) same ∙ stays (get nat_eq old code) refl
+  kept_stays : (next : Elsewhere) (code : ℕ) → get nat_cmp next code ≡ get nat_cmp old code → at_kept_place more next code ≡ at_kept_place abbrevs old code
+  kept_stays next code same = ap (option_and_then (slice_get more)) same ∙ stays (get nat_cmp old code) refl
     where
-      stays : (o : Option ℕ) → get nat_eq old code ≡ o → option_and_then (slice_get more) o ≡ option_and_then (slice_get abbrevs) o
+      stays : (o : Option ℕ) → get nat_cmp old code ≡ o → option_and_then (slice_get more) o ≡ option_and_then (slice_get abbrevs) o
       stays None is = refl
       stays (Some place) is = slice_get-before abbrevs (made ∷ []) place (so_far.inside code place is)
 
-  other_found : (next : Elsewhere) (code : ℕ) → (made.code == code) ≡ false → get nat_eq next code ≡ get nat_eq old code → found next code ≡ abbrev_of more code
+  other_found : (next : Elsewhere) (code : ℕ) → (made.code == code) ≡ false → get nat_cmp next code ≡ get nat_cmp old code → found next code ≡ abbrev_of more code
   other_found next code apart same =
       ap (λ (o : Option Abbrev). option_or o (at_kept_place more next code)) (own_stays code apart)
       ∙ ap (λ (o : Option Abbrev). option_or (at_own_place abbrevs code) o) (kept_stays next code same) ∙ so_far.finds code
@@ -126,31 +128,34 @@ module _ (abbrevs : List Abbrev) (old : Elsewhere) (made : Abbrev) (so_far : Pla
           ⊎_elim (λ (lt : length abbrevs < made.code - 1). ap or_this (slice_get_past more (made.code - 1) (omega (arith, longer)))) (λ (ge : made.code - 1 ≤ length abbrevs). at_end (omega arith))
           (cases_lt (length abbrevs) (made.code - 1))
 
-  pub placed_elsewhere : (next : Elsewhere) → ((code : ℕ) → get nat_eq next code ≡ cond (nat_eq made.code code) (Some (length abbrevs)) (get nat_eq old code)) → Placed more next
-  placed_elsewhere next adds = record {
+  pub placed_elsewhere : (next : Elsewhere) → ((code : ℕ) → get nat_cmp next code ≡ cond (eq_by_cmp nat_cmp made.code code) (Some (length abbrevs)) (get nat_cmp old code)) → Placed more next
+  placed_elsewhere next updates = record {
     finds = λ code. elim (cases_Bool (made.code == code)) [
       | inl is ↦ this_found next code is here
-      | inr apart ↦ other_found next code apart (adds code ∙ ap (λ (b : Bool). cond b (Some (length abbrevs)) (get nat_eq old code)) apart)
+      | inr apart ↦ other_found next code apart (adds code ∙ ap (λ (b : Bool). cond b (Some (length abbrevs)) (get nat_cmp old code)) apart)
     ];
     inside = λ code place is. inside code place is;
   }
     where
-      kept : get nat_eq next made.code ≡ Some (length abbrevs)
-      kept = adds made.code ∙ ap (λ (b : Bool). cond b (Some (length abbrevs)) (get nat_eq old made.code)) (eq-eqb made.code made.code refl)
+      adds : (code : ℕ) → get nat_cmp next code ≡ cond (made.code == code) (Some (length abbrevs)) (get nat_cmp old code)
+      adds code = updates code ∙ ap (λ (b : Bool). cond b (Some (length abbrevs)) (get nat_cmp old code)) (unsigned_tied made.code code)
+
+      kept : get nat_cmp next made.code ≡ Some (length abbrevs)
+      kept = adds made.code ∙ ap (λ (b : Bool). cond b (Some (length abbrevs)) (get nat_cmp old made.code)) (eq-eqb made.code made.code refl)
 
       here : found next made.code ≡ Some made
       here =
           ap (λ (o : Option ℕ). option_or (at_own_place more made.code) (option_and_then (slice_get more) o)) kept
           ∙ ap (λ (o : Option Abbrev). option_or (at_own_place more made.code) o) (slice_get_last abbrevs made) ∙ own_or_this
 
-      inside : (code place : ℕ) → get nat_eq next code ≡ Some place → place < length more
+      inside : (code place : ℕ) → get nat_cmp next code ≡ Some place → place < length more
       inside code place is =
           elim (cases_Bool (made.code == code)) [
             | inl same ↦
-                let e : length abbrevs ≡ place = same_Some (length abbrevs) place (sym (adds code ∙ ap (λ (b : Bool). cond b (Some (length abbrevs)) (get nat_eq old code)) same) ∙ is) in
+                let e : length abbrevs ≡ place = same_Some (length abbrevs) place (sym (adds code ∙ ap (λ (b : Bool). cond b (Some (length abbrevs)) (get nat_cmp old code)) same) ∙ is) in
                 omega (arith, longer)
             | inr apart ↦
-                let lt = so_far.inside code place (sym (adds code ∙ ap (λ (b : Bool). cond b (Some (length abbrevs)) (get nat_eq old code)) apart) ∙ is) in
+                let lt = so_far.inside code place (sym (adds code ∙ ap (λ (b : Bool). cond b (Some (length abbrevs)) (get nat_cmp old code)) apart) ∙ is) in
                 omega (arith, longer)
           ]
 

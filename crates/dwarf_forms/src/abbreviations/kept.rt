@@ -9,7 +9,7 @@ ghost use Rattle.dwarf_forms.specs.abbreviations.Places as spec;
 use crate::abbreviations::Abbrev;
 use abi_base::{List, NoMemory};
 use std::alloc::Global;
-use std::collections::HashMap;
+use std::collections::BTreeMap;
 use std::marker::Model;
 
 /// An abbreviation table. Contracts see it as the list of its abbreviations, in section order.
@@ -18,7 +18,7 @@ pub struct Table {
     abbrevs: List<Abbrev>,
     // The positions of the abbreviations whose code is not their position plus 1, by code. Producers number codes from 1, so it
     // usually stays empty and allocates nothing.
-    elsewhere: HashMap<u64, usize>,
+    elsewhere: BTreeMap<u64, usize>,
     // A lower bound of the size of the abbreviations in the section.
     bytes: usize,
 }
@@ -64,7 +64,7 @@ fn at_own_place(abbrevs: &[Abbrev], code: u64) -> Option<&Abbrev>
 #[inline(never)]
 fn at_kept_place<'a>(
     abbrevs: &'a [Abbrev],
-    elsewhere: &HashMap<u64, usize>,
+    elsewhere: &BTreeMap<u64, usize>,
     code: u64,
 ) -> Option<&'a Abbrev>
     ensures { option_copied result ≡ spec.at_kept_place abbrevs.now elsewhere.now code }
@@ -98,7 +98,7 @@ impl Table {
     {
         Table {
             abbrevs: List::new(alloc),
-            elsewhere: HashMap::new(alloc),
+            elsewhere: BTreeMap::new(alloc),
             bytes: 0,
         }
     }

@@ -3,7 +3,7 @@ use Rattle.std.proofs.Common.{◌≡◌, ℕ, List, sym, ◌∙◌, ap}
 use Rattle.abi_types.specs.Graphs.{view_at}
 use Rattle.abi_types.specs.ClassLooks.{Look, view_seen}
 use Rattle.abi_types.specs.Types.{PlainNode}
-use Rattle.report.specs.Details.{type_detail}
+use Rattle.report.specs.TypeRows.{type_detail}
 use Rattle.type_classes.specs.Alike.{AreAlike}
 use Rattle.pair_rules.specs.declared.rules.Broken.{Broken}
 use Rattle.pair_rules.specs.Steps.{Task}

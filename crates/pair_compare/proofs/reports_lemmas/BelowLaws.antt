@@ -6,7 +6,7 @@ use Rattle.abi_types.specs.Graphs.{IsGraph}
 use Rattle.abi_types.specs.Rules.{rule_place}
 use Rattle.abi_types.specs.ClassLooks.{view_seen}
 use Rattle.abi_types.specs.Types.{PlainView}
-use Rattle.report.specs.Details.{type_detail}
+use Rattle.report.specs.TypeRows.{type_detail}
 use Rattle.pair_rules.specs.declared.rules.Broken.{Broken}
 use Rattle.pair_rules.specs.Paths.{Path, PathLeadsTo, IsReachable, IsBefore, IsNotAfter, root_triple}
 use Rattle.pair_rules.specs.Stable.{IsInside}

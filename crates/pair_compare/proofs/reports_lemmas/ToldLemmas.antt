@@ -13,8 +13,7 @@ use Rattle.abi_types.specs.declared.rule.Rule.TheVariants.{LibrarySoname}
 use Rattle.abi_types.specs.Graphs.{node_at, view_at}
 use Rattle.abi_types.specs.Rules.{rule_place}
 use Rattle.abi_types.specs.Types.{PlainView}
-use Rattle.report.specs.Details.{type_detail}
-use Rattle.report.specs.Values.{part_of, type_is, type_was}
+use Rattle.report.specs.TypeRows.{part_of, type_detail, type_is, type_was}
 use Rattle.report.specs.declared.row.Row.{Row}
 use Rattle.pair_rules.specs.declared.rules.Broken.{Broken}
 use Rattle.pair_rules.specs.Steps.{Task}

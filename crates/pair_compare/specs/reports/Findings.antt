@@ -4,7 +4,7 @@ use Rattle.abi_types.specs.Graphs.{view_at}
 use Rattle.pair_rules.specs.declared.rules.Broken.{Broken}
 use Rattle.pair_rules.specs.Steps.{Task}
 use Rattle.pair_rules.specs.Paths.{Path, From, Then}
-use Rattle.report.specs.Details.{type_detail}
+use Rattle.report.specs.TypeRows.{type_detail}
 
 -- what one row on types reports: a path, the nodes whose entries it names, and a broken rule with its part
 pub record Finding : Type 0 where

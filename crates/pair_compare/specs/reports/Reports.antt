@@ -11,7 +11,7 @@ use Rattle.type_classes.specs.Alike.{AreAlike}
 use Rattle.type_classes.specs.Classes.{IsLeast}
 use Rattle.cert_check.specs.Compatible.{Sides, task_of}
 use Rattle.report.specs.declared.row.Row.{Row}
-use Rattle.report.specs.Values.{part_of, type_is, type_was}
+use Rattle.report.specs.TypeRows.{part_of, type_is, type_was}
 use Rattle.pair_compare.specs.reports.Findings.{Finding, export_of, detail_at}
 use Rattle.pair_compare.specs.reports.PathTexts.{label_at, steps_text}
 use Rattle.pair_compare.specs.reports.ExportRows.{export_rows}

@@ -2,7 +2,7 @@
 ghost use Rattle.std.specs.Prelude.{◌≡◌, ◌<◌, ◌++◌, length, map, slice_get, Some, IfOk, OnOk};
 ghost use Rattle.abi_types.specs.Graphs.{view_at};
 ghost use Rattle.report.specs.Details.{IsInside};
-ghost use Rattle.report.specs.Details as spec;
+ghost use Rattle.report.specs.TypeRows as spec;
 ghost use Rattle.cert_check.specs.Compatible.{task_of};
 ghost use Rattle.pair_compare.specs.BoundPair.{sides_of};
 ghost use Rattle.pair_compare.specs.reports.Keys.{plain_key, key_of};

@@ -5,4 +5,4 @@ use Rattle.abi_types.proofs.LookupLemmas.{IsFilling}
 use Rattle.abi_types.proofs.lookup.lookup_of.Given as goal
 
 abbrev pub invariant-loop-i : goal.invariant-loop-i
-invariant-loop-i g l = IsFilling (map (plain_part g.Ix.Index.number_of) l.items) l.i l.counts l.numbers.items l.places
+invariant-loop-i g l = IsFilling (map (plain_part g.Ix.Index.number_of) l.items) l.i l.counts l.numbers.items l.places.items

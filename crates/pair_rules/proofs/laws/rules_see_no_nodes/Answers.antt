@@ -1,5 +1,6 @@
 -- Matches, rules, partners and steps, one after the other.
-use Rattle.pair_rules.proofs.Unseen.{breaks-seen, partner_at-seen, next_of-seen}
+use Rattle.pair_rules.proofs.Unseen.{partner_at-seen, next_of-seen}
+use Rattle.pair_rules.proofs.BreaksUnseen.{breaks-seen}
 use Rattle.pair_rules.proofs.laws.rules_see_no_nodes.Goals as goal
 
 pub returns-clause-breaks : goal.returns-clause-breaks

@@ -1,13 +1,11 @@
-// The rows of worked structures.
+// The rows of the layouts of worked structures.
 ghost use Rattle.std.specs.Prelude.{IfOk};
 ghost use Rattle.type_print.specs.Members.{AreNumbered};
 
-use crate::extent::Extent;
-use crate::row::LayoutRow;
-use crate::rows::rows_of;
 use abi_base::NoMemory;
 use std::alloc::Global;
 use std::test::Fail;
+use type_print::{Extent, LayoutRow, rows_of};
 
 // Members of these first bits and widths.
 fn members(alloc: Global, places: &[(u64, u64)]) -> Result<Vec<Extent>, NoMemory>
