@@ -5,7 +5,21 @@ import tempfile
 from pathlib import Path
 
 from .cases import Case, Kind, against_itself, listed
-from .dwarf import AT_LANGUAGE, C99, COMPILE_UNIT, DATA1, FLAT_CALL, NAMED, STRUCTURE, TYPE_UNIT, Abbreviation, Info, table
+from .dwarf import (
+    AT_LANGUAGE,
+    C99,
+    COMPILE_UNIT,
+    DATA1,
+    FIELD,
+    FLAT_CALL,
+    NAMED,
+    STRUCT,
+    STRUCTURE,
+    TYPE_UNIT,
+    Abbreviation,
+    Info,
+    table,
+)
 from .elf import Symbol, image, symbol_sections
 from .encode import short_name, u8, u32, u64
 from .library import library
@@ -77,6 +91,26 @@ def names_that_collide(count: int) -> Case:
     return against_itself(image(symbol_sections(symbols, bytes(names))))
 
 
+# In keys of a sort and a name the sort is hashed first, as the eight bytes of its position in its enum.
+MEMBER_SORT = 0
+
+
+def members_that_collide(count: int) -> Case:
+    """A structure of members whose names of eight bytes collide in a map by sort and name."""
+    info = Info()
+    info.begin()
+    number = info.number()
+    whole = info.add(STRUCT, u32(4 * count))
+    names = colliding(count, folded(folded(SEED, MEMBER_SORT, 8), 8, 8), "names")
+    for place, name in enumerate(names):
+        info.add(FIELD, u64(name) + b"\0", u32(number), u32(4 * place))
+    info.close()
+    info.function(0x1000, whole)
+    info.close()
+    info.end()
+    return against_itself(library(info, [0x1000]))
+
+
 # A text of nine bytes and more is hashed by products whose last factor is that of its last eight bytes, combined with a fixed number.
 # For these bytes it is 0, so the hash is 0, whatever stands before them.
 LAST_BYTES = u64(0x9E3779B97F4A7C15)
@@ -110,4 +144,5 @@ KINDS = [
     Kind("colliding_shapes", "n typedefs whose names end with the bytes that make all hashes equal", shapes_that_collide, 2000),
     Kind("colliding_codes", "n abbreviations with codes that collide in a map", codes_that_collide, 10000),
     Kind("colliding_names", "n symbols with names that collide in a map", names_that_collide, 30000),
+    Kind("colliding_members", "a structure of n members with names that collide in a map", members_that_collide, 10000),
 ]

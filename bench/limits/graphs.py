@@ -124,7 +124,7 @@ def flat_parts(nodes: dict[int, Node], entries: Entries, size: int) -> Figure:
 
 def held_parts(nodes: dict[int, Node], size: int) -> Figure:
     """The parts by which types are compared, for a file of `size` bytes."""
-    return Figure(parts(nodes), allowed(_ROOM, "PARTS_A_BYTE", size, "PARTS_AT_LEAST"))
+    return Figure(parts(nodes), allowed_by(_ROOM, "BYTES_A_PART", size, "PARTS_AT_LEAST"))
 
 
 def letters(nodes: dict[int, Node], size: int) -> Figure:

@@ -68,7 +68,7 @@ ROWS = [
         "enumerators", _by_bytes(_FLAT, "BYTES_A_PART", "PARTS_AT_LEAST")),
     Row("parts", "Parts by which types are compared, counted again for each type: members, enumerators, parameters, targets",
         "parts by which types are compared",
-        _each(_ROOM, "PARTS_A_BYTE", "byte of the file", "PARTS_AT_LEAST")),
+        _by_bytes(_ROOM, "BYTES_A_PART", "PARTS_AT_LEAST")),
     Row("letters", "Letters of the names of types and parts, counted again for each type",
         "letters of the names of types and parts",
         _each(_ROOM, "LETTERS_A_BYTE", "byte of the file", "LETTERS_AT_LEAST")),
